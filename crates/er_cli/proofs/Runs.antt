@@ -1,0 +1,26 @@
+-- One line more of a script.
+use Rattle.std.proofs.Common.{◌≡◌, ℕ, ◌+◌, ◌<◌, List, [], ◌∷◌, ◌++◌, length, map, take, get_or, Option, Bor, refl, subst, ap, ◌∙◌, append-nil}
+use Rattle.std.specs.List.{flat_map}
+use Rattle.std.proofs.lemmas.List.{map-append, take_more}
+use Rattle.std.proofs.lemmas.List.Concat.{flat_map-append}
+use Rattle.er_cli.specs.declared.texts.Answer.{Answer}
+use Rattle.er_cli.specs.Line.{line_of}
+use Rattle.er_cli.specs.Texts.{answer_text}
+use Rattle.er_cli.specs.Script.{Kept, Answers, Runs}
+
+pub Runs-push : (lines : List (List ℕ)) (answers : List Answer) (old mid new : Option Kept) (line : List ℕ) (answer : Answer)
+    → Runs old lines answers mid → Answers mid (line_of line) answer new → Runs old (lines ++ line ∷ []) (answers ++ answer ∷ []) new
+Runs-push [] [] old mid new line answer runs last = (new, subst (λ k. Answers k (line_of line) answer new) runs last, refl)
+Runs-push (l ∷ lines) (a ∷ answers) old mid new line answer runs last = (runs.0, runs.1, Runs-push lines answers runs.0 mid new line answer runs.2 last)
+Runs-push [] (a ∷ answers) old mid new line answer runs last = absurd runs
+Runs-push (l ∷ lines) [] old mid new line answer runs last = absurd runs
+
+pub printed-push : (answers : List Answer) (answer : Answer) → flat_map answer_text (answers ++ answer ∷ []) ≡ flat_map answer_text answers ++ answer_text answer
+printed-push answers answer = flat_map-append answer_text answers (answer ∷ []) ∙ ap (λ text. flat_map answer_text answers ++ text) (append-nil (answer_text answer))
+
+-- the first lines and the next one
+pub lines-push : (lines : List (Bor (List ℕ))) (i : ℕ) (d : Bor (List ℕ)) → i < length lines
+    → map (λ (line : Bor (List ℕ)). line.now) (take (i + 1) lines) ≡ map (λ (line : Bor (List ℕ)). line.now) (take i lines) ++ (get_or lines i d).now ∷ []
+lines-push lines i d within =
+    let now = λ (line : Bor (List ℕ)). line.now in
+    ap (map now) (take_more lines i d within) ∙ map-append now (take i lines) (get_or lines i d ∷ [])

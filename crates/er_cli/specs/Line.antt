@@ -1,0 +1,61 @@
+-- What a line of a script asks for.
+use Rattle.std.specs.Prelude.{◌≡◌, ℕ, ◌==◌, nat_lt, Bool, ◌&&◌, not, if◌then◌else◌, List, [], ◌∷◌, length, slice_index, Option, Some, None, Ok, Err, Result, codes}
+use Rattle.std.specs.List.{list_any, list_all, slice_split}
+use Rattle.std.specs.Char.{is_ascii_digit}
+use Rattle.std.specs.Str.{bytes_eq, is_utf8}
+use Rattle.std.specs.Str.Parse.{digits_value}
+use Rattle.er_cli.specs.declared.words.LineFault.{LineFault}
+use Rattle.er_cli.specs.declared.words.LineFault.TheVariants.{Usage, Memory}
+use Rattle.er_cli.specs.declared.words.Line.{Line}
+use Rattle.er_cli.specs.declared.words.Line.TheVariants.{Init, Enrol, Players}
+
+-- the number below 256 that a word of digits is
+abbrev pub number_of : List ℕ → Option ℕ
+number_of word = if nat_lt 0 (length word) && list_all is_ascii_digit word && nat_lt (digits_value 10 word) 256 then Some (digits_value 10 word) else None
+
+-- what stands between the TABs
+abbrev pub words_of : List ℕ → List (List ℕ)
+words_of line = slice_split (λ byte. byte == 9) line
+
+-- begins with `-`: no command takes an option
+abbrev pub is_option : List ℕ → Bool
+is_option word = slice_index word 0 == 45
+
+abbrev pub init_with : List ℕ → Option ℕ → Option ℕ → Option Line
+init_with name (Some rounds) (Some cut) = Some (Init name rounds cut)
+init_with name (Some rounds) None = None
+init_with name None cut = None
+
+-- `init NAME ROUNDS CUT`
+abbrev pub init_of : List (List ℕ) → Option Line
+init_of (name ∷ rounds ∷ cut ∷ []) = init_with name (number_of rounds) (number_of cut)
+init_of _ = None
+
+-- `enrol NAME`
+abbrev pub enrol_of : List (List ℕ) → Option Line
+enrol_of (name ∷ []) = Some (Enrol name)
+enrol_of _ = None
+
+-- `players`
+abbrev pub players_of : List (List ℕ) → Option Line
+players_of [] = Some Players
+players_of _ = None
+
+-- a command is its first word
+abbrev pub command_of : List (List ℕ) → Option Line
+command_of [] = None
+command_of (command ∷ words) =
+    if bytes_eq command (codes "init") then init_of words
+    else (if bytes_eq command (codes "enrol") then enrol_of words
+    else (if bytes_eq command (codes "players") then players_of words
+    else None))
+
+-- a line is UTF-8
+abbrev pub line_of : List ℕ → Option Line
+line_of line = if is_utf8 line && not (list_any is_option (words_of line)) then command_of (words_of line) else None
+
+-- the answer to a line that is this one, or none. Memory may be wanting for any.
+abbrev pub Reads : Option Line → Result Line LineFault → Type 0
+Reads found (Ok line) = found ≡ Some line
+Reads found (Err Usage) = found ≡ None
+Reads found (Err Memory) = Unit {0}

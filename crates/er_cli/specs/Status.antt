@@ -1,0 +1,33 @@
+-- How running a script ends.
+use Rattle.std.specs.Prelude.{◌≡◌, ◌⊎◌, ℕ, ◌<◌, ◌≤◌, List, length, Option, IfSome}
+use Rattle.std.specs.Io.KnownBytes.{Appends}
+use Rattle.er_event.specs.declared.refusals.Refusal.TheVariants.{Memory}
+use Rattle.er_cli.specs.declared.TheConstants.{DONE, USAGE, DEVICE, MEMORY}
+use Rattle.er_cli.specs.declared.input.InputFault.{InputFault}
+use Rattle.er_cli.specs.declared.input.InputFault.TheVariants as fault
+use Rattle.er_cli.specs.declared.input.InputFault.TheVariants.{TooLong, Read}
+use Rattle.er_cli.specs.declared.input.TheConstants.{MAX_SCRIPT_BYTES}
+use Rattle.er_cli.specs.declared.texts.Answer.TheVariants.{Refused, Usage}
+use Rattle.er_cli.specs.Texts.{answer_text}
+use Rattle.er_cli.specs.Input.{lines_of}
+use Rattle.er_cli.specs.Script.{Prints}
+
+-- the whole input was run as a script, and its answers were printed
+pub record Serves (input before after : Option (List ℕ)) : Type 0 where
+  pub script : List ℕ
+  pub whole : IfSome input (λ all. script ≡ all)
+  pub small : length script ≤ MAX_SCRIPT_BYTES
+  pub prints : Prints (lines_of script) before after
+
+-- the status of a script that is not run, and what is printed of it
+abbrev pub EndsUnread : InputFault → Option (List ℕ) → Option (List ℕ) → ℕ → Type 0
+EndsUnread TooLong before after status = (status ≡ USAGE) × Appends before after (answer_text Usage)
+EndsUnread Read before after status = (status ≡ DEVICE) × (after ≡ before)
+EndsUnread fault.Memory before after status = (status ≡ MEMORY) × Appends before after (answer_text (Refused Memory))
+
+-- the bytes that the reader had left, those that the writer held before and holds now, and the status
+pub record Ends (input before after : Option (List ℕ)) (status : ℕ) : Type 0 where
+  pub done : status ≡ DONE → Serves input before after
+  pub too_long : status ≡ USAGE → IfSome input (λ all. MAX_SCRIPT_BYTES < length all) × Appends before after (answer_text Usage)
+  pub memory : status ≡ MEMORY → Appends before after (answer_text (Refused Memory))
+  pub one_of : (status ≡ DONE) ⊎ (status ≡ USAGE) ⊎ (status ≡ DEVICE) ⊎ (status ≡ MEMORY)

@@ -1,0 +1,149 @@
+ghost use Rattle.std.specs.Prelude.{◌≡◌, IfOk, map};
+ghost use Rattle.std.specs.List.{list_all, list_any};
+ghost use Rattle.std.specs.Char.{is_ascii_digit};
+ghost use Rattle.er_cli.specs.Line.{Reads, number_of, words_of, is_option, init_of, enrol_of, players_of, command_of, line_of};
+
+use er_event::Items;
+use std::alloc::{AllocError, Global};
+
+/// What a line asks for.
+#[derive(Debug, Drop)]
+pub enum Line {
+    Init {
+        name: Items<u8>,
+        rounds: u8,
+        cut: u8,
+    },
+    Enrol {
+        name: Items<u8>,
+    },
+    Players,
+}
+
+/// Why a line was not read.
+#[derive(Clone, Copy, Debug, PartialEq, Eq)]
+pub enum LineFault {
+    /// It is no command line.
+    Usage,
+    /// There was no memory to keep it.
+    Memory,
+}
+
+impl From<AllocError> for LineFault {
+    ghost use Rattle.std.specs.Prelude.{◌≡◌};
+    ghost use Rattle.er_cli.specs.declared.words.LineFault.TheVariants.{Memory};
+
+    ghost from_gives = { λ _ fault. fault ≡ Memory };
+
+    fn from(_error: AllocError) -> Self {
+        LineFault::Memory
+    }
+}
+
+fn is_number(word: &str) -> bool
+    ensures { result ≡ list_all is_ascii_digit word.now }
+{
+    word.bytes().all(|byte| byte.is_ascii_digit())
+}
+
+/// The number that a word is. A sign is no digit.
+fn number_of(word: &str) -> Option<u8>
+    ensures { result ≡ number_of word.now }
+{
+    if is_number(word) {
+        word.parse().ok()
+    } else {
+        None
+    }
+}
+
+/// Whether a word asks for an option. There are none.
+fn is_option(word: &str) -> bool
+    ensures { result ≡ is_option word.now }
+{
+    word.starts_with('-')
+}
+
+fn has_option(words: &[&str]) -> bool
+    ensures { result ≡ list_any is_option (map (λ word. word.now) words.now) }
+{
+    words.iter().any(|word| is_option(word))
+}
+
+fn words_of(alloc: Global, line: &str) -> Result<Vec<&str>, AllocError>
+    ensures { IfOk result (λ words. map (λ word. word.now) words.items ≡ words_of line.entry.now) }
+{
+    line.split('\t').collect(alloc)
+}
+
+fn bytes_of(alloc: Global, word: &str) -> Result<Items<u8>, AllocError>
+    ensures { IfOk result (λ bytes. bytes ≡ word.now) }
+{
+    Ok(Items::from(Vec::from_slice(alloc, word.as_bytes())?))
+}
+
+fn read_init(alloc: Global, words: &[&str]) -> Result<Line, LineFault>
+    ensures { Reads (init_of (map (λ word. word.now) words.now)) result }
+{
+    let [name, rounds, cut] = *words else {
+        return Err(LineFault::Usage);
+    };
+    let (Some(rounds), Some(cut)) = (number_of(rounds), number_of(cut)) else {
+        return Err(LineFault::Usage);
+    };
+    Ok(Line::Init {
+        name: bytes_of(alloc, name)?,
+        rounds,
+        cut,
+    })
+}
+
+fn read_enrol(alloc: Global, words: &[&str]) -> Result<Line, LineFault>
+    ensures { Reads (enrol_of (map (λ word. word.now) words.now)) result }
+{
+    let [name] = *words else {
+        return Err(LineFault::Usage);
+    };
+    Ok(Line::Enrol {
+        name: bytes_of(alloc, name)?,
+    })
+}
+
+fn read_players(words: &[&str]) -> Result<Line, LineFault>
+    ensures { Reads (players_of (map (λ word. word.now) words.now)) result }
+{
+    if words.is_empty() {
+        Ok(Line::Players)
+    } else {
+        Err(LineFault::Usage)
+    }
+}
+
+/// What the words of a line ask for.
+fn read_command(alloc: Global, words: &[&str]) -> Result<Line, LineFault>
+    ensures { Reads (command_of (map (λ word. word.now) words.now)) result }
+{
+    let [command, words @ ..] = words else {
+        return Err(LineFault::Usage);
+    };
+    match *command {
+        "init" => read_init(alloc, words),
+        "enrol" => read_enrol(alloc, words),
+        "players" => read_players(words),
+        _ => Err(LineFault::Usage),
+    }
+}
+
+/// What a line asks for.
+pub fn read_line(alloc: Global, line: &[u8]) -> Result<Line, LineFault>
+    ensures { Reads (line_of line.now) result }
+{
+    let Ok(line) = str::from_utf8(line) else {
+        return Err(LineFault::Usage);
+    };
+    let words = words_of(alloc, line)?;
+    if has_option(&words) {
+        return Err(LineFault::Usage);
+    }
+    read_command(alloc, &words)
+}

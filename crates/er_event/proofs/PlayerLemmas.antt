@@ -1,0 +1,142 @@
+-- An event with one more player is sound exactly where there is room and the name is new.
+use Rattle.std.proofs.Common.{◌≡◌, ◌≢◌, ℕ, ◌+◌, ◌<◌, Bool, true, false, List, [], ◌∷◌, ◌++◌, length, get_or, IsTrue, IsFalse, All, AllPairs, Contains, refl, sym, ap, ◌∙◌, subst, true≢false, zero, suc, ◌||◌, not, flat_map, not-suc-le-zero, arith, length-append}
+use Rattle.std.specs.List.{range_with_len}
+use Rattle.std.specs.Str.{bytes_eq}
+use Rattle.std.proofs.lemmas.List.{map-append}
+use Rattle.std.proofs.lemmas.List.Elements.{All-push, All-weaker, Contains-append_left}
+use Rattle.std.proofs.lemmas.List.Quantifiers.{all_pairs_push}
+use Rattle.std.proofs.lemmas.Slice.Eq.{bytes_eq-Decides}
+use Rattle.er_event.specs.declared.players.Player.{Player}
+use Rattle.er_event.specs.declared.rounds.Match.{Match}
+use Rattle.er_event.specs.declared.rounds.Round.{Round}
+use Rattle.er_event.specs.Event.{EventValue}
+use Rattle.er_event.specs.Name.{is_lawful_name}
+use Rattle.er_event.specs.Round.{is_bye, seats}
+use Rattle.er_event.specs.Sound.{numbers, names, IsRound, IsBracket, HasPlayers, HasRounds, HasBracket, IsSoundButForSeeds}
+use Rattle.er_event.specs.Change.{has_name, new_player, with_player}
+
+-- more numbers are known
+IsRound-known : (known more : List ℕ) (matches : List Match) → IsRound known matches → IsRound (known ++ more) matches
+IsRound-known known more matches h = record {
+  some = h.some;
+  first_known = All-weaker (λ (m : Match). Contains known m.a) (λ (m : Match). Contains (known ++ more) m.a) (λ m c. Contains-append_left known more m.a c) matches h.first_known;
+  second_known = All-weaker (λ (m : Match). IsFalse (is_bye m) → Contains known m.b) (λ (m : Match). IsFalse (is_bye m) → Contains (known ++ more) m.b) (λ m c seated. Contains-append_left known more m.b (c seated)) matches h.second_known;
+  seated_once = h.seated_once;
+  byes_won = h.byes_won;
+  scores = h.scores;
+  bye_last = h.bye_last;
+}
+
+IsBracket-known : (known more : List ℕ) (cut : ℕ) (stages : List (List Match)) → IsBracket known cut stages → IsBracket (known ++ more) cut stages
+IsBracket-known known more cut stages h = record {
+  cut_is_played = h.cut_is_played;
+  first = h.first;
+  is_first = h.is_first;
+  slots = h.slots;
+  known_players = All-weaker (Contains known) (Contains (known ++ more)) (λ n c. Contains-append_left known more n c) (flat_map seats h.first) h.known_players;
+  seated_once = h.seated_once;
+  scores = h.scores;
+  follows = h.follows;
+}
+
+or_false : (a b : Bool) → (a || b) ≡ false → (a ≡ false) × (b ≡ false)
+or_false false false h = (refl, refl)
+or_false false true h = absurd (true≢false h)
+or_false true b h = absurd (true≢false h)
+
+not_true : (b : Bool) → (b ≡ true → ⊥) → b ≡ false
+not_true false h = refl
+not_true true h = absurd (h refl)
+
+not_true-from : (b : Bool) → IsTrue (not b) → b ≡ false
+not_true-from false h = refl
+not_true-from true h = absurd (true≢false (sym h))
+
+range-push : (a n : ℕ) → range_with_len a (n + 1) ≡ range_with_len a n ++ (a + n) ∷ []
+range-push a zero = let e : a ≡ a + 0 = omega arith in ap (λ k. k ∷ []) e
+range-push a (suc n) =
+    let more : suc n + 1 ≡ suc (n + 1) = omega arith in
+    let last : (a + 1) + n ≡ a + suc n = omega arith in
+    ap (range_with_len a) more ∙ (ap (λ xs. a ∷ xs) (range-push (a + 1) n) ∙ ap (λ k. (a ∷ range_with_len (a + 1) n) ++ k ∷ []) last)
+
+-- nobody has the name that no player has
+has_name-none : (players : List Player) (name : List ℕ) → has_name players name ≡ false → (k : ℕ) (d : List ℕ) → k < length (names players) → get_or (names players) k d ≢ name
+has_name-none [] name none k d below same = absurd (not-suc-le-zero below)
+has_name-none (p ∷ ps) name none zero d below same =
+    true≢false (sym ((bytes_eq-Decides p.name name).1 same) ∙ (or_false (bytes_eq p.name name) (has_name ps name) none).0)
+has_name-none (p ∷ ps) name none (suc k) d below same =
+    has_name-none ps name (or_false (bytes_eq p.name name) (has_name ps name) none).1 k d (omega arith) same
+
+last_name : (players : List Player) (new : Player) (d : List ℕ) → get_or (names (players ++ new ∷ [])) (length players) d ≡ new.name
+last_name [] new d = refl
+last_name (p ∷ ps) new d = last_name ps new d
+
+length-names : (players : List Player) (new : Player) → length (names (players ++ new ∷ [])) ≡ suc (length players)
+length-names [] new = refl
+length-names (p ∷ ps) new = ap suc (length-names ps new)
+
+-- where all names differ, the last player's is new
+has_name-new : (players : List Player) (new : Player) → AllPairs (λ p q. p ≢ q) (names (players ++ new ∷ [])) → has_name players new.name ≡ false
+has_name-new [] new distinct = refl
+has_name-new (p ∷ ps) new distinct =
+    let count = length-names ps new in
+    let other = not_true (bytes_eq p.name new.name) (λ same. distinct 0 (suc (length ps)) [] (omega arith) (omega arith) ((bytes_eq-Decides p.name new.name).0 same ∙ sym (last_name ps new []))) in
+    let others = has_name-new ps new (λ i j d before within. distinct (suc i) (suc j) d (omega arith) (omega arith)) in
+    cc
+
+HasPlayers-with : (e : EventValue) (name : List ℕ) → HasPlayers e → IsTrue (is_lawful_name name) → length e.players < 512 → has_name e.players name ≡ false → HasPlayers (with_player e name)
+HasPlayers-with e name h lawful room new =
+    let p = new_player e.players name in
+    let Apart : List ℕ → List ℕ → Type 0 = λ a b. a ≢ b in
+    let count : length (e.players ++ p ∷ []) ≡ length e.players + 1 = length-append e.players (p ∷ []) in
+    let listed : names (e.players ++ p ∷ []) ≡ names e.players ++ name ∷ [] = map-append (λ (q : Player). q.name) e.players (p ∷ []) in
+    let next : 1 + length e.players ≡ length e.players + 1 = omega arith in
+    record {
+      few = omega arith;
+      numbered = map-append (λ (q : Player). q.no) e.players (p ∷ [])
+          ∙ (ap (λ ns. ns ++ p.no ∷ []) h.numbered
+          ∙ (ap (λ k. range_with_len 1 (length e.players) ++ k ∷ []) (sym next)
+          ∙ (sym (range-push 1 (length e.players)) ∙ ap (range_with_len 1) (sym count))));
+      lawful = subst (λ (ns : List (List ℕ)). All (λ n. IsTrue (is_lawful_name n)) ns) (sym listed) (All-push (λ n. IsTrue (is_lawful_name n)) (names e.players) name h.lawful lawful);
+      distinct = subst (λ (ns : List (List ℕ)). AllPairs Apart ns) (sym listed) (all_pairs_push Apart (names e.players) name h.distinct (λ k d below. has_name-none e.players name new k d below));
+      enrolling = λ phase. All-push (λ (q : Player). IsFalse q.dropped) e.players p (h.enrolling phase) refl;
+      started = λ phase. let enough = h.started phase in omega arith;
+    }
+
+HasRounds-with : (e : EventValue) (name : List ℕ) → HasRounds e → HasRounds (with_player e name)
+HasRounds-with e name h =
+    let p = new_player e.players name in
+    let listed : numbers (e.players ++ p ∷ []) ≡ numbers e.players ++ p.no ∷ [] = map-append (λ (q : Player). q.no) e.players (p ∷ []) in
+    let Plays : List ℕ → Round → Type 0 = λ known r. IsRound known r.matches in
+    record {
+      few = h.few;
+      enrolling = h.enrolling;
+      each = subst (λ (known : List ℕ). All (Plays known) e.stored) (sym listed) (All-weaker (Plays (numbers e.players)) (Plays (numbers e.players ++ p.no ∷ [])) (λ r. IsRound-known (numbers e.players) (p.no ∷ []) r.matches) e.stored h.each);
+      no_repeats = h.no_repeats;
+      earlier_done = h.earlier_done;
+    }
+
+HasBracket-with : (e : EventValue) (name : List ℕ) → HasBracket e → HasBracket (with_player e name)
+HasBracket-with e name h =
+    let p = new_player e.players name in
+    let listed : numbers (e.players ++ p ∷ []) ≡ numbers e.players ++ p.no ∷ [] = map-append (λ (q : Player). q.no) e.players (p ∷ []) in
+    record {
+      none = h.none;
+      rounds_done = h.rounds_done;
+      bracket = λ phase. subst (λ (known : List ℕ). IsBracket known e.cut e.bracket.stages) (sym listed) (IsBracket-known (numbers e.players) (p.no ∷ []) e.cut e.bracket.stages (h.bracket phase));
+      decided = h.decided;
+      undecided = h.undecided;
+    }
+
+-- the event with one more player is sound
+pub IsSound-with : (e : EventValue) (name : List ℕ) → IsSoundButForSeeds e → IsTrue (is_lawful_name name) → length e.players < 512 → IsTrue (not (has_name e.players name)) → IsSoundButForSeeds (with_player e name)
+IsSound-with e name h lawful room new = record {
+  set_up = record { name = h.set_up.name; rounds = h.set_up.rounds; cut = h.set_up.cut };
+  players = HasPlayers-with e name h.players lawful room (not_true-from _ new);
+  rounds = HasRounds-with e name h.rounds;
+  bracket = HasBracket-with e name h.bracket;
+}
+
+-- and the name was new, where that is so
+pub IsSound-new : (e : EventValue) (name : List ℕ) → IsSoundButForSeeds (with_player e name) → IsTrue (not (has_name e.players name))
+IsSound-new e name h = ap not (has_name-new e.players (new_player e.players name) h.players.distinct)

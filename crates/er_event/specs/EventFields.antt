@@ -1,0 +1,10 @@
+-- The fields of an event, as the value that contracts see.
+use Rattle.er_event.specs.declared.events.Event.TheInside.{Inside}
+use Rattle.er_event.specs.Event.{EventValue}
+use Rattle.er_event.specs.Sound.{IsSoundButForSeeds}
+
+abbrev pub value_of : Inside → EventValue
+value_of e = record { name = e.name; rounds = e.rounds; cut = e.cut; phase = e.phase; players = e.players.items; stored = e.stored.items; bracket = e.bracket }
+
+abbrev pub IsSound : Inside → Type 0
+IsSound e = IsSoundButForSeeds (value_of e)

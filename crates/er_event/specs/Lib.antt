@@ -1,0 +1,10 @@
+pub mod Refusal
+pub mod Score
+pub mod Name
+pub mod Event
+pub mod Round
+pub mod Bracket
+pub mod Sound
+pub mod EventFields
+pub mod Change
+pub mod Rows

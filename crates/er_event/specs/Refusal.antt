@@ -1,0 +1,36 @@
+-- The number and the name of each refusal, in one table.
+use Rattle.std.specs.Prelude.{ℕ, List, codes}
+use Rattle.er_event.specs.declared.refusals.Refusal.{Refusal}
+use Rattle.er_event.specs.declared.refusals.Refusal.TheVariants.{BadName, NameTaken, PlayersFull, NotEnrolling, TooFewPlayers, NotSwiss, WrongRound, RoundOpen, AllRoundsPaired, NoPairing, Budget, NoSuchMatch, BadScore, AlreadyReported, NotReported, IsBye, NoSuchPlayer, AlreadyDropped, RoundsNotDone, NoCut, TooFewForCut, NotPlayoff, SerialFull, Memory, Store, NeedsReopen, NoEvent, EventExists, Damaged, BadSetup}
+
+abbrev pub entry_of : Refusal → ℕ × List ℕ
+entry_of BadName = (1, codes "BadName")
+entry_of NameTaken = (2, codes "NameTaken")
+entry_of PlayersFull = (3, codes "PlayersFull")
+entry_of NotEnrolling = (4, codes "NotEnrolling")
+entry_of TooFewPlayers = (5, codes "TooFewPlayers")
+entry_of NotSwiss = (6, codes "NotSwiss")
+entry_of (WrongRound next) = (7, codes "WrongRound")
+entry_of (RoundOpen round) = (8, codes "RoundOpen")
+entry_of AllRoundsPaired = (9, codes "AllRoundsPaired")
+entry_of NoPairing = (10, codes "NoPairing")
+entry_of (Budget steps) = (11, codes "Budget")
+entry_of NoSuchMatch = (12, codes "NoSuchMatch")
+entry_of BadScore = (13, codes "BadScore")
+entry_of (AlreadyReported score) = (14, codes "AlreadyReported")
+entry_of NotReported = (15, codes "NotReported")
+entry_of IsBye = (16, codes "IsBye")
+entry_of NoSuchPlayer = (17, codes "NoSuchPlayer")
+entry_of AlreadyDropped = (18, codes "AlreadyDropped")
+entry_of RoundsNotDone = (19, codes "RoundsNotDone")
+entry_of NoCut = (20, codes "NoCut")
+entry_of TooFewForCut = (21, codes "TooFewForCut")
+entry_of NotPlayoff = (22, codes "NotPlayoff")
+entry_of SerialFull = (23, codes "SerialFull")
+entry_of Memory = (24, codes "Memory")
+entry_of (Store cause) = (25, codes "Store")
+entry_of NeedsReopen = (26, codes "NeedsReopen")
+entry_of NoEvent = (27, codes "NoEvent")
+entry_of EventExists = (28, codes "EventExists")
+entry_of (Damaged table) = (29, codes "Damaged")
+entry_of BadSetup = (30, codes "BadSetup")

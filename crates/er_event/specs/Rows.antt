@@ -1,0 +1,89 @@
+-- The rows of the four tables that an event has.
+use Rattle.std.specs.Prelude.{ℕ, ℤ, pos, ◌+◌, min, max, nat_lt, Bool, if◌then◌else◌, List, [], ◌∷◌, ◌++◌, map, Option, Some, None, is_some}
+use Rattle.er_event.specs.declared.events.Phase.{Phase}
+use Rattle.er_event.specs.declared.events.Phase.TheVariants.{Enrolling, Swiss, Playoff, Finished}
+use Rattle.er_event.specs.declared.players.Player.{Player}
+use Rattle.er_event.specs.declared.rounds.Match.{Match}
+use Rattle.er_event.specs.declared.rounds.Round.{Round}
+use Rattle.er_event.specs.declared.rows.EventRow.{EventRow}
+use Rattle.er_event.specs.declared.rows.PlayerRow.{PlayerRow}
+use Rattle.er_event.specs.declared.rows.PairingRow.{PairingRow}
+use Rattle.er_event.specs.declared.rows.BracketRow.{BracketRow}
+use Rattle.er_event.specs.declared.scores.Games.{Games}
+use Rattle.er_event.specs.Event.{EventValue}
+use Rattle.er_event.specs.Round.{numbered_from, table_of}
+
+abbrev pub flag : Bool → ℤ
+flag b = if b then pos 1 else pos 0
+
+abbrev pub phase_code : Phase → ℕ
+phase_code Enrolling = 0
+phase_code Swiss = 1
+phase_code Playoff = 2
+phase_code Finished = 3
+
+abbrev pub event_row : EventValue → ℕ → EventRow
+event_row e serial = record { id = pos 1; version = pos 1; serial = pos serial; name = e.name; rounds = pos e.rounds; cut = pos e.cut; phase = pos (phase_code e.phase) }
+
+abbrev pub player_row : Player → PlayerRow
+player_row p = record { no = pos p.no; name = p.name; dropped = flag p.dropped }
+
+abbrev pub player_rows : EventValue → List PlayerRow
+player_rows e = map player_row e.players
+
+-- all 0 where the match is not reported
+abbrev pub games_of : Option Games → Games
+games_of None = record { x = 0; y = 0; d = 0 }
+games_of (Some games) = games
+
+-- the two players by number, and whether the first-named is the one with the higher; x is always the first-named player's
+abbrev pub pairing_row : ℕ → ℕ × Match → PairingRow
+pairing_row round numbered =
+    let m = numbered.1 in
+    let games = games_of m.score in
+    record {
+      round = pos round;
+      tab = pos (table_of numbered);
+      lo = pos (min m.a m.b);
+      hi = pos (max m.a m.b);
+      swapped = flag (nat_lt m.b m.a);
+      done = flag (is_some m.score);
+      x = pos games.x;
+      y = pos games.y;
+      d = pos games.d;
+    }
+
+abbrev pub round_rows : ℕ → List Match → List PairingRow
+round_rows round matches = map (pairing_row round) (numbered_from 1 matches)
+
+abbrev pub pairing_rows_from : ℕ → List Round → List PairingRow
+pairing_rows_from round [] = []
+pairing_rows_from round (r ∷ later) = round_rows round r.matches ++ pairing_rows_from (round + 1) later
+
+abbrev pub pairing_rows : EventValue → List PairingRow
+pairing_rows e = pairing_rows_from 1 e.stored
+
+abbrev pub bracket_row : ℕ → ℕ × Match → BracketRow
+bracket_row stage numbered =
+    let m = numbered.1 in
+    let games = games_of m.score in
+    record {
+      stage = pos stage;
+      slot = pos numbered.0;
+      a = pos m.a;
+      b = pos m.b;
+      done = flag (is_some m.score);
+      x = pos games.x;
+      y = pos games.y;
+      d = pos games.d;
+    }
+
+abbrev pub stage_rows : ℕ → List Match → List BracketRow
+stage_rows stage matches = map (bracket_row stage) (numbered_from 1 matches)
+
+abbrev pub bracket_rows_from : ℕ → List (List Match) → List BracketRow
+bracket_rows_from stage [] = []
+bracket_rows_from stage (matches ∷ later) = stage_rows stage matches ++ bracket_rows_from (stage + 1) later
+
+abbrev pub bracket_rows : EventValue → List BracketRow
+bracket_rows e = bracket_rows_from 1 e.bracket.stages

@@ -1,0 +1,120 @@
+ghost use Rattle.std.specs.Prelude.{◌≡◌, ◌↔◌, ◌≤◌, ◌==◌, ◌||◌, Ok, Err, IsTrue, IsOk, IfOk, IfErr, length};
+ghost use Rattle.er_event.specs.Sound.{IsSoundButForSeeds};
+ghost use Rattle.er_event.specs.Change.{created};
+
+mod changing;
+mod copying;
+
+use crate::items::Items;
+use crate::names::Name;
+use crate::players::Player;
+use crate::refusals::Refusal;
+use crate::rounds::{Bracket, Round};
+use std::alloc::{AllocError, Global};
+use std::marker::Model;
+
+/// How many Swiss rounds an event may have.
+pub const MAX_ROUNDS: u8 = 9;
+
+/// Where an event is.
+#[derive(Clone, Copy, Debug, PartialEq, Eq)]
+pub enum Phase {
+    Enrolling,
+    Swiss,
+    Playoff,
+    Finished,
+}
+
+/// One tournament. Each value is sound, save that the playoff may seed any of its players.
+#[derive(Debug, Drop)]
+pub struct Event {
+    name: Name,
+    rounds: u8,
+    cut: u8,
+    phase: Phase,
+    players: Vec<Player>,
+    stored: Vec<Round>,
+    bracket: Bracket,
+}
+
+impl Model for Event {
+    ghost use Rattle.er_event.specs.Event.{EventValue};
+
+    ghost Value = { EventValue };
+
+    ghost use Rattle.er_event.specs.EventFields.{value_of, IsSound};
+
+    ghost view = { value_of };
+
+    ghost invariant = { IsSound };
+}
+
+impl Event {
+    /// An event with no player, whose Swiss rounds are 1 to 9, and whose playoff is of 2, 4 or 8 players, or 0 for none. It takes no memory.
+    pub fn create(alloc: Global, name: Name, rounds: u8, cut: u8) -> Result<Event, Refusal>
+        ensures value { IfOk result (λ e. e ≡ created name rounds cut) }
+        ensures within { IsOk result ↔ ((1 ≤ rounds) × (rounds ≤ MAX_ROUNDS) × IsTrue (cut == 0 || cut == 2 || cut == 4 || cut == 8)) }
+        ensures refused { IfErr result (λ why. why ≡ Refusal.BadSetup) }
+    {
+        if !(1..=MAX_ROUNDS).contains(&rounds) || !matches!(cut, 0 | 2 | 4 | 8) {
+            return Err(Refusal::BadSetup);
+        }
+        Ok(Event {
+            name,
+            rounds,
+            cut,
+            phase: Phase::Enrolling,
+            players: Vec::new(alloc),
+            stored: Vec::new(alloc),
+            bracket: Bracket {
+                stages: Items::new(alloc),
+            },
+        })
+    }
+
+    pub fn name(&self) -> &Name
+        ensures value { result.now ≡ self.now.name }
+    {
+        &self.name
+    }
+
+    pub fn rounds(&self) -> u8
+        ensures value { result ≡ self.now.rounds }
+    {
+        self.rounds
+    }
+
+    pub fn cut(&self) -> u8
+        ensures value { result ≡ self.now.cut }
+    {
+        self.cut
+    }
+
+    pub fn phase(&self) -> Phase
+        ensures value { result ≡ self.now.phase }
+        ensures sound { IsSoundButForSeeds self.now }
+    {
+        self.phase
+    }
+
+    /// The players by number.
+    pub fn players(&self) -> &[Player]
+        ensures value { result.now ≡ self.now.players }
+        ensures sound { IsSoundButForSeeds self.now }
+    {
+        self.players.as_slice()
+    }
+
+    /// The Swiss rounds that were paired.
+    pub fn stored(&self) -> &[Round]
+        ensures value { result.now ≡ self.now.stored }
+    {
+        self.stored.as_slice()
+    }
+
+    pub fn bracket(&self) -> &Bracket
+        ensures value { result.now ≡ self.now.bracket }
+    {
+        &self.bracket
+    }
+}

@@ -1,0 +1,26 @@
+//! One tournament as a value that is always sound: its players, its stored rounds and its bracket,
+//! with the changes that keep it so.
+#![tactic(auto)]
+
+mod changes;
+mod events;
+mod items;
+mod names;
+mod players;
+mod refusals;
+mod rounds;
+mod rows;
+mod scores;
+
+pub use changes::Change;
+pub use events::{Event, MAX_ROUNDS, Phase};
+pub use items::Items;
+pub use names::{MAX_NAME_BYTES, Name, NameFault};
+pub use players::{MAX_PLAYERS, Player, PlayerNo};
+pub use refusals::{Cause, Command, MAX_SERIAL, Place, Receipt, Refusal};
+pub use rounds::{Bracket, Match, Round};
+pub use rows::{BracketRow, EventRow, PairingRow, PlayerRow};
+pub use scores::{Games, Score};
+
+#[cfg(test)]
+mod tests;

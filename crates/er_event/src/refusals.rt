@@ -1,0 +1,135 @@
+ghost use Rattle.std.specs.Prelude.{◌≡◌};
+
+use crate::items::Items;
+use crate::scores::{Games, Score};
+
+/// A table of an event's file.
+#[derive(Clone, Copy, Debug, PartialEq, Eq)]
+pub enum Place {
+    EventTable,
+    PlayerTable,
+    PairingTable,
+    BracketTable,
+}
+
+/// Why the store could not serve a call.
+#[derive(Clone, Copy, Debug, PartialEq, Eq)]
+pub enum Cause {
+    /// A call of the database was refused for another cause than memory.
+    Refused,
+    /// A row was read that the format does not allow.
+    BadRow,
+}
+
+/// What the scorekeeper asks for.
+#[derive(Debug, Drop)]
+pub enum Command {
+    Enrol { name: Items<u8> },
+    Start,
+    Pair { round: u8, seed: [u8; 32] },
+    Result { round: u8, table: u16, score: Games },
+    Correct { round: u8, table: u16, score: Games },
+    Drop { player: u16 },
+    Cut,
+    Playoff { stage: u8, slot: u8, score: Games },
+}
+
+/// How many commands an event may take.
+pub const MAX_SERIAL: u32 = 999_999;
+
+/// The answer to an accepted command: how many commands the event has taken, this one counted.
+#[derive(Clone, Copy, Debug, PartialEq, Eq)]
+pub struct Receipt {
+    pub serial: u32,
+}
+
+/// Why a call was refused. Each refusal has a number and a name, which no other has.
+#[derive(Clone, Copy, Debug, PartialEq, Eq)]
+pub enum Refusal {
+    BadName,
+    NameTaken,
+    PlayersFull,
+    NotEnrolling,
+    TooFewPlayers,
+    NotSwiss,
+    WrongRound { next: u8 },
+    RoundOpen { round: u8 },
+    AllRoundsPaired,
+    NoPairing,
+    Budget { steps: u32 },
+    NoSuchMatch,
+    BadScore,
+    AlreadyReported { score: Score },
+    NotReported,
+    IsBye,
+    NoSuchPlayer,
+    AlreadyDropped,
+    RoundsNotDone,
+    NoCut,
+    TooFewForCut,
+    NotPlayoff,
+    SerialFull,
+    Memory,
+    Store { cause: Cause },
+    NeedsReopen,
+    NoEvent,
+    EventExists,
+    Damaged { table: Place },
+    BadSetup,
+}
+
+impl Refusal {
+    ghost use Rattle.er_event.specs.Refusal.{entry_of};
+    ghost use Rattle.std.specs.Prelude.{◌≡◌};
+
+    /// The number and the name, as texts and answers show them.
+    fn entry(self) -> (u8, &'static str)
+        ensures number { result.0 ≡ (entry_of self).0 }
+        ensures name { result.1.now ≡ (entry_of self).1 }
+    {
+        match self {
+            Refusal::BadName => (1, "BadName"),
+            Refusal::NameTaken => (2, "NameTaken"),
+            Refusal::PlayersFull => (3, "PlayersFull"),
+            Refusal::NotEnrolling => (4, "NotEnrolling"),
+            Refusal::TooFewPlayers => (5, "TooFewPlayers"),
+            Refusal::NotSwiss => (6, "NotSwiss"),
+            Refusal::WrongRound { .. } => (7, "WrongRound"),
+            Refusal::RoundOpen { .. } => (8, "RoundOpen"),
+            Refusal::AllRoundsPaired => (9, "AllRoundsPaired"),
+            Refusal::NoPairing => (10, "NoPairing"),
+            Refusal::Budget { .. } => (11, "Budget"),
+            Refusal::NoSuchMatch => (12, "NoSuchMatch"),
+            Refusal::BadScore => (13, "BadScore"),
+            Refusal::AlreadyReported { .. } => (14, "AlreadyReported"),
+            Refusal::NotReported => (15, "NotReported"),
+            Refusal::IsBye => (16, "IsBye"),
+            Refusal::NoSuchPlayer => (17, "NoSuchPlayer"),
+            Refusal::AlreadyDropped => (18, "AlreadyDropped"),
+            Refusal::RoundsNotDone => (19, "RoundsNotDone"),
+            Refusal::NoCut => (20, "NoCut"),
+            Refusal::TooFewForCut => (21, "TooFewForCut"),
+            Refusal::NotPlayoff => (22, "NotPlayoff"),
+            Refusal::SerialFull => (23, "SerialFull"),
+            Refusal::Memory => (24, "Memory"),
+            Refusal::Store { .. } => (25, "Store"),
+            Refusal::NeedsReopen => (26, "NeedsReopen"),
+            Refusal::NoEvent => (27, "NoEvent"),
+            Refusal::EventExists => (28, "EventExists"),
+            Refusal::Damaged { .. } => (29, "Damaged"),
+            Refusal::BadSetup => (30, "BadSetup"),
+        }
+    }
+
+    pub fn number(self) -> u8
+        ensures { result ≡ (entry_of self).0 }
+    {
+        self.entry().0
+    }
+
+    pub fn name(self) -> &'static str
+        ensures { result.now ≡ (entry_of self).1 }
+    {
+        self.entry().1
+    }
+}

@@ -1,0 +1,59 @@
+ghost use Rattle.std.specs.Prelude.{◌≡◌, IfOk};
+
+use crate::items::Items;
+use crate::scores::Score;
+use std::alloc::{AllocError, Global};
+
+/// Two players at one table, or one player with a bye.
+#[derive(Clone, Copy, Debug, PartialEq, Eq)]
+pub struct Match {
+    /// The number of the first-named player.
+    pub a: u16,
+    /// The number of the second player, or 0 where the first has a bye.
+    pub b: u16,
+    /// The score, once it is reported.
+    pub score: Option<Score>,
+}
+
+/// A Swiss round: the matches of tables 1, 2, .., and then the bye, if there is one.
+#[derive(Debug, Drop)]
+pub struct Round {
+    pub matches: Items<Match>,
+}
+
+/// The playoff: the matches of each stage by slot.
+#[derive(Debug, Drop)]
+pub struct Bracket {
+    pub stages: Items<Items<Match>>,
+}
+
+impl Round {
+    pub fn copy(&self, alloc: Global) -> Result<Round, AllocError>
+        ensures { IfOk result (λ copy. copy ≡ self.now) }
+    {
+        Ok(Round {
+            matches: self.matches.copy(alloc)?,
+        })
+    }
+}
+
+fn copy_stages(alloc: Global, stages: &[Items<Match>]) -> Result<Vec<Items<Match>>, AllocError>
+    ensures { IfOk result (λ copies. copies.items ≡ stages.now) }
+{
+    let mut copies = Vec::with_capacity(alloc, stages.len())?;
+    for stage in stages {
+        copies.push(stage.copy(alloc)?)?;
+    }
+    Ok(copies)
+}
+
+impl Bracket {
+    pub fn copy(&self, alloc: Global) -> Result<Bracket, AllocError>
+        ensures { IfOk result (λ copy. copy ≡ self.now) }
+    {
+        let stages = copy_stages(alloc, self.stages.as_slice())?;
+        Ok(Bracket {
+            stages: Items::from(stages),
+        })
+    }
+}

@@ -1,0 +1,5 @@
+pub mod Examples
+pub mod Fractions
+pub mod Parts
+pub mod Shares
+pub mod Table

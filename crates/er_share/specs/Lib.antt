@@ -1,0 +1,4 @@
+pub mod Fraction
+pub mod Order
+pub mod Record
+pub mod Share

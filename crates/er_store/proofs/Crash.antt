@@ -1,0 +1,81 @@
+-- What a crash leaves of a change.
+use Rattle.std.proofs.Common.{refl, ◌≡◌, ◌⊎◌, inl, inr, ℕ, true, false, IsTrue, sym, ap, subst, ◌∙◌, arith}
+use Rattle.sqlite.specs.Tree.{Trees}
+use Rattle.sqlite.specs.Effect.{Database, IsDatabase}
+use Rattle.sqlite.specs.State as sqlite
+use Rattle.sqlite.specs.State.{State, HasCleanDisk, Survives}
+use Rattle.sqlite.proofs.StateLemmas.{survives_then}
+use Rattle.er_event.specs.Event.{EventValue}
+use Rattle.er_store.specs.Rows.{stored_event}
+use Rattle.er_store.specs.Standing.{StandsFor, IsNew, IsStored, Shows, Either, KeepsOthers}
+use Rattle.er_store.specs.Steps.{Makes, Puts, CreatesAll}
+use Rattle.er_store.proofs.Together.{moves_then, event_put}
+
+-- while the store is open, a crash leaves the last commit alone
+abbrev pub Settles : State → Type 0
+Settles s = (db : Trees) → IsTrue s.is_open → s.may_leave db → db ≡ s.committed.trees
+
+pub was_clean : (a b : State) (P : Trees → Type 0) → Survives a b P → HasCleanDisk b → HasCleanDisk a
+was_clean a b P s clean = let rises = s.clean in omega arith
+
+pub survives_self : (s : State) → Survives s s (λ _. ⊥)
+survives_self s = record { clean = omega arith; shield = λ h. h; counts = omega arith; limit = refl; closes = λ _ is_open. inl is_open; crash = λ _ db may. inl may }
+
+pub stored_at : (db : Database) (e : EventValue) (s : ℕ) → IsDatabase db → StandsFor db e s → (trees : Trees) → trees ≡ db.trees → IsStored e s trees
+stored_at db e s sound stands trees is = subst (IsStored e s) (sym is) (record { schema = db.schema; sound = sound; stands = stands })
+
+pub shows_leaves : (s : State) (e : EventValue) (serial : ℕ) → Settles s → Shows s e serial → (trees : Trees) → s.may_leave trees → IsStored e serial trees
+shows_leaves s e serial settles shows trees may =
+    stored_at s.now e serial shows.sound shows.stands trees (settles trees shows.is_open may ∙ ap (λ (d : Database). d.trees) (sym shows.settled))
+
+pub only : {A : Type 0} → A ⊎ ⊥ → A
+only (inl a) = a
+only (inr none) = absurd none
+
+module _ (old mid last end : State) (e e' : EventValue) (s t : ℕ) (was : Shows old e s) (one : Makes (record old { in_transaction = true }) mid e' s) (two : Makes mid last e' t) where
+  pub written : sqlite.Shows last end last.now last.now false → Shows end e' t × KeepsOthers old.now end.now
+  written done = (
+    record { is_open = done.is_open; sound = subst IsDatabase (sym done.now_is) two.moves.sound; settled = done.now_is ∙ sym done.committed_is; stands = subst (λ d. StandsFor d e' t) (sym done.now_is) two.stands },
+    subst (KeepsOthers old.now) (sym done.now_is) (moves_then (record old { in_transaction = true }) mid last one.moves two.moves).keeps,
+  )
+
+  pub leaves_new : (trees : Trees) → trees ≡ last.now.trees → IsStored e' t trees
+  leaves_new = stored_at last.now e' t two.moves.sound two.stands
+
+  -- a crash leaves what it could before, or the event after the change
+  pub leaves_either : Settles old → Survives (record old { in_transaction = true }) mid (λ _. ⊥) → Survives mid last (λ _. ⊥) → Survives last end (λ db. db ≡ last.now.trees)
+      → HasCleanDisk end → (trees : Trees) → end.may_leave trees → Either (IsStored e s) (IsStored e' t) trees
+  leaves_either settles first second third clean trees may =
+      let clean_last = was_clean last end _ third clean in
+      let clean_mid = was_clean mid last _ second clean_last in
+      elim (third.crash clean trees may) [
+        | inl early ↦ inl (shows_leaves old e s settles was trees (only (first.crash clean_mid trees (only (second.crash clean_last trees early)))))
+        | inr now ↦ inr (leaves_new trees now)
+      ]
+
+pub survives_both : (a b c : State) → Survives a b (λ _. ⊥) → Survives b c (λ _. ⊥) → Survives a c (λ _. ⊥)
+survives_both a b c = survives_then a b c (λ _. ⊥) (λ _. ⊥) (λ _. ⊥) (λ _ db none. none) (λ _ db none. none)
+
+-- where nothing was committed, a crash leaves the event before the change
+pub leaves_old : (old end : State) (e : EventValue) (s : ℕ) → Settles old → Shows old e s → Survives (record old { in_transaction = true }) end (λ _. ⊥) → HasCleanDisk end → (trees : Trees) → end.may_leave trees → IsStored e s trees
+leaves_old old end e s settles was quiet clean trees may = shows_leaves old e s settles was trees (only (quiet.crash clean trees may))
+
+-- the same of creation
+module _ (old mid last end : State) (e : EventValue) (fresh : IsNew e) (one : CreatesAll (record old { in_transaction = true }) mid) (two : Puts 0 (stored_event e 0) mid last) where
+  pub made : sqlite.Shows last end last.now last.now false → Shows end e 0
+  made done = record {
+    is_open = done.is_open;
+    sound = subst IsDatabase (sym done.now_is) two.goes.sound;
+    settled = done.now_is ∙ sym done.committed_is;
+    stands = subst (λ d. StandsFor d e 0) (sym done.now_is) (event_put (record old { in_transaction = true }) mid last e fresh one two);
+  }
+
+  pub leaves_none_or_new : Survives (record old { in_transaction = true }) mid (λ _. ⊥) → Survives mid last (λ _. ⊥) → Survives last end (λ db. db ≡ last.now.trees)
+      → HasCleanDisk end → (trees : Trees) → end.may_leave trees → Either old.may_leave (IsStored e 0) trees
+  leaves_none_or_new first second third clean trees may =
+      let clean_last = was_clean last end _ third clean in
+      let clean_mid = was_clean mid last _ second clean_last in
+      elim (third.crash clean trees may) [
+        | inl early ↦ inl (only (first.crash clean_mid trees (only (second.crash clean_last trees early))))
+        | inr now ↦ inr (stored_at last.now e 0 two.goes.sound (event_put (record old { in_transaction = true }) mid last e fresh one two) trees now)
+      ]

@@ -1,0 +1,9 @@
+pub mod Meaning
+pub mod Values
+pub mod Inserts
+pub mod Updates
+pub mod Effects
+pub mod Together
+pub mod Crash
+pub mod Creates
+pub mod Finding

@@ -1,0 +1,44 @@
+use Rattle.std.proofs.Common.{inl, inr, sym, subst, ◌∙◌, true≢false}
+use Rattle.sqlite.specs.Held.{state}
+use Rattle.er_store.specs.Tables.{no_schema}
+use Rattle.er_store.specs.Standing.{CanRead}
+use Rattle.er_store.proofs.Finding.{schema_kept}
+use Rattle.er_store.specs.Standing.{CanRead}
+use Rattle.er_store.proofs.Meaning.{unreadable}
+use Rattle.er_store.proofs.Effects.{can_read}
+use Rattle.er_store.proofs.Crash.{only}
+use Rattle.er_store.proofs.Store.create.Goals as goal
+
+pub returns-in-Ok-clause-created : goal.returns-in-Ok-clause-created
+returns-in-Ok-clause-created g c clean none =
+    let early = c.in-Ok.ensures.clean clean in
+    c.in-Ok.ensures.created clean (schema_kept (state g.S.Store c.args.conn) (state g.S.Store c.has_event.new.conn) no_schema (c.in-Ok-false.ensures.found early).1 none)
+
+pub returns-in-Ok-clause-acknowledged : goal.returns-in-Ok-clause-acknowledged
+returns-in-Ok-clause-acknowledged g c clean none =
+    let early = c.in-Ok.ensures.clean clean in
+    c.in-Ok.ensures.acknowledged clean (schema_kept (state g.S.Store c.args.conn) (state g.S.Store c.has_event.new.conn) no_schema (c.in-Ok-false.ensures.found early).1 none)
+
+pub returns-in-Ok-clause-absent : goal.returns-in-Ok-clause-absent
+returns-in-Ok-clause-absent g c clean =
+    let schema = (state g.S.Store c.args.conn).now.schema in
+    let found = (c.in-Ok-false.ensures.found (c.in-Ok.ensures.clean clean)).0 in
+    let none : CanRead schema → ⊥ = λ reads. true≢false (sym (found.1 reads) ∙ c.in-Ok-false.field-0-test) in
+    (none, λ has. none (can_read schema has))
+
+pub returns-in-Err-create_tables-clause-crash : goal.returns-in-Err-create_tables-clause-crash
+returns-in-Err-create_tables-clause-crash g c none clean trees may =
+    let old = state g.S.Store c.args.conn in
+    let mid = state g.S.Store c.has_event.new.conn in
+    let early = c.in-Err-create_tables.ensures.clean clean in
+    let kept = schema_kept old mid no_schema (c.in-Ok-false.ensures.found early).1 none in
+    elim (c.in-Err-create_tables.ensures.crash kept clean trees may) [
+      | inl before ↦ inl (only (c.in-Ok-false.ensures.survives.crash early trees before))
+      | inr made ↦ inr made
+    ]
+
+pub returns-in-Ok-true-clause-exists : goal.returns-in-Ok-true-clause-exists
+returns-in-Ok-true-clause-exists g c same clean =
+    let found = c.in-Ok-true.ensures.found clean in
+    let reads = found.0.0 c.in-Ok-true.field-0-test in
+    (reads, λ none. unreadable (subst CanRead none reads), found.1)

@@ -1,0 +1,189 @@
+-- The steps of a change, put together.
+use Rattle.std.proofs.Common.{◌≡◌, ◌≢◌, ◌≤◌, ◌+◌, ◌||◌, ℕ, Result, Ok, Err, IfOk, IfErr, OnOk, length, List, [], ◌∷◌, ◌++◌, map, Bool, false, refl, sym, ap, subst, ◌∙◌, arith, Ordering, Less, Equal, Greater}
+use Rattle.std.specs.Ordering.{match_ordering, is_eq}
+use Rattle.std.specs.List.{AllByRecursion}
+use Rattle.std.specs.List.Sorted.{IsPermutation}
+use Rattle.std.proofs.lemmas.List.Sorted.{IsPermutation-refl, IsPermutation-sym, IsPermutation-cons, IsPermutation-trans, IsPermutation-map, IsPermutation-to_front, IsPermutation-middle}
+use Rattle.std.proofs.lemmas.List.{map-append}
+use Rattle.sqlite.specs.Order.{Row, column, value_cmp}
+use Rattle.sqlite.specs.Table.{Table}
+use Rattle.sqlite.specs.Schema.{Schema}
+use Rattle.sqlite.specs.Tree.{Trees, put_row, rowid}
+use Rattle.sqlite.specs.Edit.{is_taken}
+use Rattle.sqlite.specs.Effect.{Database}
+use Rattle.sqlite.specs.State.{State}
+use Rattle.er_event.specs.Event.{EventValue}
+use Rattle.er_event.specs.Change.{new_player, with_player}
+use Rattle.er_event.specs.Rows.{event_row, player_row, player_rows, pairing_rows, pairing_rows_from, bracket_rows, bracket_rows_from}
+use Rattle.er_event.specs.declared.players.Player.{Player}
+use Rattle.er_store.specs.Tables.{our_schema}
+use Rattle.er_store.specs.Rows.{event_columns, player_columns, pairing_columns, bracket_columns, stored_event, stored_player, shown, event_places, player_places, pairing_places, bracket_places}
+use Rattle.er_store.specs.Standing.{HasTables, StandsFor, IsKeyed, IsNew, IsOther, KeepsOthers}
+use Rattle.er_store.specs.Steps.{Goes, Puts, Moves, Makes, CreatesAll}
+
+pub on_ok : {A E : Type 0} (r : Result A E) (P Q : Type 0) → (P → Q) → OnOk r P → OnOk r Q
+on_ok (Ok a) P Q f h = f h
+on_ok (Err e) P Q f h = tt
+
+pub if_ok : {A E : Type 0} (r : Result A E) (P Q : A → Type 0) → ((a : A) → P a → Q a) → IfOk r P → IfOk r Q
+if_ok (Ok a) P Q f h = f a h
+if_ok (Err e) P Q f h = tt
+
+pub if_err : {A E : Type 0} (r : Result A E) (P Q : E → Type 0) → ((e : E) → P e → Q e) → IfErr r P → IfErr r Q
+if_err (Ok a) P Q f h = tt
+if_err (Err e) P Q f h = f e h
+
+-- ---- a row with a free rowid is one more row
+
+put_apart : (r new : Row) (rs put : List Row) (o : Ordering) (taken : Bool) → (is_eq o || taken) ≡ false → (taken ≡ false → IsPermutation (new ∷ rs) put)
+    → IsPermutation (new ∷ r ∷ rs) (match_ordering o (r ∷ put) (new ∷ rs) (new ∷ r ∷ rs))
+put_apart r new rs put Less taken free more =
+    IsPermutation-trans _ _ _ (IsPermutation-sym _ _ (IsPermutation-middle (r ∷ []) new rs)) (IsPermutation-cons r (new ∷ rs) put (more free))
+put_apart r new rs put Equal taken free more = absurd (cc)
+put_apart r new rs put Greater taken free more = IsPermutation-refl (new ∷ r ∷ rs)
+
+pub put_permutes : (new : Row) (rows : List Row) → is_taken rows new ≡ false → IsPermutation (new ∷ rows) (put_row new rows)
+put_permutes new [] free = IsPermutation-refl (new ∷ [])
+put_permutes new (r ∷ rs) free = put_apart r new rs (put_row new rs) (value_cmp (rowid r) (rowid new)) (is_taken rs new) free (put_permutes new rs)
+
+-- the table shows the row and those before it
+pub shows_more : (places : List ℕ) (new : Row) (rows : List Row) (shows : Row) (before : List Row) → is_taken rows new ≡ false → map (column new) places ≡ shows → IsPermutation (shown places rows) before
+    → IsPermutation (shown places (put_row new rows)) (before ++ shows ∷ [])
+shows_more places new rows shows before free is was =
+    let put = IsPermutation-map (λ r. map (column r) places) (new ∷ rows) (put_row new rows) (put_permutes new rows free) in
+    let front : IsPermutation (map (column new) places ∷ shown places rows) (shows ∷ before) = subst (λ x. IsPermutation (map (column new) places ∷ shown places rows) (x ∷ before)) is (IsPermutation-cons _ _ _ was) in
+    IsPermutation-trans _ _ _ (IsPermutation-sym _ _ put) (IsPermutation-trans _ _ _ front (IsPermutation-sym _ _ (IsPermutation-to_front before shows)))
+
+-- ---- what a statement on one table leaves of the others
+
+pub record Kept (tree : ℕ) (old new : Trees) : Type 0 where
+  pub event : 0 ≢ tree → new 0 ≡ old 0
+  pub player : 1 ≢ tree → new 1 ≡ old 1
+  pub pairing : 3 ≢ tree → new 3 ≡ old 3
+  pub bracket : 6 ≢ tree → new 6 ≡ old 6
+
+pub kept : (tree : ℕ) (old new : State) → HasTables old.now.schema → Goes tree old new → Kept tree old.now.trees new.now.trees
+kept tree old new has goes =
+    let all = subst (λ ts. AllByRecursion (λ (t : Table). t.tree ≢ tree → new.now.trees t.tree ≡ old.now.trees t.tree) ts) has.are goes.others in
+    record { event = all.0; player = all.1.0; pairing = all.1.1.0; bracket = all.1.1.1.0 }
+
+others_kept : (tree : ℕ) (old new : Trees) → ((t : ℕ) → IsOther t → t ≢ tree) → (tables : List Table) → AllByRecursion (λ (t : Table). t.tree ≢ tree → new t.tree ≡ old t.tree) tables
+    → AllByRecursion (λ (t : Table). IsOther t.tree → new t.tree ≡ old t.tree) tables
+others_kept tree old new apart [] all = tt
+others_kept tree old new apart (t ∷ more) all = (λ other. all.0 (apart t.tree other), others_kept tree old new apart more all.1)
+
+pub goes_keeps : (tree : ℕ) (old new : State) → ((t : ℕ) → IsOther t → t ≢ tree) → Goes tree old new → KeepsOthers old.now new.now
+goes_keeps tree old new apart goes = others_kept tree old.now.trees new.now.trees apart old.now.schema.tables goes.others
+
+both_kept : (a b c : Trees) (tables : List Table) → AllByRecursion (λ (t : Table). IsOther t.tree → b t.tree ≡ a t.tree) tables → AllByRecursion (λ (t : Table). IsOther t.tree → c t.tree ≡ b t.tree) tables
+    → AllByRecursion (λ (t : Table). IsOther t.tree → c t.tree ≡ a t.tree) tables
+both_kept a b c [] p q = tt
+both_kept a b c (t ∷ more) p q = (λ other. q.0 other ∙ p.0 other, both_kept a b c more p.1 q.1)
+
+pub keeps_then : (a b c : Database) → b.schema ≡ a.schema → KeepsOthers a b → KeepsOthers b c → KeepsOthers a c
+keeps_then a b c same p q = both_kept a.trees b.trees c.trees a.schema.tables p (subst (λ (s : Schema). AllByRecursion (λ (t : Table). IsOther t.tree → c.trees t.tree ≡ b.trees t.tree) s.tables) same q)
+
+goes_moves : (tree : ℕ) (old new : State) → ((t : ℕ) → IsOther t → t ≢ tree) → Goes tree old new → Moves old new
+goes_moves tree old new apart goes = record { was = goes.was; shows = goes.shows; sound = goes.sound; keeps = goes_keeps tree old new apart goes; schema = goes.schema }
+
+pub moves_then : (a b c : State) → Moves a b → Moves b c → Moves a c
+moves_then a b c p q = record {
+  was = p.was;
+  shows = record { was_open = p.shows.was_open; is_open = q.shows.is_open; now_is = refl; committed_is = q.shows.committed_is ∙ p.shows.committed_is; mode = q.shows.mode };
+  sound = q.sound;
+  keeps = keeps_then a.now b.now c.now p.schema p.keeps q.keeps;
+  schema = q.schema ∙ p.schema;
+}
+
+-- ---- the changes
+
+-- the tables of pairings and of the bracket are as they were
+record Aside (db : Database) (e : EventValue) : Type 0 where
+  pub pairings : IsPermutation (shown pairing_places (db.trees 3)) (map pairing_columns (pairing_rows e))
+  pub bracket : IsPermutation (shown bracket_places (db.trees 6)) (map bracket_columns (bracket_rows e))
+  pub pairings_keyed : IsKeyed (db.trees 3)
+  pub bracket_keyed : IsKeyed (db.trees 6)
+
+aside : (old new : Database) (e : EventValue) (s : ℕ) → StandsFor old e s → new.trees 3 ≡ old.trees 3 → new.trees 6 ≡ old.trees 6 → Aside new e
+aside old new e s stands pairings bracket = record {
+  pairings = subst (λ rows. IsPermutation (shown pairing_places rows) (map pairing_columns (pairing_rows e))) (sym pairings) stands.pairings;
+  bracket = subst (λ rows. IsPermutation (shown bracket_places rows) (map bracket_columns (bracket_rows e))) (sym bracket) stands.bracket;
+  pairings_keyed = subst IsKeyed (sym pairings) stands.pairings_keyed;
+  bracket_keyed = subst IsKeyed (sym bracket) stands.bracket_keyed;
+}
+
+pub player_added : (old new : State) (e : EventValue) (s : ℕ) (name : List ℕ) → StandsFor old.now e s → Puts 1 (stored_player (length e.players + 1) name false) old new → Makes old new (with_player e name) s
+player_added old new e s name stands put =
+    let has = stands.tables in
+    let others = kept 1 old new has put.goes in
+    let row = stored_player (length e.players + 1) name false in
+    let p = new_player e.players name in
+    let rest = aside old.now new.now e s stands (others.pairing (λ e. cc)) (others.bracket (λ e. cc)) in
+    let shows : Player → Row = λ q. player_columns (player_row q) in
+    let all : map player_columns (map player_row (e.players ++ p ∷ [])) ≡ map player_columns (map player_row e.players) ++ shows p ∷ [] =
+    ap (map player_columns) (map-append player_row e.players (p ∷ [])) ∙ map-append player_columns (map player_row e.players) (player_row p ∷ []) in
+    record {
+      moves = goes_moves 1 old new (λ t other. other.1) put.goes;
+      stands = record {
+        low = stands.low;
+        tables = subst HasTables (sym put.goes.schema) has;
+        event = subst (λ rows. IsPermutation (shown event_places rows) (event_columns (event_row e s) ∷ [])) (sym (others.event (λ e. cc))) stands.event;
+        players = subst (λ rows. IsPermutation (shown player_places rows) (map player_columns (player_rows (with_player e name)))) (sym put.rows)
+            (subst (IsPermutation (shown player_places (put_row row (old.now.trees 1)))) (sym all)
+            (shows_more player_places row (old.now.trees 1) (shows p) (map player_columns (player_rows e)) put.free refl stands.players));
+        pairings = rest.pairings;
+        bracket = rest.bracket;
+        pairings_keyed = rest.pairings_keyed;
+        bracket_keyed = rest.bracket_keyed;
+      };
+    }
+
+-- the serial alone is another
+pub serial_set : (old new : State) (e : EventValue) (s t : ℕ) → t ≤ 999999 → StandsFor old.now e s → Goes 0 old new → new.now.trees 0 ≡ stored_event e t ∷ [] → Makes old new e t
+serial_set old new e s t low stands goes set =
+    let has = stands.tables in
+    let others = kept 0 old new has goes in
+    let rest = aside old.now new.now e s stands (others.pairing (λ e. cc)) (others.bracket (λ e. cc)) in
+    record {
+      moves = goes_moves 0 old new (λ t other. other.0) goes;
+      stands = record {
+        low = low;
+        tables = subst HasTables (sym goes.schema) has;
+        event = subst (λ rows. IsPermutation (shown event_places rows) (event_columns (event_row e t) ∷ [])) (sym set) (IsPermutation-refl _);
+        players = subst (λ rows. IsPermutation (shown player_places rows) (map player_columns (player_rows e))) (sym (others.player (λ e. cc))) stands.players;
+        pairings = rest.pairings;
+        bracket = rest.bracket;
+        pairings_keyed = rest.pairings_keyed;
+        bracket_keyed = rest.bracket_keyed;
+      };
+    }
+
+-- ---- creation
+
+pub ours_has : (schema : Schema) → schema ≡ our_schema → HasTables schema
+ours_has schema is = record { others = []; are = ap (λ s. s.tables) is; apart = tt }
+
+no_rows : (places : List ℕ) (rows shows : List Row) → rows ≡ [] → shows ≡ [] → IsPermutation (shown places rows) shows
+no_rows places rows shows none nothing = subst (IsPermutation (shown places rows)) (sym nothing) (subst (λ (r : List Row). IsPermutation (shown places r) []) (sym none) (IsPermutation-refl []))
+
+keyed_none : (rows : List Row) → rows ≡ [] → IsKeyed rows
+keyed_none rows none = subst IsKeyed (sym none) (record { rise = tt; numbers = refl })
+
+pub event_put : (old mid new : State) (e : EventValue) → IsNew e → CreatesAll old mid → Puts 0 (stored_event e 0) mid new → StandsFor new.now e 0
+event_put old mid new e fresh all put =
+    let has = ours_has mid.now.schema all.schema in
+    let others = kept 0 mid new has put.goes in
+    let set : new.now.trees 0 ≡ stored_event e 0 ∷ [] = put.rows ∙ ap (put_row (stored_event e 0)) all.event in
+    let players : new.now.trees 1 ≡ [] = others.player (λ e. cc) ∙ all.player in
+    let pairings : new.now.trees 3 ≡ [] = others.pairing (λ e. cc) ∙ all.pairing in
+    let bracket : new.now.trees 6 ≡ [] = others.bracket (λ e. cc) ∙ all.bracket in
+    record {
+      low = omega arith;
+      tables = subst HasTables (sym put.goes.schema) has;
+      event = subst (λ rows. IsPermutation (shown event_places rows) (event_columns (event_row e 0) ∷ [])) (sym set) (IsPermutation-refl _);
+      players = no_rows player_places (new.now.trees 1) (map player_columns (player_rows e)) players (ap (λ ps. map player_columns (map player_row ps)) fresh.players);
+      pairings = no_rows pairing_places (new.now.trees 3) (map pairing_columns (pairing_rows e)) pairings (ap (λ rs. map pairing_columns (pairing_rows_from 1 rs)) fresh.stored);
+      bracket = no_rows bracket_places (new.now.trees 6) (map bracket_columns (bracket_rows e)) bracket (ap (λ ss. map bracket_columns (bracket_rows_from 1 ss)) fresh.bracket);
+      pairings_keyed = keyed_none (new.now.trees 3) pairings;
+      bracket_keyed = keyed_none (new.now.trees 6) bracket;
+    }

@@ -1,0 +1,48 @@
+use Rattle.std.proofs.Common.{◌≡◌, true, OnOk, sym, subst, rules}
+use Rattle.sqlite.specs.State.{HasCleanDisk}
+use Rattle.sqlite.specs.Held.{Held, state}
+use Rattle.er_store.specs.Tables.{no_schema}
+use Rattle.er_store.specs.Rows.{stored_event}
+use Rattle.er_store.specs.Standing.{Shows}
+use Rattle.er_store.specs.Steps.{Puts, CreatesAll}
+use Rattle.er_store.proofs.Together.{on_ok, ours_has}
+use Rattle.er_store.proofs.Crash.{was_clean, made, leaves_none_or_new, shows_leaves}
+use Rattle.er_store.proofs.transactions.create_tables.Given as given
+use Rattle.er_store.proofs.transactions.create_tables.Goals as goal
+
+-- both steps went well, as they did where the commit is reached
+steps : (g : given.Over) (c : goal.After-conn-2-1 g) → HasCleanDisk (state g.S.Store c.commit.new.self.0) → (state g.S.Store c.args.conn.now).now.schema ≡ no_schema
+    → CreatesAll (record (state g.S.Store c.args.conn.now) { in_transaction = true }) (state g.S.Store c.create_all.new.tx.conn.now)
+    × Puts 0 (stored_event c.args.event.now 0) (state g.S.Store c.create_all.new.tx.conn.now) (state g.S.Store c.insert_event.new.tx.conn.now)
+steps g c late none =
+    let mid = state g.S.Store c.create_all.new.tx.conn.now in
+    let last = state g.S.Store c.insert_event.new.tx.conn.now in
+    let clean_last = was_clean last (state g.S.Store c.commit.new.self.0) _ c.commit.ensures.survives late in
+    let clean_mid = was_clean mid last _ c.insert_event.ensures.survives clean_last in
+    let begins = rw c.transaction-tx.ensures.begun at (c.in_ok-create_all.ensures.creates clean_mid) in
+    let one = begins none in
+    (one, c.in_ok-insert_event.ensures.puts clean_last (ours_has mid.now.schema one.schema))
+
+pub returns-clause-created : goal.returns-clause-created
+returns-clause-created g c clean none =
+    let end = c.commit.new.self.0 in
+    let same : end ≡ c.conn-2-1.given.0 = search rules in
+    let late : HasCleanDisk (state g.S.Store end) = search rules in
+    let both = steps g c late none in
+    subst (λ (h : Held g.row.S.Denot). OnOk c.commit.result (Shows (state g.S.Store h) c.args.event.now 0)) same
+    (on_ok c.commit.result _ _ (λ done. made (state g.S.Store c.args.conn.now) _ _ (state g.S.Store end) c.args.event.now c.requires.fresh both.0 both.1 done.1) (c.commit.ensures.ok late))
+
+pub returns-clause-acknowledged : goal.returns-clause-acknowledged
+returns-clause-acknowledged g c clean none =
+    on_ok c.commit.result _ _ (λ shown. shows_leaves (state g.S.Store c.conn-2-1.given.0) _ _ (λ db is_open may. g.met.S.Store.settled c.conn-2-1.given.0.store db is_open may) shown) (returns-clause-created g c clean none)
+
+pub returns-clause-crash : goal.returns-clause-crash
+returns-clause-crash g c none clean trees may =
+    let old = state g.S.Store c.args.conn.now in
+    let end = c.commit.new.self.0 in
+    let same : end ≡ c.conn-2-1.given.0 = search rules in
+    let late : HasCleanDisk (state g.S.Store end) = search rules in
+    let both = steps g c late none in
+    leaves_none_or_new old _ _ (state g.S.Store end) c.args.event.now c.requires.fresh both.0 both.1
+    (rw c.transaction-tx.ensures.begun at c.create_all.ensures.survives) c.insert_event.ensures.survives c.commit.ensures.survives
+    late trees (subst (λ (h : Held g.row.S.Denot). (state g.S.Store h).may_leave trees) (sym same) may)

@@ -1,0 +1,6 @@
+pub mod Tables
+pub mod Rows
+pub mod Standing
+pub mod Steps
+pub mod Fault
+pub mod Store

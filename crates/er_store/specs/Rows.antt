@@ -1,0 +1,53 @@
+-- The rows of an event, as SQL shows them and as they are stored.
+use Rattle.std.specs.Prelude.{ℕ, pos, Bool, List, [], ◌∷◌, map}
+use Rattle.sqlite.specs.declared.types.Value.{Value}
+use Rattle.sqlite.specs.declared.types.Value.TheVariants.{Null, Int, Text}
+use Rattle.sqlite.specs.Order.{Row, column}
+use Rattle.er_event.specs.declared.rows.EventRow.{EventRow}
+use Rattle.er_event.specs.declared.rows.PlayerRow.{PlayerRow}
+use Rattle.er_event.specs.declared.rows.PairingRow.{PairingRow}
+use Rattle.er_event.specs.declared.rows.BracketRow.{BracketRow}
+use Rattle.er_event.specs.Event.{EventValue}
+use Rattle.er_event.specs.Rows.{flag, phase_code}
+
+abbrev pub number : ℕ → Value
+number n = Int (pos n)
+
+-- id, version, serial, name, rounds, cut, phase
+abbrev pub event_columns : EventRow → Row
+event_columns r = Int r.id ∷ Int r.version ∷ Int r.serial ∷ Text r.name ∷ Int r.rounds ∷ Int r.cut ∷ Int r.phase ∷ []
+
+-- no, name, dropped
+abbrev pub player_columns : PlayerRow → Row
+player_columns r = Int r.no ∷ Text r.name ∷ Int r.dropped ∷ []
+
+-- round, tab, lo, hi, swapped, done, x, y, d
+abbrev pub pairing_columns : PairingRow → Row
+pairing_columns r = Int r.round ∷ Int r.tab ∷ Int r.lo ∷ Int r.hi ∷ Int r.swapped ∷ Int r.done ∷ Int r.x ∷ Int r.y ∷ Int r.d ∷ []
+
+-- stage, slot, a, b, done, x, y, d
+abbrev pub bracket_columns : BracketRow → Row
+bracket_columns r = Int r.stage ∷ Int r.slot ∷ Int r.a ∷ Int r.b ∷ Int r.done ∷ Int r.x ∷ Int r.y ∷ Int r.d ∷ []
+
+-- the stored rows at these places, of which 0 is the rowid
+abbrev pub shown : List ℕ → List Row → List Row
+shown places rows = map (λ r. map (column r) places) rows
+
+abbrev pub event_places : List ℕ
+event_places = 0 ∷ 2 ∷ 3 ∷ 4 ∷ 5 ∷ 6 ∷ 7 ∷ []
+
+abbrev pub player_places : List ℕ
+player_places = 0 ∷ 2 ∷ 3 ∷ []
+
+abbrev pub pairing_places : List ℕ
+pairing_places = 1 ∷ 2 ∷ 3 ∷ 4 ∷ 5 ∷ 6 ∷ 7 ∷ 8 ∷ 9 ∷ []
+
+abbrev pub bracket_places : List ℕ
+bracket_places = 1 ∷ 2 ∷ 3 ∷ 4 ∷ 5 ∷ 6 ∷ 7 ∷ 8 ∷ []
+
+-- the row of the event as it is stored, with NULL in the column that is the rowid
+abbrev pub stored_event : EventValue → ℕ → Row
+stored_event e serial = number 1 ∷ Null ∷ number 1 ∷ number serial ∷ Text e.name ∷ number e.rounds ∷ number e.cut ∷ number (phase_code e.phase) ∷ []
+
+abbrev pub stored_player : ℕ → List ℕ → Bool → Row
+stored_player number name dropped = Int (pos number) ∷ Null ∷ Text name ∷ Int (flag dropped) ∷ []

@@ -1,0 +1,88 @@
+-- When the tables of a database stand for an event and its serial.
+use Rattle.std.specs.Prelude.{◌≡◌, ◌≢◌, ◌≤◌, ◌⊎◌, ℕ, true, List, [], ◌∷◌, map, Some, IsTrue, IsOk, IsPermutation}
+use Rattle.sqlite.specs.Order.{Row}
+use Rattle.std.specs.List.{AllByRecursion}
+use Rattle.sqlite_schema.specs.Rules.{ParentKey, parent_key}
+use Rattle.sqlite_schema.specs.declared.schema.Reference.{Reference}
+use Rattle.sqlite_catalog.specs.Listing.{IsSound}
+use Rattle.sqlite.specs.Tree.{Trees}
+use Rattle.sqlite.specs.Table.{Table}
+use Rattle.sqlite.specs.Schema.{Schema}
+use Rattle.sqlite.specs.Effect.{Database, IsDatabase}
+use Rattle.sqlite.specs.State.{State, HasCleanDisk}
+use Rattle.sqlite.specs.Listing.{understood}
+use Rattle.sqlite_trees.specs.Tree.{IsTable}
+use Rattle.sqlite_rules.specs.Edit.{have_rowids}
+use Rattle.er_event.specs.declared.refusals.TheConstants.{MAX_SERIAL}
+use Rattle.er_event.specs.Event.{EventValue}
+use Rattle.er_event.specs.Rows.{event_row, player_rows, pairing_rows, bracket_rows}
+use Rattle.er_store.specs.Tables.{event, player, pairing, bracket, find_event}
+use Rattle.er_store.specs.Rows.{event_columns, player_columns, pairing_columns, bracket_columns, shown, event_places, player_places, pairing_places, bracket_places}
+
+abbrev pub with_ours : List Table → List Table
+with_ours others = event 0 ∷ player 1 ∷ pairing 3 ∷ bracket 6 ∷ others
+
+-- the tree is of none of the four tables
+abbrev pub IsOther : ℕ → Type 0
+IsOther tree = (tree ≢ 0) × (tree ≢ 1) × (tree ≢ 3) × (tree ≢ 6)
+
+-- a foreign key of another table that does not lead to one of the four
+abbrev pub LeadsElsewhere : List Table → Reference → Type 0
+LeadsElsewhere tables ref = (key : ParentKey) → parent_key tables ref ≡ Some key → IsOther key.0
+
+-- the four tables stand first, and no other table refers to them
+pub record HasTables (schema : Schema) : Type 0 where
+  pub others : List Table
+  pub are : schema.tables ≡ with_ours others
+  pub apart : AllByRecursion (λ t. AllByRecursion (LeadsElsewhere (with_ours others)) t.references) others
+
+-- each row has a rowid of its own, and they rise
+pub record IsKeyed (rows : List Row) : Type 0 where
+  pub rise : IsTable rows
+  pub numbers : have_rowids rows ≡ true
+
+-- the tables have the schema, and their rows are the event's, in any order
+pub record StandsFor (db : Database) (e : EventValue) (serial : ℕ) : Type 0 where
+  pub low : serial ≤ MAX_SERIAL
+  pub tables : HasTables db.schema
+  pub event : IsPermutation (shown event_places (db.trees 0)) (event_columns (event_row e serial) ∷ [])
+  pub players : IsPermutation (shown player_places (db.trees 1)) (map player_columns (player_rows e))
+  pub pairings : IsPermutation (shown pairing_places (db.trees 3)) (map pairing_columns (pairing_rows e))
+  pub bracket : IsPermutation (shown bracket_places (db.trees 6)) (map bracket_columns (bracket_rows e))
+  -- the rowids of these two are shown by no column
+  pub pairings_keyed : IsKeyed (db.trees 3)
+  pub bracket_keyed : IsKeyed (db.trees 6)
+
+-- nobody is enrolled, and nothing is paired
+pub record IsNew (e : EventValue) : Type 0 where
+  pub players : e.players ≡ []
+  pub stored : e.stored ≡ []
+  pub bracket : e.bracket.stages ≡ []
+
+-- a table or view `event` can be read
+abbrev pub CanRead : Schema → Type 0
+CanRead schema = IsOk (understood schema find_event)
+
+-- what a crash leaves stands for the event
+pub record IsStored (e : EventValue) (serial : ℕ) (trees : Trees) : Type 0 where
+  pub schema : Schema
+  pub sound : IsSound schema trees
+  pub stands : StandsFor (record { schema = schema; trees = trees }) e serial
+
+-- the connection sees the event, with nothing pending
+pub record Shows (s : State) (e : EventValue) (serial : ℕ) : Type 0 where
+  pub is_open : IsTrue s.is_open
+  pub sound : IsDatabase s.now
+  pub settled : s.now ≡ s.committed
+  pub stands : StandsFor s.now e serial
+
+-- each thing that a crash may leave
+abbrev pub Leaves : State → (Trees → Type 0) → Type 0
+Leaves s P = HasCleanDisk s → (trees : Trees) → s.may_leave trees → P trees
+
+abbrev pub Either : (Trees → Type 0) → (Trees → Type 0) → Trees → Type 0
+Either P Q trees = P trees ⊎ Q trees
+
+-- the rows of the other tables
+abbrev pub KeepsOthers : Database → Database → Type 0
+KeepsOthers old new = AllByRecursion (λ t. IsOther t.tree → new.trees t.tree ≡ old.trees t.tree) old.schema.tables

@@ -1,0 +1,60 @@
+-- What one statement does within a transaction.
+use Rattle.std.specs.Prelude.{◌≡◌, ◌≢◌, ℕ, true, false, [], IsTrue}
+use Rattle.std.specs.List.{AllByRecursion}
+use Rattle.sqlite.specs.Tree.{put_row}
+use Rattle.sqlite.specs.Schema.{Schema}
+use Rattle.sqlite.specs.Change.{next_tree, KeepsRows}
+use Rattle.sqlite.specs.Order.{Row}
+use Rattle.sqlite.specs.Effect.{IsDatabase}
+use Rattle.sqlite.specs.State.{State, Shows}
+use Rattle.sqlite_rules.specs.Edit.{is_taken}
+use Rattle.er_event.specs.Event.{EventValue}
+use Rattle.er_store.specs.Tables.{our_schema}
+use Rattle.er_store.specs.Standing.{StandsFor, KeepsOthers}
+
+-- the transaction goes on, and no other table has changed
+pub record Goes (tree : ℕ) (old new : State) : Type 0 where
+  pub was : IsTrue old.in_transaction
+  pub shows : Shows old new new.now old.committed true
+  pub sound : IsDatabase new.now
+  pub schema : new.now.schema ≡ old.now.schema
+  pub others : AllByRecursion (λ t. t.tree ≢ tree → new.now.trees t.tree ≡ old.now.trees t.tree) old.now.schema.tables
+
+-- the row was put into the tree, where its rowid was free
+pub record Puts (tree : ℕ) (row : Row) (old new : State) : Type 0 where
+  pub goes : Goes tree old new
+  pub free : is_taken (old.now.trees tree) row ≡ false
+  pub rows : new.now.trees tree ≡ put_row row (old.now.trees tree)
+
+-- The transaction goes on from the one to the other, and the other tables of the file are as they were.
+pub record Moves (old new : State) : Type 0 where
+  pub was : IsTrue old.in_transaction
+  pub shows : Shows old new new.now old.committed true
+  pub sound : IsDatabase new.now
+  pub keeps : KeepsOthers old.now new.now
+  pub schema : new.now.schema ≡ old.now.schema
+
+-- what a step makes of tables that stand for an event
+pub record Makes (old new : State) (e : EventValue) (serial : ℕ) : Type 0 where
+  pub moves : Moves old new
+  pub stands : StandsFor new.now e serial
+
+-- A table was made, with no row. The rows of the other tables stay.
+pub record Creates (before after : Schema) (old new : State) : Type 0 where
+  pub was : IsTrue old.in_transaction
+  pub shows : Shows old new new.now old.committed true
+  pub sound : IsDatabase new.now
+  pub schema : new.now.schema ≡ after
+  pub empty : new.now.trees (next_tree before) ≡ []
+  pub others : KeepsRows before.tables old.now.trees new.now.trees
+
+-- the four tables were made in an empty schema
+pub record CreatesAll (old new : State) : Type 0 where
+  pub was : IsTrue old.in_transaction
+  pub shows : Shows old new new.now old.committed true
+  pub sound : IsDatabase new.now
+  pub schema : new.now.schema ≡ our_schema
+  pub event : new.now.trees 0 ≡ []
+  pub player : new.now.trees 1 ≡ []
+  pub pairing : new.now.trees 3 ≡ []
+  pub bracket : new.now.trees 6 ≡ []

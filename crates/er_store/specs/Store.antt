@@ -1,0 +1,19 @@
+-- What a store shows.
+use Rattle.std.specs.Prelude.{Bool}
+use Rattle.sqlite_trees.specs.declared.store.Store.{Ghosts}
+use Rattle.sqlite.specs.State.{State}
+use Rattle.sqlite.specs.Held as sqlite
+use Rattle.sqlite.specs.Held.{Held}
+use Rattle.er_store.specs.declared.Store.{Store}
+
+-- the connection that it has
+abbrev pub connection : {S : Type 0} {g : Ghosts S} → Store S g → Held S
+connection store = store.conn
+
+-- what its connection shows
+abbrev pub state : {S : Type 0} (g : Ghosts S) → Store S g → State
+state g store = sqlite.state g (connection store)
+
+-- a fault has ended it
+abbrev pub is_stopped : {S : Type 0} {g : Ghosts S} → Store S g → Bool
+is_stopped store = store.needs_reopen

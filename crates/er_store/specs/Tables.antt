@@ -1,0 +1,139 @@
+-- The four tables of an event, as the texts that make them say.
+use Rattle.std.specs.Prelude.{ℕ, pos, Bool, true, false, List, [], ◌∷◌, Some, None, codes}
+use Rattle.er_store.specs.declared.creation.TheConstants.{CREATE_EVENT, CREATE_PLAYER, CREATE_PAIRING, CREATE_BRACKET}
+use Rattle.er_store.specs.declared.statements.TheConstants.{INSERT_EVENT, INSERT_PLAYER, SET_SERIAL}
+use Rattle.er_store.specs.declared.transactions.TheConstants.{FIND_EVENT}
+use Rattle.sqlite.specs.declared.types.Value.TheVariants.{Null, Int}
+use Rattle.sqlite.specs.Collation.TheVariants.{Binary}
+use Rattle.sqlite.specs.Kind.{Kind}
+use Rattle.sqlite.specs.Kind.TheVariants.{Integer, Text}
+use Rattle.sqlite.specs.Term.{lit, col, op2}
+use Rattle.sqlite.specs.Table.{Table}
+use Rattle.sqlite.specs.Schema.{Schema}
+use Rattle.sqlite_sql.specs.declared.ops.BinaryOp.TheVariants.{Compare}
+use Rattle.sqlite_sql.specs.declared.ops.CompareOp.TheVariants.{Eq, Lt}
+use Rattle.sqlite_schema.specs.declared.schema.Column.{Column}
+use Rattle.sqlite_schema.specs.declared.schema.Index.{Index}
+
+abbrev pub event_text : List ℕ
+event_text = CREATE_EVENT.now
+
+abbrev pub player_text : List ℕ
+player_text = CREATE_PLAYER.now
+
+abbrev pub pairing_text : List ℕ
+pairing_text = CREATE_PAIRING.now
+
+abbrev pub bracket_text : List ℕ
+bracket_text = CREATE_BRACKET.now
+
+abbrev pub plain : List ℕ → Kind → Bool → Column
+plain name kind not_null = record { name = name; kind = kind; is_strict = false; not_null = not_null; default = Null; collation = Binary }
+
+-- a NOT NULL column of integers
+abbrev pub number : List ℕ → Column
+number name = plain name Integer true
+
+abbrev pub event : ℕ → Table
+event tree = record {
+  name = codes "event";
+  tree = tree;
+  columns = plain (codes "id") Integer false ∷ number (codes "version") ∷ number (codes "serial") ∷ plain (codes "name") Text true ∷ number (codes "rounds") ∷ number (codes "cut") ∷ number (codes "phase") ∷ [];
+  key = Some 0;
+  primary = 0 ∷ [];
+  uniques = [];
+  orders = [];
+  checks = op2 (Compare Eq Binary) (col 1 0) (lit (Int (pos 1))) ∷ [];
+  references = [];
+  computed = [];
+  stamps = record { places = []; terms = []; formats = [] };
+  is_counted = false;
+}
+
+abbrev pub player : ℕ → Table
+player tree = record {
+  name = codes "player";
+  tree = tree;
+  columns = plain (codes "no") Integer false ∷ plain (codes "name") Text true ∷ number (codes "dropped") ∷ [];
+  key = Some 0;
+  primary = 0 ∷ [];
+  uniques = (2 ∷ []) ∷ [];
+  orders = record { digits = 0 } ∷ [];
+  checks = [];
+  references = [];
+  computed = [];
+  stamps = record { places = []; terms = []; formats = [] };
+  is_counted = false;
+}
+
+abbrev pub pairing : ℕ → Table
+pairing tree = record {
+  name = codes "pairing";
+  tree = tree;
+  columns = number (codes "round") ∷ number (codes "tab") ∷ number (codes "lo") ∷ number (codes "hi") ∷ number (codes "swapped") ∷ number (codes "done") ∷ number (codes "x") ∷ number (codes "y") ∷ number (codes "d") ∷ [];
+  key = None;
+  primary = 1 ∷ 2 ∷ [];
+  uniques = (1 ∷ 2 ∷ []) ∷ (3 ∷ 4 ∷ []) ∷ [];
+  orders = record { digits = 0 } ∷ record { digits = 0 } ∷ [];
+  checks = op2 (Compare Lt Binary) (col 1 3) (col 1 4) ∷ [];
+  references = [];
+  computed = [];
+  stamps = record { places = []; terms = []; formats = [] };
+  is_counted = false;
+}
+
+abbrev pub bracket : ℕ → Table
+bracket tree = record {
+  name = codes "bracket";
+  tree = tree;
+  columns = number (codes "stage") ∷ number (codes "slot") ∷ number (codes "a") ∷ number (codes "b") ∷ number (codes "done") ∷ number (codes "x") ∷ number (codes "y") ∷ number (codes "d") ∷ [];
+  key = None;
+  primary = 1 ∷ 2 ∷ [];
+  uniques = (1 ∷ 2 ∷ []) ∷ [];
+  orders = record { digits = 0 } ∷ [];
+  checks = [];
+  references = [];
+  computed = [];
+  stamps = record { places = []; terms = []; formats = [] };
+  is_counted = false;
+}
+
+-- the indexes that SQLite makes for the keys
+abbrev pub key : List ℕ → ℕ → ℕ → List ℕ → Index
+key name tree table columns = record { name = name; tree = tree; table = table; columns = columns; order = record { digits = 0 }; is_unique = true }
+
+abbrev pub no_schema : Schema
+no_schema = record { tables = []; indexes = []; views = [] }
+
+abbrev pub event_schema : Schema
+event_schema = record { tables = event 0 ∷ []; indexes = []; views = [] }
+
+abbrev pub player_schema : Schema
+player_schema = record { tables = event 0 ∷ player 1 ∷ []; indexes = key (codes "sqlite_autoindex_player_1") 2 1 (2 ∷ []) ∷ []; views = [] }
+
+abbrev pub pairing_schema : Schema
+pairing_schema = record {
+  tables = event 0 ∷ player 1 ∷ pairing 3 ∷ [];
+  indexes = key (codes "sqlite_autoindex_player_1") 2 1 (2 ∷ []) ∷ key (codes "sqlite_autoindex_pairing_1") 4 3 (1 ∷ 2 ∷ []) ∷ key (codes "sqlite_autoindex_pairing_2") 5 3 (3 ∷ 4 ∷ []) ∷ [];
+  views = [];
+}
+
+abbrev pub our_schema : Schema
+our_schema = record {
+  tables = event 0 ∷ player 1 ∷ pairing 3 ∷ bracket 6 ∷ [];
+  indexes = key (codes "sqlite_autoindex_player_1") 2 1 (2 ∷ []) ∷ key (codes "sqlite_autoindex_pairing_1") 4 3 (1 ∷ 2 ∷ []) ∷ key (codes "sqlite_autoindex_pairing_2") 5 3 (3 ∷ 4 ∷ []) ∷ key (codes "sqlite_autoindex_bracket_1") 7 6 (1 ∷ 2 ∷ []) ∷ [];
+  views = [];
+}
+
+abbrev pub insert_event : List ℕ
+insert_event = INSERT_EVENT.now
+
+abbrev pub insert_player : List ℕ
+insert_player = INSERT_PLAYER.now
+
+abbrev pub set_serial : List ℕ
+set_serial = SET_SERIAL.now
+
+-- whether a table `event` can be read
+abbrev pub find_event : List ℕ
+find_event = FIND_EVENT.now

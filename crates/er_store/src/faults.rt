@@ -1,0 +1,18 @@
+ghost use Rattle.std.specs.Prelude.{◌≡◌};
+ghost use Rattle.er_store.specs.Fault.{refusal_of, IsFault};
+
+use er_event::{Cause, Refusal};
+use sqlite::{Error, ErrorCode};
+
+/// What a refusal of the database means to a caller.
+pub fn refusal_of(error: Error) -> Refusal
+    ensures value { result ≡ refusal_of error }
+    ensures fault { IsFault result }
+{
+    match error {
+        Error::SqliteFailure(ErrorCode::OutOfMemory) => Refusal::Memory,
+        _ => Refusal::Store {
+            cause: Cause::Refused,
+        },
+    }
+}

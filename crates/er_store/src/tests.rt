@@ -1,0 +1,225 @@
+ghost use Rattle.std.specs.Prelude.{◌≡◌, ◌<◌, false, IfOk};
+ghost use Rattle.er_store.specs.Standing.{IsNew};
+
+use super::*;
+use er_event::Name;
+use sqlite::{Error, MemStore};
+use std::alloc::Global;
+use std::test::Fail;
+
+// These have no clause, so that the proof of a test does not carry the state of each call.
+fn name(alloc: Global, text: &str) -> Result<Name, Fail> {
+    Ok(Name::try_from_bytes(alloc, text.as_bytes())?)
+}
+
+fn number(conn: &mut Connection<MemStore>, sql: &str) -> Result<i64, Error> {
+    conn.query_row(sql, &[])?.get(0)
+}
+
+fn text(conn: &mut Connection<MemStore>, sql: &str) -> Result<String, Error> {
+    conn.query_row(sql, &[])?.get(0)
+}
+
+fn run(conn: &mut Connection<MemStore>, sql: &str) -> Result<usize, Error> {
+    conn.execute(sql, &[])
+}
+
+/// A new event named Friday, of three rounds and no cut.
+fn friday(alloc: Global) -> Result<Event, Fail>
+    ensures { IfOk result IsNew }
+{
+    let title = name(alloc, "Friday")?;
+    match Event::create(alloc, title, 3, 0) {
+        Ok(event) => Ok(event),
+        Err(_) => Err("the event is lawful")?,
+    }
+}
+
+type Made = Result<Store<MemStore>, (Connection<MemStore>, Refusal)>;
+
+fn create(conn: Connection<MemStore>, event: &Event) -> Made
+    requires mode { conn.in_transaction ≡ false }
+    requires fresh { IsNew event.now }
+{
+    Store::create(conn, event)
+}
+
+fn create_again(store: Store<MemStore>, event: &Event) -> Made
+    requires { IsNew event.now }
+{
+    create(store.into_connection(), event)
+}
+
+fn in_memory(alloc: Global, event: &Event) -> Result<Store<MemStore>, Fail>
+    requires { IsNew event.now }
+{
+    let conn = Connection::open_in_memory(alloc)?;
+    Ok(create(conn, event).ok().ok_or("created")?)
+}
+
+fn write(
+    store: &mut Store<MemStore>,
+    event: &Event,
+    change: &Change,
+    serial: u32,
+) -> Result<(), Refusal>
+    requires { serial < 999999 }
+{
+    store.write(event, change, serial)
+}
+
+fn enrol(
+    alloc: Global,
+    store: &mut Store<MemStore>,
+    event: &Event,
+    text: &str,
+    serial: u32,
+) -> Result<Result<(), Refusal>, Fail>
+    requires { serial < 999999 }
+{
+    let change = Change::AddPlayer {
+        name: name(alloc, text)?,
+    };
+    Ok(write(store, event, &change, serial))
+}
+
+#[test]
+fn a_player_is_written_with_the_serial(rt: HostRuntime) -> Result<(), Fail> {
+    let alloc = rt.alloc();
+    let event = friday(alloc)?;
+    let mut store = in_memory(alloc, &event)?;
+    assert_eq!(rt; enrol(alloc, &mut store, &event, "Ana", 0)?, Ok(()));
+    let mut conn = store.into_connection();
+    let rows = [
+        (
+            "SELECT id || ' ' || version || ' ' || serial || ' ' || name FROM event",
+            "1 1 1 Friday",
+        ),
+        (
+            "SELECT rounds || ' ' || cut || ' ' || phase FROM event",
+            "3 0 0",
+        ),
+        (
+            "SELECT no || ' ' || name || ' ' || dropped FROM player",
+            "1 Ana 0",
+        ),
+    ];
+    for (sql, row) in rows {
+        assert_eq!(rt; text(&mut conn, sql)?.as_str(), row);
+    }
+    let counts = [
+        ("SELECT count(*) FROM event", 1),
+        ("SELECT count(*) FROM player", 1),
+        ("SELECT count(*) FROM pairing", 0),
+        ("SELECT count(*) FROM bracket", 0),
+    ];
+    for (sql, count) in counts {
+        assert_eq!(rt; number(&mut conn, sql)?, count, "{sql}");
+    }
+    Ok(())
+}
+
+/// The texts of the format, byte for byte.
+#[test]
+fn the_schema_is_that_of_the_format(rt: HostRuntime) -> Result<(), Fail> {
+    let texts = [
+        (
+            "SELECT sql FROM sqlite_schema WHERE name = 'event'",
+            "CREATE TABLE event(id INTEGER PRIMARY KEY CHECK(id = 1), version INTEGER NOT NULL, serial INTEGER NOT NULL, name TEXT NOT NULL, rounds INTEGER NOT NULL, cut INTEGER NOT NULL, phase INTEGER NOT NULL)",
+        ),
+        (
+            "SELECT sql FROM sqlite_schema WHERE name = 'player'",
+            "CREATE TABLE player(no INTEGER PRIMARY KEY, name TEXT NOT NULL UNIQUE, dropped INTEGER NOT NULL)",
+        ),
+        (
+            "SELECT sql FROM sqlite_schema WHERE name = 'pairing'",
+            "CREATE TABLE pairing(round INTEGER NOT NULL, tab INTEGER NOT NULL, lo INTEGER NOT NULL, hi INTEGER NOT NULL, swapped INTEGER NOT NULL, done INTEGER NOT NULL, x INTEGER NOT NULL, y INTEGER NOT NULL, d INTEGER NOT NULL, PRIMARY KEY(round, tab), UNIQUE(lo, hi), CHECK(lo < hi))",
+        ),
+        (
+            "SELECT sql FROM sqlite_schema WHERE name = 'bracket'",
+            "CREATE TABLE bracket(stage INTEGER NOT NULL, slot INTEGER NOT NULL, a INTEGER NOT NULL, b INTEGER NOT NULL, done INTEGER NOT NULL, x INTEGER NOT NULL, y INTEGER NOT NULL, d INTEGER NOT NULL, PRIMARY KEY(stage, slot))",
+        ),
+    ];
+    let event = friday(rt.alloc())?;
+    let store = in_memory(rt.alloc(), &event)?;
+    let mut conn = store.into_connection();
+    for (sql, want) in texts {
+        assert_eq!(rt; text(&mut conn, sql)?.as_str(), want);
+    }
+    assert_eq!(rt;
+        number(
+            &mut conn,
+            "SELECT count(*) FROM sqlite_schema WHERE type = 'table'"
+        )?,
+        4
+    );
+    Ok(())
+}
+
+#[test]
+fn a_file_with_an_event_is_left_as_it_is(rt: HostRuntime) -> Result<(), Fail> {
+    let alloc = rt.alloc();
+    let event = friday(alloc)?;
+    let mut store = in_memory(alloc, &event)?;
+    assert_eq!(rt; enrol(alloc, &mut store, &event, "Ana", 0)?, Ok(()));
+    let Err((mut conn, why)) = create_again(store, &event) else {
+        return Err("made twice")?;
+    };
+    assert_eq!(rt; why, Refusal::EventExists);
+    assert_eq!(rt; number(&mut conn, "SELECT count(*) FROM player")?, 1);
+    assert_eq!(rt; number(&mut conn, "SELECT serial FROM event")?, 1);
+    Ok(())
+}
+
+/// A name that is there breaks a rule of the table, which is a fault of the store: the event and the tables disagree.
+#[test]
+fn after_a_fault_each_call_is_refused(rt: HostRuntime) -> Result<(), Fail> {
+    let alloc = rt.alloc();
+    let event = friday(alloc)?;
+    let mut store = in_memory(alloc, &event)?;
+    assert_eq!(rt; enrol(alloc, &mut store, &event, "Ana", 0)?, Ok(()));
+    let fault = Refusal::Store {
+        cause: er_event::Cause::Refused,
+    };
+    assert_eq!(rt; enrol(alloc, &mut store, &event, "Ana", 1)?, Err(fault));
+    assert_eq!(rt;
+        enrol(alloc, &mut store, &event, "Bo", 1)?,
+        Err(Refusal::NeedsReopen)
+    );
+    let mut conn = store.into_connection();
+    assert_eq!(rt; number(&mut conn, "SELECT count(*) FROM player")?, 1);
+    assert_eq!(rt; number(&mut conn, "SELECT serial FROM event")?, 1);
+    Ok(())
+}
+
+fn with_note(alloc: Global) -> Result<Connection<MemStore>, Fail>
+    ensures { IfOk result (λ conn. conn.in_transaction ≡ false) }
+{
+    let mut conn = Connection::open_in_memory(alloc)?;
+    run(
+        &mut conn,
+        "CREATE TABLE note(id INTEGER PRIMARY KEY, body TEXT)",
+    )?;
+    run(&mut conn, "INSERT INTO note VALUES (7, 'chairs')")?;
+    if conn.is_autocommit() {
+        Ok(conn)
+    } else {
+        Err("no transaction was begun")?
+    }
+}
+
+/// Tables of others stay.
+#[test]
+fn other_tables_stay(rt: HostRuntime) -> Result<(), Fail> {
+    let alloc = rt.alloc();
+    let event = friday(alloc)?;
+    let mut store = create(with_note(alloc)?, &event).ok().ok_or("created")?;
+    assert_eq!(rt; enrol(alloc, &mut store, &event, "Ana", 0)?, Ok(()));
+    let mut conn = store.into_connection();
+    assert_eq!(rt;
+        text(&mut conn, "SELECT id || body FROM note")?.as_str(),
+        "7chairs"
+    );
+    assert_eq!(rt; text(&mut conn, "SELECT name FROM player")?.as_str(), "Ana");
+    Ok(())
+}

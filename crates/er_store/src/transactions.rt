@@ -1,0 +1,89 @@
+ghost use Rattle.std.specs.Prelude.{◌≡◌, ◌+◌, ◌<◌, false, ℕ, OnOk, IfOk, ◌↔◌, IsTrue};
+ghost use Rattle.sqlite.specs.State.{HasCleanDisk, Survives, IsUnchanged};
+ghost use Rattle.sqlite.specs.Held.{state};
+ghost use Rattle.sqlite.specs.Tree.{Trees};
+ghost use Rattle.er_event.specs.declared.refusals.TheConstants.{MAX_SERIAL};
+ghost use Rattle.er_event.specs.Change.{after};
+ghost use Rattle.er_store.specs.Tables.{no_schema};
+ghost use Rattle.er_store.specs.Standing.{StandsFor, IsStored, IsNew, Shows, Leaves, Either, KeepsOthers, CanRead};
+ghost use Rattle.er_store.specs.Steps.{Makes};
+
+use crate::creation::create_all;
+use crate::statements::{insert_event, insert_player, set_serial};
+use er_event::{Change, Event};
+use sqlite::{Alter, Connection, Error, Transaction};
+
+/// Makes the change, and leaves the serial.
+fn change_tables<S: Alter>(
+    tx: &mut Transaction<'_, S>,
+    event: &Event,
+    change: &Change,
+) -> Result<(), Error>
+    ensures same_reference { tx.new.conn.ghost_name ≡ tx.old.conn.ghost_name }
+    ensures makes { HasCleanDisk (state S.Store tx.new.conn.now) → (s : ℕ) → StandsFor (state S.Store tx.old.conn.now).now event.now s
+        → OnOk result (Makes (state S.Store tx.old.conn.now) (state S.Store tx.new.conn.now) (after event.now change.now) s) }
+    ensures survives { Survives (state S.Store tx.old.conn.now) (state S.Store tx.new.conn.now) (λ _. ⊥) }
+{
+    match change {
+        Change::AddPlayer { name } => {
+            let number = event.players().len() as u32 + 1;
+            insert_player(tx, number, name.as_str(), false)
+        }
+    }
+}
+
+/// Writes the change and the next serial in one transaction.
+pub fn write_tables<S: Alter>(
+    conn: &mut Connection<S>,
+    event: &Event,
+    change: &Change,
+    serial: u32,
+) -> Result<(), Error>
+    requires low { serial < MAX_SERIAL }
+    requires mode { conn.old.in_transaction ≡ false }
+    ensures mode { conn.new.in_transaction ≡ false }
+    ensures written { HasCleanDisk (state S.Store conn.new) → Shows (state S.Store conn.old) event.now serial
+        → OnOk result (Shows (state S.Store conn.new) (after event.now change.now) (serial + 1) × KeepsOthers (state S.Store conn.old).now (state S.Store conn.new).now) }
+    ensures acknowledged { HasCleanDisk (state S.Store conn.new) → Shows (state S.Store conn.old) event.now serial
+        → OnOk result ((trees : Trees) → (state S.Store conn.new).may_leave trees → IsStored (after event.now change.now) (serial + 1) trees) }
+    ensures crash { Shows (state S.Store conn.old) event.now serial
+        → Leaves (state S.Store conn.new) (Either (IsStored event.now serial) (IsStored (after event.now change.now) (serial + 1))) }
+{
+    let mut tx = conn.transaction();
+    change_tables(&mut tx, event, change)?;
+    set_serial(&mut tx, serial + 1)?;
+    tx.commit()
+}
+
+/// Makes the tables and the event's row in one transaction.
+pub fn create_tables<S: Alter>(conn: &mut Connection<S>, event: &Event) -> Result<(), Error>
+    requires mode { conn.old.in_transaction ≡ false }
+    requires fresh { IsNew event.now }
+    ensures mode { conn.new.in_transaction ≡ false }
+    ensures clean { HasCleanDisk (state S.Store conn.new) → HasCleanDisk (state S.Store conn.old) }
+    ensures created { HasCleanDisk (state S.Store conn.new) → (state S.Store conn.old).now.schema ≡ no_schema → OnOk result (Shows (state S.Store conn.new) event.now 0) }
+    ensures acknowledged { HasCleanDisk (state S.Store conn.new) → (state S.Store conn.old).now.schema ≡ no_schema
+        → OnOk result ((trees : Trees) → (state S.Store conn.new).may_leave trees → IsStored event.now 0 trees) }
+    ensures crash { (state S.Store conn.old).now.schema ≡ no_schema → Leaves (state S.Store conn.new) (Either (state S.Store conn.old).may_leave (IsStored event.now 0)) }
+{
+    let mut tx = conn.transaction();
+    create_all(&mut tx)?;
+    insert_event(&mut tx, event, 0)?;
+    tx.commit()
+}
+
+pub const FIND_EVENT: &str = "SELECT 1 FROM event";
+
+/// Whether a table or view `event` can be read. No row is.
+pub fn has_event<S: Alter>(conn: &mut Connection<S>) -> Result<bool, Error>
+    ensures mode { conn.old.in_transaction ≡ false → conn.new.in_transaction ≡ false }
+    ensures found { HasCleanDisk (state S.Store conn.new)
+        → IfOk result (λ found. (IsTrue found ↔ CanRead (state S.Store conn.old).now.schema) × IsUnchanged (state S.Store conn.old) (state S.Store conn.new)) }
+    ensures survives { Survives (state S.Store conn.old) (state S.Store conn.new) (λ _. ⊥) }
+{
+    match conn.prepare(FIND_EVENT) {
+        Ok(_statement) => Ok(true),
+        Err(Error::SqlInputError(_)) => Ok(false),
+        Err(error) => Err(error),
+    }
+}
