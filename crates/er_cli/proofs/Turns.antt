@@ -11,9 +11,11 @@ use Rattle.er_store.specs.Standing.{Shows}
 use Rattle.er_cli.specs.declared.session.Session.{Session}
 use Rattle.er_cli.specs.declared.texts.Answer.TheVariants.{Accepted}
 use Rattle.er_cli.specs.declared.words.Line.TheVariants.{Init}
-use Rattle.er_cli.specs.Commands.{Check, first_refusal, is_setup}
+use Rattle.er_rules.specs.Commands.{first_refusal}
+use Rattle.er_cli.specs.Setup.{is_setup}
 use Rattle.er_cli.specs.Session.{state, event_of, serial_of, is_stopped, Refuses}
-use Rattle.er_cli.specs.Script.{Kept, Turn, turn, unless, kept_of}
+use Rattle.er_event.specs.declared.refusals.Command.{Command}
+use Rattle.er_cli.specs.Script.{Kept, Turn, IsTurn, unless, kept_of}
 
 pub is_some-kept : {S : Type 0} {g : Ghosts S} (session : Option (Session S g)) → is_some (kept_of session) ≡ is_some session
 is_some-kept None = refl
@@ -25,7 +27,7 @@ passes setup exists old taken lawful none = rw (lawful, none)
 -- an event is made
 pub turn-made : (old : Option Kept) (name : List ℕ) (rounds cut : ℕ) (event : EventValue) (serial : ℕ) (stopped : Bool)
     → is_some old ≡ false → IsTrue (is_setup name rounds cut) → event ≡ created name rounds cut → serial ≡ 0 → stopped ≡ false
-    → (Accepted (record { serial = 0 }), Some (record { event = event; serial = serial; stopped = stopped })) ≡ turn old (Init name rounds cut)
+    → IsTurn old (Init name rounds cut) (Accepted (record { serial = 0 }), Some (record { event = event; serial = serial; stopped = stopped }))
 turn-made old name rounds cut event serial stopped none setup event_is serial_is runs =
     rw (event_is, serial_is, runs) (sym (passes (is_setup name rounds cut) (is_some old) old _ setup none))
 
@@ -37,10 +39,10 @@ module _ (old new : Session MemStore over_memory) where
   -- after a command the tables stand for the event
   pub stands_then : {T : Type 0} (r : Result T Refusal) → (IsTrue (is_stopped old) → r ≡ Err NeedsReopen)
       → (Shows (state over_memory old) (event_of old) (serial_of old) → OnOk r (Shows (state over_memory new) (event_of new) (serial_of new)))
-      → (checks : List Check) → IfErr r (Refuses old new checks) → (IsFalse (is_stopped old) → Shows (state over_memory old) (event_of old) (serial_of old))
+      → (command : Command) → IfErr r (Refuses old new command) → (IsFalse (is_stopped old) → Shows (state over_memory old) (event_of old) (serial_of old))
       → IsFalse (is_stopped new) → Shows (state over_memory new) (event_of new) (serial_of new)
-  stands_then (Ok x) stopped written checks refused was runs = written (was (running x (is_stopped old) stopped))
-  stands_then (Err e) stopped written checks refused was runs = elim refused [
+  stands_then (Ok x) stopped written command refused was runs = written (was (running x (is_stopped old) stopped))
+  stands_then (Err e) stopped written command refused was runs = elim refused [
     | inl rests ↦ subst (λ (s : Session MemStore over_memory). IsFalse (is_stopped s) → Shows (state over_memory s) (event_of s) (serial_of s)) (sym rests.0) was runs
     | inr stops ↦ absurd (true≢false (sym stops.1.stopped ∙ runs))
   ]

@@ -1,7 +1,9 @@
-pub mod Commands
+pub mod Setup
 pub mod Line
 pub mod Texts
 pub mod Input
+pub mod Reply
 pub mod Session
 pub mod Script
 pub mod Status
+pub mod Help

@@ -1,5 +1,5 @@
 -- What a line of a script asks for.
-use Rattle.std.specs.Prelude.{◌≡◌, ℕ, ◌==◌, nat_lt, Bool, ◌&&◌, not, if◌then◌else◌, List, [], ◌∷◌, length, slice_index, Option, Some, None, Ok, Err, Result, codes}
+use Rattle.std.specs.Prelude.{◌≡◌, ℕ, ◌==◌, nat_lt, Bool, ◌&&◌, not, if◌then◌else◌, List, [], ◌∷◌, length, slice_index, Option, Some, None, option_map, Ok, Err, Result, codes}
 use Rattle.std.specs.List.{list_any, list_all, slice_split}
 use Rattle.std.specs.Char.{is_ascii_digit}
 use Rattle.std.specs.Str.{bytes_eq, is_utf8}
@@ -7,11 +7,13 @@ use Rattle.std.specs.Str.Parse.{digits_value}
 use Rattle.er_cli.specs.declared.words.LineFault.{LineFault}
 use Rattle.er_cli.specs.declared.words.LineFault.TheVariants.{Usage, Memory}
 use Rattle.er_cli.specs.declared.words.Line.{Line}
-use Rattle.er_cli.specs.declared.words.Line.TheVariants.{Init, Enrol, Players}
+use Rattle.er_event.specs.declared.refusals.Command.TheVariants.{Enrol, Start, Drop}
+use Rattle.er_rules.specs.Step.{IsWritten}
+use Rattle.er_cli.specs.declared.words.Line.TheVariants.{Init, Submit, Players}
 
--- the number below 256 that a word of digits is
-abbrev pub number_of : List ℕ → Option ℕ
-number_of word = if nat_lt 0 (length word) && list_all is_ascii_digit word && nat_lt (digits_value 10 word) 256 then Some (digits_value 10 word) else None
+-- the number below the limit that a word of digits is
+abbrev pub number_below : ℕ → List ℕ → Option ℕ
+number_below limit word = if nat_lt 0 (length word) && list_all is_ascii_digit word && nat_lt (digits_value 10 word) limit then Some (digits_value 10 word) else None
 
 -- what stands between the TABs
 abbrev pub words_of : List ℕ → List (List ℕ)
@@ -28,13 +30,23 @@ init_with name None cut = None
 
 -- `init NAME ROUNDS CUT`
 abbrev pub init_of : List (List ℕ) → Option Line
-init_of (name ∷ rounds ∷ cut ∷ []) = init_with name (number_of rounds) (number_of cut)
+init_of (name ∷ rounds ∷ cut ∷ []) = init_with name (number_below 256 rounds) (number_below 256 cut)
 init_of _ = None
 
 -- `enrol NAME`
 abbrev pub enrol_of : List (List ℕ) → Option Line
-enrol_of (name ∷ []) = Some (Enrol name)
+enrol_of (name ∷ []) = Some (Submit (Enrol name))
 enrol_of _ = None
+
+-- `start`
+abbrev pub start_of : List (List ℕ) → Option Line
+start_of [] = Some (Submit Start)
+start_of _ = None
+
+-- `drop PLAYER`
+abbrev pub drop_of : List (List ℕ) → Option Line
+drop_of (player ∷ []) = option_map (λ number. Submit (Drop number)) (number_below 65536 player)
+drop_of _ = None
 
 -- `players`
 abbrev pub players_of : List (List ℕ) → Option Line
@@ -47,8 +59,10 @@ command_of [] = None
 command_of (command ∷ words) =
     if bytes_eq command (codes "init") then init_of words
     else (if bytes_eq command (codes "enrol") then enrol_of words
+    else (if bytes_eq command (codes "start") then start_of words
+    else (if bytes_eq command (codes "drop") then drop_of words
     else (if bytes_eq command (codes "players") then players_of words
-    else None))
+    else None))))
 
 -- a line is UTF-8
 abbrev pub line_of : List ℕ → Option Line
@@ -59,3 +73,9 @@ abbrev pub Reads : Option Line → Result Line LineFault → Type 0
 Reads found (Ok line) = found ≡ Some line
 Reads found (Err Usage) = found ≡ None
 Reads found (Err Memory) = Unit {0}
+
+-- its command is one that is decided so far
+abbrev pub IsKnown : Line → Type 0
+IsKnown (Init name rounds cut) = Unit {0}
+IsKnown (Submit command) = IsWritten command
+IsKnown Players = Unit {0}

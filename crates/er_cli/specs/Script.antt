@@ -1,23 +1,26 @@
 -- What the lines of a script are answered.
-use Rattle.std.specs.Prelude.{◌≡◌, ◌⊎◌, ℕ, ◌+◌, Bool, true, false, IsTrue, IsFalse, IfSome, List, [], ◌∷◌, flat_map, Option, Some, None, Result, Ok, Err, option_map, is_some}
+use Rattle.std.specs.Prelude.{◌≡◌, ◌⊎◌, ℕ, ◌+◌, Bool, true, false, if◌then◌else◌, IsFalse, IfSome, List, [], ◌∷◌, flat_map, Option, Some, None, Result, Ok, Err, option_map, is_some}
 use Rattle.std.specs.Io.KnownBytes.{Appends}
 use Rattle.sqlite_trees.specs.declared.store.Store.{Ghosts}
 use Rattle.sqlite_trees.specs.declared.memory.MemStore.{MemStore}
 use Rattle.sqlite.specs.Steps.{over_memory}
+use Rattle.er_event.specs.declared.refusals.Command.{Command}
 use Rattle.er_event.specs.declared.refusals.Receipt.{Receipt}
 use Rattle.er_event.specs.declared.refusals.Refusal.{Refusal}
 use Rattle.er_event.specs.declared.refusals.Refusal.TheVariants.{Memory, NoEvent, NeedsReopen}
 use Rattle.er_event.specs.Event.{EventValue}
-use Rattle.er_event.specs.Change.{created, with_player}
+use Rattle.er_event.specs.Change.{created}
+use Rattle.er_rules.specs.Commands.{first_refusal}
 use Rattle.er_store.specs.Fault.{IsFault}
 use Rattle.er_store.specs.Standing.{Shows}
 use Rattle.er_cli.specs.declared.session.Session.{Session}
 use Rattle.er_cli.specs.declared.texts.Answer.{Answer}
 use Rattle.er_cli.specs.declared.texts.Answer.TheVariants.{Accepted, Text, Refused, Usage}
 use Rattle.er_cli.specs.declared.words.Line.{Line}
-use Rattle.er_cli.specs.declared.words.Line.TheVariants.{Init, Enrol, Players}
-use Rattle.er_cli.specs.Commands.{Check, first_refusal, enrol_checks, init_checks, with_serial}
+use Rattle.er_cli.specs.declared.words.Line.TheVariants.{Init, Submit, Players}
+use Rattle.er_cli.specs.Setup.{init_checks}
 use Rattle.er_cli.specs.Line.{line_of}
+use Rattle.er_cli.specs.Reply.{IsDue}
 use Rattle.er_cli.specs.Session.{state, event_of, serial_of, is_stopped}
 use Rattle.er_cli.specs.Texts.{answer_text, players_text}
 
@@ -44,49 +47,46 @@ abbrev pub unless : Option Refusal → Option Kept → Turn → Turn
 unless (Some why) old taken = (Refused why, old)
 unless None old taken = taken
 
--- the checks of a line, in order
-abbrev pub checks_of : Option Kept → Line → List Check
-checks_of old (Init name rounds cut) = init_checks (is_some old) name rounds cut
-checks_of None (Enrol name) = (true, NoEvent) ∷ []
-checks_of (Some k) (Enrol name) = with_serial k.stopped k.serial (enrol_checks k.event name)
-checks_of None Players = (true, NoEvent) ∷ []
-checks_of (Some k) Players = (k.stopped, NeedsReopen) ∷ []
+-- what is due to a command is its answer
+abbrev pub turn_of : Kept → Result EventValue Refusal → Turn
+turn_of old (Ok next) = (Accepted (record { serial = old.serial + 1 }), kept next (old.serial + 1) false)
+turn_of old (Err why) = (Refused why, Some old)
 
--- the turn of a line of which no check fails, so that an event is there for all but `init`
-abbrev pub taken : Option Kept → Line → Turn
-taken old (Init name rounds cut) = (Accepted (record { serial = 0 }), kept (created name rounds cut) 0 false)
-taken (Some k) (Enrol name) = (Accepted (record { serial = k.serial + 1 }), kept (with_player k.event name) (k.serial + 1) false)
-taken (Some k) Players = (Text (players_text k.event), Some k)
-taken None (Enrol name) = (Refused NoEvent, None)
-taken None Players = (Refused NoEvent, None)
+abbrev pub Due : Kept → Command → Result EventValue Refusal → Type 0
+Due old command outcome = IsDue old.stopped old.event old.serial command outcome
 
--- the turn of a line, where memory and the store serve
-abbrev pub turn : Option Kept → Line → Turn
-turn old line = unless (first_refusal (checks_of old line)) old (taken old line)
+-- the turn of a line, where memory and the store serve. All but `init` want an event.
+abbrev pub IsTurn : Option Kept → Line → Turn → Type 0
+IsTurn old (Init name rounds cut) turn = turn ≡ unless (first_refusal (init_checks (is_some old) name rounds cut)) old (Accepted (record { serial = 0 }), kept (created name rounds cut) 0 false)
+IsTurn (Some k) (Submit command) turn = (outcome : Result EventValue Refusal) × Due k command outcome × (turn ≡ turn_of k outcome)
+IsTurn (Some k) Players turn = turn ≡ (if k.stopped then Refused NeedsReopen else Text (players_text k.event), Some k)
+IsTurn None (Submit command) turn = turn ≡ (Refused NoEvent, None)
+IsTurn None Players turn = turn ≡ (Refused NoEvent, None)
 
-abbrev pub is_writing : Line → Bool
-is_writing (Init name rounds cut) = true
-is_writing (Enrol name) = true
-is_writing Players = false
+-- the line is due to be written
+abbrev pub Writes : Option Kept → Line → Type 0
+Writes old (Init name rounds cut) = first_refusal (init_checks (is_some old) name rounds cut) ≡ None
+Writes (Some k) (Submit command) = (next : EventValue) × Due k command (Ok next)
+Writes (Some k) Players = ⊥
+Writes None (Submit command) = ⊥
+Writes None Players = ⊥
 
 -- after a fault of the store an event takes no command
 abbrev pub after_fault : Option Kept → Option Kept
 after_fault None = None
 after_fault (Some k) = Some (record k { stopped = true })
 
--- the store is asked, where no check fails, and has a fault
-pub record Faults (old : Option Kept) (line : Line) (answer : Answer) (new : Option Kept) : Type 0 where
-  pub writes : IsTrue (is_writing line)
-  pub passed : first_refusal (checks_of old line) ≡ None
+-- the store is asked, and has a fault
+pub record Faults (old : Option Kept) (line : Line) (turn : Turn) : Type 0 where
+  pub writes : Writes old line
   pub why : Refusal
   pub fault : IsFault why
-  pub answer_is : answer ≡ Refused why
-  pub new_is : new ≡ after_fault old
+  pub is : turn ≡ (Refused why, after_fault old)
 
 -- what a line is answered, and what is kept then. Memory may be wanting for any line.
 abbrev pub Answers : Option Kept → Option Line → Answer → Option Kept → Type 0
 Answers old None answer new = (new ≡ old) × ((answer ≡ Usage) ⊎ (answer ≡ Refused Memory))
-Answers old (Some line) answer new = ((answer, new) ≡ turn old line) ⊎ ((answer ≡ Refused Memory) × (new ≡ old)) ⊎ Faults old line answer new
+Answers old (Some line) answer new = IsTurn old line (answer, new) ⊎ ((answer ≡ Refused Memory) × (new ≡ old)) ⊎ Faults old line (answer, new)
 
 abbrev pub receipt_answer : Result Receipt Refusal → Answer
 receipt_answer (Ok receipt) = Accepted receipt

@@ -1,14 +1,15 @@
 -- What a session shows.
-use Rattle.std.specs.Prelude.{◌≡◌, ◌⊎◌, ℕ, ◌+◌, Bool, IsTrue, IsFalse, List, Some, None}
+use Rattle.std.specs.Prelude.{◌≡◌, ◌⊎◌, ℕ, ◌+◌, Bool, IsTrue, IsFalse, Result, Ok, Err}
 use Rattle.sqlite_trees.specs.declared.store.Store.{Ghosts}
 use Rattle.sqlite.specs.State.{State}
+use Rattle.er_event.specs.declared.refusals.Command.{Command}
 use Rattle.er_event.specs.declared.refusals.Receipt.{Receipt}
 use Rattle.er_event.specs.declared.refusals.Refusal.{Refusal}
 use Rattle.er_event.specs.declared.refusals.Refusal.TheVariants.{Memory}
 use Rattle.er_event.specs.Event.{EventValue}
 use Rattle.er_store.specs.Fault.{IsFault}
 use Rattle.er_store.specs.Store as store
-use Rattle.er_cli.specs.Commands.{Check, first_refusal}
+use Rattle.er_cli.specs.Reply.{IsDue}
 use Rattle.er_cli.specs.declared.session.Session.{Session}
 
 -- what its store shows
@@ -26,10 +27,13 @@ serial_of session = session.serial
 abbrev pub is_stopped : {S : Type 0} {g : Ghosts S} → Session S g → Bool
 is_stopped session = store.is_stopped session.store
 
+-- what is due to a command now
+abbrev pub Due : {S : Type 0} {g : Ghosts S} → Session S g → Command → Result EventValue Refusal → Type 0
+Due session command outcome = IsDue (is_stopped session) (event_of session) (serial_of session) command outcome
+
 module _ {S : Type 0} {g : Ghosts S} (old new : Session S g) where
-  -- a command was accepted, and the event is this one now
-  pub record Takes (event : EventValue) (receipt : Receipt) : Type 0 where
-    pub event_is : event_of new ≡ event
+  -- a change was written, and got this receipt
+  pub record Counts (receipt : Receipt) : Type 0 where
     pub serial_is : serial_of new ≡ serial_of old + 1
     pub receipt_is : receipt.serial ≡ serial_of new
     pub runs : IsFalse (is_stopped new)
@@ -42,6 +46,12 @@ module _ {S : Type 0} {g : Ghosts S} (old new : Session S g) where
     pub event_is : event_of new ≡ event_of old
     pub serial_is : serial_of new ≡ serial_of old
 
-  -- no command was accepted. The store is asked only where no check fails.
-  abbrev pub Refuses : List Check → Refusal → Type 0
-  Refuses checks why = ((new ≡ old) × ((why ≡ Memory) ⊎ (first_refusal checks ≡ Some why))) ⊎ ((first_refusal checks ≡ None) × Stops why)
+  -- the command was accepted
+  abbrev pub Takes : Command → Receipt → Type 0
+  Takes command receipt = Due old command (Ok (event_of new)) × Counts receipt
+
+  -- it was not. The store is asked only where the command is due to be taken.
+  abbrev pub Refuses : Command → Refusal → Type 0
+  Refuses command why =
+      ((new ≡ old) × ((why ≡ Memory) ⊎ Due old command (Err why)))
+      ⊎ (((next : EventValue) × Due old command (Ok next)) × Stops why)

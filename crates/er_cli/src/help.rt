@@ -1,5 +1,6 @@
-ghost use Rattle.std.specs.Prelude.{◌≡◌, ◌⊎◌, OnOk};
+ghost use Rattle.std.specs.Prelude.{◌≡◌, ◌⊎◌, OnOk, map, option_map, string_bytes};
 ghost use Rattle.std.specs.Io.KnownBytes.{Appends};
+ghost use Rattle.er_cli.specs.Help.{text_of, text_for, Says};
 
 use crate::{DEVICE, DONE, USAGE};
 use std::io::{self, Write};
@@ -16,7 +17,9 @@ Each line is one command; its words are separated by one TAB. So far there are:
 
   init NAME ROUNDS CUT   creates the event: 1 to 9 rounds, and a cut to 0, 2, 4 or 8 players
   enrol NAME             enrols a player, who gets the next number
-  players                lists the players by number
+  start                  ends enrolling, with two players or more
+  drop PLAYER            drops the player of this number, who stays listed
+  players                lists the players by number, with a D at those who were dropped
 
 A command that is taken is answered `ok` and how many were taken so far; another `refused`, a number and a name.
 Try it: ./event_reporter < examples/friday.txt
@@ -32,16 +35,34 @@ fn say<W: Write>(writer: &mut W, text: &str) -> io::Result<()>
     writer.flush()
 }
 
+/// The text that a word asks for.
+fn text_of(word: &str) -> Option<&'static str>
+    ensures { option_map (λ text. text.now) result ≡ text_of word.now }
+{
+    match word {
+        "--help" | "-h" => Some(HELP),
+        "--version" | "-V" => Some(VERSION),
+        _ => None,
+    }
+}
+
+/// The text that the words ask for, if they are one.
+fn text_for(words: &[String]) -> Option<&'static str>
+    ensures { option_map (λ text. text.now) result ≡ text_for (map string_bytes words.now) }
+{
+    let [word] = words else {
+        return None;
+    };
+    text_of(word.as_str())
+}
+
 /// Answers the words of a command line, and gives the status to end with.
 pub fn run<O: Write, E: Write>(words: &[String], out: &mut O, err: &mut E) -> u8
-    ensures { (result ≡ DONE) ⊎ (result ≡ USAGE) ⊎ (result ≡ DEVICE) }
+    ensures { Says (map string_bytes words.now) (O.contents out.old) (O.contents out.new) (E.contents err.old) (E.contents err.new) result ⊎ (result ≡ DEVICE) }
 {
-    let (said, status) = match words {
-        [word] if word.as_str() == "--help" || word.as_str() == "-h" => (say(out, HELP), DONE),
-        [word] if word.as_str() == "--version" || word.as_str() == "-V" => {
-            (say(out, VERSION), DONE)
-        }
-        _ => (say(err, HELP), USAGE),
+    let (said, status) = match text_for(words) {
+        Some(text) => (say(out, text), DONE),
+        None => (say(err, HELP), USAGE),
     };
     match said {
         Ok(()) => status,

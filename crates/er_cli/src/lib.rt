@@ -6,11 +6,11 @@ ghost use Rattle.std.specs.Io.KnownBytes.{Appends};
 ghost use Rattle.er_cli.specs.Texts.{answer_text};
 ghost use Rattle.er_cli.specs.Status.{Ends, EndsUnread};
 
-mod decide;
 mod help;
 mod input;
 mod script;
 mod session;
+mod setup;
 mod texts;
 mod words;
 

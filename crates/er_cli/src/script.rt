@@ -4,15 +4,16 @@ ghost use Rattle.er_store.specs.Fault.{IsFault};
 ghost use Rattle.er_store.specs.Standing.{IsNew, Shows};
 ghost use Rattle.sqlite.specs.Steps.{over_memory};
 ghost use Rattle.er_cli.specs.Session.{state, event_of, serial_of, is_stopped};
-ghost use Rattle.er_cli.specs.Line.{line_of};
-ghost use Rattle.er_cli.specs.declared.words.Line.TheVariants.{Init, Enrol, Players};
+ghost use Rattle.er_rules.specs.Step as step;
+ghost use Rattle.er_cli.specs.Line.{line_of, IsKnown};
+ghost use Rattle.er_cli.specs.declared.words.Line.TheVariants.{Init, Submit, Players};
 ghost use Rattle.er_cli.specs.Script.{Answers, IsWritten, Prints, kept_of, receipt_answer};
 
-use crate::decide::set_up;
 use crate::session::Session;
+use crate::setup::set_up;
 use crate::texts::{Answer, players_text, print_answer};
 use crate::words::{Line, LineFault, read_line};
-use er_event::{Event, Receipt, Refusal};
+use er_event::{Command, Event, Receipt, Refusal};
 use sqlite::{Connection, MemStore};
 use std::alloc::Global;
 use std::io::{self, Write};
@@ -62,13 +63,14 @@ impl Runner {
         Ok(Receipt { serial: 0 })
     }
 
-    fn enrol(&mut self, name: &[u8]) -> Result<Receipt, Refusal>
-        ensures answers { Answers (kept_of self.old.session) (Some (Enrol name.now)) (receipt_answer result) (kept_of self.new.session) }
+    fn submit(&mut self, command: &Command) -> Result<Receipt, Refusal>
+        requires known { step.IsWritten command.now }
+        ensures answers { Answers (kept_of self.old.session) (Some (Submit command.now)) (receipt_answer result) (kept_of self.new.session) }
         ensures written { IsWritten self.old.session → IsWritten self.new.session }
     {
         match &mut self.session {
             None => Err(Refusal::NoEvent),
-            Some(session) => session.enrol(self.alloc, name),
+            Some(session) => session.submit(self.alloc, command),
         }
     }
 
@@ -89,6 +91,7 @@ impl Runner {
     }
 
     fn run(&mut self, line: &Line) -> Answer
+        requires known { IsKnown line.now }
         ensures answers { Answers (kept_of self.old.session) (Some line.now) result (kept_of self.new.session) }
         ensures written { IsWritten self.old.session → IsWritten self.new.session }
     {
@@ -96,7 +99,7 @@ impl Runner {
             Line::Init { name, rounds, cut } => {
                 answer_of(self.init(name.as_slice(), *rounds, *cut))
             }
-            Line::Enrol { name } => answer_of(self.enrol(name.as_slice())),
+            Line::Submit { command } => answer_of(self.submit(command)),
             Line::Players => self.players(),
         }
     }

@@ -4,8 +4,8 @@ ghost use Rattle.std.specs.Prelude.{◌≤◌};
 ghost use Rattle.er_event.specs.declared.refusals.TheConstants.{MAX_SERIAL};
 ghost use Rattle.er_store.specs.Store as tables;
 
-use crate::decide::decide_enrol;
-use er_event::{Change, Event, MAX_SERIAL, Receipt, Refusal};
+use er_event::{Change, Command, Event, MAX_SERIAL, Receipt, Refusal};
+use er_rules::decide;
 use er_store::Store;
 use sqlite::{Alter, Connection};
 use std::alloc::Global;
@@ -42,12 +42,12 @@ impl<S: Alter> Session<S> {
     ghost use Rattle.sqlite.specs.State.{HasCleanDisk};
     ghost use Rattle.sqlite.specs.Held as sqlite;
     ghost use Rattle.sqlite.specs.Tree.{Trees};
-    ghost use Rattle.er_event.specs.Change.{with_player};
     ghost use Rattle.er_store.specs.Tables.{no_schema};
     ghost use Rattle.er_store.specs.Standing.{IsNew, IsStored, Shows, Leaves, Either, KeepsOthers};
     ghost use Rattle.er_store.specs.Fault.{IsFault};
-    ghost use Rattle.er_cli.specs.Commands.{first_refusal, enrol_checks, with_serial};
-    ghost use Rattle.er_cli.specs.Session.{state, event_of, serial_of, is_stopped, Takes, Stops, Refuses};
+    ghost use Rattle.er_rules.specs.Step.{IsWritten};
+    ghost use Rattle.er_cli.specs.Reply.{IsStoredAfter};
+    ghost use Rattle.er_cli.specs.Session.{state, event_of, serial_of, is_stopped, Counts, Stops, Takes, Refuses};
 
     /// Makes the tables of a new event. A refusal gives the connection back.
     pub fn create(conn: Connection<S>, event: Event) -> Result<Session<S>, (Connection<S>, Refusal)>
@@ -86,7 +86,7 @@ impl<S: Alter> Session<S> {
         requires runs { IsFalse (is_stopped self.old) }
         requires fits { Fits (event_of self.old) change.now }
         requires low { serial_of self.old < MAX_SERIAL }
-        ensures taken { IfOk result (Takes self.old self.new (after (event_of self.old) change.now)) }
+        ensures taken { IfOk result (λ receipt. (event_of self.new ≡ after (event_of self.old) change.now) × Counts self.old self.new receipt) }
         ensures refused { IfErr result (λ why. ((self.new ≡ self.old) × (why ≡ Refusal.Memory)) ⊎ Stops self.old self.new why) }
         ensures written { HasCleanDisk (state S.Store self.new) → Shows (state S.Store self.old) (event_of self.old) (serial_of self.old)
             → OnOk result (Shows (state S.Store self.new) (event_of self.new) (serial_of self.new) × KeepsOthers (state S.Store self.old).now (state S.Store self.new).now) }
@@ -111,11 +111,11 @@ impl<S: Alter> Session<S> {
         }
     }
 
-    /// Enrols a player. A refusal leaves the event and its serial as they were.
-    pub fn enrol(&mut self, alloc: Global, name: &[u8]) -> Result<Receipt, Refusal>
-        ensures taken { IfOk result (Takes self.old self.new (with_player (event_of self.old) name.now)) }
-        ensures accepted { OnOk result (first_refusal (with_serial (is_stopped self.old) (serial_of self.old) (enrol_checks (event_of self.old) name.now)) ≡ None) }
-        ensures refused { IfErr result (Refuses self.old self.new (with_serial (is_stopped self.old) (serial_of self.old) (enrol_checks (event_of self.old) name.now))) }
+    /// Takes a command. A refusal leaves the event and its serial as they were.
+    pub fn submit(&mut self, alloc: Global, command: &Command) -> Result<Receipt, Refusal>
+        requires known { IsWritten command.now }
+        ensures taken { IfOk result (Takes self.old self.new command.now) }
+        ensures refused { IfErr result (Refuses self.old self.new command.now) }
         ensures stopped { IsTrue (is_stopped self.old) → result ≡ Err Refusal.NeedsReopen }
 
         ensures written { HasCleanDisk (state S.Store self.new) → Shows (state S.Store self.old) (event_of self.old) (serial_of self.old)
@@ -123,12 +123,12 @@ impl<S: Alter> Session<S> {
         ensures acknowledged { HasCleanDisk (state S.Store self.new) → Shows (state S.Store self.old) (event_of self.old) (serial_of self.old)
             → OnOk result ((trees : Trees) → (state S.Store self.new).may_leave trees → IsStored (event_of self.new) (serial_of self.new) trees) }
         ensures crash { Shows (state S.Store self.old) (event_of self.old) (serial_of self.old)
-            → Leaves (state S.Store self.new) (Either (IsStored (event_of self.old) (serial_of self.old)) (IsStored (with_player (event_of self.old) name.now) (serial_of self.old + 1))) }
+            → Leaves (state S.Store self.new) (Either (IsStored (event_of self.old) (serial_of self.old)) (IsStoredAfter (event_of self.old) (serial_of self.old) command.now)) }
     {
         if self.needs_reopen {
             return Err(Refusal::NeedsReopen);
         }
-        let change = decide_enrol(alloc, &self.event, name)?;
+        let change = decide(alloc, &self.event, command)?;
         if self.serial == MAX_SERIAL {
             return Err(Refusal::SerialFull);
         }

@@ -26,10 +26,10 @@ ok 4
    4   Di
 ";
 
-/// Worked examples 1, 2, 3 and 29.
+/// Worked examples 1, 2, 3, 28 as far as one player cannot start, 29 and 30.
 #[test]
 fn strict_examples(rt: HostRuntime) -> Result<(), Fail> {
-    let rows: [(&[u8], &str); 10] = [
+    let rows: [(&[u8], &str); 12] = [
         (EXAMPLE_1, ANSWERS_1),
         (
             b"init\tFriday\t3\t0\nenrol\tAna\nenrol\tBo\nenrol\tCy\nenrol\tDi\nenrol\tAna\nenrol\tEd\n",
@@ -52,6 +52,14 @@ fn strict_examples(rt: HostRuntime) -> Result<(), Fail> {
             "ok 0\nrefused 28 EventExists\n",
         ),
         (b"init\tFriday\n", "usage\n"),
+        (
+            b"init\tFriday\t3\t0\nenrol\tAna\nstart\n",
+            "ok 0\nok 1\nrefused 5 TooFewPlayers\n",
+        ),
+        (
+            b"init\tFriday\t3\t0\nenrol\tAna\nenrol\tBo\nenrol\tCy\nenrol\tDi\nplayers\ndrop\t1\nstart\ndrop\t0\ndrop\t5\ndrop\t3\ndrop\t3\nstart\nplayers\n",
+            "ok 0\nok 1\nok 2\nok 3\nok 4\n  No D Name\n   1   Ana\n   2   Bo\n   3   Cy\n   4   Di\nrefused 6 NotSwiss\nok 5\nrefused 17 NoSuchPlayer\nrefused 17 NoSuchPlayer\nok 6\nrefused 18 AlreadyDropped\nrefused 4 NotEnrolling\n  No D Name\n   1   Ana\n   2   Bo\n   3 D Cy\n   4   Di\n",
+        ),
     ];
     for (script, answers) in rows {
         let (status, text) = run(&rt, script).ok_or("memory")?;
@@ -61,10 +69,38 @@ fn strict_examples(rt: HostRuntime) -> Result<(), Fail> {
     Ok(())
 }
 
+/// The words of a command line: a text that is asked for goes to the output, and the help to the errors where none is.
+#[test]
+fn strict_help(rt: HostRuntime) -> Result<(), Fail> {
+    let rows: [(&[&str], u8, &str, &str); 8] = [
+        (&["--help"], 0, help::HELP, ""),
+        (&["-h"], 0, help::HELP, ""),
+        (&["--version"], 0, "event_reporter 0.1.0\n", ""),
+        (&["-V"], 0, "event_reporter 0.1.0\n", ""),
+        (&["help"], 2, "", help::HELP),
+        (&["--help", "--help"], 2, "", help::HELP),
+        (&["players", "friday.db"], 2, "", help::HELP),
+        (&[], 2, "", help::HELP),
+    ];
+    for (words, ends, said, told) in rows {
+        let mut line = Vec::new(rt.alloc());
+        for word in words {
+            line.push(String::from_str(rt.alloc(), word)?)?;
+        }
+        let mut out = Vec::with_capacity(rt.alloc(), 2_048)?;
+        let mut err = Vec::with_capacity(rt.alloc(), 2_048)?;
+        let status = help::run(&line, &mut out, &mut err);
+        assert_eq!(rt; str::from_utf8(&out)?, said, "{words:?}");
+        assert_eq!(rt; str::from_utf8(&err)?, told, "{words:?}");
+        assert_eq!(rt; status, ends, "{words:?}");
+    }
+    Ok(())
+}
+
 /// Each line alone, on no event or after `init\tFriday\t3\t0`.
 #[test]
 fn strict_lines(rt: HostRuntime) -> Result<(), Fail> {
-    let rows: [(&[u8], &str); 62] = [
+    let rows: [(&[u8], &str); 73] = [
         // no line
         (b"", ""),
         (b"\n", ""),
@@ -120,9 +156,24 @@ fn strict_lines(rt: HostRuntime) -> Result<(), Fail> {
         (b"init\tFriday\t3\t-0", "usage\n"),
         // no subcommands yet, or ever
         (b"help", "usage\n"),
-        (b"start", "usage\n"),
+        (b"pair\t1", "usage\n"),
         (b"import\tplayers.csv", "usage\n"),
         (b"serve\t8080\t1", "usage\n"),
+        // start and drop
+        (b"start", "refused 27 NoEvent\n"),
+        (b"start\t", "usage\n"),
+        (b"start\t1", "usage\n"),
+        (b"drop", "usage\n"),
+        (b"drop\t", "usage\n"),
+        (b"drop\t1\t2", "usage\n"),
+        (b"drop\tAna", "usage\n"),
+        (b"drop\t+1", "usage\n"),
+        (b"drop\t0065535", "refused 27 NoEvent\n"),
+        (b"drop\t65536", "usage\n"),
+        (
+            b"init\tFriday\t3\t0\ndrop\t65535\nstart",
+            "ok 0\nrefused 6 NotSwiss\nrefused 5 TooFewPlayers\n",
+        ),
         // numbers
         (b"init\tFriday\t007\t0", "ok 0\n"),
         (

@@ -1,9 +1,9 @@
 ghost use Rattle.std.specs.Prelude.{◌≡◌, IfOk, map};
 ghost use Rattle.std.specs.List.{list_all, list_any};
 ghost use Rattle.std.specs.Char.{is_ascii_digit};
-ghost use Rattle.er_cli.specs.Line.{Reads, number_of, words_of, is_option, init_of, enrol_of, players_of, command_of, line_of};
+ghost use Rattle.er_cli.specs.Line.{Reads, IsKnown, number_below, words_of, is_option, init_of, enrol_of, start_of, drop_of, players_of, command_of, line_of};
 
-use er_event::Items;
+use er_event::{Command, Items};
 use std::alloc::{AllocError, Global};
 
 /// What a line asks for.
@@ -14,8 +14,9 @@ pub enum Line {
         rounds: u8,
         cut: u8,
     },
-    Enrol {
-        name: Items<u8>,
+    /// A command to the event.
+    Submit {
+        command: Command,
     },
     Players,
 }
@@ -46,9 +47,20 @@ fn is_number(word: &str) -> bool
     word.bytes().all(|byte| byte.is_ascii_digit())
 }
 
-/// The number that a word is. A sign is no digit.
-fn number_of(word: &str) -> Option<u8>
-    ensures { result ≡ number_of word.now }
+/// The small number that a word is. A sign is no digit.
+fn small_number_of(word: &str) -> Option<u8>
+    ensures { result ≡ number_below 256 word.now }
+{
+    if is_number(word) {
+        word.parse().ok()
+    } else {
+        None
+    }
+}
+
+/// The number of a player that a word is, whether there is such a player or not.
+fn player_of(word: &str) -> Option<u16>
+    ensures { result ≡ number_below 65536 word.now }
 {
     if is_number(word) {
         word.parse().ok()
@@ -83,12 +95,13 @@ fn bytes_of(alloc: Global, word: &str) -> Result<Items<u8>, AllocError>
 }
 
 fn read_init(alloc: Global, words: &[&str]) -> Result<Line, LineFault>
-    ensures { Reads (init_of (map (λ word. word.now) words.now)) result }
+    ensures reads { Reads (init_of (map (λ word. word.now) words.now)) result }
+    ensures known { IfOk result IsKnown }
 {
     let [name, rounds, cut] = *words else {
         return Err(LineFault::Usage);
     };
-    let (Some(rounds), Some(cut)) = (number_of(rounds), number_of(cut)) else {
+    let (Some(rounds), Some(cut)) = (small_number_of(rounds), small_number_of(cut)) else {
         return Err(LineFault::Usage);
     };
     Ok(Line::Init {
@@ -99,18 +112,49 @@ fn read_init(alloc: Global, words: &[&str]) -> Result<Line, LineFault>
 }
 
 fn read_enrol(alloc: Global, words: &[&str]) -> Result<Line, LineFault>
-    ensures { Reads (enrol_of (map (λ word. word.now) words.now)) result }
+    ensures reads { Reads (enrol_of (map (λ word. word.now) words.now)) result }
+    ensures known { IfOk result IsKnown }
 {
     let [name] = *words else {
         return Err(LineFault::Usage);
     };
-    Ok(Line::Enrol {
-        name: bytes_of(alloc, name)?,
+    let name = bytes_of(alloc, name)?;
+    Ok(Line::Submit {
+        command: Command::Enrol { name },
+    })
+}
+
+fn read_start(words: &[&str]) -> Result<Line, LineFault>
+    ensures reads { Reads (start_of (map (λ word. word.now) words.now)) result }
+    ensures known { IfOk result IsKnown }
+{
+    if words.is_empty() {
+        Ok(Line::Submit {
+            command: Command::Start,
+        })
+    } else {
+        Err(LineFault::Usage)
+    }
+}
+
+fn read_drop(words: &[&str]) -> Result<Line, LineFault>
+    ensures reads { Reads (drop_of (map (λ word. word.now) words.now)) result }
+    ensures known { IfOk result IsKnown }
+{
+    let [player] = *words else {
+        return Err(LineFault::Usage);
+    };
+    let Some(player) = player_of(player) else {
+        return Err(LineFault::Usage);
+    };
+    Ok(Line::Submit {
+        command: Command::Drop { player },
     })
 }
 
 fn read_players(words: &[&str]) -> Result<Line, LineFault>
-    ensures { Reads (players_of (map (λ word. word.now) words.now)) result }
+    ensures reads { Reads (players_of (map (λ word. word.now) words.now)) result }
+    ensures known { IfOk result IsKnown }
 {
     if words.is_empty() {
         Ok(Line::Players)
@@ -121,7 +165,8 @@ fn read_players(words: &[&str]) -> Result<Line, LineFault>
 
 /// What the words of a line ask for.
 fn read_command(alloc: Global, words: &[&str]) -> Result<Line, LineFault>
-    ensures { Reads (command_of (map (λ word. word.now) words.now)) result }
+    ensures reads { Reads (command_of (map (λ word. word.now) words.now)) result }
+    ensures known { IfOk result IsKnown }
 {
     let [command, words @ ..] = words else {
         return Err(LineFault::Usage);
@@ -129,6 +174,8 @@ fn read_command(alloc: Global, words: &[&str]) -> Result<Line, LineFault>
     match *command {
         "init" => read_init(alloc, words),
         "enrol" => read_enrol(alloc, words),
+        "start" => read_start(words),
+        "drop" => read_drop(words),
         "players" => read_players(words),
         _ => Err(LineFault::Usage),
     }
@@ -136,7 +183,8 @@ fn read_command(alloc: Global, words: &[&str]) -> Result<Line, LineFault>
 
 /// What a line asks for.
 pub fn read_line(alloc: Global, line: &[u8]) -> Result<Line, LineFault>
-    ensures { Reads (line_of line.now) result }
+    ensures reads { Reads (line_of line.now) result }
+    ensures known { IfOk result IsKnown }
 {
     let Ok(line) = str::from_utf8(line) else {
         return Err(LineFault::Usage);

@@ -1,2 +1,4 @@
 pub mod NameLemmas
 pub mod PlayerLemmas
+pub mod DropLemmas
+pub mod PartsLemmas

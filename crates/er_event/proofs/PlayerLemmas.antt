@@ -52,7 +52,7 @@ not_true-from : (b : Bool) → IsTrue (not b) → b ≡ false
 not_true-from false h = refl
 not_true-from true h = absurd (true≢false (sym h))
 
-range-push : (a n : ℕ) → range_with_len a (n + 1) ≡ range_with_len a n ++ (a + n) ∷ []
+pub range-push : (a n : ℕ) → range_with_len a (n + 1) ≡ range_with_len a n ++ (a + n) ∷ []
 range-push a zero = let e : a ≡ a + 0 = omega arith in ap (λ k. k ∷ []) e
 range-push a (suc n) =
     let more : suc n + 1 ≡ suc (n + 1) = omega arith in
@@ -60,7 +60,7 @@ range-push a (suc n) =
     ap (range_with_len a) more ∙ (ap (λ xs. a ∷ xs) (range-push (a + 1) n) ∙ ap (λ k. (a ∷ range_with_len (a + 1) n) ++ k ∷ []) last)
 
 -- nobody has the name that no player has
-has_name-none : (players : List Player) (name : List ℕ) → has_name players name ≡ false → (k : ℕ) (d : List ℕ) → k < length (names players) → get_or (names players) k d ≢ name
+pub has_name-none : (players : List Player) (name : List ℕ) → has_name players name ≡ false → (k : ℕ) (d : List ℕ) → k < length (names players) → get_or (names players) k d ≢ name
 has_name-none [] name none k d below same = absurd (not-suc-le-zero below)
 has_name-none (p ∷ ps) name none zero d below same =
     true≢false (sym ((bytes_eq-Decides p.name name).1 same) ∙ (or_false (bytes_eq p.name name) (has_name ps name) none).0)

@@ -8,3 +8,6 @@ pub mod Sound
 pub mod EventFields
 pub mod Change
 pub mod Rows
+pub mod Parts
+pub mod Lines
+pub mod Totals

@@ -1,15 +1,18 @@
-ghost use Rattle.std.specs.Prelude.{◌≡◌, ◌↔◌, ◌≤◌, ◌==◌, ◌||◌, Ok, Err, IsTrue, IsOk, IfOk, IfErr, length};
+ghost use Rattle.std.specs.Prelude.{◌≡◌, ◌≢◌, ◌↔◌, ◌≤◌, ◌<◌, ◌==◌, ◌||◌, Ok, Err, IsTrue, IsFalse, IsOk, IfOk, IfErr, IfSome, option_map, length, find};
 ghost use Rattle.er_event.specs.Sound.{IsSoundButForSeeds};
-ghost use Rattle.er_event.specs.Change.{created};
+ghost use Rattle.er_event.specs.Change.{created, has_name, Fits};
 
 mod changing;
 mod copying;
+mod reading;
 
+use crate::changes::Change;
 use crate::items::Items;
 use crate::names::Name;
-use crate::players::Player;
+use crate::players::{MAX_PLAYERS, Player};
 use crate::refusals::Refusal;
 use crate::rounds::{Bracket, Round};
+pub use changing::{has_name, is_nobody_dropped, player_of};
 use std::alloc::{AllocError, Global};
 use std::marker::Model;
 
@@ -103,6 +106,23 @@ impl Event {
         ensures sound { IsSoundButForSeeds self.now }
     {
         self.players.as_slice()
+    }
+
+    /// Whether a player has this name. Where none has and there is room, the event fits a player of the name.
+    pub fn has_name(&self, name: &Name) -> bool
+        ensures value { result ≡ has_name self.now.players name.now }
+        ensures fits { IsFalse result → length self.now.players < MAX_PLAYERS → Fits self.now (Change.AddPlayer name.now) }
+    {
+        has_name(self.players(), name.as_str())
+    }
+
+    /// The player of this number, who can drop once the event has started.
+    pub fn player(&self, number: u16) -> Option<&Player>
+        ensures value { option_map (λ p. p.now) result ≡ find (λ p. p.no == number) self.now.players }
+        ensures found { IfSome result (λ p. p.now.no ≡ number) }
+        ensures fits { IfSome result (λ p. self.now.phase ≢ Phase.Enrolling → Fits self.now (Change.SetDropped p.now.no)) }
+    {
+        player_of(self.players(), number)
     }
 
     /// The Swiss rounds that were paired.

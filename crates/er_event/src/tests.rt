@@ -1,4 +1,7 @@
-use crate::{Change, Event, Games, Items, Name, NameFault, PlayerNo, Refusal, Score};
+use crate::{
+    BracketRow, Change, Event, EventRow, Games, Items, Name, NameFault, PairingRow, Parts,
+    PartsFault, Phase, Place, PlayerNo, PlayerRow, Refusal, Score,
+};
 use std::alloc::Global;
 use std::test::Fail;
 
@@ -173,5 +176,369 @@ fn numbers_lists_and_refusals_read_back(rt: HostRuntime) -> Result<(), Fail> {
         (Refusal::BadSetup.number(), Refusal::BadSetup.name()),
         (30, "BadSetup")
     );
+    Ok(())
+}
+
+/// What the tables of an event with two players hold.
+#[derive(Clone, Copy, Debug)]
+struct Saved<'a> {
+    id: i64,
+    version: i64,
+    serial: i64,
+    name: &'a [u8],
+    rounds: i64,
+    cut: i64,
+    phase: i64,
+    players: [(i64, &'a [u8], i64); 2],
+}
+
+const SWISS: i64 = 1;
+
+/// Ana and Bo, who dropped, after `start`.
+fn friday_saved() -> Saved<'static> {
+    Saved {
+        id: 1,
+        version: 1,
+        serial: 4,
+        name: b"Friday",
+        rounds: 3,
+        cut: 0,
+        phase: SWISS,
+        players: [(1, b"Ana", 0), (2, b"Bo", 1)],
+    }
+}
+
+fn event_row(alloc: Global, saved: Saved<'_>) -> Result<EventRow, Fail> {
+    Ok(EventRow {
+        id: saved.id,
+        version: saved.version,
+        serial: saved.serial,
+        name: Items::from(Vec::from_slice(alloc, saved.name)?),
+        rounds: saved.rounds,
+        cut: saved.cut,
+        phase: saved.phase,
+    })
+}
+
+fn player_rows(alloc: Global, saved: Saved<'_>) -> Result<Vec<PlayerRow>, Fail> {
+    let mut rows = Vec::new(alloc);
+    for (no, name, dropped) in saved.players {
+        rows.push(PlayerRow {
+            no,
+            name: Items::from(Vec::from_slice(alloc, name)?),
+            dropped,
+        })?;
+    }
+    Ok(rows)
+}
+
+fn parts(alloc: Global, saved: Saved<'_>) -> Result<Parts, Fail> {
+    let mut rows = Vec::new(alloc);
+    rows.push(event_row(alloc, saved)?)?;
+    Ok(Parts {
+        event: Items::from(rows),
+        players: Items::from(player_rows(alloc, saved)?),
+        pairings: Items::new(alloc),
+        bracket: Items::new(alloc),
+    })
+}
+
+fn fault_of(alloc: Global, parts: Parts) -> Option<PartsFault> {
+    Event::from_parts(alloc, parts).err()
+}
+
+#[test]
+fn rows_are_read_back(rt: HostRuntime) -> Result<(), Fail> {
+    let alloc = rt.alloc();
+    let event = Event::from_parts(alloc, parts(alloc, friday_saved())?)?;
+    assert_eq!(rt; event.name().as_str(), "Friday");
+    assert_eq!(rt; (event.rounds(), event.cut()), (3, 0));
+    assert_eq!(rt; event.phase(), Phase::Swiss);
+    let players = event.players();
+    assert_eq!(rt; players.len(), 2);
+    assert_eq!(rt;
+        (
+            players[0].no.get(),
+            players[0].name.as_str(),
+            players[0].dropped
+        ),
+        (1, "Ana", false)
+    );
+    assert_eq!(rt;
+        (
+            players[1].no.get(),
+            players[1].name.as_str(),
+            players[1].dropped
+        ),
+        (2, "Bo", true)
+    );
+    Ok(())
+}
+
+/// Each kind of fault of the event's row, one edit at a time.
+#[test]
+fn faults_of_the_event_are_named(rt: HostRuntime) -> Result<(), Fail> {
+    let alloc = rt.alloc();
+    let friday = friday_saved();
+    let faults = [
+        Saved { id: 2, ..friday },
+        Saved {
+            version: 0,
+            ..friday
+        },
+        Saved {
+            version: 2,
+            ..friday
+        },
+        Saved {
+            serial: -1,
+            ..friday
+        },
+        Saved {
+            serial: 1_000_000,
+            ..friday
+        },
+        Saved {
+            name: b"",
+            ..friday
+        },
+        Saved {
+            name: b"Friday ",
+            ..friday
+        },
+        Saved {
+            name: b"\xff",
+            ..friday
+        },
+        Saved {
+            rounds: 0,
+            ..friday
+        },
+        Saved {
+            rounds: 10,
+            ..friday
+        },
+        Saved {
+            rounds: -3,
+            ..friday
+        },
+        Saved {
+            rounds: 259,
+            ..friday
+        },
+        Saved { cut: 3, ..friday },
+        Saved { cut: -2, ..friday },
+        Saved { cut: 258, ..friday },
+        Saved {
+            phase: -1,
+            ..friday
+        },
+        Saved { phase: 4, ..friday },
+    ];
+    for saved in faults {
+        let fault = fault_of(alloc, parts(alloc, saved)?);
+        assert_eq!(rt;
+            fault,
+            Some(PartsFault::Damaged(Place::EventTable)),
+            "{saved:?}"
+        );
+    }
+    Ok(())
+}
+
+#[test]
+fn an_event_has_one_row(rt: HostRuntime) -> Result<(), Fail> {
+    let alloc = rt.alloc();
+    for count in [0, 2] {
+        let mut rows = Vec::new(alloc);
+        for _ in 0..count {
+            rows.push(event_row(alloc, friday_saved())?)?;
+        }
+        let mut saved = parts(alloc, friday_saved())?;
+        saved.event = Items::from(rows);
+        assert_eq!(rt;
+            fault_of(alloc, saved),
+            Some(PartsFault::Damaged(Place::EventTable)),
+            "{count}"
+        );
+    }
+    Ok(())
+}
+
+/// Each kind of fault of the players' rows, one edit at a time.
+#[test]
+fn faults_of_the_players_are_named(rt: HostRuntime) -> Result<(), Fail> {
+    let alloc = rt.alloc();
+    let friday = friday_saved();
+    let ana: (i64, &[u8], i64) = (1, b"Ana", 0);
+    let bo: (i64, &[u8], i64) = (2, b"Bo", 0);
+    let faults = [
+        Saved {
+            players: [(0, b"Ana", 0), (1, b"Bo", 0)],
+            ..friday
+        },
+        Saved {
+            players: [(-1, b"Ana", 0), bo],
+            ..friday
+        },
+        Saved {
+            players: [ana, (1, b"Bo", 0)],
+            ..friday
+        },
+        Saved {
+            players: [ana, (3, b"Bo", 0)],
+            ..friday
+        },
+        Saved {
+            players: [ana, (513, b"Bo", 0)],
+            ..friday
+        },
+        Saved {
+            players: [ana, (65538, b"Bo", 0)],
+            ..friday
+        },
+        Saved {
+            players: [(2, b"Ana", 0), (3, b"Bo", 0)],
+            ..friday
+        },
+        Saved {
+            players: [bo, ana],
+            ..friday
+        },
+        Saved {
+            players: [ana, (2, b"", 0)],
+            ..friday
+        },
+        Saved {
+            players: [ana, (2, b" Bo", 0)],
+            ..friday
+        },
+        Saved {
+            players: [ana, (2, b"B\to", 0)],
+            ..friday
+        },
+        Saved {
+            players: [ana, (2, b"\xff", 0)],
+            ..friday
+        },
+        Saved {
+            players: [ana, (2, b"Ana", 0)],
+            ..friday
+        },
+        Saved {
+            players: [ana, (2, b"Bo", 2)],
+            ..friday
+        },
+        Saved {
+            players: [ana, (2, b"Bo", -1)],
+            ..friday
+        },
+        Saved { phase: 0, ..friday },
+    ];
+    for saved in faults {
+        let fault = fault_of(alloc, parts(alloc, saved)?);
+        assert_eq!(rt;
+            fault,
+            Some(PartsFault::Damaged(Place::PlayerTable)),
+            "{saved:?}"
+        );
+    }
+    Ok(())
+}
+
+#[test]
+fn too_few_players_are_a_fault(rt: HostRuntime) -> Result<(), Fail> {
+    let alloc = rt.alloc();
+    let mut saved = parts(alloc, friday_saved())?;
+    let mut rows = saved.players.into_vec();
+    rows.truncate(1);
+    saved.players = Items::from(rows);
+    assert_eq!(rt;
+        fault_of(alloc, saved),
+        Some(PartsFault::Damaged(Place::PlayerTable))
+    );
+    Ok(())
+}
+
+#[test]
+fn rounds_are_not_read_so_far(rt: HostRuntime) -> Result<(), Fail> {
+    let alloc = rt.alloc();
+    let mut paired = parts(alloc, friday_saved())?;
+    let mut rows = Vec::new(alloc);
+    rows.push(PairingRow {
+        round: 1,
+        tab: 1,
+        lo: 1,
+        hi: 2,
+        swapped: 0,
+        done: 0,
+        x: 0,
+        y: 0,
+        d: 0,
+    })?;
+    paired.pairings = Items::from(rows);
+    assert_eq!(rt;
+        fault_of(alloc, paired),
+        Some(PartsFault::Damaged(Place::PairingTable))
+    );
+    let playoff = parts(
+        alloc,
+        Saved {
+            phase: 2,
+            ..friday_saved()
+        },
+    )?;
+    assert_eq!(rt;
+        fault_of(alloc, playoff),
+        Some(PartsFault::Damaged(Place::PairingTable))
+    );
+    let mut seeded = parts(alloc, friday_saved())?;
+    let mut rows = Vec::new(alloc);
+    rows.push(BracketRow {
+        stage: 1,
+        slot: 1,
+        a: 1,
+        b: 2,
+        done: 0,
+        x: 0,
+        y: 0,
+        d: 0,
+    })?;
+    seeded.bracket = Items::from(rows);
+    assert_eq!(rt;
+        fault_of(alloc, seeded),
+        Some(PartsFault::Damaged(Place::BracketTable))
+    );
+    Ok(())
+}
+
+/// Phases and drops change just what they name.
+#[test]
+fn players_drop_once_the_event_has_started(rt: HostRuntime) -> Result<(), Fail> {
+    let alloc = rt.alloc();
+    let event = friday(alloc, 3, 0)?.ok().ok_or("friday")?;
+    let event = with_player(alloc, event, "Ana")?.ok_or("Ana")?;
+    let start = Change::SetPhase {
+        phase: Phase::Swiss,
+    };
+    assert!(rt; !event.fits(&start));
+    let event = with_player(alloc, event, "Bo")?.ok_or("Bo")?;
+    let player = PlayerNo::try_new(2).ok_or("2")?;
+    let drop = Change::SetDropped { player };
+    assert!(rt; !event.fits(&drop));
+    assert!(rt; event.fits(&start));
+    let Ok(event) = event.apply(alloc, &start) else {
+        return Err("start")?;
+    };
+    assert!(rt; event.fits(&drop));
+    let Ok(event) = event.apply(alloc, &drop) else {
+        return Err("drop")?;
+    };
+    assert_eq!(rt; event.phase(), Phase::Swiss);
+    assert!(rt; !event.players()[0].dropped && event.players()[1].dropped);
+    let nobody = Change::SetDropped {
+        player: PlayerNo::try_new(3).ok_or("3")?,
+    };
+    assert!(rt; !event.fits(&nobody));
     Ok(())
 }

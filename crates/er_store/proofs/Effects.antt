@@ -23,16 +23,18 @@ use Rattle.sqlite_rules.specs.Calls.{ids_of}
 use Rattle.sqlite.specs.declared.types.Value.{Value}
 use Rattle.sqlite_schema.specs.declared.schema.Index.{Index}
 use Rattle.sqlite_schema.specs.declared.schema.View.{View}
+use Rattle.er_event.specs.declared.events.Phase.{Phase}
 use Rattle.er_event.specs.Event.{EventValue}
+use Rattle.er_event.specs.Change.{with_phase}
 use Rattle.er_event.specs.Rows.{flag, phase_code, event_row}
-use Rattle.er_store.specs.Tables.{event, player, insert_event, insert_player, set_serial}
+use Rattle.er_store.specs.Tables.{event, player, insert_event, insert_player, set_serial, set_phase}
 use Rattle.er_store.specs.Rows.{number, event_columns, event_places, stored_event, stored_player, shown}
 use Rattle.er_store.specs.Standing.{HasTables, StandsFor, CanRead}
 use Rattle.er_store.specs.Steps.{Goes, Puts}
 use Rattle.er_store.proofs.Values.{cast_int, cast_null}
 use Rattle.er_store.proofs.Inserts.{puts_one}
 use Rattle.er_store.proofs.Updates.{update_goes, sets_off_nothing, event_rows}
-use Rattle.er_store.proofs.Meaning.{full, event_terms, event_is, event_plain, player_terms, player_is, player_plain, event_query, serial_terms, serial_is, serial_plain, readable}
+use Rattle.er_store.proofs.Meaning.{full, event_terms, event_is, event_plain, player_terms, player_is, player_plain, event_query, serial_terms, serial_is, serial_plain, phase_terms, phase_is, phase_plain, readable}
 
 -- what holds of each schema with the four tables in front holds of this one
 pub at_ours : (schema : Schema) (has : HasTables schema) (P : Schema → Type 0) → P (full has.others schema.indexes schema.views) → P schema
@@ -132,3 +134,17 @@ serial_shows r e s t h =
 pub sets_serial : (old new : State) (e : EventValue) (s t count : ℕ) → StandsFor old.now e s → IsTrue old.in_transaction
     → ExecutesInside 0 set_serial (number t ∷ []) old new (Ok count) → Goes 0 old new × (new.now.trees 0 ≡ stored_event e t ∷ [])
 sets_serial old new e s t count = sets_event set_serial serial_terms (number t) old new e e s t count serial_is serial_plain (λ r h. serial_shows r e s t h)
+
+phase_shows : (r : Row) (e : EventValue) (s : ℕ) (phase : Phase) → map (column r) event_places ≡ event_columns (event_row e s) → eval_all phase_terms ((number (phase_code phase) ∷ []) ∷ r ∷ []) ≡ number 1 ∷ stored_event (with_phase e phase) s
+phase_shows r e s phase h =
+    let c0 : column r 0 ≡ number 1 = cc in
+    let c2 : column r 2 ≡ number 1 = cc in
+    let c3 : column r 3 ≡ number s = cc in
+    let c4 : column r 4 ≡ Text e.name = cc in
+    let c5 : column r 5 ≡ number e.rounds = cc in
+    let c6 : column r 6 ≡ number e.cut = cc in
+    cc
+
+pub sets_phase : (old new : State) (e : EventValue) (s : ℕ) (phase : Phase) (count : ℕ) → StandsFor old.now e s → IsTrue old.in_transaction
+    → ExecutesInside 0 set_phase (number (phase_code phase) ∷ []) old new (Ok count) → Goes 0 old new × (new.now.trees 0 ≡ stored_event (with_phase e phase) s ∷ [])
+sets_phase old new e s phase count = sets_event set_phase phase_terms (number (phase_code phase)) old new e (with_phase e phase) s s count phase_is phase_plain (λ r h. phase_shows r e s phase h)

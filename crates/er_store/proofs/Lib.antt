@@ -4,6 +4,14 @@ pub mod Inserts
 pub mod Updates
 pub mod Effects
 pub mod Together
+pub mod Picking
+pub mod Dropping
 pub mod Crash
 pub mod Creates
 pub mod Finding
+pub mod TypedLemmas
+pub mod ReadLemmas
+pub mod Refusals
+pub mod Exact
+pub mod LoadLemmas
+pub mod Loaded

@@ -1,20 +1,27 @@
 -- What the texts mean, whatever other tables there are.
-use Rattle.std.proofs.Common.{◌≡◌, Ok, refl, [], ◌∷◌, List, None, pos, negsuc, false, is_ok, sym, ◌∙◌, true≢false}
+use Rattle.std.proofs.Common.{map, length, ◌≤◌, lit≤, ◌≡◌, Ok, Err, Result, codes, ℕ, refl, [], ◌∷◌, List, None, pos, negsuc, false, true, is_ok, sym, ◌∙◌, true≢false}
 use Rattle.sqlite.specs.Compile.{table_defined_by}
 use Rattle.sqlite.specs.Table.{Table}
 use Rattle.sqlite.specs.Schema.{Schema}
-use Rattle.sqlite.specs.Term.{Term, lit, col}
+use Rattle.sqlite.specs.Term.{Term, lit, col, op2}
 use Rattle.sqlite.specs.Query.{Query, Join, inner, end}
-use Rattle.sqlite.specs.Command.TheVariants.{Insert, Update}
+use Rattle.sqlite.specs.Command.TheVariants.{Insert, Select, Update}
 use Rattle.sqlite.specs.Source.TheVariants.{Values}
 use Rattle.sqlite.specs.declared.types.Value.TheVariants.{Null, Int}
+use Rattle.sqlite.specs.Collation.TheVariants.{Binary}
 use Rattle.sqlite_schema.specs.declared.schema.Index.{Index}
 use Rattle.sqlite_schema.specs.declared.schema.View.{View}
+use Rattle.sqlite_sql.specs.declared.ops.BinaryOp.TheVariants.{Compare}
+use Rattle.sqlite_sql.specs.declared.ops.CompareOp.TheVariants.{Eq}
+use Rattle.sqlite_typing.specs.Types.{accepts_program}
+use Rattle.sqlite_resolve.specs.declared.compiled.Compiled.{Compiled}
+use Rattle.sqlite_resolve.specs.declared.error.CompileError.{CompileError}
 use Rattle.sqlite_tied.specs.Compute.{everything}
-use Rattle.sqlite.specs.Listing.{understood, listing_schema}
+use Rattle.sqlite.specs.Listing.{understood, listing_schema, reads_listing}
 use Rattle.sqlite.proofs.Callers.{IsPlain, command_of}
 use Rattle.er_store.specs.Standing.{with_ours, CanRead}
-use Rattle.er_store.specs.Tables.{no_schema, event_text, player_text, pairing_text, bracket_text, event, player, pairing, bracket, insert_event, insert_player, set_serial, find_event}
+use Rattle.er_store.specs.Rows.{event_places, player_places, pairing_places, bracket_places}
+use Rattle.er_store.specs.Tables.{no_schema, event_text, player_text, pairing_text, bracket_text, event, player, pairing, bracket, insert_event, insert_player, set_serial, set_phase, set_dropped, find_event, read_event, read_players, read_pairings, read_bracket}
 
 pub event_defined : table_defined_by event_text ≡ Ok (event 0)
 unfolding understood everything
@@ -49,6 +56,35 @@ event_query = plain_query (inner 0 end) []
 abbrev pub serial_terms : List Term
 serial_terms = col 1 0 ∷ col 1 0 ∷ lit Null ∷ col 1 2 ∷ col 0 0 ∷ col 1 4 ∷ col 1 5 ∷ col 1 6 ∷ col 1 7 ∷ []
 
+-- the row with another phase
+abbrev pub phase_terms : List Term
+phase_terms = col 1 0 ∷ col 1 0 ∷ lit Null ∷ col 1 2 ∷ col 1 3 ∷ col 1 4 ∷ col 1 5 ∷ col 1 6 ∷ col 0 0 ∷ []
+
+abbrev pub dropped_terms : List Term
+dropped_terms = col 1 0 ∷ col 1 0 ∷ lit Null ∷ col 1 2 ∷ lit (Int (pos 1)) ∷ []
+
+-- the row of the player whose number is given
+abbrev pub dropped_query : Query
+dropped_query = plain_query (inner 1 end) (op2 (Compare Eq Binary) (col 1 0) (col 0 0) ∷ []) dropped_terms
+
+-- the columns at these places of each row of a table, by some of them
+abbrev pub table_query : ℕ → List ℕ → List ℕ → Query
+table_query tree places keys = record (plain_query (inner tree end) [] (map (col 1) places)) { order = map (λ place. (col 1 place, record { collation = Binary; descending = false })) keys }
+
+-- the text is one statement with so many parameters
+abbrev pub Takes : ℕ → List ℕ → Result Compiled CompileError → Type 0
+Takes n sql (Ok c) = (length sql ≤ c.tail) × (length c.names ≡ n)
+Takes n sql (Err e) = ⊥
+
+-- the text is one SELECT of the schema, with no parameter, by this query
+pub record Selects (sql : List ℕ) (q : Query) (schema : Schema) : Type 0 where
+  pub names : List (List ℕ)
+  pub is : command_of (understood schema sql) ≡ Select (record { lets = []; body = q }) names
+  pub plain : IsPlain (understood schema sql)
+  pub unlisted : reads_listing schema sql ≡ false
+  pub whole : Takes 0 sql (understood schema sql)
+  pub typed : accepts_program schema [] q [] ≡ true
+
 module _ (others : List Table) (indexes : List Index) (views : List View) where
   abbrev pub full : Schema
   full = record { tables = with_ours others; indexes = indexes; views = views }
@@ -76,6 +112,38 @@ module _ (others : List Table) (indexes : List Index) (views : List View) where
   pub serial_plain : IsPlain (understood full set_serial)
   unfolding understood everything
   serial_plain = (refl, refl)
+
+  pub phase_is : command_of (understood full set_phase) ≡ Update 0 (record { lets = []; body = event_query phase_terms })
+  unfolding understood everything
+  phase_is = refl
+
+  pub phase_plain : IsPlain (understood full set_phase)
+  unfolding understood everything
+  phase_plain = (refl, refl)
+
+  pub dropped_is : command_of (understood full set_dropped) ≡ Update 1 (record { lets = []; body = dropped_query })
+  unfolding understood everything
+  dropped_is = refl
+
+  pub dropped_plain : IsPlain (understood full set_dropped)
+  unfolding understood everything
+  dropped_plain = (refl, refl)
+
+  pub event_selected : Selects read_event (table_query 0 event_places (0 ∷ [])) full
+  unfolding understood everything
+  event_selected = record { names = codes "id" ∷ codes "version" ∷ codes "serial" ∷ codes "name" ∷ codes "rounds" ∷ codes "cut" ∷ codes "phase" ∷ []; is = refl; plain = (refl, refl); unlisted = refl; whole = (lit≤ tt, refl); typed = refl }
+
+  pub players_selected : Selects read_players (table_query 1 player_places (0 ∷ [])) full
+  unfolding understood everything
+  players_selected = record { names = codes "no" ∷ codes "name" ∷ codes "dropped" ∷ []; is = refl; plain = (refl, refl); unlisted = refl; whole = (lit≤ tt, refl); typed = refl }
+
+  pub pairings_selected : Selects read_pairings (table_query 3 pairing_places (1 ∷ 2 ∷ [])) full
+  unfolding understood everything
+  pairings_selected = record { names = codes "round" ∷ codes "tab" ∷ codes "lo" ∷ codes "hi" ∷ codes "swapped" ∷ codes "done" ∷ codes "x" ∷ codes "y" ∷ codes "d" ∷ []; is = refl; plain = (refl, refl); unlisted = refl; whole = (lit≤ tt, refl); typed = refl }
+
+  pub bracket_selected : Selects read_bracket (table_query 6 bracket_places (1 ∷ 2 ∷ [])) full
+  unfolding understood everything
+  bracket_selected = record { names = codes "stage" ∷ codes "slot" ∷ codes "a" ∷ codes "b" ∷ codes "done" ∷ codes "x" ∷ codes "y" ∷ codes "d" ∷ []; is = refl; plain = (refl, refl); unlisted = refl; whole = (lit≤ tt, refl); typed = refl }
 
   -- the table can be read
   pub readable : CanRead full

@@ -13,7 +13,8 @@ use Rattle.sqlite.specs.Edit.{is_taken}
 use Rattle.sqlite.specs.Effect.{Database}
 use Rattle.sqlite.specs.State.{State}
 use Rattle.er_event.specs.Event.{EventValue}
-use Rattle.er_event.specs.Change.{new_player, with_player}
+use Rattle.er_event.specs.declared.events.Phase.{Phase}
+use Rattle.er_event.specs.Change.{new_player, with_player, with_phase}
 use Rattle.er_event.specs.Rows.{event_row, player_row, player_rows, pairing_rows, pairing_rows_from, bracket_rows, bracket_rows_from}
 use Rattle.er_event.specs.declared.players.Player.{Player}
 use Rattle.er_store.specs.Tables.{our_schema}
@@ -112,25 +113,20 @@ aside old new e s stands pairings bracket = record {
   bracket_keyed = subst IsKeyed (sym bracket) stands.bracket_keyed;
 }
 
-pub player_added : (old new : State) (e : EventValue) (s : ℕ) (name : List ℕ) → StandsFor old.now e s → Puts 1 (stored_player (length e.players + 1) name false) old new → Makes old new (with_player e name) s
-player_added old new e s name stands put =
+-- the players' rows alone are others
+pub players_set : (old new : State) (e : EventValue) (players : List Player) (s : ℕ) → StandsFor old.now e s → Goes 1 old new
+    → IsPermutation (shown player_places (new.now.trees 1)) (map player_columns (map player_row players)) → Makes old new (record e { players = players }) s
+players_set old new e players s stands goes set =
     let has = stands.tables in
-    let others = kept 1 old new has put.goes in
-    let row = stored_player (length e.players + 1) name false in
-    let p = new_player e.players name in
+    let others = kept 1 old new has goes in
     let rest = aside old.now new.now e s stands (others.pairing (λ e. cc)) (others.bracket (λ e. cc)) in
-    let shows : Player → Row = λ q. player_columns (player_row q) in
-    let all : map player_columns (map player_row (e.players ++ p ∷ [])) ≡ map player_columns (map player_row e.players) ++ shows p ∷ [] =
-    ap (map player_columns) (map-append player_row e.players (p ∷ [])) ∙ map-append player_columns (map player_row e.players) (player_row p ∷ []) in
     record {
-      moves = goes_moves 1 old new (λ t other. other.1) put.goes;
+      moves = goes_moves 1 old new (λ t other. other.1) goes;
       stands = record {
         low = stands.low;
-        tables = subst HasTables (sym put.goes.schema) has;
+        tables = subst HasTables (sym goes.schema) has;
         event = subst (λ rows. IsPermutation (shown event_places rows) (event_columns (event_row e s) ∷ [])) (sym (others.event (λ e. cc))) stands.event;
-        players = subst (λ rows. IsPermutation (shown player_places rows) (map player_columns (player_rows (with_player e name)))) (sym put.rows)
-            (subst (IsPermutation (shown player_places (put_row row (old.now.trees 1)))) (sym all)
-            (shows_more player_places row (old.now.trees 1) (shows p) (map player_columns (player_rows e)) put.free refl stands.players));
+        players = set;
         pairings = rest.pairings;
         bracket = rest.bracket;
         pairings_keyed = rest.pairings_keyed;
@@ -138,9 +134,21 @@ player_added old new e s name stands put =
       };
     }
 
--- the serial alone is another
-pub serial_set : (old new : State) (e : EventValue) (s t : ℕ) → t ≤ 999999 → StandsFor old.now e s → Goes 0 old new → new.now.trees 0 ≡ stored_event e t ∷ [] → Makes old new e t
-serial_set old new e s t low stands goes set =
+pub player_added : (old new : State) (e : EventValue) (s : ℕ) (name : List ℕ) → StandsFor old.now e s → Puts 1 (stored_player (length e.players + 1) name false) old new → Makes old new (with_player e name) s
+player_added old new e s name stands put =
+    let row = stored_player (length e.players + 1) name false in
+    let p = new_player e.players name in
+    let shows : Player → Row = λ q. player_columns (player_row q) in
+    let all : map player_columns (map player_row (e.players ++ p ∷ [])) ≡ map player_columns (map player_row e.players) ++ shows p ∷ [] =
+    ap (map player_columns) (map-append player_row e.players (p ∷ [])) ∙ map-append player_columns (map player_row e.players) (player_row p ∷ []) in
+    players_set old new e (e.players ++ p ∷ []) s stands put.goes
+    (subst (λ rows. IsPermutation (shown player_places rows) (map player_columns (player_rows (with_player e name)))) (sym put.rows)
+    (subst (IsPermutation (shown player_places (put_row row (old.now.trees 1)))) (sym all)
+    (shows_more player_places row (old.now.trees 1) (shows p) (map player_columns (player_rows e)) put.free refl stands.players)))
+
+-- the event's row alone is another
+pub row_set : (old new : State) (e : EventValue) (phase : Phase) (s t : ℕ) → t ≤ 999999 → StandsFor old.now e s → Goes 0 old new → new.now.trees 0 ≡ stored_event (with_phase e phase) t ∷ [] → Makes old new (with_phase e phase) t
+row_set old new e phase s t low stands goes set =
     let has = stands.tables in
     let others = kept 0 old new has goes in
     let rest = aside old.now new.now e s stands (others.pairing (λ e. cc)) (others.bracket (λ e. cc)) in
@@ -149,7 +157,7 @@ serial_set old new e s t low stands goes set =
       stands = record {
         low = low;
         tables = subst HasTables (sym goes.schema) has;
-        event = subst (λ rows. IsPermutation (shown event_places rows) (event_columns (event_row e t) ∷ [])) (sym set) (IsPermutation-refl _);
+        event = subst (λ rows. IsPermutation (shown event_places rows) (event_columns (event_row (with_phase e phase) t) ∷ [])) (sym set) (IsPermutation-refl _);
         players = subst (λ rows. IsPermutation (shown player_places rows) (map player_columns (player_rows e))) (sym (others.player (λ e. cc))) stands.players;
         pairings = rest.pairings;
         bracket = rest.bracket;

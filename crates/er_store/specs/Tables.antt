@@ -1,8 +1,9 @@
 -- The four tables of an event, as the texts that make them say.
 use Rattle.std.specs.Prelude.{ℕ, pos, Bool, true, false, List, [], ◌∷◌, Some, None, codes}
 use Rattle.er_store.specs.declared.creation.TheConstants.{CREATE_EVENT, CREATE_PLAYER, CREATE_PAIRING, CREATE_BRACKET}
-use Rattle.er_store.specs.declared.statements.TheConstants.{INSERT_EVENT, INSERT_PLAYER, SET_SERIAL}
+use Rattle.er_store.specs.declared.statements.TheConstants.{INSERT_EVENT, INSERT_PLAYER, SET_SERIAL, SET_PHASE, SET_DROPPED}
 use Rattle.er_store.specs.declared.transactions.TheConstants.{FIND_EVENT}
+use Rattle.er_store.specs.declared.reading.TheConstants.{READ_EVENT, READ_PLAYERS, READ_PAIRINGS, READ_BRACKET}
 use Rattle.sqlite.specs.declared.types.Value.TheVariants.{Null, Int}
 use Rattle.sqlite.specs.Collation.TheVariants.{Binary}
 use Rattle.sqlite.specs.Kind.{Kind}
@@ -134,6 +135,24 @@ insert_player = INSERT_PLAYER.now
 abbrev pub set_serial : List ℕ
 set_serial = SET_SERIAL.now
 
+abbrev pub set_phase : List ℕ
+set_phase = SET_PHASE.now
+
+abbrev pub set_dropped : List ℕ
+set_dropped = SET_DROPPED.now
+
 -- whether a table `event` can be read
 abbrev pub find_event : List ℕ
 find_event = FIND_EVENT.now
+
+abbrev pub read_event : List ℕ
+read_event = READ_EVENT.now
+
+abbrev pub read_players : List ℕ
+read_players = READ_PLAYERS.now
+
+abbrev pub read_pairings : List ℕ
+read_pairings = READ_PAIRINGS.now
+
+abbrev pub read_bracket : List ℕ
+read_bracket = READ_BRACKET.now

@@ -5,13 +5,18 @@ ghost use Rattle.std.specs.Prelude.{◌≡◌, false};
 
 mod creation;
 mod faults;
+mod loading;
+mod reading;
+mod rows;
 mod statements;
 mod transactions;
 
 pub use creation::{CREATE_BRACKET, CREATE_EVENT, CREATE_PAIRING, CREATE_PLAYER};
 use er_event::{Change, Event, Refusal};
 use faults::refusal_of;
+use loading::load_tables;
 use sqlite::{Alter, Connection};
+use std::alloc::Global;
 use transactions::{create_tables, has_event, write_tables};
 
 /// The tables of one event. After a fault each call but `into_connection` is refused, and touches no table.
@@ -24,17 +29,21 @@ pub struct Store<S: Alter> {
 }
 
 impl<S: Alter> Store<S> {
-    ghost use Rattle.std.specs.Prelude.{◌≡◌, ◌≢◌, ◌⊎◌, ◌+◌, ◌<◌, false, Err, IfOk, IfErr, OnOk, MatchResult, IsTrue, IsFalse};
+    ghost use Rattle.std.specs.Prelude.{◌≡◌, ◌≢◌, ◌⊎◌, ◌+◌, ◌<◌, ℕ, [], false, Err, IfOk, IfErr, OnOk, MatchResult, IsTrue, IsFalse};
     ghost use Rattle.sqlite.specs.State.{HasCleanDisk, IsUnchanged};
     ghost use Rattle.sqlite.specs.Held.{state};
     ghost use Rattle.sqlite.specs.Tree.{Trees};
     ghost use Rattle.er_event.specs.declared.refusals.TheConstants.{MAX_SERIAL};
-    ghost use Rattle.er_event.specs.Change.{after};
+    ghost use Rattle.er_event.specs.Event.{EventValue};
+    ghost use Rattle.er_event.specs.Sound.{IsSoundButForSeeds};
+    ghost use Rattle.er_event.specs.Change.{after, Fits};
     ghost use Rattle.er_store.specs.Tables.{no_schema};
-    ghost use Rattle.er_store.specs.Standing.{HasTables, IsNew, IsStored, Shows, Leaves, Either, KeepsOthers, CanRead};
+    ghost use Rattle.er_store.specs.Standing.{HasTables, StandsFor, IsNew, IsStored, Shows, Leaves, Either, KeepsOthers, CanRead};
     ghost use Rattle.er_store.specs.Store as store;
     ghost use Rattle.er_store.specs.Store.{connection, is_stopped};
-    ghost use Rattle.er_store.specs.Fault.{IsFault};
+    ghost use Rattle.er_store.specs.Fault.{IsFault, IsLoadFault};
+    ghost use Rattle.er_store.specs.Loading.{ShowsEvent};
+    ghost use Rattle.er_store.specs.Reading.{KeepsTables};
 
     /// Makes the tables of a new event, with serial 0. A refusal gives the connection back.
     pub fn create(
@@ -70,8 +79,9 @@ impl<S: Alter> Store<S> {
         }
     }
 
-    /// Writes the change and the next serial in one transaction. The change fits the event, whose serial is given.
+    /// Writes the change and the next serial in one transaction. The serial is the event's.
     pub fn write(&mut self, event: &Event, change: &Change, serial: u32) -> Result<(), Refusal>
+        requires fits { Fits event.now change.now }
         requires low { serial < MAX_SERIAL }
 
         ensures stopped { IsTrue (is_stopped self.old) → (result ≡ Err Refusal.NeedsReopen) × (self.new ≡ self.old) }
@@ -93,6 +103,29 @@ impl<S: Alter> Store<S> {
                 Err(refusal_of(error))
             }
         }
+    }
+
+    /// Reads the event and its serial. It changes no table.
+    pub fn load(&mut self, alloc: Global) -> Result<(Event, u32), Refusal>
+        ensures stopped { IsTrue (is_stopped self.old) → (result ≡ Err Refusal.NeedsReopen) × (self.new ≡ self.old) }
+        ensures stops { IsFalse (is_stopped self.old) → MatchResult result (λ _. IsFalse (is_stopped self.new)) (λ why. IsLoadFault why × IsTrue (is_stopped self.new)) }
+
+        // Where the tables stand for a sound event with no round, it is found, or memory or the store fails.
+        ensures found { IsFalse (is_stopped self.old) → HasCleanDisk (store.state S.Store self.new) → (e : EventValue) (s : ℕ) → StandsFor (store.state S.Store self.old).now e s → IsSoundButForSeeds e → e.stored ≡ []
+            → MatchResult result (λ it. (it.0 ≡ e) × (it.1 ≡ s)) IsFault }
+
+        // Whatever the tables hold, what is found is what they show.
+        ensures shows { HasCleanDisk (store.state S.Store self.new) → HasTables (store.state S.Store self.old).now.schema
+            → IfOk result (λ it. ShowsEvent (store.state S.Store self.old).now it.0 it.1 × IsUnchanged (store.state S.Store self.old) (store.state S.Store self.new)) }
+        ensures kept { HasCleanDisk (store.state S.Store self.new) → HasTables (store.state S.Store self.old).now.schema → IfErr result (λ _. KeepsTables (store.state S.Store self.old) (store.state S.Store self.new)) }
+        ensures crash { HasTables (store.state S.Store self.old).now.schema → Leaves (store.state S.Store self.new) (store.state S.Store self.old).may_leave }
+    {
+        if self.needs_reopen {
+            return Err(Refusal::NeedsReopen);
+        }
+        let read = load_tables(alloc, &mut self.conn);
+        self.needs_reopen = read.is_err();
+        read
     }
 
     /// Gives the connection back as it is.

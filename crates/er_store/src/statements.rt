@@ -1,8 +1,11 @@
-ghost use Rattle.std.specs.Prelude.{◌≡◌, ◌≤◌, ℕ, List, OnOk};
+ghost use Rattle.std.specs.Prelude.{◌≡◌, ◌≤◌, ℕ, List, OnOk, Contains, length};
+ghost use Rattle.std.specs.List.{range_with_len};
 ghost use Rattle.sqlite.specs.State.{HasCleanDisk, Survives};
 ghost use Rattle.sqlite.specs.Held.{state};
 ghost use Rattle.er_event.specs.declared.refusals.TheConstants.{MAX_SERIAL};
 ghost use Rattle.er_event.specs.Event.{EventValue};
+ghost use Rattle.er_event.specs.Sound.{numbers};
+ghost use Rattle.er_event.specs.Change.{with_phase, with_dropped};
 ghost use Rattle.er_store.specs.Rows.{stored_player, stored_event};
 ghost use Rattle.er_event.specs.Rows.{phase_code};
 ghost use Rattle.er_store.specs.Standing.{HasTables, StandsFor};
@@ -75,5 +78,32 @@ pub fn set_serial<S: Alter>(tx: &mut Transaction<'_, S>, serial: u32) -> Result<
     ensures survives { Survives (state S.Store tx.old.conn.now) (state S.Store tx.new.conn.now) (λ _. ⊥) }
 {
     tx.execute(SET_SERIAL, params![serial])?;
+    Ok(())
+}
+
+pub const SET_PHASE: &str = "UPDATE event SET phase = ?1";
+
+/// Sets the phase of the event's row.
+pub fn set_phase<S: Alter>(tx: &mut Transaction<'_, S>, phase: Phase) -> Result<(), Error>
+    ensures same_reference { tx.new.conn.ghost_name ≡ tx.old.conn.ghost_name }
+    ensures makes { HasCleanDisk (state S.Store tx.new.conn.now) → (e : EventValue) (s : ℕ) → StandsFor (state S.Store tx.old.conn.now).now e s
+        → OnOk result (Makes (state S.Store tx.old.conn.now) (state S.Store tx.new.conn.now) (with_phase e phase) s) }
+    ensures survives { Survives (state S.Store tx.old.conn.now) (state S.Store tx.new.conn.now) (λ _. ⊥) }
+{
+    tx.execute(SET_PHASE, params![phase_code(phase)])?;
+    Ok(())
+}
+
+pub const SET_DROPPED: &str = "UPDATE player SET dropped = 1 WHERE no = ?1";
+
+/// Drops the player of this number.
+pub fn set_dropped<S: Alter>(tx: &mut Transaction<'_, S>, number: u32) -> Result<(), Error>
+    ensures same_reference { tx.new.conn.ghost_name ≡ tx.old.conn.ghost_name }
+    ensures makes { HasCleanDisk (state S.Store tx.new.conn.now) → (e : EventValue) (s : ℕ) → StandsFor (state S.Store tx.old.conn.now).now e s
+        → numbers e.players ≡ range_with_len 1 (length e.players) → Contains (numbers e.players) number
+        → OnOk result (Makes (state S.Store tx.old.conn.now) (state S.Store tx.new.conn.now) (with_dropped e number) s) }
+    ensures survives { Survives (state S.Store tx.old.conn.now) (state S.Store tx.new.conn.now) (λ _. ⊥) }
+{
+    tx.execute(SET_DROPPED, params![number])?;
     Ok(())
 }

@@ -1,8 +1,9 @@
 ghost use Rattle.std.specs.Prelude.{◌≡◌, ◌<◌, false, IfOk};
+ghost use Rattle.er_event.specs.Change.{Fits};
 ghost use Rattle.er_store.specs.Standing.{IsNew};
 
 use super::*;
-use er_event::Name;
+use er_event::{Name, Phase, Place, PlayerNo};
 use sqlite::{Error, MemStore};
 use std::alloc::Global;
 use std::test::Fail;
@@ -63,7 +64,8 @@ fn write(
     change: &Change,
     serial: u32,
 ) -> Result<(), Refusal>
-    requires { serial < 999999 }
+    requires fits { Fits event.now change.now }
+    requires low { serial < 999999 }
 {
     store.write(event, change, serial)
 }
@@ -80,7 +82,80 @@ fn enrol(
     let change = Change::AddPlayer {
         name: name(alloc, text)?,
     };
+    if !event.fits(&change) {
+        return Err("the change fits")?;
+    }
     Ok(write(store, event, &change, serial))
+}
+
+/// Writes the change, and gives the event after it.
+fn advance(
+    alloc: Global,
+    store: &mut Store<MemStore>,
+    event: Event,
+    change: Change,
+    serial: u32,
+) -> Result<Event, Fail>
+    requires { serial < 999999 }
+{
+    if !event.fits(&change) {
+        return Err("the change fits")?;
+    }
+    if write(store, &event, &change, serial).is_err() {
+        return Err("written")?;
+    }
+    match event.apply(alloc, &change) {
+        Ok(event) => Ok(event),
+        Err(_) => Err("applied")?,
+    }
+}
+
+fn enter(
+    alloc: Global,
+    store: &mut Store<MemStore>,
+    event: Event,
+    text: &str,
+    serial: u32,
+) -> Result<Event, Fail>
+    requires { serial < 999999 }
+{
+    let name = name(alloc, text)?;
+    advance(alloc, store, event, Change::AddPlayer { name }, serial)
+}
+
+/// Ana and Bo play, and Bo has dropped: four commands.
+fn started(alloc: Global) -> Result<(Store<MemStore>, Event), Fail> {
+    let event = friday(alloc)?;
+    let mut store = in_memory(alloc, &event)?;
+    let event = enter(alloc, &mut store, event, "Ana", 0)?;
+    let event = enter(alloc, &mut store, event, "Bo", 1)?;
+    let start = Change::SetPhase {
+        phase: Phase::Swiss,
+    };
+    let event = advance(alloc, &mut store, event, start, 2)?;
+    let drop = Change::SetDropped {
+        player: PlayerNo::try_new(2).ok_or("a number")?,
+    };
+    let event = advance(alloc, &mut store, event, drop, 3)?;
+    Ok((store, event))
+}
+
+fn load(alloc: Global, store: &mut Store<MemStore>) -> Result<(Event, u32), Refusal> {
+    store.load(alloc)
+}
+
+/// A store over the same tables, after this statement of another program.
+fn edited(store: Store<MemStore>, sql: &str) -> Result<Store<MemStore>, Fail> {
+    let mut conn = store.into_connection();
+    run(&mut conn, sql)?;
+    if conn.is_autocommit() {
+        Ok(Store {
+            conn,
+            needs_reopen: false,
+        })
+    } else {
+        Err("no transaction was begun")?
+    }
 }
 
 #[test]
@@ -221,5 +296,84 @@ fn other_tables_stay(rt: HostRuntime) -> Result<(), Fail> {
         "7chairs"
     );
     assert_eq!(rt; text(&mut conn, "SELECT name FROM player")?.as_str(), "Ana");
+    Ok(())
+}
+
+#[test]
+fn a_phase_and_a_drop_are_written(rt: HostRuntime) -> Result<(), Fail> {
+    let (store, _) = started(rt.alloc())?;
+    let mut conn = store.into_connection();
+    let rows = [
+        ("SELECT serial || ' ' || phase FROM event", "4 1"),
+        (
+            "SELECT no || ' ' || name || ' ' || dropped FROM player WHERE no = 1",
+            "1 Ana 0",
+        ),
+        (
+            "SELECT no || ' ' || name || ' ' || dropped FROM player WHERE no = 2",
+            "2 Bo 1",
+        ),
+    ];
+    for (sql, row) in rows {
+        assert_eq!(rt; text(&mut conn, sql)?.as_str(), row);
+    }
+    Ok(())
+}
+
+#[test]
+fn the_event_is_read_back(rt: HostRuntime) -> Result<(), Fail> {
+    let alloc = rt.alloc();
+    let (mut store, event) = started(alloc)?;
+    let Ok((read, serial)) = load(alloc, &mut store) else {
+        return Err("read")?;
+    };
+    assert_eq!(rt; serial, 4);
+    assert_eq!(rt; read.name().as_str(), "Friday");
+    assert_eq!(rt; (read.rounds(), read.cut()), (3, 0));
+    assert_eq!(rt; read.phase(), event.phase());
+    assert_eq!(rt; read.players().len(), 2);
+    for (was, is) in event.players().iter().zip(read.players()) {
+        assert_eq!(rt; is.no, was.no);
+        assert_eq!(rt; is.name.as_str(), was.name.as_str());
+        assert_eq!(rt; is.dropped, was.dropped);
+    }
+    Ok(())
+}
+
+/// The first table whose rows no event has is named, and the store is stopped.
+#[test]
+fn broken_tables_are_damage(rt: HostRuntime) -> Result<(), Fail> {
+    let alloc = rt.alloc();
+    let edits = [
+        ("DELETE FROM event", Place::EventTable),
+        ("UPDATE event SET version = 2", Place::EventTable),
+        ("UPDATE event SET serial = 1000000", Place::EventTable),
+        ("UPDATE event SET phase = 4", Place::EventTable),
+        ("DROP TABLE event", Place::EventTable),
+        ("DELETE FROM player WHERE no = 2", Place::PlayerTable),
+        (
+            "UPDATE player SET name = ' Bo' WHERE no = 2",
+            Place::PlayerTable,
+        ),
+        (
+            "UPDATE player SET dropped = x'00' WHERE no = 2",
+            Place::PlayerTable,
+        ),
+        ("DROP TABLE player", Place::PlayerTable),
+        ("DROP TABLE pairing", Place::PairingTable),
+        ("DROP TABLE bracket", Place::BracketTable),
+    ];
+    for (sql, table) in edits {
+        let (store, _) = started(alloc)?;
+        let mut store = edited(store, sql)?;
+        let Err(why) = load(alloc, &mut store) else {
+            return Err("read")?;
+        };
+        assert_eq!(rt; why, Refusal::Damaged { table }, "{sql}");
+        let Err(why) = load(alloc, &mut store) else {
+            return Err("read")?;
+        };
+        assert_eq!(rt; why, Refusal::NeedsReopen);
+    }
     Ok(())
 }

@@ -3,13 +3,13 @@ ghost use Rattle.sqlite.specs.State.{HasCleanDisk, Survives, IsUnchanged};
 ghost use Rattle.sqlite.specs.Held.{state};
 ghost use Rattle.sqlite.specs.Tree.{Trees};
 ghost use Rattle.er_event.specs.declared.refusals.TheConstants.{MAX_SERIAL};
-ghost use Rattle.er_event.specs.Change.{after};
+ghost use Rattle.er_event.specs.Change.{after, Fits};
 ghost use Rattle.er_store.specs.Tables.{no_schema};
 ghost use Rattle.er_store.specs.Standing.{StandsFor, IsStored, IsNew, Shows, Leaves, Either, KeepsOthers, CanRead};
 ghost use Rattle.er_store.specs.Steps.{Makes};
 
 use crate::creation::create_all;
-use crate::statements::{insert_event, insert_player, set_serial};
+use crate::statements::{insert_event, insert_player, set_dropped, set_phase, set_serial};
 use er_event::{Change, Event};
 use sqlite::{Alter, Connection, Error, Transaction};
 
@@ -19,6 +19,7 @@ fn change_tables<S: Alter>(
     event: &Event,
     change: &Change,
 ) -> Result<(), Error>
+    requires fits { Fits event.now change.now }
     ensures same_reference { tx.new.conn.ghost_name ≡ tx.old.conn.ghost_name }
     ensures makes { HasCleanDisk (state S.Store tx.new.conn.now) → (s : ℕ) → StandsFor (state S.Store tx.old.conn.now).now event.now s
         → OnOk result (Makes (state S.Store tx.old.conn.now) (state S.Store tx.new.conn.now) (after event.now change.now) s) }
@@ -29,6 +30,8 @@ fn change_tables<S: Alter>(
             let number = event.players().len() as u32 + 1;
             insert_player(tx, number, name.as_str(), false)
         }
+        Change::SetDropped { player } => set_dropped(tx, u32::from(player.get())),
+        Change::SetPhase { phase } => set_phase(tx, *phase),
     }
 }
 
@@ -39,6 +42,7 @@ pub fn write_tables<S: Alter>(
     change: &Change,
     serial: u32,
 ) -> Result<(), Error>
+    requires fits { Fits event.now change.now }
     requires low { serial < MAX_SERIAL }
     requires mode { conn.old.in_transaction ≡ false }
     ensures mode { conn.new.in_transaction ≡ false }

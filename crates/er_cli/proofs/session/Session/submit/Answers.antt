@@ -1,0 +1,35 @@
+use Rattle.std.proofs.Common.{◌≡◌, ◌∙◌, ◌<◌, false, sym, inl, inr, arith}
+use Rattle.std.proofs.lemmas.Result.{IfOk-weaker, IfErr-weaker}
+use Rattle.er_cli.specs.Session.{event_of, serial_of, is_stopped}
+use Rattle.er_cli.proofs.Leaving.{leaves_early}
+use Rattle.er_cli.proofs.Replies.{due_taken}
+use Rattle.er_cli.proofs.session.Session.submit.Goals as goal
+
+pub returns-in_err-change-clause-crash : goal.returns-in_err-change-clause-crash
+returns-in_err-change-clause-crash g c shows =
+    leaves_early g.S.Store c.args.self.now _ (λ db is_open left. g.met.S.Store.settled c.args.self.now.store.conn.store db is_open left) shows
+
+pub returns-then-self-eq-MAX_SERIAL-clause-crash :
+    goal.returns-then-self-eq-MAX_SERIAL-clause-crash
+returns-then-self-eq-MAX_SERIAL-clause-crash g c shows =
+    leaves_early g.S.Store c.args.self.now _ (λ db is_open left. g.met.S.Store.settled c.args.self.now.store.conn.store db is_open left) shows
+
+pub returns-clause-taken : goal.returns-clause-taken
+returns-clause-taken g c =
+    let session = c.args.self.now in
+    let runs : is_stopped session ≡ false = sym session.told ∙ c.if-self.false in
+    let low : serial_of session < 999999 = omega (arith, session.low, c.if-self-eq-MAX_SERIAL.false) in
+    let due = due_taken _ runs (event_of session) (serial_of session) c.args.command.now _ c.in_ok-change.ensures.taken.1 low in
+    IfOk-weaker c.write.result _ _ (λ receipt taken. (rw taken.0 due, taken.1)) c.write.ensures.taken
+
+pub returns-clause-refused : goal.returns-clause-refused
+returns-clause-refused g c =
+    let session = c.args.self.now in
+    let runs : is_stopped session ≡ false = sym session.told ∙ c.if-self.false in
+    let low : serial_of session < 999999 = omega (arith, session.low, c.if-self-eq-MAX_SERIAL.false) in
+    let due = due_taken _ runs (event_of session) (serial_of session) c.args.command.now _ c.in_ok-change.ensures.taken.1 low in
+    IfErr-weaker c.write.result _ _ (λ why refused. elim refused [ inl own ↦ inl (own.0, inl own.1) | inr stops ↦ inr ((_, due), stops) ]) c.write.ensures.refused
+
+pub returns-clause-crash : goal.returns-clause-crash
+returns-clause-crash g c shows clean trees may =
+    elim (c.write.ensures.crash shows clean trees may) [ inl old ↦ inl old | inr new ↦ inr (_, c.in_ok-change.ensures.taken.1, new) ]

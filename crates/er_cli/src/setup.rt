@@ -1,0 +1,27 @@
+ghost use Rattle.std.specs.Prelude.{◌≡◌, ◌⊎◌, IfOk, IfErr, IsTrue, IsFalse};
+ghost use Rattle.er_event.specs.Name.{is_lawful_name};
+ghost use Rattle.er_event.specs.Change.{created};
+ghost use Rattle.er_cli.specs.Setup.{is_setup};
+
+use er_event::{Event, Name, NameFault, Refusal};
+use std::alloc::Global;
+
+fn read_name(alloc: Global, name: &[u8]) -> Result<Name, Refusal>
+    ensures ok { IfOk result (λ read. (read ≡ name.now) × IsTrue (is_lawful_name name.now)) }
+    ensures refused { IfErr result (λ why. (why ≡ Refusal.Memory) ⊎ ((why ≡ Refusal.BadSetup) × IsFalse (is_lawful_name name.now))) }
+{
+    match Name::try_from_bytes(alloc, name) {
+        Ok(name) => Ok(name),
+        Err(NameFault::Bad) => Err(Refusal::BadSetup),
+        Err(NameFault::Memory) => Err(Refusal::Memory),
+    }
+}
+
+/// An event as it is set up.
+pub fn set_up(alloc: Global, name: &[u8], rounds: u8, cut: u8) -> Result<Event, Refusal>
+    ensures ok { IfOk result (λ event. (event ≡ created name.now rounds cut) × IsTrue (is_setup name.now rounds cut)) }
+    ensures refused { IfErr result (λ why. (why ≡ Refusal.Memory) ⊎ ((why ≡ Refusal.BadSetup) × IsFalse (is_setup name.now rounds cut))) }
+{
+    let name = read_name(alloc, name)?;
+    Event::create(alloc, name, rounds, cut)
+}

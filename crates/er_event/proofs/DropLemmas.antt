@@ -1,0 +1,225 @@
+-- A player who drops keeps number and name, so the event stays sound once it has started.
+use Rattle.std.proofs.Common.{◌≡◌, ◌≢◌, ℕ, zero, suc, ◌+◌, ◌-◌, ◌==◌, ◌<◌, ◌≤◌, Bool, true, false, cond, not, ◌&&◌, ◌⊎◌, inl, inr, List, [], ◌∷◌, length, map, get_or, IsTrue, IsFalse, All, AllPairs, Contains, Option, Some, None, IfSome, Bor, option_map, unwrap_or, find, refl, sym, ap, ap₂, subst, ◌∙◌, true≢false, arith, not-suc-le-zero}
+use Rattle.std.specs.List.{range_with_len, list_all}
+use Rattle.std.proofs.Math.ListN.{set, length-map}
+use Rattle.std.proofs.lemmas.Bool.Decides.{nat_tests}
+use Rattle.std.proofs.lemmas.List.Elements.{All-head, All-tail, All-cons, All-nil}
+use Rattle.std.proofs.lemmas.Option.{none-some}
+use Rattle.std.proofs.lemmas.List.FromFn.{length-range_with_len, get_or-range_with_len}
+use Rattle.er_event.specs.declared.events.Phase.{Phase}
+use Rattle.er_event.specs.declared.events.Phase.TheVariants.{Enrolling, Swiss, Playoff, Finished}
+use Rattle.er_event.specs.declared.players.Player.{Player}
+use Rattle.er_event.specs.declared.rounds.Round.{Round}
+use Rattle.er_event.specs.Event.{EventValue}
+use Rattle.er_event.specs.Name.{is_lawful_name}
+use Rattle.er_event.specs.Sound.{numbers, names, IsRound, IsBracket, HasPlayers, HasRounds, HasBracket, IsSoundButForSeeds}
+use Rattle.er_event.specs.declared.changes.Change.TheVariants.{SetDropped}
+use Rattle.er_event.specs.Change.{dropped_at, with_dropped, with_phase, Fits}
+
+no-kept : (b : Bool) (p : Player) → (cond b (record p { dropped = true }) p).no ≡ p.no
+no-kept true p = refl
+no-kept false p = refl
+
+name-kept : (b : Bool) (p : Player) → (cond b (record p { dropped = true }) p).name ≡ p.name
+name-kept true p = refl
+name-kept false p = refl
+
+pub numbers-dropped : (k : ℕ) (ps : List Player) → numbers (map (dropped_at k) ps) ≡ numbers ps
+numbers-dropped k [] = refl
+numbers-dropped k (p ∷ ps) = ap₂ ◌∷◌ (no-kept (p.no == k) p) (numbers-dropped k ps)
+
+names-dropped : (k : ℕ) (ps : List Player) → names (map (dropped_at k) ps) ≡ names ps
+names-dropped k [] = refl
+names-dropped k (p ∷ ps) = ap₂ ◌∷◌ (name-kept (p.no == k) p) (names-dropped k ps)
+
+-- where the players are numbered, the numbers are those from 1 to their count
+pub Contains-numbered : (ps : List Player) (k : ℕ) → numbers ps ≡ range_with_len 1 (length ps) → 1 ≤ k → k ≤ length ps → Contains (numbers ps) k
+Contains-numbered ps k numbered low high =
+    let len = length-range_with_len 1 (length ps) in
+    let at = get_or-range_with_len 1 (length ps) (k - 1) k (omega arith) in
+    subst (λ (ns : List ℕ). Contains ns k) (sym numbered) (k - 1, omega arith, omega arith)
+
+pub numbered-within : (ps : List Player) (k : ℕ) → numbers ps ≡ range_with_len 1 (length ps) → Contains (numbers ps) k → (1 ≤ k) × (k ≤ length ps)
+numbered-within ps k numbered has =
+    let here : Contains (range_with_len 1 (length ps)) k = subst (λ (ns : List ℕ). Contains ns k) numbered has in
+    let len = length-range_with_len 1 (length ps) in
+    let below = here.1 in
+    let at = get_or-range_with_len 1 (length ps) here.0 k (omega arith) in
+    let is = here.2 in
+    (omega arith, omega arith)
+
+HasPlayers-dropped : (e : EventValue) (k : ℕ) → HasPlayers e → e.phase ≢ Enrolling → HasPlayers (with_dropped e k)
+HasPlayers-dropped e k h started =
+    let len = length-map {A = Player} {B = Player} e.players (dropped_at k) in
+    let Apart : List ℕ → List ℕ → Type 0 = λ a b. a ≢ b in
+    record {
+      few = omega arith;
+      numbered = numbers-dropped k e.players ∙ (h.numbered ∙ ap (range_with_len 1) (sym len));
+      lawful = subst (λ (ns : List (List ℕ)). All (λ n. IsTrue (is_lawful_name n)) ns) (sym (names-dropped k e.players)) h.lawful;
+      distinct = subst (λ (ns : List (List ℕ)). AllPairs Apart ns) (sym (names-dropped k e.players)) h.distinct;
+      enrolling = λ phase. absurd (started phase);
+      started = λ phase. let enough = h.started phase in omega arith;
+    }
+
+HasRounds-dropped : (e : EventValue) (k : ℕ) → HasRounds e → HasRounds (with_dropped e k)
+HasRounds-dropped e k h = record {
+  few = h.few;
+  enrolling = h.enrolling;
+  each = subst (λ (known : List ℕ). All (λ (r : Round). IsRound known r.matches) e.stored) (sym (numbers-dropped k e.players)) h.each;
+  no_repeats = h.no_repeats;
+  earlier_done = h.earlier_done;
+}
+
+HasBracket-dropped : (e : EventValue) (k : ℕ) → HasBracket e → HasBracket (with_dropped e k)
+HasBracket-dropped e k h = record {
+  none = h.none;
+  rounds_done = h.rounds_done;
+  bracket = λ phase. subst (λ (known : List ℕ). IsBracket known e.cut e.bracket.stages) (sym (numbers-dropped k e.players)) (h.bracket phase);
+  decided = h.decided;
+  undecided = h.undecided;
+}
+
+pub IsSound-dropped : (e : EventValue) (k : ℕ) → IsSoundButForSeeds e → e.phase ≢ Enrolling → IsSoundButForSeeds (with_dropped e k)
+IsSound-dropped e k h started = record {
+  set_up = record { name = h.set_up.name; rounds = h.set_up.rounds; cut = h.set_up.cut };
+  players = HasPlayers-dropped e k h.players started;
+  rounds = HasRounds-dropped e k h.rounds;
+  bracket = HasBracket-dropped e k h.bracket;
+}
+
+same_number : (n k : ℕ) → n ≡ k → (n == k) ≡ true
+same_number n k e = grind (arith, nat_tests)
+
+other_number : (n k : ℕ) → n ≢ k → (n == k) ≡ false
+other_number n k e = grind (arith, nat_tests)
+
+dropped-is : (b : Bool) (p : Player) → b ≡ true → (cond b (record p { dropped = true }) p).dropped ≡ true
+dropped-is true p e = refl
+dropped-is false p e = absurd (true≢false (sym e))
+
+-- a dropped player is one of them
+pub some-dropped : (k : ℕ) (ps : List Player) → Contains (numbers ps) k → All (λ (p : Player). IsFalse p.dropped) (map (dropped_at k) ps) → ⊥
+some-dropped k [] (i, below, is) all = not-suc-le-zero below
+some-dropped k (p ∷ ps) (zero, below, is) all =
+    true≢false (sym (dropped-is (p.no == k) p (same_number p.no k is)) ∙ All-head (λ (q : Player). IsFalse q.dropped) (dropped_at k p) (map (dropped_at k) ps) all)
+some-dropped k (p ∷ ps) (suc i, below, is) all =
+    some-dropped k ps (i, omega arith, is) (All-tail (λ (q : Player). IsFalse q.dropped) (dropped_at k p) (map (dropped_at k) ps) all)
+
+-- ---- the write to the one player is the map over all
+
+kept-when : (b : Bool) (p : Player) → b ≡ false → cond b (record p { dropped = true }) p ≡ p
+kept-when false p e = refl
+kept-when true p e = absurd (true≢false e)
+
+set-when : (b : Bool) (p : Player) → b ≡ true → cond b (record p { dropped = true }) p ≡ record p { dropped = true }
+set-when true p e = refl
+set-when false p e = absurd (true≢false (sym e))
+
+first_number : (p : Player) (ps : List Player) (a : ℕ) → numbers (p ∷ ps) ≡ range_with_len a (length (p ∷ ps)) → (p.no ≡ a) × (numbers ps ≡ range_with_len (a + 1) (length ps))
+first_number p ps a e = (ap (λ (ns : List ℕ). get_or ns 0 0) e, ap (Rattle.std.specs.Prelude.drop 1) e)
+
+later_kept : (ps : List Player) (a k : ℕ) → k < a → numbers ps ≡ range_with_len a (length ps) → map (dropped_at k) ps ≡ ps
+later_kept [] a k low numbered = refl
+later_kept (p ∷ ps) a k low numbered =
+    let both = first_number p ps a numbered in
+    let apart : p.no ≢ k = λ e. absurd (omega (arith, both.0)) in
+    ap₂ ◌∷◌ (kept-when (p.no == k) p (other_number p.no k apart)) (later_kept ps (a + 1) k (omega arith) both.1)
+
+pub set-dropped : (ps : List Player) (a i : ℕ) (d : Player) → i < length ps → numbers ps ≡ range_with_len a (length ps)
+    → set ps i (record (get_or ps i d) { dropped = true }) ≡ map (dropped_at (a + i)) ps
+set-dropped [] a i d below numbered = absurd (not-suc-le-zero below)
+set-dropped (p ∷ ps) a zero d below numbered =
+    let both = first_number p ps a numbered in
+    let here : a + 0 ≡ a = omega arith in
+    subst (λ k. record p { dropped = true } ∷ ps ≡ map (dropped_at k) (p ∷ ps)) (sym here)
+    (ap₂ ◌∷◌ (sym (set-when (p.no == a) p (same_number p.no a both.0))) (sym (later_kept ps (a + 1) a (omega arith) both.1)))
+set-dropped (p ∷ ps) a (suc i) d below numbered =
+    let both = first_number p ps a numbered in
+    let here : (a + 1) + i ≡ a + suc i = omega arith in
+    let apart : p.no ≢ (a + suc i) = λ e. absurd (omega (arith, both.0)) in
+    ap₂ ◌∷◌ (sym (kept-when (p.no == (a + suc i)) p (other_number p.no (a + suc i) apart)))
+    (set-dropped ps (a + 1) i d (omega arith) both.1 ∙ ap (λ k. map (dropped_at k) ps) here)
+
+-- ---- nobody is dropped, by the test
+
+pub All-undropped : (ps : List Player) → list_all (λ (p : Player). not p.dropped) ps ≡ true → All (λ (p : Player). IsFalse p.dropped) ps
+All-undropped [] all = All-nil (λ (p : Player). IsFalse p.dropped)
+All-undropped (p ∷ ps) all =
+    let both = and_true (not p.dropped) (list_all (λ (q : Player). not q.dropped) ps) all in
+    All-cons (λ (q : Player). IsFalse q.dropped) p ps (not_true p.dropped both.0) (All-undropped ps both.1)
+  where
+    not_true : (b : Bool) → not b ≡ true → b ≡ false
+    not_true false e = refl
+    not_true true e = absurd (true≢false (sym e))
+
+    and_true : (a b : Bool) → (a && b) ≡ true → (a ≡ true) × (b ≡ true)
+    and_true true b e = (refl, e)
+    and_true false b e = absurd (true≢false (sym e))
+
+pub undropped-All : (ps : List Player) → All (λ (p : Player). IsFalse p.dropped) ps → list_all (λ (p : Player). not p.dropped) ps ≡ true
+undropped-All [] all = refl
+undropped-All (p ∷ ps) all =
+    both (not p.dropped) (list_all (λ (q : Player). not q.dropped) ps) (ap not (All-head (λ (q : Player). IsFalse q.dropped) p ps all))
+    (undropped-All ps (All-tail (λ (q : Player). IsFalse q.dropped) p ps all))
+  where
+    both : (a b : Bool) → a ≡ true → b ≡ true → (a && b) ≡ true
+    both true b x y = y
+    both false b x y = x
+
+-- an event whose rounds are not paired goes back to enrolling where nobody is dropped
+pub IsSound-enrolling : (e : EventValue) → IsSoundButForSeeds e → e.phase ≡ Swiss → e.stored ≡ [] → All (λ (p : Player). IsFalse p.dropped) e.players → IsSoundButForSeeds (with_phase e Enrolling)
+IsSound-enrolling e h swiss none undropped = record {
+  set_up = record { name = h.set_up.name; rounds = h.set_up.rounds; cut = h.set_up.cut };
+  players = record {
+    few = h.players.few;
+    numbered = h.players.numbered;
+    lawful = h.players.lawful;
+    distinct = h.players.distinct;
+    enrolling = λ phase. undropped;
+    started = λ not_here. absurd (not_here refl);
+  };
+  rounds = record {
+    few = h.rounds.few;
+    enrolling = λ phase. none;
+    each = h.rounds.each;
+    no_repeats = h.rounds.no_repeats;
+    earlier_done = h.rounds.earlier_done;
+  };
+  bracket = record {
+    none = λ phase. h.bracket.none (inr swiss);
+    rounds_done = λ phase. absurd (no_playoff phase);
+    bracket = λ phase. absurd (no_playoff phase);
+    decided = λ phase. absurd (no_playoff (inr phase));
+    undecided = λ phase. absurd (no_playoff (inl phase));
+  };
+}
+  where
+    no_playoff : (◌≡◌ {A = Phase} Enrolling Playoff) ⊎ (◌≡◌ {A = Phase} Enrolling Finished) → ⊥
+    no_playoff (inl phase) = cc
+    no_playoff (inr phase) = cc
+
+found-step : (b : Bool) (q p : Player) (ps : List Player) (found : Option Player) → (found ≡ Some p → Contains (numbers ps) p.no) → cond b (Some q) found ≡ Some p → Contains (numbers (q ∷ ps)) p.no
+found-step true q p ps found rest is = let same : q.no ≡ p.no = ap (λ (o : Option Player). (unwrap_or o q).no) is in (0, omega arith, same)
+found-step false q p ps found rest is = let has = rest is in (suc has.0, omega (arith, has.1), has.2)
+
+-- who is found is listed
+pub found-listed : (k : ℕ) (ps : List Player) (p : Player) → find (λ (q : Player). q.no == k) ps ≡ Some p → Contains (numbers ps) p.no
+found-listed k [] p is = absurd (none-some p is)
+found-listed k (q ∷ ps) p is = found-step (q.no == k) q p ps (find (λ (q : Player). q.no == k) ps) (found-listed k ps p) is
+
+-- who is found can drop, once the event has started
+pub found-drops : (e : EventValue) (k : ℕ) (found : Option (Bor Player)) → IsSoundButForSeeds e → option_map (λ (p : Bor Player). p.now) found ≡ find (λ (q : Player). q.no == k) e.players → IfSome found (λ p. e.phase ≢ Enrolling → Fits e (SetDropped p.now.no))
+found-drops e k None sound is = tt
+found-drops e k (Some p) sound is = λ started. record { named = found-listed k e.players p.now (sym is); sound = IsSound-dropped e p.now.no sound started }
+
+is-step : (b : Bool) (k : ℕ) (q p : Player) (found : Option Player) → (b ≡ true → q.no ≡ k) → (found ≡ Some p → p.no ≡ k) → cond b (Some q) found ≡ Some p → p.no ≡ k
+is-step true k q p found here rest is = sym (ap (λ (o : Option Player). (unwrap_or o q).no) is) ∙ here refl
+is-step false k q p found here rest is = rest is
+
+found-is : (k : ℕ) (ps : List Player) (p : Player) → find (λ (q : Player). q.no == k) ps ≡ Some p → p.no ≡ k
+found-is k [] p is = absurd (none-some p is)
+found-is k (q ∷ ps) p is = is-step (q.no == k) k q p (find (λ (q : Player). q.no == k) ps) (λ same. grind (arith, nat_tests)) (found-is k ps p) is
+
+pub found-has : (k : ℕ) (ps : List Player) (found : Option (Bor Player)) → option_map (λ (p : Bor Player). p.now) found ≡ find (λ (q : Player). q.no == k) ps → IfSome found (λ p. p.now.no ≡ k)
+found-has k ps None is = tt
+found-has k ps (Some p) is = found-is k ps p.now (sym is)

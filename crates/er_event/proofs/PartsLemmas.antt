@@ -1,0 +1,275 @@
+-- Rows, and the event that they are of.
+use Rattle.std.proofs.Common.{◌≡◌, ◌≢◌, ◌≤◌, ◌<◌, ◌+◌, ◌||◌, ◌==◌, ℕ, ℤ, pos, Bool, true, false, suc, drop, ap₂, IsFalse, List, [], ◌∷◌, ◌++◌, length, map, take, get_or, All, AllPairs, IsTrue, Result, Err, refl, sym, ap, subst, ◌∙◌, ◌⊎◌, inl, inr, true≢false, not-suc-le-zero, arith, length-take}
+use Rattle.std.specs.List.{range_with_len}
+use Rattle.std.specs.Str.{bytes_eq}
+use Rattle.std.proofs.Math.ListN.{get_or-map, length-map}
+use Rattle.std.proofs.lemmas.List.{map-append, take_more, get_or-take, get_or_default}
+use Rattle.std.proofs.lemmas.Bool.Decides.{nat_tests}
+use Rattle.std.proofs.lemmas.List.Elements.{All-map, All-get_or}
+use Rattle.std.proofs.lemmas.List.Folds.{Any-from_list_any}
+use Rattle.std.proofs.lemmas.List.Quantifiers.{all_pairs_push}
+use Rattle.std.proofs.lemmas.List.FromFn.{get_or-range_with_len}
+use Rattle.std.proofs.lemmas.Slice.Eq.{bytes_eq-Decides}
+use Rattle.er_event.specs.declared.players.Player.{Player}
+use Rattle.er_event.specs.declared.rows.PlayerRow.{PlayerRow}
+use Rattle.er_event.specs.declared.rows.PairingRow.{PairingRow}
+use Rattle.er_event.specs.declared.rows.BracketRow.{BracketRow}
+use Rattle.er_event.proofs.PlayerLemmas.{range-push, has_name-none}
+use Rattle.er_event.specs.declared.events.Phase.{Phase}
+use Rattle.er_event.specs.declared.events.Phase.TheVariants.{Enrolling, Swiss, Playoff, Finished}
+use Rattle.er_event.specs.declared.players.TheConstants.{MAX_PLAYERS}
+use Rattle.er_event.specs.declared.rows.EventRow.{EventRow}
+use Rattle.er_event.specs.declared.refusals.TheConstants.{MAX_SERIAL}
+use Rattle.er_event.specs.declared.events.TheConstants.{MAX_ROUNDS}
+use Rattle.er_event.specs.Event.{EventValue}
+use Rattle.er_event.specs.Name.{is_lawful_name}
+use Rattle.er_event.specs.Rows.{flag, phase_code, event_row, player_row, pairing_rows_from, bracket_rows_from}
+use Rattle.er_event.specs.Sound.{numbers, names, IsSetUp, HasPlayers, IsInPlayoff}
+use Rattle.er_event.specs.Change.{created, with_phase, has_name}
+use Rattle.er_event.specs.Parts.{IsBlank, IsEventRow, IsLawfulPlayer, Suits, HasPlayerRows, HasNoRounds, IsFirstFault, IsOf}
+use Rattle.er_event.specs.declared.parts.Parts.{Parts}
+use Rattle.er_event.specs.declared.parts.PartsFault.{PartsFault}
+use Rattle.er_event.specs.declared.parts.PartsFault.TheVariants.{Damaged}
+use Rattle.er_event.specs.declared.refusals.Place.{Place}
+use Rattle.er_event.specs.declared.refusals.Place.TheVariants.{EventTable, PlayerTable, PairingTable, BracketTable}
+
+blank : (name : List ℕ) (rounds cut : ℕ) → IsTrue (is_lawful_name name) → (1 ≤ rounds) × (rounds ≤ MAX_ROUNDS) → IsTrue (cut == 0 || cut == 2 || cut == 4 || cut == 8) → IsSetUp (created name rounds cut)
+blank name rounds cut lawful within fits = record { name = lawful; rounds = within; cut = fits }
+
+row_same : (row : EventRow) (i v s : ℤ) (n : List ℕ) (r c p : ℤ) → row.id ≡ i → row.version ≡ v → row.serial ≡ s → row.name ≡ n → row.rounds ≡ r → row.cut ≡ c → row.phase ≡ p
+    → (let same : EventRow = record { id = i; version = v; serial = s; name = n; rounds = r; cut = c; phase = p } in row ≡ same)
+row_same row i v s n r c p e0 e1 e2 e3 e4 e5 e6 =
+    subst (λ (x : ℤ). (let r : EventRow = record { id = i; version = v; serial = s; name = n; rounds = r; cut = c; phase = x } in row ≡ r)) e6 (subst (λ (x : ℤ). (let r : EventRow = record { id = i; version = v; serial = s; name = n; rounds = r; cut = x; phase = row.phase } in row ≡ r)) e5 (subst (λ (x : ℤ). (let r : EventRow = record { id = i; version = v; serial = s; name = n; rounds = x; cut = row.cut; phase = row.phase } in row ≡ r)) e4 (subst (λ (x : List ℕ). (let r : EventRow = record { id = i; version = v; serial = s; name = x; rounds = row.rounds; cut = row.cut; phase = row.phase } in row ≡ r)) e3 (subst (λ (x : ℤ). (let r : EventRow = record { id = i; version = v; serial = x; name = row.name; rounds = row.rounds; cut = row.cut; phase = row.phase } in row ≡ r)) e2 (subst (λ (x : ℤ). (let r : EventRow = record { id = i; version = x; serial = row.serial; name = row.name; rounds = row.rounds; cut = row.cut; phase = row.phase } in row ≡ r)) e1 (subst (λ (x : ℤ). (let r : EventRow = record { id = x; version = row.version; serial = row.serial; name = row.name; rounds = row.rounds; cut = row.cut; phase = row.phase } in row ≡ r)) e0 (refl)))))))
+
+pub read_is : (row : EventRow) (e : EventValue) (name : List ℕ) (rounds cut serial : ℕ) (phase : Phase)
+    → row.id ≡ pos 1 → row.version ≡ pos 1 → row.serial ≡ pos serial → row.name ≡ name → row.rounds ≡ pos rounds → row.cut ≡ pos cut → row.phase ≡ pos (phase_code phase)
+    → serial ≤ MAX_SERIAL → IsTrue (is_lawful_name name) → (1 ≤ rounds) × (rounds ≤ MAX_ROUNDS) × IsTrue (cut == 0 || cut == 2 || cut == 4 || cut == 8)
+    → e ≡ created name rounds cut → IsBlank e × IsEventRow (row ∷ []) (with_phase e phase)
+read_is row e name rounds cut serial phase id version counted named a b c low lawful within made =
+    let set_up = blank name rounds cut lawful (within.0, within.1) within.2 in
+    let same : row ∷ [] ≡ event_row (with_phase (created name rounds cut) phase) serial ∷ [] = ap (λ r. r ∷ []) (row_same row (pos 1) (pos 1) (pos serial) name (pos rounds) (pos cut) (pos (phase_code phase)) id version counted named a b c) in
+    subst (λ (f : EventValue). IsBlank f × IsEventRow (row ∷ []) (with_phase f phase)) (sym made) (
+      record { set_up = set_up; is = refl },
+      record { serial = serial; low = low; set_up = record { name = set_up.name; rounds = set_up.rounds; cut = set_up.cut }; row = same },
+    )
+
+pub one_row : {A : Type 0} (rows : List A) (x : A) → 1 ≤ length rows → length rows < 2 → x ≡ get_or rows 0 x → rows ≡ x ∷ []
+one_row [] x some few is = absurd (not-suc-le-zero some)
+one_row (r ∷ []) x some few is = ap (λ a. a ∷ []) (sym is)
+one_row (r ∷ s ∷ more) x some few is = absurd (omega arith)
+
+abbrev nobody : Player
+nobody = record { no = 0; name = []; dropped = false }
+
+-- the players that a list of rows has stand at its places
+pub row_at : (rows : List PlayerRow) (players : List Player) (i : ℕ) (row : PlayerRow) → i < length rows → row ≡ get_or rows i row → All IsLawfulPlayer players → rows ≡ map player_row players
+    → ((p : Player) → IsLawfulPlayer p → row ≢ player_row p) → ⊥
+row_at rows players i row below is lawful are never =
+    let count : length rows ≡ length players = ap length are ∙ length-map {A = Player} {B = PlayerRow} players player_row in
+    let within : i < length players = omega arith in
+    let default : get_or rows i (player_row nobody) ≡ get_or rows i row = get_or_default rows i (player_row nobody) row below in
+    never (get_or players i nobody) (All-get_or IsLawfulPlayer players i nobody within lawful)
+    (is ∙ (sym default ∙ (ap (λ (rs : List PlayerRow). get_or rs i (player_row nobody)) are ∙ get_or-map player_row players i nobody)))
+
+-- ---- numbers in their order
+
+pub number_at : (ps : List Player) (i : ℕ) (p : Player) → i < length ps → p ≡ get_or ps i p → numbers ps ≡ range_with_len 1 (length ps) → p.no ≡ i + 1
+number_at ps i p below is numbered =
+    let at = get_or-range_with_len 1 (length ps) i p.no below in
+    let here : get_or (numbers ps) i p.no ≡ p.no = get_or-map (λ (q : Player). q.no) ps i p ∙ ap (λ (q : Player). q.no) (sym is) in
+    let same : get_or (numbers ps) i p.no ≡ get_or (range_with_len 1 (length ps)) i p.no = ap (λ (ns : List ℕ). get_or ns i p.no) numbered in
+    omega arith
+
+pub numbers-more : (ps : List Player) (i : ℕ) (p : Player) → i < length ps → p ≡ get_or ps i p → p.no ≡ i + 1 → numbers (take i ps) ≡ range_with_len 1 i → numbers (take (i + 1) ps) ≡ range_with_len 1 (i + 1)
+numbers-more ps i p below is next before =
+    let more : take (i + 1) ps ≡ take i ps ++ p ∷ [] = take_more ps i p below ∙ ap (λ (q : Player). take i ps ++ q ∷ []) (sym is) in
+    let number : p.no ≡ 1 + i = omega arith in
+    ap numbers more ∙ (map-append (λ (q : Player). q.no) (take i ps) (p ∷ []) ∙ (ap (λ ns. ns ++ p.no ∷ []) before ∙ (ap (λ k. range_with_len 1 i ++ k ∷ []) number ∙ sym (range-push 1 i))))
+
+-- ---- names apart
+
+pub names-more : (ps : List Player) (i : ℕ) (p : Player) → i < length ps → p ≡ get_or ps i p → has_name (take i ps) p.name ≡ false → AllPairs (λ a b. a ≢ b) (names (take i ps)) → AllPairs (λ a b. a ≢ b) (names (take (i + 1) ps))
+names-more ps i p below is new before =
+    let Apart : List ℕ → List ℕ → Type 0 = λ a b. a ≢ b in
+    let more : take (i + 1) ps ≡ take i ps ++ p ∷ [] = take_more ps i p below ∙ ap (λ (q : Player). take i ps ++ q ∷ []) (sym is) in
+    let listed : names (take (i + 1) ps) ≡ names (take i ps) ++ p.name ∷ [] = ap names more ∙ map-append (λ (q : Player). q.name) (take i ps) (p ∷ []) in
+    subst (λ (ns : List (List ℕ)). AllPairs Apart ns) (sym listed) (all_pairs_push Apart (names (take i ps)) p.name before (λ k d under. has_name-none (take i ps) p.name new k d under))
+
+pub names-new : (ps : List Player) (i : ℕ) (p : Player) → i < length ps → p ≡ get_or ps i p → AllPairs (λ a b. a ≢ b) (names ps) → has_name (take i ps) p.name ≡ true → ⊥
+names-new ps i p below is apart found =
+    let any = Any-from_list_any (λ (q : Player). bytes_eq q.name p.name) (take i ps) found in
+    let q = any.1 in
+    let len = length-take i ps in
+    let under : any.0 < i = omega arith in
+    let there : get_or ps any.0 q ≡ q = sym (get_or-take i ps any.0 q under) ∙ any.3 in
+    let at_q : get_or (names ps) any.0 q.name ≡ q.name = get_or-map (λ (r : Player). r.name) ps any.0 q ∙ ap (λ (r : Player). r.name) there in
+    let at_p : get_or (names ps) i p.name ≡ p.name = get_or-map (λ (r : Player). r.name) ps i p ∙ ap (λ (r : Player). r.name) (sym is) in
+    let count = length-map {A = Player} {B = List ℕ} ps (λ r. r.name) in
+    let same : q.name ≡ p.name = (bytes_eq-Decides q.name p.name).0 any.4 in
+    let default : get_or (names ps) i q.name ≡ get_or (names ps) i p.name = get_or_default (names ps) i q.name p.name (omega arith) in
+    apart any.0 i q.name under (omega arith) (at_q ∙ (same ∙ (sym at_p ∙ sym default)))
+
+-- ---- the players of an event, and of its rows
+
+-- what is left to ask of players who are numbered and have names of their own
+pub plays : (e : EventValue) (phase : Phase) (players : List Player) → e.phase ≡ phase → e.players ≡ players → length players ≤ MAX_PLAYERS → numbers players ≡ range_with_len 1 (length players)
+    → AllPairs (λ a b. a ≢ b) (names players) → All (λ (p : Player). IsTrue (is_lawful_name p.name)) players → Suits phase players → HasPlayers e
+plays e phase players is are few numbered apart lawful suits = record {
+  few = subst (λ (ps : List Player). length ps ≤ MAX_PLAYERS) (sym are) few;
+  numbered = subst (λ (ps : List Player). numbers ps ≡ range_with_len 1 (length ps)) (sym are) numbered;
+  lawful = subst (λ (ps : List Player). All (λ n. IsTrue (is_lawful_name n)) (names ps)) (sym are) (All-map (λ n. IsTrue (is_lawful_name n)) (λ (p : Player). p.name) players lawful);
+  distinct = subst (λ (ps : List Player). AllPairs (λ a b. a ≢ b) (names ps)) (sym are) apart;
+  enrolling = λ here. subst (λ (ps : List Player). All (λ (p : Player). IsFalse p.dropped) ps) (sym are) (suits.enrolling (sym is ∙ here));
+  started = λ other. subst (λ (ps : List Player). 2 ≤ length ps) (sym are) (suits.started (λ here. other (is ∙ here)));
+}
+
+pub suits : (e : EventValue) (phase : Phase) (players : List Player) → e.phase ≡ phase → e.players ≡ players → HasPlayers e → Suits phase players
+suits e phase players is are h = record {
+  enrolling = λ here. subst (λ (ps : List Player). All (λ (p : Player). IsFalse p.dropped) ps) are (h.enrolling (is ∙ here));
+  started = λ other. subst (λ (ps : List Player). 2 ≤ length ps) are (h.started (λ here. other (sym is ∙ here)));
+}
+
+pos_same : (m n : ℕ) → pos m ≡ pos n → m ≡ n
+pos_same m n e = cc
+
+flag-same : (a b : Bool) → flag a ≡ flag b → a ≡ b
+flag-same true true e = refl
+flag-same false false e = refl
+flag-same true false e = absurd (let one : ◌≡◌ {A = ℕ} 1 0 = pos_same 1 0 e in omega arith)
+flag-same false true e = absurd (let one : ◌≡◌ {A = ℕ} 0 1 = pos_same 0 1 e in omega arith)
+
+player_same : (a b : Player) → a.no ≡ b.no → a.name ≡ b.name → a.dropped ≡ b.dropped → a ≡ b
+player_same a b number name dropped =
+    subst (λ (x : ℕ). (let q : Player = record { no = x; name = b.name; dropped = b.dropped } in a ≡ q)) number
+    (subst (λ (x : List ℕ). (let q : Player = record { no = a.no; name = x; dropped = b.dropped } in a ≡ q)) name
+    (subst (λ (x : Bool). (let q : Player = record { no = a.no; name = a.name; dropped = x } in a ≡ q)) dropped refl))
+
+player_row-same : (a b : Player) → player_row a ≡ player_row b → a ≡ b
+player_row-same a b e =
+    player_same a b (pos_same a.no b.no (ap (λ (r : PlayerRow). r.no) e)) (ap (λ (r : PlayerRow). r.name) e) (flag-same a.dropped b.dropped (ap (λ (r : PlayerRow). r.dropped) e))
+
+-- the rows tell the players
+pub players-same : (xs ys : List Player) → map player_row xs ≡ map player_row ys → xs ≡ ys
+players-same [] [] e = refl
+players-same [] (y ∷ ys) e = absurd (let n : ◌≡◌ {A = ℕ} 0 (suc (length (map player_row ys))) = ap length e in omega arith)
+players-same (x ∷ xs) [] e = absurd (let n : ◌≡◌ {A = ℕ} (suc (length (map player_row xs))) 0 = ap length e in omega arith)
+players-same (x ∷ xs) (y ∷ ys) e =
+    ap₂ ◌∷◌ (player_row-same x y (ap (λ (rs : List PlayerRow). get_or rs 0 (player_row x)) e)) (players-same xs ys (ap (drop 1) e))
+
+phase-same : (p q : Phase) → phase_code p ≡ phase_code q → p ≡ q
+phase-same Enrolling Enrolling e = refl
+phase-same Swiss Swiss e = refl
+phase-same Playoff Playoff e = refl
+phase-same Finished Finished e = refl
+phase-same Enrolling Swiss e = absurd (omega arith)
+phase-same Enrolling Playoff e = absurd (omega arith)
+phase-same Enrolling Finished e = absurd (omega arith)
+phase-same Swiss Enrolling e = absurd (omega arith)
+phase-same Swiss Playoff e = absurd (omega arith)
+phase-same Swiss Finished e = absurd (omega arith)
+phase-same Playoff Enrolling e = absurd (omega arith)
+phase-same Playoff Swiss e = absurd (omega arith)
+phase-same Playoff Finished e = absurd (omega arith)
+phase-same Finished Enrolling e = absurd (omega arith)
+phase-same Finished Swiss e = absurd (omega arith)
+phase-same Finished Playoff e = absurd (omega arith)
+
+-- the row tells the phase
+pub row_phase : (rows : List EventRow) (e f : EventValue) → IsEventRow rows e → IsEventRow rows f → e.phase ≡ f.phase
+row_phase rows e f one other =
+    let same : event_row e one.serial ∷ [] ≡ event_row f other.serial ∷ [] = sym one.row ∙ other.row in
+    phase-same e.phase f.phase (pos_same (phase_code e.phase) (phase_code f.phase) (ap (λ (rs : List EventRow). (get_or rs 0 (event_row e one.serial)).phase) same))
+
+pub lawful_players : (e : EventValue) → HasPlayers e → All IsLawfulPlayer e.players
+lawful_players e h k d below =
+    let p = get_or e.players k d in
+    let default = get_or_default e.players k d p below in
+    let number = number_at e.players k p below default h.numbered in
+    let few = h.few in
+    let count = length-map {A = Player} {B = List ℕ} e.players (λ q. q.name) in
+    let lawful = h.lawful k d.name (omega arith) in
+    record { low = omega arith; high = omega arith; name = subst (λ n. IsTrue (is_lawful_name n)) (get_or-map (λ (q : Player). q.name) e.players k d) lawful }
+
+-- ---- the first table at fault
+
+pub fault_event : (parts : Parts) (rows : List EventRow) (place : Place) → rows ≡ parts.event → (place ≡ EventTable) × ((e : EventValue) → IsEventRow rows e → ⊥) → IsFirstFault parts place
+fault_event parts rows place same never =
+    subst (IsFirstFault parts) (sym never.0) (λ e row. never.1 e (subst (λ (rs : List EventRow). IsEventRow rs e) (sym same) row))
+
+module _ (parts : Parts) (rows : List EventRow) (f : EventValue) (same : rows ≡ parts.event) (row : IsEventRow rows f) where
+  here : IsEventRow parts.event f
+  here = subst (λ (rs : List EventRow). IsEventRow rs f) same row
+
+  pub fault_players : (prows : List PlayerRow) (place : Place) → prows ≡ parts.players → (place ≡ PlayerTable) × ((ps : List Player) → All IsLawfulPlayer ps → prows ≢ map player_row ps) → IsFirstFault parts place
+  fault_players prows place are never =
+      subst (IsFirstFault parts) (sym never.0) ((f, here), λ e has. never.1 e.players (lawful_players e has.players) (are ∙ has.rows))
+
+  module _ (prows : List PlayerRow) (players : List Player) (are : prows ≡ parts.players) (read : prows ≡ map player_row players) where
+    same_players : (e : EventValue) → HasPlayerRows parts e → e.players ≡ players
+    same_players e has = players-same e.players players (sym has.rows ∙ (sym are ∙ read))
+
+    same_phase : (e : EventValue) → HasPlayerRows parts e → e.phase ≡ f.phase
+    same_phase e has = row_phase parts.event e f has.event here
+
+    pub fault_play : (test : Bool) → ((e : EventValue) → e.phase ≡ f.phase → e.players ≡ players → (IsTrue test → HasPlayers e) × (HasPlayers e → IsTrue test)) → test ≡ false → IsFirstFault parts PlayerTable
+    fault_play test plays no_play = ((f, here), λ e has. true≢false (sym ((plays e (same_phase e has) (same_players e has)).1 has.players) ∙ no_play))
+
+    abbrev listed : EventValue
+    listed = record f { players = players }
+
+    pub has_players : HasPlayers listed → HasPlayerRows parts listed
+    has_players has = record {
+      event = record { serial = here.serial; low = here.low; set_up = record { name = here.set_up.name; rounds = here.set_up.rounds; cut = here.set_up.cut }; row = here.row };
+      rows = sym are ∙ read;
+      players = has;
+    }
+
+    pub fault_pairings : HasPlayers listed → (parts.pairings ≢ []) → IsFirstFault parts PairingTable
+    fault_pairings has some = ((listed, has_players has), λ e none. some none.rows)
+
+    pub fault_phase : HasPlayers listed → (f.phase ≡ Playoff) ⊎ (f.phase ≡ Finished) → IsFirstFault parts PairingTable
+    fault_phase has over = ((listed, has_players has), λ e none. none.phase (moved e none over))
+      where
+        moved : (e : EventValue) → HasNoRounds parts e → (f.phase ≡ Playoff) ⊎ (f.phase ≡ Finished) → IsInPlayoff e
+        moved e none (inl is) = inl (same_phase e none.players ∙ is)
+        moved e none (inr is) = inr (same_phase e none.players ∙ is)
+
+    pub fault_bracket : HasPlayers listed → parts.pairings ≡ [] → (IsInPlayoff f → ⊥) → (parts.bracket ≢ []) → IsFirstFault parts BracketTable
+    fault_bracket has none early some = ((listed, record { players = has_players has; rows = none; phase = early }), some)
+
+pub damaged_same : {A : Type 0} (table place : Place) → ◌≡◌ {A = Result A PartsFault} (Err (Damaged table)) (Err (Damaged place)) → table ≡ place
+damaged_same table place e = cc
+
+pub some-when : {A : Type 0} (xs ys : List A) → xs ≡ ys → (length xs == 0) ≡ false → ys ≢ []
+some-when {A} xs ys same some none = true≢false (sym (ap (λ (zs : List A). length zs == 0) (same ∙ none)) ∙ some)
+
+pub none-when : {A : Type 0} (xs ys : List A) → xs ≡ ys → (length xs == 0) ≡ true → ys ≡ []
+none-when [] ys same none = sym same
+none-when (x ∷ xs) ys same none = absurd (let n : ◌≡◌ {A = ℕ} (suc (length xs)) 0 = grind (arith, nat_tests) in omega arith)
+
+pub early : (p : Phase) → (p ≡ Enrolling) ⊎ (p ≡ Swiss) → (p ≡ Playoff) ⊎ (p ≡ Finished) → ⊥
+early p (inl a) (inl b) = cc
+early p (inl a) (inr b) = cc
+early p (inr a) (inl b) = cc
+early p (inr a) (inr b) = cc
+
+parts_same : (parts : Parts) (event : List EventRow) (players : List PlayerRow) (pairings : List PairingRow) (bracket : List BracketRow) → parts.event ≡ event → parts.players ≡ players → parts.pairings ≡ pairings → parts.bracket ≡ bracket
+    → (let same : Parts = record { event = event; players = players; pairings = pairings; bracket = bracket } in parts ≡ same)
+parts_same parts event players pairings bracket a b c d =
+    subst (λ (x : List EventRow). (let p : Parts = record { event = x; players = players; pairings = pairings; bracket = bracket } in parts ≡ p)) a
+    (subst (λ (x : List PlayerRow). (let p : Parts = record { event = parts.event; players = x; pairings = pairings; bracket = bracket } in parts ≡ p)) b
+    (subst (λ (x : List PairingRow). (let p : Parts = record { event = parts.event; players = parts.players; pairings = x; bracket = bracket } in parts ≡ p)) c
+    (subst (λ (x : List BracketRow). (let p : Parts = record { event = parts.event; players = parts.players; pairings = parts.pairings; bracket = x } in parts ≡ p)) d refl)))
+
+-- the rows of an event without rounds
+pub of_parts : (parts : Parts) (rows : List EventRow) (prows : List PlayerRow) (f e : EventValue) (phase : Phase) (players : List Player) → rows ≡ parts.event → prows ≡ parts.players → IsBlank f → IsEventRow rows (with_phase f phase)
+    → prows ≡ map player_row players → parts.pairings ≡ [] → parts.bracket ≡ [] → e ≡ record f { players = players; phase = phase } → IsOf parts e
+of_parts parts rows prows f e phase players same are blank row read none empty is =
+    let stored : f.stored ≡ [] = ap (λ (g : EventValue). g.stored) blank.is in
+    let stages : f.bracket.stages ≡ [] = ap (λ (g : EventValue). g.bracket.stages) blank.is in
+    subst (IsOf parts) (sym is) (record {
+      serial = row.serial;
+      low = row.low;
+      are = parts_same parts (event_row (record f { players = players; phase = phase }) row.serial ∷ []) (map player_row players) (pairing_rows_from 1 f.stored) (bracket_rows_from 1 f.bracket.stages)
+          (sym same ∙ row.row) (sym are ∙ read) (none ∙ ap (pairing_rows_from 1) (sym stored)) (empty ∙ ap (bracket_rows_from 1) (sym stages));
+    })

@@ -1,0 +1,19 @@
+-- Who meets whom in the first stage of the playoff.
+use Rattle.std.specs.Prelude.{ℕ, ◌==◌, if◌then◌else◌, List, [], ◌∷◌, length, map, slice_index_or}
+use Rattle.er_event.specs.declared.rounds.Match.{Match}
+use Rattle.er_event.specs.Bracket.{open_match}
+
+-- which seeds meet in the slots of stage 1, the better one first
+abbrev pub seeds_by_slot : ℕ → List (ℕ × ℕ)
+seeds_by_slot cut =
+    if cut == 2 then (1, 2) ∷ []
+    else if cut == 4 then (1, 4) ∷ (2, 3) ∷ []
+    else if cut == 8 then (1, 8) ∷ (4, 5) ∷ (2, 7) ∷ (3, 6) ∷ []
+    else []
+
+-- the player with seed n stands at place n
+abbrev pub seeded : List ℕ → ℕ → ℕ
+seeded players seed = slice_index_or (0 ∷ players) seed 0
+
+abbrev pub first_stage : List ℕ → List Match
+first_stage players = map (λ (s : ℕ × ℕ). open_match (seeded players s.0) (seeded players s.1)) (seeds_by_slot (length players))

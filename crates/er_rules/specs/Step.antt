@@ -1,0 +1,91 @@
+-- What a command does to an event: it is taken, or refused by the first check that fails.
+use Rattle.std.specs.Prelude.{◌≡◌, ℕ, ◌-◌, ◌==◌, if◌then◌else◌, List, [], ◌∷◌, ◌++◌, length, map, slice_set, slice_index_or, Some, MatchOption, Result, Ok, Err}
+use Rattle.er_event.specs.declared.scores.Games.{Games}
+use Rattle.er_event.specs.declared.refusals.Command.{Command}
+use Rattle.er_event.specs.declared.refusals.Command.TheVariants.{Enrol, Start, Pair, Result as Report, Correct, Drop, Cut, Playoff as PlayOff}
+use Rattle.er_event.specs.declared.refusals.Refusal.{Refusal}
+use Rattle.er_event.specs.declared.refusals.Refusal.TheVariants.{NoPairing}
+use Rattle.er_event.specs.declared.events.Phase.TheVariants.{Swiss, Playoff, Finished}
+use Rattle.er_event.specs.declared.rounds.Match.{Match}
+use Rattle.er_event.specs.Event.{EventValue}
+use Rattle.rand_chacha.specs.ChaCha.{word_at, key_of}
+use Rattle.er_event.specs.Round.{is_counted, numbered_from}
+use Rattle.er_event.specs.Change.{with_player, with_dropped, with_phase}
+use Rattle.er_rules.specs.Standings.{IsTop}
+use Rattle.er_event.specs.Bracket.{next_stage, open_match}
+use Rattle.er_rules.specs.Seeds.{first_stage}
+use Rattle.er_rules.specs.Pairing.{IsOrder, IsLegal, IsEarliest, have_met, round_of}
+use Rattle.er_rules.specs.Pairing as pairing
+use Rattle.er_rules.specs.Commands.{first_refusal, enrol_checks, start_checks, pair_checks, result_checks, correct_checks, drop_checks, cut_checks, playoff_checks, Check, is_at}
+
+-- ---- the events after
+
+abbrev pub scored : Games → Match → Match
+scored score m = record m { score = Some score }
+
+abbrev pub score_table : ℕ → Games → ℕ × Match → Match
+score_table table score numbered = if is_at table numbered then scored score numbered.1 else numbered.1
+
+abbrev pub with_score : EventValue → ℕ → ℕ → Games → EventValue
+with_score event round table score =
+    let r = slice_index_or event.stored (round - 1) (record { matches = [] }) in
+    record event { stored = slice_set event.stored (round - 1) (record { matches = map (score_table table score) (numbered_from 1 r.matches) }) }
+
+-- a stage that is complete is followed by the next, or was the final
+abbrev pub after_stage : EventValue → List (List Match) → List Match → EventValue
+after_stage event stages stage =
+    if is_counted stage then (if length stage == 1 then record event { bracket = record { stages = stages }; phase = Finished } else record event { bracket = record { stages = stages ++ next_stage stage ∷ [] } })
+    else record event { bracket = record { stages = stages } }
+
+abbrev pub with_stage_score : EventValue → ℕ → ℕ → Games → EventValue
+with_stage_score event stage slot score =
+    let matches = slice_index_or event.bracket.stages (stage - 1) [] in
+    let after = slice_set matches (slot - 1) (scored score (slice_index_or matches (slot - 1) (open_match 0 0))) in
+    after_stage event (slice_set event.bracket.stages (stage - 1) after) after
+
+-- ---- the step
+
+-- the words of the key that a seed gives: word i of ChaCha20 under it (RFC 8439), stream 0, from place 0
+abbrev pub seed_words : List ℕ → ℕ → ℕ
+seed_words seed place = word_at 10 (key_of seed) 0 place
+
+-- the earliest legal pairing is stored, or there is none
+abbrev pub Pairs : EventValue → List ℕ → Result EventValue Refusal → Type 0
+Pairs event order (Ok next) = (pairs : List pairing.Pair) × IsEarliest (have_met event) order pairs × (next ≡ record event { stored = event.stored ++ record { matches = round_of order pairs } ∷ [] })
+Pairs event order (Err why) = (why ≡ NoPairing) × ((pairs : List pairing.Pair) → IsLegal (have_met event) order pairs → ⊥)
+
+-- what becomes of the event, where no check fails
+abbrev pub Makes : EventValue → Command → Result EventValue Refusal → Type 0
+Makes event (Enrol name) result = result ≡ Ok (with_player event name)
+Makes event Start result = result ≡ Ok (with_phase event Swiss)
+Makes event (Pair round seed) result = (order : List ℕ) × IsOrder event (seed_words seed) order × Pairs event order result
+Makes event (Report round table score) result = result ≡ Ok (with_score event round table score)
+Makes event (Correct round table score) result = result ≡ Ok (with_score event round table score)
+Makes event (Drop player) result = result ≡ Ok (with_dropped event player)
+Makes event Cut result = (seeds : List ℕ) × IsTop event event.cut seeds × (result ≡ Ok (record event { phase = Playoff; bracket = record { stages = first_stage seeds ∷ [] } }))
+Makes event (PlayOff stage slot score) result = result ≡ Ok (with_stage_score event stage slot score)
+
+-- the checks of a command on an event, in their order
+abbrev pub checks : EventValue → Command → List Check
+checks event (Enrol name) = enrol_checks event name
+checks event Start = start_checks event
+checks event (Pair round seed) = pair_checks event round
+checks event (Report round table score) = result_checks event round table score
+checks event (Correct round table score) = correct_checks event round table score
+checks event (Drop player) = drop_checks event player
+checks event Cut = cut_checks event
+checks event (PlayOff stage slot score) = playoff_checks event stage slot score
+
+abbrev pub Refuses : Result EventValue Refusal → Refusal → Type 0
+Refuses result why = result ≡ Err why
+
+-- the step of the machine
+abbrev pub Steps : EventValue → Command → Result EventValue Refusal → Type 0
+Steps event command result = MatchOption (first_refusal (checks event command)) (Makes event command result) (Refuses result)
+
+-- the commands that are decided so far
+abbrev pub IsWritten : Command → Type 0
+IsWritten (Enrol name) = Unit {0}
+IsWritten Start = Unit {0}
+IsWritten (Drop player) = Unit {0}
+IsWritten _ = ⊥

@@ -1,0 +1,94 @@
+//! What each command does to an event: the change that it makes, or the refusal of the first check that fails.
+#![tactic(auto)]
+
+ghost use Rattle.std.specs.Prelude.{◌≡◌, ◌⊎◌, Ok, Err, IfOk, IfErr, OnOk, Some, None, IsTrue, IsFalse};
+ghost use Rattle.er_event.specs.Name.{is_lawful_name};
+ghost use Rattle.er_event.specs.Change.{after, Fits};
+ghost use Rattle.er_rules.specs.Commands.{first_refusal, enrol_checks, start_checks, drop_checks};
+ghost use Rattle.er_rules.specs.Step.{Steps, IsWritten};
+
+use er_event::{Change, Command, Event, MAX_PLAYERS, Name, NameFault, Phase, Refusal};
+use std::alloc::Global;
+
+fn read_name(alloc: Global, name: &[u8]) -> Result<Name, Refusal>
+    ensures ok { IfOk result (λ read. (read ≡ name.now) × IsTrue (is_lawful_name name.now)) }
+    ensures refused { IfErr result (λ why. (why ≡ Refusal.Memory) ⊎ ((why ≡ Refusal.BadName) × IsFalse (is_lawful_name name.now))) }
+{
+    match Name::try_from_bytes(alloc, name) {
+        Ok(name) => Ok(name),
+        Err(NameFault::Bad) => Err(Refusal::BadName),
+        Err(NameFault::Memory) => Err(Refusal::Memory),
+    }
+}
+
+fn decide_enrol(alloc: Global, event: &Event, name: &[u8]) -> Result<Change, Refusal>
+    ensures change { IfOk result (λ change. change ≡ Change.AddPlayer name.now) }
+    ensures fits { IfOk result (Fits event.now) }
+    ensures accepted { OnOk result (first_refusal (enrol_checks event.now name.now) ≡ None) }
+    ensures refused { IfErr result (λ why. (why ≡ Refusal.Memory) ⊎ (first_refusal (enrol_checks event.now name.now) ≡ Some why)) }
+{
+    if event.phase() != Phase::Enrolling {
+        return Err(Refusal::NotEnrolling);
+    }
+    let name = read_name(alloc, name)?;
+    if event.has_name(&name) {
+        return Err(Refusal::NameTaken);
+    }
+    if event.players().len() >= usize::from(MAX_PLAYERS) {
+        return Err(Refusal::PlayersFull);
+    }
+    Ok(Change::AddPlayer { name })
+}
+
+fn decide_start(event: &Event) -> Result<Change, Refusal>
+    ensures change { IfOk result (λ change. change ≡ Change.SetPhase Phase.Swiss) }
+    ensures fits { IfOk result (Fits event.now) }
+    ensures accepted { OnOk result (first_refusal (start_checks event.now) ≡ None) }
+    ensures refused { IfErr result (λ why. first_refusal (start_checks event.now) ≡ Some why) }
+{
+    if event.phase() != Phase::Enrolling {
+        return Err(Refusal::NotEnrolling);
+    }
+    if event.players().len() < 2 {
+        return Err(Refusal::TooFewPlayers);
+    }
+    Ok(Change::SetPhase {
+        phase: Phase::Swiss,
+    })
+}
+
+fn decide_drop(event: &Event, number: u16) -> Result<Change, Refusal>
+    ensures change { IfOk result (λ change. change ≡ Change.SetDropped number) }
+    ensures fits { IfOk result (Fits event.now) }
+    ensures accepted { OnOk result (first_refusal (drop_checks event.now number) ≡ None) }
+    ensures refused { IfErr result (λ why. first_refusal (drop_checks event.now number) ≡ Some why) }
+{
+    if event.phase() != Phase::Swiss {
+        return Err(Refusal::NotSwiss);
+    }
+    let Some(player) = event.player(number) else {
+        return Err(Refusal::NoSuchPlayer);
+    };
+    if player.dropped {
+        return Err(Refusal::AlreadyDropped);
+    }
+    Ok(Change::SetDropped { player: player.no })
+}
+
+/// What a command makes of an event: a change that fits it, or the refusal of the first check that fails. Want of memory may
+/// come in place of either. So far a command is `Enrol`, `Start` or `Drop`.
+pub fn decide(alloc: Global, event: &Event, command: &Command) -> Result<Change, Refusal>
+    requires { IsWritten command.now }
+    ensures taken { IfOk result (λ change. Fits event.now change × Steps event.now command.now (Ok (after event.now change))) }
+    ensures refused { IfErr result (λ why. (why ≡ Refusal.Memory) ⊎ Steps event.now command.now (Err why)) }
+{
+    match command {
+        Command::Enrol { name } => decide_enrol(alloc, event, name.as_slice()),
+        Command::Start => decide_start(event),
+        Command::Drop { player } => decide_drop(event, *player),
+        _ => unreachable!(),
+    }
+}
+
+#[cfg(test)]
+mod tests;

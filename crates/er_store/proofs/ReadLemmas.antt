@@ -1,0 +1,137 @@
+-- What the reading statements show.
+use Rattle.std.proofs.Common.{◌≡◌, ◌+◌, ◌<◌, ℕ, List, [], ◌∷◌, map, length, get_or, flat_map, refl, sym, ap, ap₂, subst, ◌∙◌, arith, is_lt, Ordering, Bool, true, false, cond, None, unwrap_or}
+use Rattle.std.specs.Prelude.{All}
+use Rattle.std.specs.Ordering.{ordering_then}
+use Rattle.std.specs.List.{AllByRecursion}
+use Rattle.std.specs.List.Sorted.{IsPermutation, IsSorted}
+use Rattle.std.proofs.lemmas.List.Sorted.{IsPermutation-map, All-permutation}
+use Rattle.std.proofs.lemmas.List.Elements.{All-from_recursion, recursion_from_All}
+use Rattle.std.proofs.Math.ListN.{get_or-map, length-map}
+use Rattle.sqlite.specs.declared.types.Value.TheVariants.{Null}
+use Rattle.sqlite.specs.Order.{Row, column, value_cmp}
+use Rattle.sqlite.specs.Term.{col, eval_all}
+use Rattle.sqlite_value.proofs.OrderLemmas.{then-Equal}
+use Rattle.sqlite.specs.Query.{IsAnswer, output, output_cmp, Output}
+use Rattle.sqlite.specs.Program.{overlay}
+use Rattle.sqlite.specs.Tree.{Trees}
+use Rattle.sqlite.specs.Command.TheVariants.{Select}
+use Rattle.sqlite.specs.Clock.{timed}
+use Rattle.sqlite.specs.Listing.{understood}
+use Rattle.sqlite.specs.State.{State, Shown, ShowsRows, Survives, CommitsShowing, IsUnchanged}
+use Rattle.sqlite.proofs.StateLemmas.{survives_weaker}
+use Rattle.sqlite.proofs.Callers.{IsPlain, reads_as, never_commits}
+use Rattle.er_store.specs.Rows.{shown}
+use Rattle.er_store.specs.Reading.{by_first, by_first_two, Lists, first_columns}
+use Rattle.er_store.proofs.Meaning.{table_query, Selects}
+
+-- ---- the rows of one table, in the order of its key
+
+-- no table is laid over those of the file
+neither : (b : Bool) (rows : List Row) → unwrap_or (cond b None None) rows ≡ rows
+neither true rows = refl
+neither false rows = refl
+
+bare : (trees : Trees) (tree : ℕ) → overlay trees [] tree ≡ trees tree
+bare trees tree = neither _ (trees tree)
+
+terms_shown : (r : Row) (places : List ℕ) → eval_all (map (col 1) places) ([] ∷ r ∷ []) ≡ map (column r) places
+terms_shown r [] = refl
+terms_shown r (place ∷ places) = ap (λ values. column r place ∷ values) (terms_shown r places)
+
+-- what a row is sorted by stands first in what is shown of it
+pub record IsSortedByKeys (tree : ℕ) (places keys : List ℕ) (order : Row → Row → Ordering) : Type 1 where
+  pub Keyed : Output → Type 0
+  pub keyed : (r : Row) → Keyed (output (table_query tree places keys) ([] ∷ r ∷ []))
+  pub agrees : (o p : Output) → Keyed o → Keyed p → is_lt (order o.1 p.1) ≡ is_lt (output_cmp (table_query tree places keys) o p)
+
+sorted_rows : (Keyed : Output → Type 0) (cmp : Output → Output → Ordering) (order : Row → Row → Ordering) → ((o p : Output) → Keyed o → Keyed p → is_lt (order o.1 p.1) ≡ is_lt (cmp o p))
+    → (outs : List Output) → All Keyed outs → IsSorted cmp outs → IsSorted order (map (λ (o : Output). o.1) outs)
+sorted_rows Keyed cmp order agrees outs keyed sorted k d low high =
+    let e : Output = (d, d) in
+    let len : k + 1 < length outs = subst (λ n. k + 1 < n) (length-map {A = Output} {B = Row} outs (λ o. o.1)) high in
+    let here = keyed k e (omega arith) in
+    let next = keyed (k + 1) e len in
+    ap₂ (λ x y. is_lt (order x y)) (get_or-map (λ (o : Output). o.1) outs (k + 1) e) (get_or-map (λ (o : Output). o.1) outs k e)
+    ∙ (agrees (get_or outs (k + 1) e) (get_or outs k e) next here ∙ sorted k e low len)
+
+module _ (tree : ℕ) (places keys : List ℕ) (order : Row → Row → Ordering) (by : IsSortedByKeys tree places keys order) where
+  -- each row once, with its key and what is shown of it
+  abbrev each : List Row → List Output
+  each rows = map (output (table_query tree places keys)) (flat_map (λ r. ([] ∷ r ∷ []) ∷ []) rows)
+
+  each_shown : (rows : List Row) → map (λ (o : Output). o.1) (each rows) ≡ shown places rows
+  each_shown [] = refl
+  each_shown (r ∷ rows) = ap₂ ◌∷◌ (terms_shown r places) (each_shown rows)
+
+  each_keyed : (rows : List Row) → AllByRecursion by.Keyed (each rows)
+  each_keyed [] = tt
+  each_keyed (r ∷ rows) = (by.keyed r, each_keyed rows)
+
+  answer_lists : (trees : Trees) (rows : List Row) → IsAnswer (table_query tree places keys) (overlay trees []) [] rows → Lists order (shown places (trees tree)) rows
+  answer_lists trees rows a =
+      let kept : a.kept ≡ each (trees tree) = a.distinct ∙ (ap (map (output (table_query tree places keys))) a.grouped ∙ ap each (bare trees tree)) in
+      let same = subst (λ l. IsPermutation l a.ordered) kept a.same in
+      let keyed = All-permutation by.Keyed (each (trees tree)) a.ordered same (All-from_recursion by.Keyed (each (trees tree)) (each_keyed (trees tree))) in
+      record {
+        same = subst (λ l. IsPermutation l rows) (each_shown (trees tree)) (subst (IsPermutation (map (λ (o : Output). o.1) (each (trees tree)))) (sym a.shown) (IsPermutation-map (λ (o : Output). o.1) _ _ same));
+        sorted = subst (IsSorted order) (sym a.shown) (sorted_rows by.Keyed (output_cmp (table_query tree places keys)) order by.agrees a.ordered keyed a.sorted);
+      }
+
+  pub listed : (sql : List ℕ) (old new : State) (rows : List Row) → Selects sql (table_query tree places keys) old.now.schema → Shown sql [] old new rows → Lists order (shown places (old.now.trees tree)) rows
+  listed sql old new rows it h =
+      let read = reads_as sql [] old new old.now.schema refl (Select (record { lets = []; body = table_query tree places keys }) it.names) it.is it.plain it.unlisted rows h in
+      answer_lists old.now.trees rows (read.answer Null)
+
+-- a read that shows rows changes nothing
+pub unchanged : (sql : List ℕ) (old new : State) (rows : List Row) → IsPlain (understood old.now.schema sql) → Shown sql [] old new rows → IsUnchanged old new
+unfolding Shown
+unchanged sql old new rows plain h =
+    let none = (subst IsPlain h.1.is plain).0 in
+    (subst (ShowsRows old new sql h.0 (timed [] h.0.formats h.1.now) rows) none h.2).3
+
+-- a query commits nothing
+pub reads_only : (sql : List ℕ) (old new : State) → IsPlain (understood old.now.schema sql) → Survives old new (CommitsShowing sql [] old) → Survives old new (λ _. ⊥)
+reads_only sql old new plain = survives_weaker old new _ _ (λ _ db. never_commits sql [] old db plain)
+
+-- ---- the two kinds of key
+
+first_agrees : (o p : Output) → column o.0 0 ≡ column o.1 0 → column p.0 0 ≡ column p.1 0 → is_lt (by_first o.1 p.1) ≡ is_lt (ordering_then (value_cmp (column o.0 0) (column p.0 0)) Rattle.std.proofs.Common.Equal)
+first_agrees o p a b = ap₂ (λ x y. is_lt (value_cmp x y)) (sym a) (sym b) ∙ ap is_lt (sym (then-Equal (value_cmp (column o.0 0) (column p.0 0))))
+
+two_agree : (o p : Output) → (column o.0 0 ≡ column o.1 0) × (column o.0 1 ≡ column o.1 1) → (column p.0 0 ≡ column p.1 0) × (column p.0 1 ≡ column p.1 1)
+    → is_lt (by_first_two o.1 p.1) ≡ is_lt (ordering_then (value_cmp (column o.0 0) (column p.0 0)) (ordering_then (value_cmp (column o.0 1) (column p.0 1)) Rattle.std.proofs.Common.Equal))
+two_agree o p a b =
+    ap₂ (λ x y. is_lt (ordering_then (value_cmp x y) (value_cmp (column o.1 1) (column p.1 1)))) (sym a.0) (sym b.0)
+    ∙ (ap₂ (λ x y. is_lt (ordering_then (value_cmp (column o.0 0) (column p.0 0)) (value_cmp x y))) (sym a.1) (sym b.1)
+    ∙ ap (λ c. is_lt (ordering_then (value_cmp (column o.0 0) (column p.0 0)) c)) (sym (then-Equal (value_cmp (column o.0 1) (column p.0 1)))))
+
+pub sorted_by_one : (tree place : ℕ) (places : List ℕ) → IsSortedByKeys tree (place ∷ places) (place ∷ []) by_first
+sorted_by_one tree place places = record {
+  Keyed = λ o. column o.0 0 ≡ column o.1 0;
+  keyed = λ r. refl;
+  agrees = first_agrees;
+}
+
+pub sorted_by_two : (tree first second : ℕ) (places : List ℕ) → IsSortedByKeys tree (first ∷ second ∷ places) (first ∷ second ∷ []) by_first_two
+sorted_by_two tree first second places = record {
+  Keyed = λ o. (column o.0 0 ≡ column o.1 0) × (column o.0 1 ≡ column o.1 1);
+  keyed = λ r. (refl, refl);
+  agrees = two_agree;
+}
+
+-- ---- as typed rows
+
+whole : (width : ℕ) (rows : List Row) → AllByRecursion (λ row. first_columns width row ≡ row) rows → map (first_columns width) rows ≡ rows
+whole width [] all = refl
+whole width (r ∷ rows) all = ap₂ ◌∷◌ all.0 (whole width rows all.1)
+
+shown_whole : (width : ℕ) (places : List ℕ) (rows : List Row) → ((r : Row) → first_columns width (map (column r) places) ≡ map (column r) places) → AllByRecursion (λ row. first_columns width row ≡ row) (shown places rows)
+shown_whole width places [] all = tt
+shown_whole width places (r ∷ rows) all = (all r, shown_whole width places rows all)
+
+-- the rows that are listed have the columns that are shown, and no more
+pub listed_whole : (order : Row → Row → Ordering) (width : ℕ) (places : List ℕ) (rows listed : List Row) → ((r : Row) → first_columns width (map (column r) places) ≡ map (column r) places)
+    → Lists order (shown places rows) listed → map (first_columns width) listed ≡ listed
+listed_whole order width places rows listed all h =
+    let P : Row → Type 0 = λ row. first_columns width row ≡ row in
+    whole width listed (recursion_from_All P listed (All-permutation P (shown places rows) listed h.same (All-from_recursion P (shown places rows) (shown_whole width places rows all))))

@@ -1,0 +1,54 @@
+-- Why a read of the tables is refused.
+use Rattle.std.proofs.Common.{◌≡◌, inl, inr, ℕ, List, [], ◌∷◌, length, Ok, IsSome, sym, ap, subst, subst₂, ◌∙◌, append-nil}
+use Rattle.sqlite.specs.Order.{Row}
+use Rattle.sqlite.specs.Program.{ProgramOverflows}
+use Rattle.sqlite.specs.Clock.{timed}
+use Rattle.sqlite.specs.Command.TheVariants.{Select}
+use Rattle.sqlite.specs.Effect.{RefusesToRead, RefusesQuery}
+use Rattle.sqlite.specs.Tree.{Trees}
+use Rattle.sqlite.specs.declared.error.Error.{Error}
+use Rattle.sqlite.specs.declared.error.Error.TheVariants.{SqliteFailure}
+use Rattle.sqlite.specs.declared.error.ErrorCode.TheVariants.{OperationInterrupted}
+use Rattle.sqlite.specs.Listing.{understood, IsSourceOf}
+use Rattle.sqlite.specs.State.{State, FailsToQuery, FailsToShow, IsNotRun, IsNoStatement}
+use Rattle.sqlite.proofs.Callers.{IsPlain, command_of}
+use Rattle.er_store.specs.Reading.{IsReadRefused}
+use Rattle.er_store.proofs.Meaning.{Takes, Selects, table_query}
+
+-- a text that is one statement, with as many parameters as are given, is a statement
+is_statement : (old : State) (sql : List ℕ) (params : Row) (e : Error) → IsPlain (understood old.now.schema sql) → Takes (length params) sql (understood old.now.schema sql) → ¬ IsNoStatement old sql params e
+is_statement old sql params e plain takes (inl fault) = rw fault.1 at plain
+is_statement old sql params e plain takes (inr (c, is, why)) =
+    let t : Takes (length params) sql (Ok c) = subst (Takes (length params) sql) is takes in
+    let p : IsPlain (Ok c) = subst IsPlain is plain in
+    elim why [ inl longer ↦ longer.0 t.0 | inr other ↦ elim other [ inl counts ↦ counts.0 (sym t.1) | inr timed ↦ timed.0 p.1 ] ]
+
+untimed : (params : Row) (formats : List (List ℕ)) (now : ℕ) → formats ≡ [] → timed params formats now ≡ params
+untimed params [] now none = append-nil params
+untimed params (f ∷ formats) now none = absurd (cc)
+
+-- a query of one table sums nothing
+sums_nothing : (trees : Trees) (tree : ℕ) (places keys : List ℕ) → ¬ ProgramOverflows trees [] [] [] (table_query tree places keys)
+sums_nothing trees tree places keys (inl sum) = sum
+sums_nothing trees tree places keys (inr fold) = fold.4
+
+module _ (tree : ℕ) (places keys : List ℕ) (sql : List ℕ) (old new : State) (e : Error) (it : Selects sql (table_query tree places keys) old.now.schema) where
+  only_limit : RefusesQuery old.step_limit old.now (record { lets = []; body = table_query tree places keys }) [] e → (e ≡ SqliteFailure OperationInterrupted) × IsSome old.step_limit
+  only_limit (inl kind) = let never = kind.1 in let typed = it.typed in absurd (cc)
+  only_limit (inr (inl big)) = absurd (sums_nothing old.now.trees tree places keys big.1)
+  only_limit (inr (inr stopped)) = stopped
+
+  -- by memory, the file or the device, or by the limit on steps
+  pub read_refused : FailsToQuery sql [] old new e → IsReadRefused old new e
+  unfolding FailsToQuery IsNotRun
+  read_refused (inl (inl no_statement)) = absurd (is_statement old sql [] e it.plain it.whole no_statement.0)
+  read_refused (inl (inr fails)) = inl fails
+  read_refused (inr (c, s, shows)) =
+      let known : Ok c ≡ understood old.now.schema sql = sym s.is in
+      let bare = subst IsPlain (sym known) it.plain in
+      let kind : c.command ≡ Select (record { lets = []; body = table_query tree places keys }) it.names = ap command_of known ∙ it.is in
+      let failed = subst (FailsToShow old new sql c (timed [] c.formats s.now) e) bare.0 shows in
+      let db : failed.0 ≡ old.now = subst (λ b. IsSourceOf b old.now failed.0) it.unlisted failed.1 in
+      let why = subst (λ p. RefusesToRead old.step_limit c.command failed.0 p e) (untimed [] c.formats s.now bare.1) failed.2 in
+      let stopped = only_limit (subst₂ (λ k d. RefusesToRead old.step_limit k d [] e) kind db why) in
+      inr (stopped.0, stopped.1, failed.3)

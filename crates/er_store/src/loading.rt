@@ -1,0 +1,100 @@
+ghost use Rattle.std.specs.Prelude.{◌≡◌, ◌≤◌, ◌⊎◌, ℕ, Some, [], ◌∷◌, false, IfOk, IfErr, IsOkAnd, IsErrAnd, MatchResult};
+ghost use Rattle.sqlite.specs.State.{HasCleanDisk, IsUnchanged};
+ghost use Rattle.sqlite.specs.Held.{state};
+ghost use Rattle.er_event.specs.declared.refusals.TheConstants.{MAX_SERIAL};
+ghost use Rattle.er_event.specs.declared.refusals.Place.{Place};
+ghost use Rattle.er_event.specs.Event.{EventValue};
+ghost use Rattle.er_event.specs.Sound.{IsSoundButForSeeds};
+ghost use Rattle.er_event.specs.Rows.{event_row};
+ghost use Rattle.er_event.specs.Parts.{IsFirstFault, parts_of};
+ghost use Rattle.er_store.specs.Standing.{HasTables, StandsFor, Leaves};
+ghost use Rattle.er_store.specs.Loading.{ListsParts, IsPartsOf, ShowsEvent};
+ghost use Rattle.er_store.specs.Fault.{IsFault, IsLoadFault, reading_refusal};
+ghost use Rattle.er_store.specs.Reading.{KeepsTables};
+
+use crate::reading::{read_bracket, read_event, read_pairings, read_players, reading_refusal};
+use er_event::{Event, EventRow, Items, Parts, PartsFault, Place, Refusal};
+use sqlite::{Alter, Connection, Error};
+use std::alloc::Global;
+
+/// What was read of this table.
+fn rows_of<T>(table: Place, read: Result<Vec<T>, Error>) -> Result<Items<T>, Refusal>
+    ensures ok { IfOk result (λ rows. IsOkAnd read (λ vec. vec.items ≡ rows)) }
+    ensures err { IfErr result (λ why. IsErrAnd read (λ e. why ≡ reading_refusal table e)) }
+    ensures fault { IfErr result IsLoadFault }
+{
+    match read {
+        Ok(rows) => Ok(Items::from(rows)),
+        Err(error) => Err(reading_refusal(table, error)),
+    }
+}
+
+/// The rows of the four tables.
+fn read_parts<S: Alter>(alloc: Global, conn: &mut Connection<S>) -> Result<Parts, Refusal>
+    ensures clean { HasCleanDisk (state S.Store conn.new) → HasCleanDisk (state S.Store conn.old) }
+    ensures mode { conn.old.in_transaction ≡ false → conn.new.in_transaction ≡ false }
+    ensures lists { HasCleanDisk (state S.Store conn.new) → HasTables (state S.Store conn.old).now.schema
+        → IfOk result (λ parts. ListsParts (state S.Store conn.old).now parts × IsUnchanged (state S.Store conn.old) (state S.Store conn.new)) }
+    ensures exact { HasCleanDisk (state S.Store conn.new) → (e : EventValue) (s : ℕ) → StandsFor (state S.Store conn.old).now e s → IsSoundButForSeeds e
+        → IfOk result (IsPartsOf e s) }
+    ensures refused { HasCleanDisk (state S.Store conn.new) → (e : EventValue) (s : ℕ) → StandsFor (state S.Store conn.old).now e s → IsSoundButForSeeds e → IfErr result IsFault }
+    ensures fault { IfErr result IsLoadFault }
+    ensures kept { HasCleanDisk (state S.Store conn.new) → HasTables (state S.Store conn.old).now.schema → IfErr result (λ _. KeepsTables (state S.Store conn.old) (state S.Store conn.new)) }
+    ensures crash { HasTables (state S.Store conn.old).now.schema → Leaves (state S.Store conn.new) (state S.Store conn.old).may_leave }
+{
+    let event = rows_of(Place::EventTable, read_event(alloc, conn))?;
+    let players = rows_of(Place::PlayerTable, read_players(alloc, conn))?;
+    let pairings = rows_of(Place::PairingTable, read_pairings(alloc, conn))?;
+    let bracket = rows_of(Place::BracketTable, read_bracket(alloc, conn))?;
+    Ok(Parts {
+        event,
+        players,
+        pairings,
+        bracket,
+    })
+}
+
+/// The serial in the event's row, where it is one.
+fn serial_of(rows: &[EventRow]) -> Option<u32>
+    ensures { (e : EventValue) (s : ℕ) → s ≤ MAX_SERIAL → rows.now ≡ event_row e s ∷ [] → result ≡ Some s }
+{
+    match rows {
+        [row] => u32::try_from(row.serial).ok(),
+        _ => None,
+    }
+}
+
+/// The event that the rows are of, with its serial.
+fn event_of(alloc: Global, parts: Parts) -> Result<(Event, u32), Refusal>
+    ensures value { IfOk result (λ it. (parts ≡ parts_of it.0 it.1) × (it.1 ≤ MAX_SERIAL) × IsSoundButForSeeds it.0) }
+    ensures refused { IfErr result (λ why. (why ≡ Refusal.Memory) ⊎ ((place : Place) × (why ≡ Refusal.Damaged place) × IsFirstFault parts place)) }
+{
+    let serial = serial_of(parts.event.as_slice());
+    let event = match Event::from_parts(alloc, parts) {
+        Ok(event) => event,
+        Err(PartsFault::Memory) => return Err(Refusal::Memory),
+        Err(PartsFault::Damaged(table)) => return Err(Refusal::Damaged { table }),
+    };
+    // An event is always sound, as this tells the proof.
+    let _ = event.phase();
+    let Some(serial) = serial else { unreachable!() };
+    Ok((event, serial))
+}
+
+/// Reads the event and its serial.
+pub fn load_tables<S: Alter>(
+    alloc: Global,
+    conn: &mut Connection<S>,
+) -> Result<(Event, u32), Refusal>
+    ensures mode { conn.old.in_transaction ≡ false → conn.new.in_transaction ≡ false }
+    ensures shows { HasCleanDisk (state S.Store conn.new) → HasTables (state S.Store conn.old).now.schema
+        → IfOk result (λ it. ShowsEvent (state S.Store conn.old).now it.0 it.1 × IsUnchanged (state S.Store conn.old) (state S.Store conn.new)) }
+    ensures found { HasCleanDisk (state S.Store conn.new) → (e : EventValue) (s : ℕ) → StandsFor (state S.Store conn.old).now e s → IsSoundButForSeeds e → e.stored ≡ []
+        → MatchResult result (λ it. (it.0 ≡ e) × (it.1 ≡ s)) IsFault }
+    ensures fault { IfErr result IsLoadFault }
+    ensures kept { HasCleanDisk (state S.Store conn.new) → HasTables (state S.Store conn.old).now.schema → IfErr result (λ _. KeepsTables (state S.Store conn.old) (state S.Store conn.new)) }
+    ensures crash { HasTables (state S.Store conn.old).now.schema → Leaves (state S.Store conn.new) (state S.Store conn.old).may_leave }
+{
+    let parts = read_parts(alloc, conn)?;
+    event_of(alloc, parts)
+}

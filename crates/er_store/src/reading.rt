@@ -1,0 +1,121 @@
+ghost use Rattle.std.specs.Prelude.{◌≡◌, ◌⊎◌, ℕ, false, [], ◌∷◌, IfOk, IfErr, map};
+ghost use Rattle.sqlite.specs.State.{HasCleanDisk, Survives, IsUnchanged};
+ghost use Rattle.sqlite.specs.Held.{state};
+ghost use Rattle.er_event.specs.Event.{EventValue};
+ghost use Rattle.er_event.specs.Sound.{IsSoundButForSeeds};
+ghost use Rattle.er_event.specs.Rows.{event_row, player_rows, pairing_rows, bracket_rows};
+ghost use Rattle.er_store.specs.Rows.{event_columns, player_columns, pairing_columns, bracket_columns, shown, event_places, player_places, pairing_places, bracket_places};
+ghost use Rattle.er_store.specs.Standing.{HasTables, StandsFor};
+ghost use Rattle.er_store.specs.Fault.{reading_refusal, IsLoadFault};
+ghost use Rattle.er_store.specs.Reading.{Lists, by_first, by_first_two, out_of_memory, IsReadRefused, KeepsTables};
+
+use crate::rows::typed;
+use er_event::{BracketRow, Cause, EventRow, PairingRow, Place, PlayerRow, Refusal};
+use sqlite::{Alter, Connection, Error, ErrorCode};
+use std::alloc::Global;
+
+pub const READ_EVENT: &str =
+    "SELECT id, version, serial, name, rounds, cut, phase FROM event ORDER BY id";
+
+/// The rows of the table `event`. A crash in it leaves what it could leave before.
+pub fn read_event<S: Alter>(alloc: Global, conn: &mut Connection<S>) -> Result<Vec<EventRow>, Error>
+    ensures clean { HasCleanDisk (state S.Store conn.new) → HasCleanDisk (state S.Store conn.old) }
+    ensures mode { conn.old.in_transaction ≡ false → conn.new.in_transaction ≡ false }
+    ensures lists { HasCleanDisk (state S.Store conn.new) → HasTables (state S.Store conn.old).now.schema
+        → IfOk result (λ rows. Lists by_first (shown event_places ((state S.Store conn.old).now.trees 0)) (map event_columns rows.items) × IsUnchanged (state S.Store conn.old) (state S.Store conn.new)) }
+    ensures exact { HasCleanDisk (state S.Store conn.new) → (e : EventValue) (s : ℕ) → StandsFor (state S.Store conn.old).now e s → IsSoundButForSeeds e
+        → IfOk result (λ rows. rows.items ≡ event_row e s ∷ []) }
+    ensures refused { HasCleanDisk (state S.Store conn.new) → (e : EventValue) (s : ℕ) → StandsFor (state S.Store conn.old).now e s → IsSoundButForSeeds e
+        → IfErr result (λ why. (why ≡ out_of_memory) ⊎ IsReadRefused (state S.Store conn.old) (state S.Store conn.new) why) }
+    ensures kept { HasCleanDisk (state S.Store conn.new) → HasTables (state S.Store conn.old).now.schema → IfErr result (λ _. KeepsTables (state S.Store conn.old) (state S.Store conn.new)) }
+    ensures survives { HasTables (state S.Store conn.old).now.schema → Survives (state S.Store conn.old) (state S.Store conn.new) (λ _. ⊥) }
+{
+    let rows = conn.query_all(READ_EVENT, &[])?;
+    typed(alloc, &rows)
+}
+
+pub const READ_PLAYERS: &str = "SELECT no, name, dropped FROM player ORDER BY no";
+
+/// The players by number. A crash in it leaves what it could leave before.
+pub fn read_players<S: Alter>(
+    alloc: Global,
+    conn: &mut Connection<S>,
+) -> Result<Vec<PlayerRow>, Error>
+    ensures clean { HasCleanDisk (state S.Store conn.new) → HasCleanDisk (state S.Store conn.old) }
+    ensures mode { conn.old.in_transaction ≡ false → conn.new.in_transaction ≡ false }
+    ensures lists { HasCleanDisk (state S.Store conn.new) → HasTables (state S.Store conn.old).now.schema
+        → IfOk result (λ rows. Lists by_first (shown player_places ((state S.Store conn.old).now.trees 1)) (map player_columns rows.items) × IsUnchanged (state S.Store conn.old) (state S.Store conn.new)) }
+    ensures exact { HasCleanDisk (state S.Store conn.new) → (e : EventValue) (s : ℕ) → StandsFor (state S.Store conn.old).now e s → IsSoundButForSeeds e
+        → IfOk result (λ rows. rows.items ≡ player_rows e) }
+    ensures refused { HasCleanDisk (state S.Store conn.new) → (e : EventValue) (s : ℕ) → StandsFor (state S.Store conn.old).now e s → IsSoundButForSeeds e
+        → IfErr result (λ why. (why ≡ out_of_memory) ⊎ IsReadRefused (state S.Store conn.old) (state S.Store conn.new) why) }
+    ensures kept { HasCleanDisk (state S.Store conn.new) → HasTables (state S.Store conn.old).now.schema → IfErr result (λ _. KeepsTables (state S.Store conn.old) (state S.Store conn.new)) }
+    ensures survives { HasTables (state S.Store conn.old).now.schema → Survives (state S.Store conn.old) (state S.Store conn.new) (λ _. ⊥) }
+{
+    let rows = conn.query_all(READ_PLAYERS, &[])?;
+    typed(alloc, &rows)
+}
+
+pub const READ_PAIRINGS: &str =
+    "SELECT round, tab, lo, hi, swapped, done, x, y, d FROM pairing ORDER BY round, tab";
+
+/// The pairings by round and table, a bye's 0 first. A crash in it leaves what it could leave before.
+pub fn read_pairings<S: Alter>(
+    alloc: Global,
+    conn: &mut Connection<S>,
+) -> Result<Vec<PairingRow>, Error>
+    ensures clean { HasCleanDisk (state S.Store conn.new) → HasCleanDisk (state S.Store conn.old) }
+    ensures mode { conn.old.in_transaction ≡ false → conn.new.in_transaction ≡ false }
+    ensures lists { HasCleanDisk (state S.Store conn.new) → HasTables (state S.Store conn.old).now.schema
+        → IfOk result (λ rows. Lists by_first_two (shown pairing_places ((state S.Store conn.old).now.trees 3)) (map pairing_columns rows.items) × IsUnchanged (state S.Store conn.old) (state S.Store conn.new)) }
+    ensures exact { HasCleanDisk (state S.Store conn.new) → (e : EventValue) (s : ℕ) → StandsFor (state S.Store conn.old).now e s → IsSoundButForSeeds e
+        → IfOk result (λ rows. Lists by_first_two (map pairing_columns (pairing_rows e)) (map pairing_columns rows.items)) }
+    ensures refused { HasCleanDisk (state S.Store conn.new) → (e : EventValue) (s : ℕ) → StandsFor (state S.Store conn.old).now e s → IsSoundButForSeeds e
+        → IfErr result (λ why. (why ≡ out_of_memory) ⊎ IsReadRefused (state S.Store conn.old) (state S.Store conn.new) why) }
+    ensures kept { HasCleanDisk (state S.Store conn.new) → HasTables (state S.Store conn.old).now.schema → IfErr result (λ _. KeepsTables (state S.Store conn.old) (state S.Store conn.new)) }
+    ensures survives { HasTables (state S.Store conn.old).now.schema → Survives (state S.Store conn.old) (state S.Store conn.new) (λ _. ⊥) }
+{
+    let rows = conn.query_all(READ_PAIRINGS, &[])?;
+    typed(alloc, &rows)
+}
+
+pub const READ_BRACKET: &str =
+    "SELECT stage, slot, a, b, done, x, y, d FROM bracket ORDER BY stage, slot";
+
+/// The matches of the playoff by stage and slot. A crash in it leaves what it could leave before.
+pub fn read_bracket<S: Alter>(
+    alloc: Global,
+    conn: &mut Connection<S>,
+) -> Result<Vec<BracketRow>, Error>
+    ensures clean { HasCleanDisk (state S.Store conn.new) → HasCleanDisk (state S.Store conn.old) }
+    ensures mode { conn.old.in_transaction ≡ false → conn.new.in_transaction ≡ false }
+    ensures lists { HasCleanDisk (state S.Store conn.new) → HasTables (state S.Store conn.old).now.schema
+        → IfOk result (λ rows. Lists by_first_two (shown bracket_places ((state S.Store conn.old).now.trees 6)) (map bracket_columns rows.items) × IsUnchanged (state S.Store conn.old) (state S.Store conn.new)) }
+    ensures exact { HasCleanDisk (state S.Store conn.new) → (e : EventValue) (s : ℕ) → StandsFor (state S.Store conn.old).now e s → IsSoundButForSeeds e
+        → IfOk result (λ rows. rows.items ≡ bracket_rows e) }
+    ensures refused { HasCleanDisk (state S.Store conn.new) → (e : EventValue) (s : ℕ) → StandsFor (state S.Store conn.old).now e s → IsSoundButForSeeds e
+        → IfErr result (λ why. (why ≡ out_of_memory) ⊎ IsReadRefused (state S.Store conn.old) (state S.Store conn.new) why) }
+    ensures kept { HasCleanDisk (state S.Store conn.new) → HasTables (state S.Store conn.old).now.schema → IfErr result (λ _. KeepsTables (state S.Store conn.old) (state S.Store conn.new)) }
+    ensures survives { HasTables (state S.Store conn.old).now.schema → Survives (state S.Store conn.old) (state S.Store conn.new) (λ _. ⊥) }
+{
+    let rows = conn.query_all(READ_BRACKET, &[])?;
+    typed(alloc, &rows)
+}
+
+/// What a refusal of a read of this table means to a caller.
+pub fn reading_refusal(table: Place, error: Error) -> Refusal
+    ensures value { result ≡ reading_refusal table error }
+    ensures fault { IsLoadFault result }
+{
+    match error {
+        Error::SqliteFailure(ErrorCode::OutOfMemory) => Refusal::Memory,
+        Error::SqliteFailure(ErrorCode::TypeMismatch)
+        | Error::SqlInputError(_)
+        | Error::InvalidColumnType(_, _)
+        | Error::IntegralValueOutOfRange(_)
+        | Error::Utf8Error(_) => Refusal::Damaged { table },
+        _ => Refusal::Store {
+            cause: Cause::Refused,
+        },
+    }
+}

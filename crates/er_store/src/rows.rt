@@ -1,0 +1,123 @@
+ghost use Rattle.std.specs.Prelude.{◌≡◌, ◌≢◌, ◌<◌, ℕ, List, All, IfOk, IfErr, map, length, ⊤, IsUtf8};
+ghost use Rattle.sqlite.specs.declared.types.Value.TheVariants.{Text};
+ghost use Rattle.sqlite.specs.Order.{Row, column};
+ghost use Rattle.er_store.specs.Rows.{event_columns, player_columns, pairing_columns, bracket_columns};
+ghost use Rattle.er_store.specs.Reading.{first_columns, out_of_memory};
+
+use er_event::{BracketRow, EventRow, Items, PairingRow, PlayerRow};
+use sqlite::{Error, Row as SqlRow};
+use std::alloc::Global;
+
+/// A typed row of a table.
+pub trait FromRow: Sized + Drop {
+    ghost columns: { Self → Row };
+
+    ghost width: { ℕ };
+
+    // its texts are UTF-8
+    ghost is_text: { Self → Type 0 };
+
+    fn from_row(row: &SqlRow) -> Result<Self, Error>
+        ensures value { IfOk result (λ r. columns r ≡ first_columns width row.now) }
+        ensures refused { IfErr result (λ e. e ≢ out_of_memory → (r : Self) → is_text r → row.now ≢ columns r) };
+}
+
+impl FromRow for EventRow {
+    ghost columns = { event_columns };
+
+    ghost width = { 7 };
+
+    ghost is_text = { λ r. IsUtf8 r.name };
+
+    fn from_row(row: &SqlRow) -> Result<EventRow, Error> {
+        Ok(EventRow {
+            id: row.get(0)?,
+            version: row.get(1)?,
+            serial: row.get(2)?,
+            name: bytes_of(row, 3)?,
+            rounds: row.get(4)?,
+            cut: row.get(5)?,
+            phase: row.get(6)?,
+        })
+    }
+}
+
+impl FromRow for PlayerRow {
+    ghost columns = { player_columns };
+
+    ghost width = { 3 };
+
+    ghost is_text = { λ r. IsUtf8 r.name };
+
+    fn from_row(row: &SqlRow) -> Result<PlayerRow, Error> {
+        Ok(PlayerRow {
+            no: row.get(0)?,
+            name: bytes_of(row, 1)?,
+            dropped: row.get(2)?,
+        })
+    }
+}
+
+impl FromRow for PairingRow {
+    ghost columns = { pairing_columns };
+
+    ghost width = { 9 };
+
+    ghost is_text = { λ _. ⊤ };
+
+    fn from_row(row: &SqlRow) -> Result<PairingRow, Error> {
+        Ok(PairingRow {
+            round: row.get(0)?,
+            tab: row.get(1)?,
+            lo: row.get(2)?,
+            hi: row.get(3)?,
+            swapped: row.get(4)?,
+            done: row.get(5)?,
+            x: row.get(6)?,
+            y: row.get(7)?,
+            d: row.get(8)?,
+        })
+    }
+}
+
+impl FromRow for BracketRow {
+    ghost columns = { bracket_columns };
+
+    ghost width = { 8 };
+
+    ghost is_text = { λ _. ⊤ };
+
+    fn from_row(row: &SqlRow) -> Result<BracketRow, Error> {
+        Ok(BracketRow {
+            stage: row.get(0)?,
+            slot: row.get(1)?,
+            a: row.get(2)?,
+            b: row.get(3)?,
+            done: row.get(4)?,
+            x: row.get(5)?,
+            y: row.get(6)?,
+            d: row.get(7)?,
+        })
+    }
+}
+
+/// The bytes of the text in this column.
+fn bytes_of(row: &SqlRow, at: usize) -> Result<Items<u8>, Error>
+    ensures value { IfOk result (λ bytes. column row.now at ≡ Text bytes) }
+    ensures refused { IfErr result (λ e. e ≢ out_of_memory → at < length row.now → (bytes : List ℕ) → IsUtf8 bytes → column row.now at ≢ Text bytes) }
+{
+    let text: String = row.get(at)?;
+    Ok(Items::from(text.into_bytes()))
+}
+
+/// The rows as typed rows.
+pub fn typed<T: FromRow>(alloc: Global, rows: &[SqlRow]) -> Result<Vec<T>, Error>
+    ensures value { IfOk result (λ typed. map T.columns typed.items ≡ map (first_columns T.width) rows.now) }
+    ensures refused { IfErr result (λ e. e ≢ out_of_memory → (typed : List T) → All T.is_text typed → rows.now ≢ map T.columns typed) }
+{
+    let mut typed = Vec::new(alloc);
+    for row in rows {
+        typed.push(T::from_row(row)?)?;
+    }
+    Ok(typed)
+}
