@@ -4,18 +4,19 @@ use Rattle.sqlite_trees.specs.declared.store.Store.{Ghosts}
 use Rattle.sqlite_trees.specs.declared.memory.MemStore.{MemStore}
 use Rattle.sqlite.specs.Steps.{over_memory}
 use Rattle.er_event.specs.declared.refusals.Refusal.{Refusal}
-use Rattle.er_event.specs.declared.refusals.Refusal.TheVariants.{NeedsReopen, BadSetup, EventExists}
+use Rattle.er_event.specs.declared.refusals.Refusal.TheVariants.{Memory, NeedsReopen, BadSetup, EventExists}
 use Rattle.er_event.specs.Event.{EventValue}
 use Rattle.er_event.specs.Change.{created}
 use Rattle.er_store.specs.Standing.{Shows}
 use Rattle.er_cli.specs.declared.session.Session.{Session}
-use Rattle.er_cli.specs.declared.texts.Answer.TheVariants.{Accepted}
+use Rattle.er_cli.specs.declared.texts.Answer.TheVariants.{Accepted, Refused}
+use Rattle.er_cli.specs.declared.words.Line.{Line}
 use Rattle.er_cli.specs.declared.words.Line.TheVariants.{Init}
 use Rattle.er_rules.specs.Commands.{first_refusal}
 use Rattle.er_cli.specs.Setup.{is_setup}
 use Rattle.er_cli.specs.Session.{state, event_of, serial_of, is_stopped, Refuses}
 use Rattle.er_event.specs.declared.refusals.Command.{Command}
-use Rattle.er_cli.specs.Script.{Kept, Turn, IsTurn, unless, kept_of}
+use Rattle.er_cli.specs.Script.{Kept, Turn, IsTurn, Answers, unless, kept_of}
 
 pub is_some-kept : {S : Type 0} {g : Ghosts S} (session : Option (Session S g)) → is_some (kept_of session) ≡ is_some session
 is_some-kept None = refl
@@ -46,3 +47,8 @@ module _ (old new : Session MemStore over_memory) where
     | inl rests ↦ subst (λ (s : Session MemStore over_memory). IsFalse (is_stopped s) → Shows (state over_memory s) (event_of s) (serial_of s)) (sym rests.0) was runs
     | inr stops ↦ absurd (true≢false (sym stops.1.stopped ∙ runs))
   ]
+
+-- memory may be wanting for any line, and then all stays as it is
+pub memory_answers : (old : Option Kept) (line : Option Line) → Answers old line (Refused Memory) old
+memory_answers old None = (refl, inr refl)
+memory_answers old (Some line) = inr (inl (refl, refl))

@@ -23,5 +23,5 @@ text_for _ = None
 abbrev pub Says : (words : List (List ℕ)) → (out out_then err err_then : Option (List ℕ)) → ℕ → Type 0
 Says words out out_then err err_then status =
     MatchOption (text_for words)
-    ((status ≡ USAGE) × Appends err err_then HELP.now × (out_then ≡ out))
-    (λ text. (status ≡ DONE) × Appends out out_then text × (err_then ≡ err))
+    ((status ≡ USAGE) × Appends err err_then HELP.now)
+    (λ text. (status ≡ DONE) × Appends out out_then text)

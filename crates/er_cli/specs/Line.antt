@@ -1,19 +1,29 @@
 -- What a line of a script asks for.
-use Rattle.std.specs.Prelude.{◌≡◌, ℕ, ◌==◌, nat_lt, Bool, ◌&&◌, not, if◌then◌else◌, List, [], ◌∷◌, length, slice_index, Option, Some, None, option_map, Ok, Err, Result, codes}
+use Rattle.std.specs.Prelude.{◌≡◌, ℕ, ◌+◌, ◌*◌, ◌==◌, nat_lt, Bool, ◌&&◌, not, if◌then◌else◌, List, [], ◌∷◌, length, slice_index, Option, Some, None, option_map, Ok, Err, Result, codes}
 use Rattle.std.specs.List.{list_any, list_all, slice_split}
-use Rattle.std.specs.Char.{is_ascii_digit}
+use Rattle.std.specs.Char.{is_ascii_digit, is_ascii_hexdigit, digit_value}
 use Rattle.std.specs.Str.{bytes_eq, is_utf8}
 use Rattle.std.specs.Str.Parse.{digits_value}
 use Rattle.er_cli.specs.declared.words.LineFault.{LineFault}
 use Rattle.er_cli.specs.declared.words.LineFault.TheVariants.{Usage, Memory}
 use Rattle.er_cli.specs.declared.words.Line.{Line}
-use Rattle.er_event.specs.declared.refusals.Command.TheVariants.{Enrol, Start, Drop}
+use Rattle.er_event.specs.declared.scores.Games.{Games}
+use Rattle.er_event.specs.declared.refusals.Command.TheVariants.{Enrol, Start, Pair, Result as Report, Correct, Drop}
 use Rattle.er_rules.specs.Step.{IsWritten}
-use Rattle.er_cli.specs.declared.words.Line.TheVariants.{Init, Submit, Players}
+use Rattle.er_cli.specs.declared.words.Line.TheVariants.{Init, Submit, Players, Standings, Slips}
 
 -- the number below the limit that a word of digits is
 abbrev pub number_below : ℕ → List ℕ → Option ℕ
 number_below limit word = if nat_lt 0 (length word) && list_all is_ascii_digit word && nat_lt (digits_value 10 word) limit then Some (digits_value 10 word) else None
+
+-- the bytes of hexadecimal digits, two for each. The first of the two counts sixteen.
+abbrev pub hex_bytes : List ℕ → List ℕ
+hex_bytes (high ∷ low ∷ rest) = (16 * digit_value high + digit_value low) ∷ hex_bytes rest
+hex_bytes _ = []
+
+-- the seed that 64 hexadecimal digits are, small or capital
+unfoldable pub seed_of : List ℕ → Option (List ℕ)
+seed_of word = if length word == 64 && list_all is_ascii_hexdigit word then Some (hex_bytes word) else None
 
 -- what stands between the TABs
 abbrev pub words_of : List ℕ → List (List ℕ)
@@ -43,6 +53,46 @@ abbrev pub start_of : List (List ℕ) → Option Line
 start_of [] = Some (Submit Start)
 start_of _ = None
 
+abbrev pub pair_with : Option ℕ → Option (List ℕ) → Option Line
+pair_with (Some round) (Some seed) = Some (Submit (Pair round seed))
+pair_with (Some round) None = None
+pair_with None seed = None
+
+-- `pair ROUND SEED`
+abbrev pub pair_of : List (List ℕ) → Option Line
+pair_of (round ∷ seed ∷ []) = pair_with (number_below 256 round) (seed_of seed)
+pair_of _ = None
+
+abbrev pub games_with : Option ℕ → Option ℕ → Option ℕ → Option Games
+games_with (Some x) (Some y) (Some d) = Some (record { x = x; y = y; d = d })
+games_with (Some x) (Some y) None = None
+games_with (Some x) None d = None
+games_with None y d = None
+
+-- `X Y D`
+abbrev pub games_of : List (List ℕ) → Option Games
+games_of (x ∷ y ∷ d ∷ []) = games_with (number_below 256 x) (number_below 256 y) (number_below 256 d)
+games_of _ = None
+
+abbrev pub report_with : Option ℕ → Option ℕ → Option Games → Option (ℕ × ℕ × Games)
+report_with (Some round) (Some table) (Some games) = Some (round, table, games)
+report_with (Some round) (Some table) None = None
+report_with (Some round) None games = None
+report_with None table games = None
+
+-- `ROUND TABLE X Y D`
+abbrev pub report_of : List (List ℕ) → Option (ℕ × ℕ × Games)
+report_of (round ∷ table ∷ games) = report_with (number_below 256 round) (number_below 65536 table) (games_of games)
+report_of _ = None
+
+-- `result ROUND TABLE X Y D`
+abbrev pub result_of : List (List ℕ) → Option Line
+result_of words = option_map (λ it. Submit (Report it.0 it.1 it.2)) (report_of words)
+
+-- `correct ROUND TABLE X Y D`
+abbrev pub correct_of : List (List ℕ) → Option Line
+correct_of words = option_map (λ it. Submit (Correct it.0 it.1 it.2)) (report_of words)
+
 -- `drop PLAYER`
 abbrev pub drop_of : List (List ℕ) → Option Line
 drop_of (player ∷ []) = option_map (λ number. Submit (Drop number)) (number_below 65536 player)
@@ -53,6 +103,16 @@ abbrev pub players_of : List (List ℕ) → Option Line
 players_of [] = Some Players
 players_of _ = None
 
+-- `standings`
+abbrev pub standings_of : List (List ℕ) → Option Line
+standings_of [] = Some Standings
+standings_of _ = None
+
+-- `slips ROUND`
+abbrev pub slips_of : List (List ℕ) → Option Line
+slips_of (round ∷ []) = option_map Slips (number_below 256 round)
+slips_of _ = None
+
 -- a command is its first word
 abbrev pub command_of : List (List ℕ) → Option Line
 command_of [] = None
@@ -60,9 +120,14 @@ command_of (command ∷ words) =
     if bytes_eq command (codes "init") then init_of words
     else (if bytes_eq command (codes "enrol") then enrol_of words
     else (if bytes_eq command (codes "start") then start_of words
+    else (if bytes_eq command (codes "pair") then pair_of words
+    else (if bytes_eq command (codes "result") then result_of words
+    else (if bytes_eq command (codes "correct") then correct_of words
     else (if bytes_eq command (codes "drop") then drop_of words
     else (if bytes_eq command (codes "players") then players_of words
-    else None))))
+    else (if bytes_eq command (codes "standings") then standings_of words
+    else (if bytes_eq command (codes "slips") then slips_of words
+    else None)))))))))
 
 -- a line is UTF-8
 abbrev pub line_of : List ℕ → Option Line
@@ -76,6 +141,5 @@ Reads found (Err Memory) = Unit {0}
 
 -- its command is one that is decided so far
 abbrev pub IsKnown : Line → Type 0
-IsKnown (Init name rounds cut) = Unit {0}
 IsKnown (Submit command) = IsWritten command
-IsKnown Players = Unit {0}
+IsKnown _ = Unit {0}

@@ -6,7 +6,7 @@ use Rattle.er_event.specs.declared.refusals.Refusal.{Refusal}
 use Rattle.er_event.specs.declared.refusals.Refusal.TheVariants.{SerialFull, NeedsReopen}
 use Rattle.er_event.specs.declared.refusals.TheConstants.{MAX_SERIAL}
 use Rattle.er_event.specs.Event.{EventValue}
-use Rattle.er_rules.specs.Step.{Steps}
+use Rattle.er_rules.specs.Step.{Answers}
 use Rattle.er_store.specs.Standing.{IsStored}
 
 -- a command that the step takes is refused after the last serial
@@ -17,8 +17,8 @@ numbered serial (Err why) = Err why
 -- the event after a command, or its refusal, where so many commands were accepted. None is taken after a fault of the store.
 abbrev pub IsDue : (stopped : Bool) → EventValue → (serial : ℕ) → Command → Result EventValue Refusal → Type 0
 IsDue true event serial command outcome = outcome ≡ Err NeedsReopen
-IsDue false event serial command outcome = (result : Result EventValue Refusal) × Steps event command result × (outcome ≡ numbered serial result)
+IsDue false event serial command outcome = (result : Result EventValue Refusal) × Answers event command result × (outcome ≡ numbered serial result)
 
 -- a crash leaves the event after the command, whole
 abbrev pub IsStoredAfter : EventValue → ℕ → Command → Trees → Type 0
-IsStoredAfter event serial command trees = (next : EventValue) × Steps event command (Ok next) × IsStored next (serial + 1) trees
+IsStoredAfter event serial command trees = (next : EventValue) × Answers event command (Ok next) × IsStored next (serial + 1) trees

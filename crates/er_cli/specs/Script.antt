@@ -1,5 +1,5 @@
 -- What the lines of a script are answered.
-use Rattle.std.specs.Prelude.{◌≡◌, ◌⊎◌, ℕ, ◌+◌, Bool, true, false, if◌then◌else◌, IsFalse, IfSome, List, [], ◌∷◌, flat_map, Option, Some, None, Result, Ok, Err, option_map, is_some}
+use Rattle.std.specs.Prelude.{◌≡◌, ◌⊎◌, ℕ, ◌+◌, Bool, true, false, if◌then◌else◌, IsFalse, IfSome, List, [], ◌∷◌, flat_map, Option, Some, None, Result, Ok, Err, MatchResult, option_map, is_some}
 use Rattle.std.specs.Io.KnownBytes.{Appends}
 use Rattle.sqlite_trees.specs.declared.store.Store.{Ghosts}
 use Rattle.sqlite_trees.specs.declared.memory.MemStore.{MemStore}
@@ -7,22 +7,23 @@ use Rattle.sqlite.specs.Steps.{over_memory}
 use Rattle.er_event.specs.declared.refusals.Command.{Command}
 use Rattle.er_event.specs.declared.refusals.Receipt.{Receipt}
 use Rattle.er_event.specs.declared.refusals.Refusal.{Refusal}
-use Rattle.er_event.specs.declared.refusals.Refusal.TheVariants.{Memory, NoEvent, NeedsReopen}
+use Rattle.er_event.specs.declared.refusals.Refusal.TheVariants.{Memory, NoEvent, NeedsReopen, NoSuchMatch}
 use Rattle.er_event.specs.Event.{EventValue}
 use Rattle.er_event.specs.Change.{created}
 use Rattle.er_rules.specs.Commands.{first_refusal}
+use Rattle.er_paper.specs.Texts.{players_text, IsStandingsText, pairings_text}
 use Rattle.er_store.specs.Fault.{IsFault}
 use Rattle.er_store.specs.Standing.{Shows}
 use Rattle.er_cli.specs.declared.session.Session.{Session}
 use Rattle.er_cli.specs.declared.texts.Answer.{Answer}
 use Rattle.er_cli.specs.declared.texts.Answer.TheVariants.{Accepted, Text, Refused, Usage}
 use Rattle.er_cli.specs.declared.words.Line.{Line}
-use Rattle.er_cli.specs.declared.words.Line.TheVariants.{Init, Submit, Players}
+use Rattle.er_cli.specs.declared.words.Line.TheVariants.{Init, Submit, Players, Standings, Slips}
 use Rattle.er_cli.specs.Setup.{init_checks}
 use Rattle.er_cli.specs.Line.{line_of}
 use Rattle.er_cli.specs.Reply.{IsDue}
 use Rattle.er_cli.specs.Session.{state, event_of, serial_of, is_stopped}
-use Rattle.er_cli.specs.Texts.{answer_text, players_text}
+use Rattle.er_cli.specs.Texts.{answer_text}
 
 -- the event of a script
 pub record Kept : Type 0 where
@@ -55,21 +56,43 @@ turn_of old (Err why) = (Refused why, Some old)
 abbrev pub Due : Kept → Command → Result EventValue Refusal → Type 0
 Due old command outcome = IsDue old.stopped old.event old.serial command outcome
 
+-- the event that a line shows
+abbrev pub shown : Option Kept → Result EventValue Refusal
+shown None = Err NoEvent
+shown (Some k) = if k.stopped then Err NeedsReopen else Ok k.event
+
+-- the turn of a line that shows the event. All stays as it is.
+abbrev pub IsShown : Option Kept → (EventValue → Answer → Type 0) → Turn → Type 0
+IsShown old IsAnswer turn = MatchResult (shown old) (λ event. IsAnswer event turn.0) (λ why. turn.0 ≡ Refused why) × (turn.1 ≡ old)
+
+abbrev pub ShowsPlayers : EventValue → Answer → Type 0
+ShowsPlayers event answer = answer ≡ Text (players_text event)
+
+abbrev pub ShowsStandings : EventValue → Answer → Type 0
+ShowsStandings event answer = (text : List ℕ) × IsStandingsText event text × (answer ≡ Text text)
+
+-- a round that isn't stored has no slips
+abbrev pub slips_answer : Option (List ℕ) → Answer
+slips_answer None = Refused NoSuchMatch
+slips_answer (Some text) = Text text
+
+abbrev pub ShowsSlips : ℕ → EventValue → Answer → Type 0
+ShowsSlips round event answer = answer ≡ slips_answer (pairings_text event round)
+
 -- the turn of a line, where memory and the store serve. All but `init` want an event.
 abbrev pub IsTurn : Option Kept → Line → Turn → Type 0
 IsTurn old (Init name rounds cut) turn = turn ≡ unless (first_refusal (init_checks (is_some old) name rounds cut)) old (Accepted (record { serial = 0 }), kept (created name rounds cut) 0 false)
 IsTurn (Some k) (Submit command) turn = (outcome : Result EventValue Refusal) × Due k command outcome × (turn ≡ turn_of k outcome)
-IsTurn (Some k) Players turn = turn ≡ (if k.stopped then Refused NeedsReopen else Text (players_text k.event), Some k)
 IsTurn None (Submit command) turn = turn ≡ (Refused NoEvent, None)
-IsTurn None Players turn = turn ≡ (Refused NoEvent, None)
+IsTurn old Players turn = IsShown old ShowsPlayers turn
+IsTurn old Standings turn = IsShown old ShowsStandings turn
+IsTurn old (Slips round) turn = IsShown old (ShowsSlips round) turn
 
 -- the line is due to be written
 abbrev pub Writes : Option Kept → Line → Type 0
 Writes old (Init name rounds cut) = first_refusal (init_checks (is_some old) name rounds cut) ≡ None
 Writes (Some k) (Submit command) = (next : EventValue) × Due k command (Ok next)
-Writes (Some k) Players = ⊥
-Writes None (Submit command) = ⊥
-Writes None Players = ⊥
+Writes old _ = ⊥
 
 -- after a fault of the store an event takes no command
 abbrev pub after_fault : Option Kept → Option Kept

@@ -84,6 +84,3 @@ pub fn refuse_memory<W: Write>(writer: &mut W) -> u8
         Err(_error) => DEVICE,
     }
 }
-
-#[cfg(test)]
-mod tests;

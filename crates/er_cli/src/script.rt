@@ -1,4 +1,4 @@
-ghost use Rattle.std.specs.Prelude.{◌≡◌, Some, IsFalse, IfOk, IfErr, OnOk, map};
+ghost use Rattle.std.specs.Prelude.{◌≡◌, Some, Ok, Err, IsFalse, IfOk, IfErr, OnOk, MatchResult, map, option_map};
 ghost use Rattle.er_event.specs.Change.{created};
 ghost use Rattle.er_store.specs.Fault.{IsFault};
 ghost use Rattle.er_store.specs.Standing.{IsNew, Shows};
@@ -6,16 +6,17 @@ ghost use Rattle.sqlite.specs.Steps.{over_memory};
 ghost use Rattle.er_cli.specs.Session.{state, event_of, serial_of, is_stopped};
 ghost use Rattle.er_rules.specs.Step as step;
 ghost use Rattle.er_cli.specs.Line.{line_of, IsKnown};
-ghost use Rattle.er_cli.specs.declared.words.Line.TheVariants.{Init, Submit, Players};
-ghost use Rattle.er_cli.specs.Script.{Answers, IsWritten, Prints, kept_of, receipt_answer};
+ghost use Rattle.er_cli.specs.declared.words.Line.TheVariants.{Init, Submit, Players, Standings, Slips};
+ghost use Rattle.er_cli.specs.Script.{Answers, IsWritten, Prints, kept_of, receipt_answer, shown, slips_answer};
 
 use crate::session::Session;
 use crate::setup::set_up;
-use crate::texts::{Answer, players_text, print_answer};
+use crate::texts::{Answer, print_answer};
 use crate::words::{Line, LineFault, read_line};
-use er_event::{Command, Event, Receipt, Refusal};
+use er_event::{Command, Event, Items, Receipt, Refusal};
+use er_paper::{pairings_text, players_text, standings_text};
 use sqlite::{Connection, MemStore};
-use std::alloc::Global;
+use std::alloc::{AllocError, Global};
 use std::io::{self, Write};
 
 /// A script that is run on one store in memory. It has a session once an event is made.
@@ -49,6 +50,26 @@ fn answer_of(outcome: Result<Receipt, Refusal>) -> Answer
     }
 }
 
+fn text_answer(text: Result<Vec<u8>, AllocError>) -> Answer
+    ensures { MatchResult text (λ text. result ≡ Answer.Text text.items) (λ _. result ≡ Answer.Refused Refusal.Memory) }
+{
+    match text {
+        Ok(text) => Answer::Text(Items::from(text)),
+        Err(_error) => Answer::Refused(Refusal::Memory),
+    }
+}
+
+/// A round that isn't stored has no slips.
+fn slips_answer(text: Result<Option<Vec<u8>>, AllocError>) -> Answer
+    ensures { MatchResult text (λ text. result ≡ slips_answer (option_map (λ t. t.items) text)) (λ _. result ≡ Answer.Refused Refusal.Memory) }
+{
+    match text {
+        Ok(Some(text)) => Answer::Text(Items::from(text)),
+        Ok(None) => Answer::Refused(Refusal::NoSuchMatch),
+        Err(_error) => Answer::Refused(Refusal::Memory),
+    }
+}
+
 impl Runner {
     fn init(&mut self, name: &[u8], rounds: u8, cut: u8) -> Result<Receipt, Refusal>
         ensures answers { Answers (kept_of self.old.session) (Some (Init name.now rounds cut)) (receipt_answer result) (kept_of self.new.session) }
@@ -74,19 +95,40 @@ impl Runner {
         }
     }
 
+    /// The event that a line shows.
+    fn event(&self) -> Result<&Event, Refusal>
+        ensures { MatchResult result (λ event. shown (kept_of self.now.session) ≡ Ok event.now) (λ why. shown (kept_of self.now.session) ≡ Err why) }
+    {
+        let Some(session) = &self.session else {
+            return Err(Refusal::NoEvent);
+        };
+        session.event()
+    }
+
     fn players(&self) -> Answer
         ensures { Answers (kept_of self.now.session) (Some Players) result (kept_of self.now.session) }
     {
-        let Some(session) = &self.session else {
-            return Answer::Refused(Refusal::NoEvent);
-        };
-        let event = match session.event() {
-            Ok(event) => event,
-            Err(why) => return Answer::Refused(why),
-        };
-        match players_text(self.alloc, event) {
-            Ok(text) => Answer::Text(text),
-            Err(_error) => Answer::Refused(Refusal::Memory),
+        match self.event() {
+            Ok(event) => text_answer(players_text(self.alloc, event)),
+            Err(why) => Answer::Refused(why),
+        }
+    }
+
+    fn standings(&self) -> Answer
+        ensures { Answers (kept_of self.now.session) (Some Standings) result (kept_of self.now.session) }
+    {
+        match self.event() {
+            Ok(event) => text_answer(standings_text(self.alloc, event)),
+            Err(why) => Answer::Refused(why),
+        }
+    }
+
+    fn slips(&self, round: u8) -> Answer
+        ensures { Answers (kept_of self.now.session) (Some (Slips round)) result (kept_of self.now.session) }
+    {
+        match self.event() {
+            Ok(event) => slips_answer(pairings_text(self.alloc, event, round)),
+            Err(why) => Answer::Refused(why),
         }
     }
 
@@ -101,6 +143,8 @@ impl Runner {
             }
             Line::Submit { command } => answer_of(self.submit(command)),
             Line::Players => self.players(),
+            Line::Standings => self.standings(),
+            Line::Slips { round } => self.slips(*round),
         }
     }
 

@@ -1,9 +1,10 @@
 ghost use Rattle.std.specs.Prelude.{◌≡◌, IfOk, map};
 ghost use Rattle.std.specs.List.{list_all, list_any};
 ghost use Rattle.std.specs.Char.{is_ascii_digit};
-ghost use Rattle.er_cli.specs.Line.{Reads, IsKnown, number_below, words_of, is_option, init_of, enrol_of, start_of, drop_of, players_of, command_of, line_of};
+ghost use Rattle.er_cli.specs.Line.{Reads, IsKnown, number_below, seed_of, games_of, report_of, words_of, is_option, init_of, enrol_of, start_of, pair_of, result_of, correct_of, drop_of, players_of, standings_of, slips_of, command_of, line_of};
 
-use er_event::{Command, Items};
+use er_event::{Command, Games, Items};
+use hex::FromHex;
 use std::alloc::{AllocError, Global};
 
 /// What a line asks for.
@@ -19,6 +20,11 @@ pub enum Line {
         command: Command,
     },
     Players,
+    Standings,
+    /// The pairings of a round.
+    Slips {
+        round: u8,
+    },
 }
 
 /// Why a line was not read.
@@ -58,8 +64,8 @@ fn small_number_of(word: &str) -> Option<u8>
     }
 }
 
-/// The number of a player that a word is, whether there is such a player or not.
-fn player_of(word: &str) -> Option<u16>
+/// The number that a word is, of a player or a table, whether there is one or not.
+fn number_of(word: &str) -> Option<u16>
     ensures { result ≡ number_below 65536 word.now }
 {
     if is_number(word) {
@@ -67,6 +73,13 @@ fn player_of(word: &str) -> Option<u16>
     } else {
         None
     }
+}
+
+/// The seed that a word is: 64 hexadecimal digits, small or capital, two for each byte.
+pub fn seed_of(word: &str) -> Option<[u8; 32]>
+    ensures { result ≡ seed_of word.now }
+{
+    <[u8; 32]>::from_hex(word).ok()
 }
 
 /// Whether a word asks for an option. There are none.
@@ -137,6 +150,77 @@ fn read_start(words: &[&str]) -> Result<Line, LineFault>
     }
 }
 
+fn read_pair(words: &[&str]) -> Result<Line, LineFault>
+    ensures reads { Reads (pair_of (map (λ word. word.now) words.now)) result }
+    ensures known { IfOk result IsKnown }
+{
+    let [round, seed] = *words else {
+        return Err(LineFault::Usage);
+    };
+    let (Some(round), Some(seed)) = (small_number_of(round), seed_of(seed)) else {
+        return Err(LineFault::Usage);
+    };
+    Ok(Line::Submit {
+        command: Command::Pair { round, seed },
+    })
+}
+
+/// The games that three words are: won by the first-named player, won by the second, drawn.
+fn games_of(words: &[&str]) -> Option<Games>
+    ensures { result ≡ games_of (map (λ word. word.now) words.now) }
+{
+    let [x, y, d] = *words else {
+        return None;
+    };
+    Some(Games {
+        x: small_number_of(x)?,
+        y: small_number_of(y)?,
+        d: small_number_of(d)?,
+    })
+}
+
+/// The round, the table and the games that the words of a report are.
+fn report_of(words: &[&str]) -> Option<(u8, u16, Games)>
+    ensures { result ≡ report_of (map (λ word. word.now) words.now) }
+{
+    let [round, table, games @ ..] = words else {
+        return None;
+    };
+    Some((small_number_of(round)?, number_of(table)?, games_of(games)?))
+}
+
+fn read_result(words: &[&str]) -> Result<Line, LineFault>
+    ensures reads { Reads (result_of (map (λ word. word.now) words.now)) result }
+    ensures known { IfOk result IsKnown }
+{
+    let Some((round, table, score)) = report_of(words) else {
+        return Err(LineFault::Usage);
+    };
+    Ok(Line::Submit {
+        command: Command::Result {
+            round,
+            table,
+            score,
+        },
+    })
+}
+
+fn read_correct(words: &[&str]) -> Result<Line, LineFault>
+    ensures reads { Reads (correct_of (map (λ word. word.now) words.now)) result }
+    ensures known { IfOk result IsKnown }
+{
+    let Some((round, table, score)) = report_of(words) else {
+        return Err(LineFault::Usage);
+    };
+    Ok(Line::Submit {
+        command: Command::Correct {
+            round,
+            table,
+            score,
+        },
+    })
+}
+
 fn read_drop(words: &[&str]) -> Result<Line, LineFault>
     ensures reads { Reads (drop_of (map (λ word. word.now) words.now)) result }
     ensures known { IfOk result IsKnown }
@@ -144,7 +228,7 @@ fn read_drop(words: &[&str]) -> Result<Line, LineFault>
     let [player] = *words else {
         return Err(LineFault::Usage);
     };
-    let Some(player) = player_of(player) else {
+    let Some(player) = number_of(player) else {
         return Err(LineFault::Usage);
     };
     Ok(Line::Submit {
@@ -163,6 +247,30 @@ fn read_players(words: &[&str]) -> Result<Line, LineFault>
     }
 }
 
+fn read_standings(words: &[&str]) -> Result<Line, LineFault>
+    ensures reads { Reads (standings_of (map (λ word. word.now) words.now)) result }
+    ensures known { IfOk result IsKnown }
+{
+    if words.is_empty() {
+        Ok(Line::Standings)
+    } else {
+        Err(LineFault::Usage)
+    }
+}
+
+fn read_slips(words: &[&str]) -> Result<Line, LineFault>
+    ensures reads { Reads (slips_of (map (λ word. word.now) words.now)) result }
+    ensures known { IfOk result IsKnown }
+{
+    let [round] = *words else {
+        return Err(LineFault::Usage);
+    };
+    let Some(round) = small_number_of(round) else {
+        return Err(LineFault::Usage);
+    };
+    Ok(Line::Slips { round })
+}
+
 /// What the words of a line ask for.
 fn read_command(alloc: Global, words: &[&str]) -> Result<Line, LineFault>
     ensures reads { Reads (command_of (map (λ word. word.now) words.now)) result }
@@ -175,8 +283,13 @@ fn read_command(alloc: Global, words: &[&str]) -> Result<Line, LineFault>
         "init" => read_init(alloc, words),
         "enrol" => read_enrol(alloc, words),
         "start" => read_start(words),
+        "pair" => read_pair(words),
+        "result" => read_result(words),
+        "correct" => read_correct(words),
         "drop" => read_drop(words),
         "players" => read_players(words),
+        "standings" => read_standings(words),
+        "slips" => read_slips(words),
         _ => Err(LineFault::Usage),
     }
 }

@@ -1,4 +1,15 @@
 pub mod NameLemmas
 pub mod PlayerLemmas
 pub mod DropLemmas
+pub mod Pairs
+pub mod RoundLemmas
+pub mod AddLemmas
+pub mod PrefixLemmas
+pub mod SeatLemmas
 pub mod PartsLemmas
+pub mod ShownLemmas
+pub mod PartsRounds
+pub mod PairingLemmas
+pub mod RoundRowLemmas
+pub mod TableLemmas
+pub mod ScoreLemmas

@@ -23,15 +23,15 @@ use Rattle.er_event.specs.declared.refusals.TheConstants.{MAX_SERIAL}
 use Rattle.er_event.specs.declared.events.TheConstants.{MAX_ROUNDS}
 use Rattle.er_event.specs.Event.{EventValue}
 use Rattle.er_event.specs.Name.{is_lawful_name}
-use Rattle.er_event.specs.Rows.{flag, phase_code, event_row, player_row, pairing_rows_from, bracket_rows_from}
-use Rattle.er_event.specs.Sound.{numbers, names, IsSetUp, HasPlayers, IsInPlayoff}
+use Rattle.er_event.specs.Rows.{flag, phase_code, event_row, player_row}
+use Rattle.er_event.specs.Sound.{numbers, names, IsSetUp, HasPlayers}
 use Rattle.er_event.specs.Change.{created, with_phase, has_name}
-use Rattle.er_event.specs.Parts.{IsBlank, IsEventRow, IsLawfulPlayer, Suits, HasPlayerRows, HasNoRounds, IsFirstFault, IsOf}
+use Rattle.er_event.specs.Parts.{IsBlank, IsEventRow, IsLawfulPlayer, Suits, HasPlayerRows, IsFirstFault}
 use Rattle.er_event.specs.declared.parts.Parts.{Parts}
 use Rattle.er_event.specs.declared.parts.PartsFault.{PartsFault}
 use Rattle.er_event.specs.declared.parts.PartsFault.TheVariants.{Damaged}
 use Rattle.er_event.specs.declared.refusals.Place.{Place}
-use Rattle.er_event.specs.declared.refusals.Place.TheVariants.{EventTable, PlayerTable, PairingTable, BracketTable}
+use Rattle.er_event.specs.declared.refusals.Place.TheVariants.{EventTable, PlayerTable}
 
 blank : (name : List ℕ) (rounds cut : ℕ) → IsTrue (is_lawful_name name) → (1 ≤ rounds) × (rounds ≤ MAX_ROUNDS) → IsTrue (cut == 0 || cut == 2 || cut == 4 || cut == 8) → IsSetUp (created name rounds cut)
 blank name rounds cut lawful within fits = record { name = lawful; rounds = within; cut = fits }
@@ -174,6 +174,24 @@ phase-same Finished Enrolling e = absurd (omega arith)
 phase-same Finished Swiss e = absurd (omega arith)
 phase-same Finished Playoff e = absurd (omega arith)
 
+-- the row tells the number of rounds
+pub row_rounds : (rows : List EventRow) (e f : EventValue) → IsEventRow rows e → IsEventRow rows f → e.rounds ≡ f.rounds
+row_rounds rows e f one other =
+    let same : event_row e one.serial ∷ [] ≡ event_row f other.serial ∷ [] = sym one.row ∙ other.row in
+    pos_same e.rounds f.rounds (ap (λ (rs : List EventRow). (get_or rs 0 (event_row e one.serial)).rounds) same)
+
+-- the row tells how many play in the playoff
+pub row_cut : (rows : List EventRow) (e f : EventValue) → IsEventRow rows e → IsEventRow rows f → e.cut ≡ f.cut
+row_cut rows e f one other =
+    let same : event_row e one.serial ∷ [] ≡ event_row f other.serial ∷ [] = sym one.row ∙ other.row in
+    pos_same e.cut f.cut (ap (λ (rs : List EventRow). (get_or rs 0 (event_row e one.serial)).cut) same)
+
+-- the row tells the name
+pub row_name : (rows : List EventRow) (e f : EventValue) → IsEventRow rows e → IsEventRow rows f → e.name ≡ f.name
+row_name rows e f one other =
+    let same : event_row e one.serial ∷ [] ≡ event_row f other.serial ∷ [] = sym one.row ∙ other.row in
+    ap (λ (rs : List EventRow). (get_or rs 0 (event_row e one.serial)).name) same
+
 -- the row tells the phase
 pub row_phase : (rows : List EventRow) (e f : EventValue) → IsEventRow rows e → IsEventRow rows f → e.phase ≡ f.phase
 row_phase rows e f one other =
@@ -197,7 +215,7 @@ fault_event parts rows place same never =
     subst (IsFirstFault parts) (sym never.0) (λ e row. never.1 e (subst (λ (rs : List EventRow). IsEventRow rs e) (sym same) row))
 
 module _ (parts : Parts) (rows : List EventRow) (f : EventValue) (same : rows ≡ parts.event) (row : IsEventRow rows f) where
-  here : IsEventRow parts.event f
+  pub here : IsEventRow parts.event f
   here = subst (λ (rs : List EventRow). IsEventRow rs f) same row
 
   pub fault_players : (prows : List PlayerRow) (place : Place) → prows ≡ parts.players → (place ≡ PlayerTable) × ((ps : List Player) → All IsLawfulPlayer ps → prows ≢ map player_row ps) → IsFirstFault parts place
@@ -205,16 +223,16 @@ module _ (parts : Parts) (rows : List EventRow) (f : EventValue) (same : rows �
       subst (IsFirstFault parts) (sym never.0) ((f, here), λ e has. never.1 e.players (lawful_players e has.players) (are ∙ has.rows))
 
   module _ (prows : List PlayerRow) (players : List Player) (are : prows ≡ parts.players) (read : prows ≡ map player_row players) where
-    same_players : (e : EventValue) → HasPlayerRows parts e → e.players ≡ players
+    pub same_players : (e : EventValue) → HasPlayerRows parts e → e.players ≡ players
     same_players e has = players-same e.players players (sym has.rows ∙ (sym are ∙ read))
 
-    same_phase : (e : EventValue) → HasPlayerRows parts e → e.phase ≡ f.phase
+    pub same_phase : (e : EventValue) → HasPlayerRows parts e → e.phase ≡ f.phase
     same_phase e has = row_phase parts.event e f has.event here
 
     pub fault_play : (test : Bool) → ((e : EventValue) → e.phase ≡ f.phase → e.players ≡ players → (IsTrue test → HasPlayers e) × (HasPlayers e → IsTrue test)) → test ≡ false → IsFirstFault parts PlayerTable
     fault_play test plays no_play = ((f, here), λ e has. true≢false (sym ((plays e (same_phase e has) (same_players e has)).1 has.players) ∙ no_play))
 
-    abbrev listed : EventValue
+    abbrev pub listed : EventValue
     listed = record f { players = players }
 
     pub has_players : HasPlayers listed → HasPlayerRows parts listed
@@ -223,19 +241,6 @@ module _ (parts : Parts) (rows : List EventRow) (f : EventValue) (same : rows �
       rows = sym are ∙ read;
       players = has;
     }
-
-    pub fault_pairings : HasPlayers listed → (parts.pairings ≢ []) → IsFirstFault parts PairingTable
-    fault_pairings has some = ((listed, has_players has), λ e none. some none.rows)
-
-    pub fault_phase : HasPlayers listed → (f.phase ≡ Playoff) ⊎ (f.phase ≡ Finished) → IsFirstFault parts PairingTable
-    fault_phase has over = ((listed, has_players has), λ e none. none.phase (moved e none over))
-      where
-        moved : (e : EventValue) → HasNoRounds parts e → (f.phase ≡ Playoff) ⊎ (f.phase ≡ Finished) → IsInPlayoff e
-        moved e none (inl is) = inl (same_phase e none.players ∙ is)
-        moved e none (inr is) = inr (same_phase e none.players ∙ is)
-
-    pub fault_bracket : HasPlayers listed → parts.pairings ≡ [] → (IsInPlayoff f → ⊥) → (parts.bracket ≢ []) → IsFirstFault parts BracketTable
-    fault_bracket has none early some = ((listed, record { players = has_players has; rows = none; phase = early }), some)
 
 pub damaged_same : {A : Type 0} (table place : Place) → ◌≡◌ {A = Result A PartsFault} (Err (Damaged table)) (Err (Damaged place)) → table ≡ place
 damaged_same table place e = cc
@@ -247,29 +252,20 @@ pub none-when : {A : Type 0} (xs ys : List A) → xs ≡ ys → (length xs == 0)
 none-when [] ys same none = sym same
 none-when (x ∷ xs) ys same none = absurd (let n : ◌≡◌ {A = ℕ} (suc (length xs)) 0 = grind (arith, nat_tests) in omega arith)
 
+pub none-of : {A : Type 0} (xs : List A) (count : ℕ) → count ≡ length xs → (count == 0) ≡ true → xs ≡ []
+none-of [] count is none = refl
+none-of (x ∷ xs) count is none = absurd (let n : ◌≡◌ {A = ℕ} count 0 = grind (arith, nat_tests) in omega arith)
+
 pub early : (p : Phase) → (p ≡ Enrolling) ⊎ (p ≡ Swiss) → (p ≡ Playoff) ⊎ (p ≡ Finished) → ⊥
 early p (inl a) (inl b) = cc
 early p (inl a) (inr b) = cc
 early p (inr a) (inl b) = cc
 early p (inr a) (inr b) = cc
 
-parts_same : (parts : Parts) (event : List EventRow) (players : List PlayerRow) (pairings : List PairingRow) (bracket : List BracketRow) → parts.event ≡ event → parts.players ≡ players → parts.pairings ≡ pairings → parts.bracket ≡ bracket
+pub parts_same : (parts : Parts) (event : List EventRow) (players : List PlayerRow) (pairings : List PairingRow) (bracket : List BracketRow) → parts.event ≡ event → parts.players ≡ players → parts.pairings ≡ pairings → parts.bracket ≡ bracket
     → (let same : Parts = record { event = event; players = players; pairings = pairings; bracket = bracket } in parts ≡ same)
 parts_same parts event players pairings bracket a b c d =
     subst (λ (x : List EventRow). (let p : Parts = record { event = x; players = players; pairings = pairings; bracket = bracket } in parts ≡ p)) a
     (subst (λ (x : List PlayerRow). (let p : Parts = record { event = parts.event; players = x; pairings = pairings; bracket = bracket } in parts ≡ p)) b
     (subst (λ (x : List PairingRow). (let p : Parts = record { event = parts.event; players = parts.players; pairings = x; bracket = bracket } in parts ≡ p)) c
     (subst (λ (x : List BracketRow). (let p : Parts = record { event = parts.event; players = parts.players; pairings = parts.pairings; bracket = x } in parts ≡ p)) d refl)))
-
--- the rows of an event without rounds
-pub of_parts : (parts : Parts) (rows : List EventRow) (prows : List PlayerRow) (f e : EventValue) (phase : Phase) (players : List Player) → rows ≡ parts.event → prows ≡ parts.players → IsBlank f → IsEventRow rows (with_phase f phase)
-    → prows ≡ map player_row players → parts.pairings ≡ [] → parts.bracket ≡ [] → e ≡ record f { players = players; phase = phase } → IsOf parts e
-of_parts parts rows prows f e phase players same are blank row read none empty is =
-    let stored : f.stored ≡ [] = ap (λ (g : EventValue). g.stored) blank.is in
-    let stages : f.bracket.stages ≡ [] = ap (λ (g : EventValue). g.bracket.stages) blank.is in
-    subst (IsOf parts) (sym is) (record {
-      serial = row.serial;
-      low = row.low;
-      are = parts_same parts (event_row (record f { players = players; phase = phase }) row.serial ∷ []) (map player_row players) (pairing_rows_from 1 f.stored) (bracket_rows_from 1 f.bracket.stages)
-          (sym same ∙ row.row) (sym are ∙ read) (none ∙ ap (pairing_rows_from 1) (sym stored)) (empty ∙ ap (bracket_rows_from 1) (sym stages));
-    })

@@ -3,11 +3,13 @@ pub mod Score
 pub mod Name
 pub mod Event
 pub mod Round
+pub mod Match
 pub mod Bracket
 pub mod Sound
 pub mod EventFields
 pub mod Change
 pub mod Rows
 pub mod Parts
+pub mod Pairings
 pub mod Lines
 pub mod Totals

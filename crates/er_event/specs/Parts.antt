@@ -11,13 +11,13 @@ use Rattle.er_event.specs.declared.rows.EventRow.{EventRow}
 use Rattle.er_event.specs.Event.{EventValue}
 use Rattle.er_event.specs.declared.players.TheConstants.{MAX_PLAYERS}
 use Rattle.er_event.specs.Name.{is_lawful_name}
-use Rattle.er_event.specs.Rows.{event_row, player_rows, pairing_rows, bracket_rows}
+use Rattle.er_event.specs.Rows.{event_row, player_rows, keyed_pairing_rows, bracket_rows}
 use Rattle.er_event.specs.Change.{created}
-use Rattle.er_event.specs.Sound.{IsSetUp, HasPlayers, IsInPlayoff}
+use Rattle.er_event.specs.Sound.{IsSetUp, HasPlayers, HasRounds, IsInPlayoff, AllRoundsDone}
 
--- the rows of an event with this serial
+-- the rows of an event with this serial, each table in the order of its key
 abbrev pub parts_of : EventValue → ℕ → Parts
-parts_of e serial = record { event = event_row e serial ∷ []; players = player_rows e; pairings = pairing_rows e; bracket = bracket_rows e }
+parts_of e serial = record { event = event_row e serial ∷ []; players = player_rows e; pairings = keyed_pairing_rows e; bracket = bracket_rows e }
 
 -- the rows are those of the event, with some serial
 pub record IsOf (parts : Parts) (e : EventValue) : Type 0 where
@@ -54,15 +54,22 @@ pub record HasPlayerRows (parts : Parts) (e : EventValue) : Type 0 where
   pub rows : parts.players ≡ player_rows e
   pub players : HasPlayers e
 
--- So far no round is read: a pairing, or a phase that has pairings, is a fault.
-pub record HasNoRounds (parts : Parts) (e : EventValue) : Type 0 where
+-- the event of the first three tables
+pub record HasRoundRows (parts : Parts) (e : EventValue) : Type 0 where
   pub players : HasPlayerRows parts e
-  pub rows : parts.pairings ≡ []
+  pub rows : parts.pairings ≡ keyed_pairing_rows e
+  pub rounds : HasRounds e
+  pub done : IsInPlayoff e → AllRoundsDone e
+
+-- So far no match of the playoff is read: one, or a phase that has some, is a fault.
+pub record HasNoBracket (parts : Parts) (e : EventValue) : Type 0 where
+  pub rounds : HasRoundRows parts e
+  pub rows : parts.bracket ≡ []
   pub phase : IsInPlayoff e → ⊥
 
 -- the checks of the tables before this one hold, and those of this one do not
 abbrev pub IsFirstFault : Parts → Place → Type 0
 IsFirstFault parts EventTable = (e : EventValue) → IsEventRow parts.event e → ⊥
 IsFirstFault parts PlayerTable = ((e : EventValue) × IsEventRow parts.event e) × ((e : EventValue) → HasPlayerRows parts e → ⊥)
-IsFirstFault parts PairingTable = ((e : EventValue) × HasPlayerRows parts e) × ((e : EventValue) → HasNoRounds parts e → ⊥)
-IsFirstFault parts BracketTable = ((e : EventValue) × HasNoRounds parts e) × (parts.bracket ≢ [])
+IsFirstFault parts PairingTable = ((e : EventValue) × HasPlayerRows parts e) × ((e : EventValue) → HasRoundRows parts e → ⊥)
+IsFirstFault parts BracketTable = ((e : EventValue) × HasRoundRows parts e) × ((e : EventValue) → HasNoBracket parts e → ⊥)

@@ -1,8 +1,9 @@
 -- Stored matches, and which rounds are complete.
-use Rattle.std.specs.Prelude.{ℕ, ◌+◌, ◌==◌, ◌&&◌, ◌||◌, Bool, if◌then◌else◌, List, [], ◌∷◌, flat_map, is_some}
+use Rattle.std.specs.Prelude.{ℕ, ◌+◌, ◌-◌, ◌==◌, ◌&&◌, ◌||◌, Bool, if◌then◌else◌, List, [], ◌∷◌, flat_map, find, slice_get, Option, None, is_some, option_map, option_and_then}
 use Rattle.std.specs.List.{list_all}
 use Rattle.er_event.specs.declared.rounds.Match.{Match}
 use Rattle.er_event.specs.declared.rounds.Round.{Round}
+use Rattle.er_event.specs.Event.{EventValue}
 
 abbrev pub is_bye : Match → Bool
 is_bye m = m.b == 0
@@ -29,3 +30,13 @@ numbered_from n (m ∷ ms) = (n, m) ∷ numbered_from (n + 1) ms
 -- tables are numbered from 1; a bye has table 0
 abbrev pub table_of : ℕ × Match → ℕ
 table_of numbered = if is_bye numbered.1 then 0 else numbered.0
+
+-- the match of a table of a round
+abbrev pub is_at : ℕ → ℕ × Match → Bool
+is_at table numbered = table_of numbered == table
+
+abbrev pub match_in : List Match → ℕ → Option Match
+match_in matches table = option_map (λ (found : ℕ × Match). found.1) (find (is_at table) (numbered_from 1 matches))
+
+abbrev pub match_at : EventValue → ℕ → ℕ → Option Match
+match_at event round table = if round == 0 then None else option_and_then (λ (r : Round). match_in r.matches table) (slice_get event.stored (round - 1))

@@ -1,5 +1,5 @@
 -- The rows of the four tables that an event has.
-use Rattle.std.specs.Prelude.{ℕ, ℤ, pos, ◌+◌, min, max, nat_lt, Bool, if◌then◌else◌, List, [], ◌∷◌, ◌++◌, map, Option, Some, None, is_some}
+use Rattle.std.specs.Prelude.{ℕ, ℤ, pos, ◌+◌, min, max, nat_lt, Bool, not, if◌then◌else◌, List, [], ◌∷◌, ◌++◌, map, filter, Option, Some, None, is_some}
 use Rattle.er_event.specs.declared.events.Phase.{Phase}
 use Rattle.er_event.specs.declared.events.Phase.TheVariants.{Enrolling, Swiss, Playoff, Finished}
 use Rattle.er_event.specs.declared.players.Player.{Player}
@@ -11,7 +11,7 @@ use Rattle.er_event.specs.declared.rows.PairingRow.{PairingRow}
 use Rattle.er_event.specs.declared.rows.BracketRow.{BracketRow}
 use Rattle.er_event.specs.declared.scores.Games.{Games}
 use Rattle.er_event.specs.Event.{EventValue}
-use Rattle.er_event.specs.Round.{numbered_from, table_of}
+use Rattle.er_event.specs.Round.{is_bye, numbered_from, table_of}
 
 abbrev pub flag : Bool → ℤ
 flag b = if b then pos 1 else pos 0
@@ -62,6 +62,20 @@ pairing_rows_from round (r ∷ later) = round_rows round r.matches ++ pairing_ro
 
 abbrev pub pairing_rows : EventValue → List PairingRow
 pairing_rows e = pairing_rows_from 1 e.stored
+
+-- in the order of the key, in which the table 0 of a bye comes first
+abbrev pub by_key : List (ℕ × Match) → List (ℕ × Match)
+by_key numbered = filter (λ (n : ℕ × Match). is_bye n.1) numbered ++ filter (λ (n : ℕ × Match). not (is_bye n.1)) numbered
+
+abbrev pub keyed_round_rows : ℕ → List Match → List PairingRow
+keyed_round_rows round matches = map (pairing_row round) (by_key (numbered_from 1 matches))
+
+abbrev pub keyed_rows_from : ℕ → List Round → List PairingRow
+keyed_rows_from round [] = []
+keyed_rows_from round (r ∷ later) = keyed_round_rows round r.matches ++ keyed_rows_from (round + 1) later
+
+abbrev pub keyed_pairing_rows : EventValue → List PairingRow
+keyed_pairing_rows e = keyed_rows_from 1 e.stored
 
 abbrev pub bracket_row : ℕ → ℕ × Match → BracketRow
 bracket_row stage numbered =

@@ -1,6 +1,9 @@
 use crate::events::Phase;
+use crate::items::Items;
 use crate::names::Name;
 use crate::players::PlayerNo;
+use crate::rounds::Match;
+use crate::scores::Score;
 
 /// What one accepted command does to an event.
 #[derive(Debug, Drop)]
@@ -11,4 +14,8 @@ pub enum Change {
     SetDropped { player: PlayerNo },
     /// The event goes on to another phase.
     SetPhase { phase: Phase },
+    /// One more Swiss round is paired: tables 1, 2, .. and then the bye, if there is one.
+    AddRound { matches: Items<Match> },
+    /// The match of this table of this Swiss round has this score, whether it had one or not.
+    SetScore { round: u8, table: u16, score: Score },
 }

@@ -1,6 +1,10 @@
-ghost use Rattle.std.specs.Prelude.{◌≡◌, ◌≢◌, ◌↔◌, ◌≤◌, ◌<◌, ◌==◌, ◌||◌, Ok, Err, IsTrue, IsFalse, IsOk, IfOk, IfErr, IfSome, option_map, length, find};
+ghost use Rattle.std.specs.Prelude.{◌≡◌, ◌≢◌, ◌↔◌, ◌≤◌, ◌<◌, ◌==◌, ◌||◌, Ok, Err, IsTrue, IsFalse, IsOk, IfOk, IfErr, IfSome, option_map, length, find, List};
+ghost use Rattle.er_event.specs.declared.scores.Games.{Games};
+ghost use Rattle.er_event.specs.Round.{is_bye, match_at};
+ghost use Rattle.er_event.specs.Score.{is_swiss_score};
 ghost use Rattle.er_event.specs.Sound.{IsSoundButForSeeds};
-ghost use Rattle.er_event.specs.Change.{created, has_name, Fits};
+ghost use Rattle.er_event.specs.Change.{created, has_name, Fits, IsNextRound};
+ghost use Rattle.er_event.specs.declared.rounds.Match.{Match};
 
 mod changing;
 mod copying;
@@ -11,8 +15,8 @@ use crate::items::Items;
 use crate::names::Name;
 use crate::players::{MAX_PLAYERS, Player};
 use crate::refusals::Refusal;
-use crate::rounds::{Bracket, Round};
-pub use changing::{has_name, is_nobody_dropped, player_of};
+use crate::rounds::{Bracket, Match, Round};
+pub use changing::{has_name, is_nobody_dropped, match_in, player_of};
 use std::alloc::{AllocError, Global};
 use std::marker::Model;
 
@@ -125,11 +129,25 @@ impl Event {
         player_of(self.players(), number)
     }
 
-    /// The Swiss rounds that were paired.
+    /// The Swiss rounds that were paired. They tell which round may come next.
     pub fn stored(&self) -> &[Round]
         ensures value { result.now ≡ self.now.stored }
+        ensures sound { IsSoundButForSeeds self.now }
+        ensures fits { (matches : List Match) → IsNextRound self.now matches → Fits self.now (Change.AddRound matches) }
     {
         self.stored.as_slice()
+    }
+
+    /// The match of a table of a Swiss round, where tables are numbered from 1 and a bye has table 0. A match of two players takes each score that is lawful in a Swiss round.
+    pub fn match_at(&self, round: u8, table: u16) -> Option<&Match>
+        ensures value { option_map (λ m. m.now) result ≡ match_at self.now round table }
+        ensures fits { IfSome result (λ m. IsFalse (is_bye m.now) → (score : Games) → IsTrue (is_swiss_score score) → Fits self.now (Change.SetScore round table score)) }
+    {
+        if round == 0 {
+            return None;
+        }
+        let round = self.stored().get(usize::from(round) - 1)?;
+        match_in(round.matches.as_slice(), table)
     }
 
     pub fn bracket(&self) -> &Bracket

@@ -1,4 +1,4 @@
-ghost use Rattle.std.specs.Prelude.{◌≡◌, [], IfOk};
+ghost use Rattle.std.specs.Prelude.{◌≡◌, ◌<◌, ◌++◌, ◌∷◌, [], length, slice_set, IfOk, IfErr, OnOk};
 
 use std::alloc::{AllocError, Global};
 use std::marker::Model;
@@ -51,6 +51,25 @@ impl<T> From<Vec<T>> for Items<T> {
 }
 
 impl<T: Copy> Items<T> {
+    /// Puts the element at the end. Where memory is wanting, the list stays as it was.
+    pub fn push(&mut self, element: T) -> Result<(), AllocError>
+        ensures ok { OnOk result (self.new ≡ self.old ++ element ∷ []) }
+        ensures err { IfErr result (λ _. self.new ≡ self.old) }
+    {
+        match self.vec.push(element) {
+            Ok(()) => Ok(()),
+            Err(failed) => Err(AllocError::from(failed)),
+        }
+    }
+
+    /// Puts the element in the place of the one that stands there.
+    pub fn set(&mut self, at: usize, element: T)
+        requires { at < length self.old }
+        ensures { self.new ≡ slice_set self.old at element }
+    {
+        self.vec[at] = element;
+    }
+
     /// An equal list.
     pub fn copy(&self, alloc: Global) -> Result<Items<T>, AllocError>
         ensures { IfOk result (λ copy. copy ≡ self.now) }

@@ -3,9 +3,11 @@
 #![tactic(auto)]
 
 mod changes;
+mod checks;
 mod events;
 mod items;
 mod names;
+mod pairings;
 mod parts;
 mod players;
 mod refusals;
@@ -23,6 +25,3 @@ pub use refusals::{Cause, Command, MAX_SERIAL, Place, Receipt, Refusal};
 pub use rounds::{Bracket, Match, Round};
 pub use rows::{BracketRow, EventRow, PairingRow, PlayerRow};
 pub use scores::{Games, Score};
-
-#[cfg(test)]
-mod tests;

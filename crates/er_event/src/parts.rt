@@ -48,14 +48,6 @@ impl From<AllocError> for PartsFault {
     }
 }
 
-/// A number that is not negative.
-pub fn natural_of(value: i64) -> Option<u64>
-    ensures value { IfSome result (λ n. value ≡ pos n) }
-    ensures none { IsNone result → (n : ℕ) → value ≢ pos n }
-{
-    u64::try_from(value).ok()
-}
-
 pub fn flag_of(value: i64) -> Option<bool>
     ensures value { IfSome result (λ b. value ≡ flag b) }
     ensures none { IsNone result → (b : Bool) → value ≢ flag b }

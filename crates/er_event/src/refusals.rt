@@ -2,6 +2,7 @@ ghost use Rattle.std.specs.Prelude.{◌≡◌};
 
 use crate::items::Items;
 use crate::scores::{Games, Score};
+use std::alloc::AllocError;
 
 /// A table of an event's file.
 #[derive(Clone, Copy, Debug, PartialEq, Eq)]
@@ -76,6 +77,17 @@ pub enum Refusal {
     EventExists,
     Damaged { table: Place },
     BadSetup,
+}
+
+impl From<AllocError> for Refusal {
+    ghost use Rattle.std.specs.Prelude.{◌≡◌};
+    ghost use Rattle.er_event.specs.declared.refusals.Refusal.TheVariants.{Memory};
+
+    ghost from_gives = { λ _ why. why ≡ Memory };
+
+    fn from(_error: AllocError) -> Self {
+        Refusal::Memory
+    }
 }
 
 impl Refusal {

@@ -1,4 +1,5 @@
 ghost use Rattle.std.specs.Prelude.{◌≡◌, IfOk};
+ghost use Rattle.er_event.specs.Round.{is_counted};
 
 use crate::items::Items;
 use crate::scores::Score;
@@ -28,6 +29,16 @@ pub struct Bracket {
 }
 
 impl Round {
+    /// Whether each match has its score.
+    pub fn is_complete(&self) -> bool
+        ensures { result ≡ is_counted self.now.matches }
+    {
+        self.matches
+            .as_slice()
+            .iter()
+            .all(|played| played.score.is_some())
+    }
+
     pub fn copy(&self, alloc: Global) -> Result<Round, AllocError>
         ensures { IfOk result (λ copy. copy ≡ self.now) }
     {

@@ -13,7 +13,7 @@ use Rattle.er_event.specs.declared.rounds.Round.{Round}
 use Rattle.er_event.specs.declared.players.TheConstants.{MAX_PLAYERS}
 use Rattle.er_event.specs.Name.{is_lawful_name}
 use Rattle.er_event.specs.Score.{is_swiss_score, is_playoff_score}
-use Rattle.er_event.specs.Round.{is_bye, is_counted, numbered_from, table_of}
+use Rattle.er_event.specs.Round.{is_bye, is_counted, match_at}
 use Rattle.er_event.specs.Change.{has_name}
 
 abbrev pub is_enrolling : Phase → Bool
@@ -33,16 +33,6 @@ active event = filter (λ p. not p.dropped) event.players
 
 abbrev pub newest_is_open : EventValue → Bool
 newest_is_open event = list_any (λ (r : Round). not (is_counted r.matches)) (drop (length event.stored - 1) event.stored)
-
--- the match of a table of a round
-abbrev pub is_at : ℕ → ℕ × Match → Bool
-is_at table numbered = table_of numbered == table
-
-abbrev pub match_in : List Match → ℕ → Option Match
-match_in matches table = option_map (λ (found : ℕ × Match). found.1) (find (is_at table) (numbered_from 1 matches))
-
-abbrev pub match_at : EventValue → ℕ → ℕ → Option Match
-match_at event round table = if round == 0 then None else option_and_then (λ (r : Round). match_in r.matches table) (slice_get event.stored (round - 1))
 
 abbrev pub slot_at : EventValue → ℕ → ℕ → Option Match
 slot_at event stage slot = if stage == 0 || slot == 0 then None else option_and_then (λ (matches : List Match). slice_get matches (slot - 1)) (slice_get event.bracket.stages (stage - 1))
@@ -85,13 +75,15 @@ abbrev pub checks_at : Option Match → (Match → List Check) → List Check
 checks_at None more = (true, NoSuchMatch) ∷ []
 checks_at (Some m) more = more m
 
+-- while the Swiss rounds are played, a match of two players is asked for, and then more of it
+abbrev pub score_checks : EventValue → ℕ → ℕ → (Match → List Check) → List Check
+score_checks event round table more = (not (is_swiss event.phase), NotSwiss) ∷ checks_at (match_at event round table) (λ m. (is_bye m, IsBye) ∷ more m)
+
 abbrev pub result_checks : EventValue → ℕ → ℕ → Games → List Check
-result_checks event round table score = (not (is_swiss event.phase), NotSwiss) ∷ checks_at (match_at event round table) (λ m.
-    (is_bye m, IsBye) ∷ already m.score ++ (not (is_swiss_score score), BadScore) ∷ [])
+result_checks event round table score = score_checks event round table (λ m. already m.score ++ (not (is_swiss_score score), BadScore) ∷ [])
 
 abbrev pub correct_checks : EventValue → ℕ → ℕ → Games → List Check
-correct_checks event round table score = (not (is_swiss event.phase), NotSwiss) ∷ checks_at (match_at event round table) (λ m.
-    (is_bye m, IsBye) ∷ (is_none m.score, NotReported) ∷ (not (is_swiss_score score), BadScore) ∷ [])
+correct_checks event round table score = score_checks event round table (λ m. (is_none m.score, NotReported) ∷ (not (is_swiss_score score), BadScore) ∷ [])
 
 abbrev pub of_player : Option Player → List Check
 of_player None = (true, NoSuchPlayer) ∷ []

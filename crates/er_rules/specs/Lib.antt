@@ -1,5 +1,4 @@
-pub mod Standings
 pub mod Seeds
-pub mod Pairing
 pub mod Commands
+pub mod Tables
 pub mod Step

@@ -1,35 +1,27 @@
 -- What a command does to an event: it is taken, or refused by the first check that fails.
-use Rattle.std.specs.Prelude.{◌≡◌, ℕ, ◌-◌, ◌==◌, if◌then◌else◌, List, [], ◌∷◌, ◌++◌, length, map, slice_set, slice_index_or, Some, MatchOption, Result, Ok, Err}
+use Rattle.std.specs.Prelude.{◌≡◌, ◌⊎◌, ℕ, ◌-◌, ◌==◌, if◌then◌else◌, List, [], ◌∷◌, ◌++◌, length, slice_set, slice_index_or, None, MatchOption, Result, Ok, Err}
 use Rattle.er_event.specs.declared.scores.Games.{Games}
 use Rattle.er_event.specs.declared.refusals.Command.{Command}
 use Rattle.er_event.specs.declared.refusals.Command.TheVariants.{Enrol, Start, Pair, Result as Report, Correct, Drop, Cut, Playoff as PlayOff}
 use Rattle.er_event.specs.declared.refusals.Refusal.{Refusal}
-use Rattle.er_event.specs.declared.refusals.Refusal.TheVariants.{NoPairing}
+use Rattle.er_event.specs.declared.refusals.Refusal.TheVariants.{NoPairing, Budget}
 use Rattle.er_event.specs.declared.events.Phase.TheVariants.{Swiss, Playoff, Finished}
 use Rattle.er_event.specs.declared.rounds.Match.{Match}
 use Rattle.er_event.specs.Event.{EventValue}
-use Rattle.rand_chacha.specs.ChaCha.{word_at, key_of}
-use Rattle.er_event.specs.Round.{is_counted, numbered_from}
-use Rattle.er_event.specs.Change.{with_player, with_dropped, with_phase}
-use Rattle.er_rules.specs.Standings.{IsTop}
+use Rattle.er_event.specs.Round.{is_counted}
+use Rattle.er_event.specs.Change.{with_player, with_dropped, with_phase, scored, with_score}
+use Rattle.er_rank.specs.Standings.{IsTop}
 use Rattle.er_event.specs.Bracket.{next_stage, open_match}
 use Rattle.er_rules.specs.Seeds.{first_stage}
-use Rattle.er_rules.specs.Pairing.{IsOrder, IsLegal, IsEarliest, have_met, round_of}
-use Rattle.er_rules.specs.Pairing as pairing
-use Rattle.er_rules.specs.Commands.{first_refusal, enrol_checks, start_checks, pair_checks, result_checks, correct_checks, drop_checks, cut_checks, playoff_checks, Check, is_at}
+use Rattle.er_pair.specs.Met.{have_met}
+use Rattle.er_pair.specs.Order.{seed_words, IsOrder}
+use Rattle.er_pair.specs.Pairing.{IsLegal, IsEarliest, round_of}
+use Rattle.er_pair.specs.Pairing as pairing
+use Rattle.er_pair.specs.Steps.{NeedsMore}
+use Rattle.er_pair.specs.declared.pairings.TheConstants.{MAX_STEPS}
+use Rattle.er_rules.specs.Commands.{first_refusal, enrol_checks, start_checks, pair_checks, result_checks, correct_checks, drop_checks, cut_checks, playoff_checks, Check}
 
 -- ---- the events after
-
-abbrev pub scored : Games → Match → Match
-scored score m = record m { score = Some score }
-
-abbrev pub score_table : ℕ → Games → ℕ × Match → Match
-score_table table score numbered = if is_at table numbered then scored score numbered.1 else numbered.1
-
-abbrev pub with_score : EventValue → ℕ → ℕ → Games → EventValue
-with_score event round table score =
-    let r = slice_index_or event.stored (round - 1) (record { matches = [] }) in
-    record event { stored = slice_set event.stored (round - 1) (record { matches = map (score_table table score) (numbered_from 1 r.matches) }) }
 
 -- a stage that is complete is followed by the next, or was the final
 abbrev pub after_stage : EventValue → List (List Match) → List Match → EventValue
@@ -44,10 +36,6 @@ with_stage_score event stage slot score =
     after_stage event (slice_set event.bracket.stages (stage - 1) after) after
 
 -- ---- the step
-
--- the words of the key that a seed gives: word i of ChaCha20 under it (RFC 8439), stream 0, from place 0
-abbrev pub seed_words : List ℕ → ℕ → ℕ
-seed_words seed place = word_at 10 (key_of seed) 0 place
 
 -- the earliest legal pairing is stored, or there is none
 abbrev pub Pairs : EventValue → List ℕ → Result EventValue Refusal → Type 0
@@ -83,9 +71,21 @@ Refuses result why = result ≡ Err why
 abbrev pub Steps : EventValue → Command → Result EventValue Refusal → Type 0
 Steps event command result = MatchOption (first_refusal (checks event command)) (Makes event command result) (Refuses result)
 
+-- no check fails, and the search for the round's pairing needs more steps than it may make
+abbrev pub NeedsMoreSteps : EventValue → Command → Type 0
+NeedsMoreSteps event (Pair round seed) = (first_refusal (pair_checks event round) ≡ None) × (order : List ℕ) × IsOrder event (seed_words seed) order × NeedsMore (have_met event) order MAX_STEPS
+NeedsMoreSteps event command = ⊥
+
+-- what a command is answered, where memory lasts: the step, unless the search that it asks for has too few steps
+abbrev pub Answers : EventValue → Command → Result EventValue Refusal → Type 0
+Answers event command result = (Steps event command result × (NeedsMoreSteps event command → ⊥)) ⊎ ((result ≡ Err (Budget MAX_STEPS)) × NeedsMoreSteps event command)
+
 -- the commands that are decided so far
 abbrev pub IsWritten : Command → Type 0
 IsWritten (Enrol name) = Unit {0}
 IsWritten Start = Unit {0}
+IsWritten (Pair round seed) = Unit {0}
+IsWritten (Report round table score) = Unit {0}
+IsWritten (Correct round table score) = Unit {0}
 IsWritten (Drop player) = Unit {0}
 IsWritten _ = ⊥

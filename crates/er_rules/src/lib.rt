@@ -5,9 +5,14 @@ ghost use Rattle.std.specs.Prelude.{◌≡◌, ◌⊎◌, Ok, Err, IfOk, IfErr, 
 ghost use Rattle.er_event.specs.Name.{is_lawful_name};
 ghost use Rattle.er_event.specs.Change.{after, Fits};
 ghost use Rattle.er_rules.specs.Commands.{first_refusal, enrol_checks, start_checks, drop_checks};
-ghost use Rattle.er_rules.specs.Step.{Steps, IsWritten};
+ghost use Rattle.er_rules.specs.Step.{Answers, IsWritten};
+
+mod pairing;
+mod results;
 
 use er_event::{Change, Command, Event, MAX_PLAYERS, Name, NameFault, Phase, Refusal};
+use pairing::decide_pair;
+use results::{decide_correct, decide_result};
 use std::alloc::Global;
 
 fn read_name(alloc: Global, name: &[u8]) -> Result<Name, Refusal>
@@ -76,19 +81,28 @@ fn decide_drop(event: &Event, number: u16) -> Result<Change, Refusal>
 }
 
 /// What a command makes of an event: a change that fits it, or the refusal of the first check that fails. Want of memory may
-/// come in place of either. So far a command is `Enrol`, `Start` or `Drop`.
+/// come in place of either, and `Budget` where the search for a pairing would take more than a million steps. So far a command is
+/// `Enrol`, `Start`, `Pair`, `Result`, `Correct` or `Drop`.
 pub fn decide(alloc: Global, event: &Event, command: &Command) -> Result<Change, Refusal>
     requires { IsWritten command.now }
-    ensures taken { IfOk result (λ change. Fits event.now change × Steps event.now command.now (Ok (after event.now change))) }
-    ensures refused { IfErr result (λ why. (why ≡ Refusal.Memory) ⊎ Steps event.now command.now (Err why)) }
+    ensures taken { IfOk result (λ change. Fits event.now change × Answers event.now command.now (Ok (after event.now change))) }
+    ensures refused { IfErr result (λ why. (why ≡ Refusal.Memory) ⊎ Answers event.now command.now (Err why)) }
 {
     match command {
         Command::Enrol { name } => decide_enrol(alloc, event, name.as_slice()),
         Command::Start => decide_start(event),
+        Command::Pair { round, seed } => decide_pair(alloc, event, *round, seed),
+        Command::Result {
+            round,
+            table,
+            score,
+        } => decide_result(event, *round, *table, *score),
+        Command::Correct {
+            round,
+            table,
+            score,
+        } => decide_correct(event, *round, *table, *score),
         Command::Drop { player } => decide_drop(event, *player),
         _ => unreachable!(),
     }
 }
-
-#[cfg(test)]
-mod tests;

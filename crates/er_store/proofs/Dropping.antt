@@ -1,13 +1,11 @@
 -- What the UPDATE of one player does, which a WHERE picks.
-use Rattle.std.proofs.Common.{◌≡◌, ℕ, pos, List, [], ◌∷◌, ◌++◌, map, length, Contains, filter, flat_map, drop, slice_get, Bool, true, false, if◌then◌else◌, Some, Ok, IsTrue, refl, sym, ap, subst, ◌∙◌}
+use Rattle.std.proofs.Common.{◌≡◌, ℕ, pos, List, [], ◌∷◌, ◌++◌, map, length, Contains, filter, drop, slice_get, true, false, Some, Ok, IsTrue, refl, sym, ap, subst, ◌∙◌}
 use Rattle.std.specs.List.Sorted.{IsPermutation}
 use Rattle.std.specs.List.{range_with_len}
-use Rattle.std.proofs.lemmas.List.Sorted.{IsPermutation-sym, IsPermutation-trans}
+use Rattle.std.proofs.lemmas.List.Sorted.{IsPermutation-trans}
 use Rattle.sqlite.specs.declared.types.Value.TheVariants.{Null, Int, Text}
 use Rattle.sqlite.specs.Order.{Row, column}
 use Rattle.sqlite.specs.Term.{eval_all}
-use Rattle.sqlite.specs.Query.{IsAnswer, output, page, Output}
-use Rattle.sqlite.specs.Program.{overlay}
 use Rattle.sqlite.specs.Command.TheVariants.{Update}
 use Rattle.sqlite.specs.Cast.{cast_row}
 use Rattle.sqlite.specs.Rowids.TheVariants.{Given}
@@ -16,7 +14,7 @@ use Rattle.sqlite.specs.Tree.{Trees, put_row, without_rowid}
 use Rattle.sqlite.specs.Rows.{Task}
 use Rattle.sqlite.specs.Listing.{understood}
 use Rattle.sqlite.specs.State.{State, mode_of, ExecutesInside}
-use Rattle.sqlite.proofs.Callers.{IsPlain, command_of, runs_as, one_step, one_permutation}
+use Rattle.sqlite.proofs.Callers.{IsPlain, command_of, runs_as, one_step}
 use Rattle.sqlite_schema.specs.declared.program.Program.{Program}
 use Rattle.sqlite_rules.specs.Action.{Writes}
 use Rattle.sqlite_rules.specs.Calls.{ids_of}
@@ -34,34 +32,10 @@ use Rattle.er_store.proofs.Picking.{picks, is_another, row_of, rows_of, dropped,
 use Rattle.er_store.proofs.Values.{cast_int, cast_null}
 use Rattle.er_store.proofs.Inserts.{first_fresh}
 use Rattle.er_store.proofs.Updates.{update_goes, sets_off_nothing}
-use Rattle.er_store.proofs.Effects.{at_ours, one_of}
+use Rattle.er_store.proofs.Effects.{at_ours}
+use Rattle.er_store.proofs.Where.{picked_rows, one_picked}
 use Rattle.er_store.proofs.Together.{shows_more, players_set}
-use Rattle.er_store.proofs.Meaning.{dropped_query, dropped_terms, dropped_is, dropped_plain}
-
-picked : (n : ℕ) (rows : List Row) → flat_map (λ r. if picks n r then ((number n ∷ []) ∷ r ∷ []) ∷ [] else []) rows ≡ map (λ r. (number n ∷ []) ∷ r ∷ []) (filter (picks n) rows)
-picked n [] = refl
-picked n (r ∷ rows) = go (picks n r) (picked n rows)
-  where
-    go : (b : Bool) → flat_map (λ r. if picks n r then ((number n ∷ []) ∷ r ∷ []) ∷ [] else []) rows ≡ map (λ r. (number n ∷ []) ∷ r ∷ []) (filter (picks n) rows)
-        → (if b then ((number n ∷ []) ∷ r ∷ []) ∷ [] else []) ++ flat_map (λ r. if picks n r then ((number n ∷ []) ∷ r ∷ []) ∷ [] else []) rows
-        ≡ map (λ r. (number n ∷ []) ∷ r ∷ []) (if b then r ∷ filter (picks n) rows else filter (picks n) rows)
-    go true more = ap (λ l. ((number n ∷ []) ∷ r ∷ []) ∷ l) more
-    go false more = more
-
--- one stored row shows the one player that is picked
-one_picked : (n : ℕ) (rows : List Row) (all : List Row) (row : Row) → IsPermutation (shown player_places rows) all → filter (picks n) all ≡ row ∷ [] → (r : Row) × (filter (picks n) rows ≡ r ∷ []) × (map (column r) player_places ≡ row)
-one_picked n rows all row same one =
-    let both = IsPermutation-filter (picks n) (shown player_places rows) all same in
-    let single = one_permutation row (filter (picks n) (shown player_places rows)) (IsPermutation-sym _ _ (subst (IsPermutation (filter (picks n) (shown player_places rows))) one both)) in
-    one_of player_places (filter (picks n) rows) row (sym (filter-map (picks n) (λ r. map (column r) player_places) rows) ∙ single)
-
-dropped_rows : (db : Trees) (n : ℕ) (r : Row) (rows : List Row) → filter (picks n) (db 1) ≡ r ∷ [] → IsAnswer dropped_query (overlay db []) (number n ∷ []) rows → rows ≡ eval_all dropped_terms ((number n ∷ []) ∷ r ∷ []) ∷ []
-dropped_rows db n r rows one a =
-    let staged : a.staged ≡ ((number n ∷ []) ∷ r ∷ []) ∷ [] = a.grouped ∙ picked n (db 1) ∙ ap (map (λ r. (number n ∷ []) ∷ r ∷ [])) one in
-    let o : Output = ([], eval_all dropped_terms ((number n ∷ []) ∷ r ∷ [])) in
-    let kept : a.kept ≡ o ∷ [] = a.distinct ∙ ap (map (output dropped_query)) staged in
-    let ordered = one_permutation o a.ordered (subst (λ k. IsPermutation k a.ordered) kept a.same) in
-    a.shown ∙ ap (λ xs. page dropped_query (number n ∷ []) (map (λ (p : Output). p.1) xs)) ordered
+use Rattle.er_store.proofs.Meaning.{dropped_query, dropped_tests, dropped_terms, dropped_is, dropped_plain}
 
 dropped_shows : (r : Row) (n : ℕ) (q : Player) → q.no ≡ n → map (column r) player_places ≡ row_of q → eval_all dropped_terms ((number n ∷ []) ∷ r ∷ []) ≡ number n ∷ stored_player n q.name true
 dropped_shows r n q is h =
@@ -97,12 +71,12 @@ sets_dropped old new n ps q count has same one is inside h =
     let trees = old.now.trees in
     let p : Program = record { lets = []; body = dropped_query } in
     let params : Row = number n ∷ [] in
-    let it = one_picked n (trees 1) (rows_of ps) (row_of q) same one in
+    let it = one_picked player_places (picks n) (trees 1) (rows_of ps) (row_of q) same one in
     let w = runs_as set_dropped params old new schema refl (Update 1 p) (at_ours schema has (λ s. command_of (understood s set_dropped) ≡ Update 1 p) (dropped_is _ _ _)) (at_ours schema has (λ s. IsPlain (understood s set_dropped)) (dropped_plain _ _ _)) count h.0 in
     let task : Task = record { limit = old.step_limit; keys = (mode_of old).keys; schema = schema; table = player 1; params = params } in
     let found : slice_get schema.tables 1 ≡ Some (player 1) = ap (λ ts. slice_get ts 1) has.are in
     let u = update_goes task (mode_of old) trees 1 p w.tally new.now (rw found at w.changed) in
-    let rows : u.0 ≡ (number n ∷ stored_player n q.name true) ∷ [] = dropped_rows trees n it.0 u.0 it.1 (u.1.answer Null) ∙ ap (λ x. x ∷ []) (dropped_shows it.0 n q is it.2) in
+    let rows : u.0 ≡ (number n ∷ stored_player n q.name true) ∷ [] = picked_rows 1 dropped_tests dropped_terms trees params it.0 u.0 it.1 (u.1.answer Null) ∙ ap (λ x. x ∷ []) (dropped_shows it.0 n q is it.2) in
     let edit : Edit = record { table = player 1; gone = pos n ∷ []; news = stored_player n q.name true ∷ [] } in
     let wrote = subst (λ (e : Edit). Writes schema (mode_of old).keys trees e (Ok new.now.trees)) (dropped_edit trees n q.name u.0 rows) u.3 in
     let applied = one_step schema (mode_of old).keys trees new.now.trees edit (sets_off_nothing schema (mode_of old).keys 1 (taken_by trees edit) edit.news has (λ x other. other.1)) wrote in

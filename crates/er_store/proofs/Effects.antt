@@ -12,7 +12,7 @@ use Rattle.sqlite.specs.Command.TheVariants.{Insert, Update}
 use Rattle.sqlite.specs.Source.TheVariants.{Values}
 use Rattle.sqlite.specs.Cast.{cast_row}
 use Rattle.sqlite.specs.Rowids.TheVariants.{Chosen, Given}
-use Rattle.sqlite.specs.Edit.{edit_of, edited, numbered, taken_by}
+use Rattle.sqlite.specs.Edit.{edit_of, edited, numbered, next_rowid, taken_by}
 use Rattle.sqlite.specs.Tree.{Trees, rowid, without_rowid, has_rowid}
 use Rattle.sqlite.specs.Rows.{Task}
 use Rattle.sqlite.specs.Listing.{understood}
@@ -24,17 +24,18 @@ use Rattle.sqlite.specs.declared.types.Value.{Value}
 use Rattle.sqlite_schema.specs.declared.schema.Index.{Index}
 use Rattle.sqlite_schema.specs.declared.schema.View.{View}
 use Rattle.er_event.specs.declared.events.Phase.{Phase}
+use Rattle.er_event.specs.declared.rows.PairingRow.{PairingRow}
 use Rattle.er_event.specs.Event.{EventValue}
 use Rattle.er_event.specs.Change.{with_phase}
 use Rattle.er_event.specs.Rows.{flag, phase_code, event_row}
-use Rattle.er_store.specs.Tables.{event, player, insert_event, insert_player, set_serial, set_phase}
-use Rattle.er_store.specs.Rows.{number, event_columns, event_places, stored_event, stored_player, shown}
+use Rattle.er_store.specs.Tables.{event, player, pairing, insert_event, insert_player, insert_pairing, set_serial, set_phase}
+use Rattle.er_store.specs.Rows.{number, event_columns, pairing_columns, event_places, stored_event, stored_player, stored_pairing, shown}
 use Rattle.er_store.specs.Standing.{HasTables, StandsFor, CanRead}
 use Rattle.er_store.specs.Steps.{Goes, Puts}
 use Rattle.er_store.proofs.Values.{cast_int, cast_null}
 use Rattle.er_store.proofs.Inserts.{puts_one}
 use Rattle.er_store.proofs.Updates.{update_goes, sets_off_nothing, event_rows}
-use Rattle.er_store.proofs.Meaning.{full, event_terms, event_is, event_plain, player_terms, player_is, player_plain, event_query, serial_terms, serial_is, serial_plain, phase_terms, phase_is, phase_plain, readable}
+use Rattle.er_store.proofs.Meaning.{full, event_terms, event_is, event_plain, player_terms, player_is, player_plain, pairing_terms, pairing_is, pairing_plain, event_query, serial_terms, serial_is, serial_plain, phase_terms, phase_is, phase_plain, readable}
 
 -- what holds of each schema with the four tables in front holds of this one
 pub at_ours : (schema : Schema) (has : HasTables schema) (P : Schema → Type 0) → P (full has.others schema.indexes schema.views) → P schema
@@ -78,6 +79,19 @@ puts_event old new e serial count has inside h =
     (at_ours old.now.schema has (λ s. command_of (understood s insert_event) ≡ Insert 0 (Values event_terms 8)) (event_is _ _ _))
     (at_ours old.now.schema has (λ s. IsPlain (understood s insert_event)) (event_plain _ _ _))
     (ap (λ ts. slice_get ts 0) has.are) refl (event_news e serial (old.now.trees 0)) inside h
+
+-- ---- a pairing's row, which takes the next rowid
+
+pairing_news : (r : PairingRow) (rows : List Row) → numbered Chosen rows (cast_row (pairing 3) (Null ∷ pairing_columns r) ∷ []) ≡ stored_pairing (next_rowid rows) r ∷ []
+pairing_news r rows = rw (cast_null, cast_int r.round, cast_int r.tab, cast_int r.lo, cast_int r.hi, cast_int r.swapped, cast_int r.done, cast_int r.x, cast_int r.y, cast_int r.d)
+
+pub puts_pairing : (old new : State) (r : PairingRow) (count : ℕ) → HasTables old.now.schema → IsTrue old.in_transaction
+    → ExecutesInside 0 insert_pairing (pairing_columns r) old new (Ok count) → Puts 3 (stored_pairing (next_rowid (old.now.trees 3)) r) old new
+puts_pairing old new r count has inside h =
+    puts_one insert_pairing (pairing_columns r) old new 2 10 (pairing 3) pairing_terms (stored_pairing (next_rowid (old.now.trees 3)) r) count
+    (at_ours old.now.schema has (λ s. command_of (understood s insert_pairing) ≡ Insert 2 (Values pairing_terms 10)) (pairing_is _ _ _))
+    (at_ours old.now.schema has (λ s. IsPlain (understood s insert_pairing)) (pairing_plain _ _ _))
+    (ap (λ ts. slice_get ts 2) has.are) refl (pairing_news r (old.now.trees 3)) inside h
 
 -- ---- the row of the event
 

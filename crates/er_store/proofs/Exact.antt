@@ -5,7 +5,7 @@ use Rattle.std.specs.Ordering.{ordering_then}
 use Rattle.std.specs.List.{AllByRecursion, range_with_len}
 use Rattle.std.proofs.lemmas.Cmp.{on_total, then_total}
 use Rattle.std.proofs.lemmas.List.{map-append}
-use Rattle.std.proofs.lemmas.List.Sorted.{IsPermutation-sym, IsPermutation-trans, All-permutation}
+use Rattle.std.proofs.lemmas.List.Sorted.{IsPermutation-sym, IsPermutation-trans}
 use Rattle.std.proofs.lemmas.List.Elements.{All-from_recursion, recursion_from_All}
 use Rattle.std.proofs.lemmas.Bool.Decides.{nat_tests}
 use Rattle.sqlite.specs.declared.error.Error.{Error}
@@ -31,8 +31,8 @@ use Rattle.er_event.specs.Name.{is_lawful_name}
 use Rattle.er_event.specs.Sound.{numbers, names, IsSoundButForSeeds}
 use Rattle.std.proofs.lemmas.Str.{IsUtf8-from_is_utf8}
 use Rattle.er_event.specs.Round.{numbered_from}
-use Rattle.er_event.specs.Rows.{event_row, player_row, player_rows, pairing_rows, bracket_row, bracket_rows, bracket_rows_from}
-use Rattle.er_store.specs.Rows.{event_columns, player_columns, pairing_columns, bracket_columns, shown, event_places, player_places, pairing_places, bracket_places}
+use Rattle.er_event.specs.Rows.{event_row, player_row, player_rows, bracket_row, bracket_rows, bracket_rows_from}
+use Rattle.er_store.specs.Rows.{event_columns, player_columns, pairing_columns, bracket_columns, shown, event_places, player_places, bracket_places}
 use Rattle.er_store.specs.Standing.{StandsFor}
 use Rattle.er_store.specs.Reading.{by_first, by_first_two, Lists, out_of_memory}
 
@@ -57,7 +57,7 @@ player_columns-same r s h =
     let of_columns : Row → PlayerRow = λ row. record { no = int_of (column row 0); name = text_of (column row 1); dropped = int_of (column row 2) } in
     ap of_columns h
 
-pairing_columns-same : (r s : PairingRow) → pairing_columns r ≡ pairing_columns s → r ≡ s
+pub pairing_columns-same : (r s : PairingRow) → pairing_columns r ≡ pairing_columns s → r ≡ s
 pairing_columns-same r s h =
     let of_columns : Row → PairingRow = λ row. record { round = int_of (column row 0); tab = int_of (column row 1); lo = int_of (column row 2); hi = int_of (column row 3); swapped = int_of (column row 4); done = int_of (column row 5); x = int_of (column row 6); y = int_of (column row 7); d = int_of (column row 8) } in
     ap of_columns h
@@ -73,7 +73,7 @@ first_same x y xs ys h = cc
 rest_same : (x y : Row) (xs ys : List Row) → x ∷ xs ≡ y ∷ ys → xs ≡ ys
 rest_same x y xs ys h = cc
 
-map-same : {T : Type 0} (columns : T → Row) → ((r s : T) → columns r ≡ columns s → r ≡ s) → (xs ys : List T) → map columns xs ≡ map columns ys → xs ≡ ys
+pub map-same : {T : Type 0} (columns : T → Row) → ((r s : T) → columns r ≡ columns s → r ≡ s) → (xs ys : List T) → map columns xs ≡ map columns ys → xs ≡ ys
 map-same columns inj [] [] h = refl
 map-same columns inj [] (y ∷ ys) h = absurd (cc)
 map-same columns inj (x ∷ xs) [] h = absurd (cc)
@@ -82,10 +82,13 @@ map-same columns inj (x ∷ xs) (y ∷ ys) h =
 
 -- ---- the order of rows
 
-lower : (a b : ℕ) → a < b → int_cmp (pos a) (pos b) ≡ Less
+abbrev pub IsBelow : Row → Row → Type 0
+IsBelow a b = by_first_two a b ≡ Less
+
+pub lower : (a b : ℕ) → a < b → int_cmp (pos a) (pos b) ≡ Less
 lower a b h = grind (arith, nat_tests)
 
-level : (a : ℕ) → int_cmp (pos a) (pos a) ≡ Equal
+pub level : (a : ℕ) → int_cmp (pos a) (pos a) ≡ Equal
 level a = grind (arith, nat_tests)
 
 -- ---- the event's row
@@ -131,9 +134,6 @@ players_typed typed e = map-same player_columns player_columns-same typed (playe
 abbrev slots_from : ℕ → ℕ → List Match → List BracketRow
 slots_from stage slot matches = map (bracket_row stage) (numbered_from slot matches)
 
-abbrev IsBelow : Row → Row → Type 0
-IsBelow a b = by_first_two a b ≡ Less
-
 earlier_stage : (a b : BracketRow) (m n : ℕ) → a.stage ≡ pos m → b.stage ≡ pos n → m < n → IsBelow (bracket_columns a) (bracket_columns b)
 earlier_stage a b m n at bt less =
     ap (λ o. ordering_then o (value_cmp (Int a.slot) (Int b.slot))) (value_cmp-Int a.stage b.stage ∙ (ap₂ int_cmp at bt ∙ lower m n less))
@@ -178,30 +178,6 @@ bracket_exact db e s listed stands h =
 
 pub bracket_typed : (typed : List BracketRow) (e : EventValue) → map bracket_columns typed ≡ map bracket_columns (bracket_rows e) → typed ≡ bracket_rows e
 bracket_typed typed e = map-same bracket_columns bracket_columns-same typed (bracket_rows e)
-
--- ---- the pairings, where a bye's table 0 comes first
-
-pub pairings_exact : (db : Database) (e : EventValue) (s : ℕ) (listed : List Row) → StandsFor db e s → Lists by_first_two (shown pairing_places (db.trees 3)) listed → Lists by_first_two (map pairing_columns (pairing_rows e)) listed
-pairings_exact db e s listed stands h = record { same = IsPermutation-trans _ _ _ (IsPermutation-sym _ _ stands.pairings) h.same; sorted = h.sorted }
-
-abbrev IsPairing : Row → Type 0
-IsPairing row = (r : PairingRow) × (row ≡ pairing_columns r)
-
-are_pairings : (rows : List PairingRow) → AllByRecursion IsPairing (map pairing_columns rows)
-are_pairings [] = tt
-are_pairings (r ∷ rows) = ((r, refl), are_pairings rows)
-
-as_pairings : (rows : List Row) → AllByRecursion IsPairing rows → (typed : List PairingRow) × (rows ≡ map pairing_columns typed)
-as_pairings [] all = ([], refl)
-as_pairings (row ∷ rows) all =
-    let more = as_pairings rows all.1 in
-    (all.0.0 ∷ more.0, ap₂ ◌∷◌ all.0.1 more.1)
-
--- they are some typed rows
-pub pairings_typed : (db : Database) (e : EventValue) (s : ℕ) (listed : List Row) → StandsFor db e s → Lists by_first_two (shown pairing_places (db.trees 3)) listed → (typed : List PairingRow) × (listed ≡ map pairing_columns typed)
-pairings_typed db e s listed stands h =
-    as_pairings listed (recursion_from_All IsPairing listed (All-permutation IsPairing (map pairing_columns (pairing_rows e)) listed (pairings_exact db e s listed stands h).same
-    (All-from_recursion IsPairing (map pairing_columns (pairing_rows e)) (are_pairings (pairing_rows e)))))
 
 -- ---- why a row is refused
 

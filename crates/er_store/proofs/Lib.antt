@@ -4,8 +4,13 @@ pub mod Inserts
 pub mod Updates
 pub mod Effects
 pub mod Together
+pub mod Pairing
+pub mod Rounds
+pub mod Where
 pub mod Picking
 pub mod Dropping
+pub mod PickingTable
+pub mod Scoring
 pub mod Crash
 pub mod Creates
 pub mod Finding
@@ -13,5 +18,6 @@ pub mod TypedLemmas
 pub mod ReadLemmas
 pub mod Refusals
 pub mod Exact
+pub mod Keyed
 pub mod LoadLemmas
 pub mod Loaded

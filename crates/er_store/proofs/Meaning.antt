@@ -3,7 +3,7 @@ use Rattle.std.proofs.Common.{map, length, ◌≤◌, lit≤, ◌≡◌, Ok, Err
 use Rattle.sqlite.specs.Compile.{table_defined_by}
 use Rattle.sqlite.specs.Table.{Table}
 use Rattle.sqlite.specs.Schema.{Schema}
-use Rattle.sqlite.specs.Term.{Term, lit, col, op2}
+use Rattle.sqlite.specs.Term.{Term, lit, col, op1, op2}
 use Rattle.sqlite.specs.Query.{Query, Join, inner, end}
 use Rattle.sqlite.specs.Command.TheVariants.{Insert, Select, Update}
 use Rattle.sqlite.specs.Source.TheVariants.{Values}
@@ -13,6 +13,7 @@ use Rattle.sqlite_schema.specs.declared.schema.Index.{Index}
 use Rattle.sqlite_schema.specs.declared.schema.View.{View}
 use Rattle.sqlite_sql.specs.declared.ops.BinaryOp.TheVariants.{Compare}
 use Rattle.sqlite_sql.specs.declared.ops.CompareOp.TheVariants.{Eq}
+use Rattle.sqlite_sql.specs.declared.ops.UnaryOp.TheVariants.{ToNumeric}
 use Rattle.sqlite_typing.specs.Types.{accepts_program}
 use Rattle.sqlite_resolve.specs.declared.compiled.Compiled.{Compiled}
 use Rattle.sqlite_resolve.specs.declared.error.CompileError.{CompileError}
@@ -21,7 +22,7 @@ use Rattle.sqlite.specs.Listing.{understood, listing_schema, reads_listing}
 use Rattle.sqlite.proofs.Callers.{IsPlain, command_of}
 use Rattle.er_store.specs.Standing.{with_ours, CanRead}
 use Rattle.er_store.specs.Rows.{event_places, player_places, pairing_places, bracket_places}
-use Rattle.er_store.specs.Tables.{no_schema, event_text, player_text, pairing_text, bracket_text, event, player, pairing, bracket, insert_event, insert_player, set_serial, set_phase, set_dropped, find_event, read_event, read_players, read_pairings, read_bracket}
+use Rattle.er_store.specs.Tables.{no_schema, event_text, player_text, pairing_text, bracket_text, event, player, pairing, bracket, insert_event, insert_player, set_serial, set_phase, set_dropped, set_score, insert_pairing, find_event, read_event, read_players, read_pairings, read_bracket}
 
 pub event_defined : table_defined_by event_text ≡ Ok (event 0)
 unfolding understood everything
@@ -45,6 +46,9 @@ player_terms = col 0 0 ∷ lit Null ∷ col 0 1 ∷ col 0 2 ∷ []
 abbrev pub event_terms : List Term
 event_terms = lit (Int (pos 1)) ∷ lit Null ∷ lit (Int (pos 1)) ∷ col 0 0 ∷ col 0 1 ∷ col 0 2 ∷ col 0 3 ∷ col 0 4 ∷ []
 
+abbrev pub pairing_terms : List Term
+pairing_terms = lit Null ∷ col 0 0 ∷ col 0 1 ∷ col 0 2 ∷ col 0 3 ∷ col 0 4 ∷ col 0 5 ∷ col 0 6 ∷ col 0 7 ∷ col 0 8 ∷ []
+
 abbrev plain_query : Join → List Term → List Term → Query
 plain_query from filter project = record { from = from; filter = filter; group = None; project = project; distinct = false; collations = []; order = []; limit = lit (Int (negsuc 0)); offset = lit (Int (pos 0)) }
 
@@ -63,9 +67,27 @@ phase_terms = col 1 0 ∷ col 1 0 ∷ lit Null ∷ col 1 2 ∷ col 1 3 ∷ col 1
 abbrev pub dropped_terms : List Term
 dropped_terms = col 1 0 ∷ col 1 0 ∷ lit Null ∷ col 1 2 ∷ lit (Int (pos 1)) ∷ []
 
--- the row of the player whose number is given
+-- the rows of a table that pass these tests, by these terms
+abbrev pub rows_query : ℕ → List Term → List Term → Query
+rows_query tree tests = plain_query (inner tree end) tests
+
+-- only the player whose number is given passes
+abbrev pub dropped_tests : List Term
+dropped_tests = op2 (Compare Eq Binary) (col 1 0) (col 0 0) ∷ []
+
 abbrev pub dropped_query : Query
-dropped_query = plain_query (inner 1 end) (op2 (Compare Eq Binary) (col 1 0) (col 0 0) ∷ []) dropped_terms
+dropped_query = rows_query 1 dropped_tests dropped_terms
+
+-- the old rowid, and then the row with another score
+abbrev pub score_terms : List Term
+score_terms = col 1 0 ∷ col 1 0 ∷ col 1 1 ∷ col 1 2 ∷ col 1 3 ∷ col 1 4 ∷ col 1 5 ∷ lit (Int (pos 1)) ∷ col 0 2 ∷ col 0 3 ∷ col 0 4 ∷ []
+
+-- only the match of the round and the table that are given passes
+abbrev pub score_tests : List Term
+score_tests = op2 (Compare Eq Binary) (col 1 1) (op1 ToNumeric (col 0 0)) ∷ op2 (Compare Eq Binary) (col 1 2) (op1 ToNumeric (col 0 1)) ∷ []
+
+abbrev pub score_query : Query
+score_query = rows_query 3 score_tests score_terms
 
 -- the columns at these places of each row of a table, by some of them
 abbrev pub table_query : ℕ → List ℕ → List ℕ → Query
@@ -105,6 +127,14 @@ module _ (others : List Table) (indexes : List Index) (views : List View) where
   unfolding understood everything
   event_plain = (refl, refl)
 
+  pub pairing_is : command_of (understood full insert_pairing) ≡ Insert 2 (Values pairing_terms 10)
+  unfolding understood everything
+  pairing_is = refl
+
+  pub pairing_plain : IsPlain (understood full insert_pairing)
+  unfolding understood everything
+  pairing_plain = (refl, refl)
+
   pub serial_is : command_of (understood full set_serial) ≡ Update 0 (record { lets = []; body = event_query serial_terms })
   unfolding understood everything
   serial_is = refl
@@ -128,6 +158,14 @@ module _ (others : List Table) (indexes : List Index) (views : List View) where
   pub dropped_plain : IsPlain (understood full set_dropped)
   unfolding understood everything
   dropped_plain = (refl, refl)
+
+  pub score_is : command_of (understood full set_score) ≡ Update 2 (record { lets = []; body = score_query })
+  unfolding understood everything
+  score_is = refl
+
+  pub score_plain : IsPlain (understood full set_score)
+  unfolding understood everything
+  score_plain = (refl, refl)
 
   pub event_selected : Selects read_event (table_query 0 event_places (0 ∷ [])) full
   unfolding understood everything

@@ -43,17 +43,17 @@ said : (b : Bool) → (is_true (from_truth (Some b)) && true) ≡ b
 said true = refl
 said false = refl
 
-is_number-same : (n k : ℕ) → n ≡ k → is_eq (value_cmp (number n) (number k)) ≡ true
+pub is_number-same : (n k : ℕ) → n ≡ k → is_eq (value_cmp (number n) (number k)) ≡ true
 is_number-same n k same = ap is_eq (value_cmp-Int (pos n) (pos k)) ∙ grind (arith, nat_tests)
 
-is_number-other : (n k : ℕ) → n ≢ k → is_eq (value_cmp (number n) (number k)) ≡ false
+pub is_number-other : (n k : ℕ) → n ≢ k → is_eq (value_cmp (number n) (number k)) ≡ false
 is_number-other n k apart = ap is_eq (value_cmp-Int (pos n) (pos k)) ∙ grind (arith, nat_tests)
 
 picks-is : (k : ℕ) (p : Player) → picks k (row_of p) ≡ is_number k (row_of p)
 unfolding binary
 picks-is k p = said (is_eq (value_cmp (number p.no) (number k)))
 
-same_number : (n k : ℕ) → n ≡ k → (n == k) ≡ true
+pub same_number : (n k : ℕ) → n ≡ k → (n == k) ≡ true
 same_number n k e = grind (arith, nat_tests)
 
 other_number : (n k : ℕ) → n ≢ k → (n == k) ≡ false

@@ -17,6 +17,7 @@ use Rattle.er_event.specs.declared.events.Phase.{Phase}
 use Rattle.er_event.specs.Change.{new_player, with_player, with_phase}
 use Rattle.er_event.specs.Rows.{event_row, player_row, player_rows, pairing_rows, pairing_rows_from, bracket_rows, bracket_rows_from}
 use Rattle.er_event.specs.declared.players.Player.{Player}
+use Rattle.er_event.specs.declared.rounds.Round.{Round}
 use Rattle.er_store.specs.Tables.{our_schema}
 use Rattle.er_store.specs.Rows.{event_columns, player_columns, pairing_columns, bracket_columns, stored_event, stored_player, shown, event_places, player_places, pairing_places, bracket_places}
 use Rattle.er_store.specs.Standing.{HasTables, StandsFor, IsKeyed, IsNew, IsOther, KeepsOthers}
@@ -84,7 +85,7 @@ both_kept a b c (t ∷ more) p q = (λ other. q.0 other ∙ p.0 other, both_kept
 pub keeps_then : (a b c : Database) → b.schema ≡ a.schema → KeepsOthers a b → KeepsOthers b c → KeepsOthers a c
 keeps_then a b c same p q = both_kept a.trees b.trees c.trees a.schema.tables p (subst (λ (s : Schema). AllByRecursion (λ (t : Table). IsOther t.tree → c.trees t.tree ≡ b.trees t.tree) s.tables) same q)
 
-goes_moves : (tree : ℕ) (old new : State) → ((t : ℕ) → IsOther t → t ≢ tree) → Goes tree old new → Moves old new
+pub goes_moves : (tree : ℕ) (old new : State) → ((t : ℕ) → IsOther t → t ≢ tree) → Goes tree old new → Moves old new
 goes_moves tree old new apart goes = record { was = goes.was; shows = goes.shows; sound = goes.sound; keeps = goes_keeps tree old new apart goes; schema = goes.schema }
 
 pub moves_then : (a b c : State) → Moves a b → Moves b c → Moves a c
@@ -131,6 +132,26 @@ players_set old new e players s stands goes set =
         bracket = rest.bracket;
         pairings_keyed = rest.pairings_keyed;
         bracket_keyed = rest.bracket_keyed;
+      };
+    }
+
+-- the pairings' rows alone are others
+pub pairings_set : (old new : State) (e : EventValue) (stored : List Round) (s : ℕ) → StandsFor old.now e s → Goes 3 old new
+    → IsPermutation (shown pairing_places (new.now.trees 3)) (map pairing_columns (pairing_rows_from 1 stored)) → IsKeyed (new.now.trees 3) → Makes old new (record e { stored = stored }) s
+pairings_set old new e stored s stands goes set keyed =
+    let has = stands.tables in
+    let others = kept 3 old new has goes in
+    record {
+      moves = goes_moves 3 old new (λ t other. other.2) goes;
+      stands = record {
+        low = stands.low;
+        tables = subst HasTables (sym goes.schema) has;
+        event = subst (λ rows. IsPermutation (shown event_places rows) (event_columns (event_row e s) ∷ [])) (sym (others.event (λ e. cc))) stands.event;
+        players = subst (λ rows. IsPermutation (shown player_places rows) (map player_columns (player_rows e))) (sym (others.player (λ e. cc))) stands.players;
+        pairings = set;
+        bracket = subst (λ rows. IsPermutation (shown bracket_places rows) (map bracket_columns (bracket_rows e))) (sym (others.bracket (λ e. cc))) stands.bracket;
+        pairings_keyed = keyed;
+        bracket_keyed = subst IsKeyed (sym (others.bracket (λ e. cc))) stands.bracket_keyed;
       };
     }
 

@@ -1,5 +1,5 @@
 -- What a refusal of the database means to a caller of the store.
-use Rattle.std.specs.Prelude.{◌≡◌, ◌⊎◌}
+use Rattle.std.specs.Prelude.{◌≡◌, ◌⊎◌, Bool, IsTrue, IsFalse}
 use Rattle.er_event.specs.declared.refusals.Refusal.{Refusal}
 use Rattle.er_event.specs.declared.refusals.Refusal.TheVariants.{Memory, Store, Damaged}
 use Rattle.er_event.specs.declared.refusals.Place.{Place}
@@ -30,3 +30,7 @@ reading_refusal table _ = Store Refused
 -- the refusals of a load
 abbrev pub IsLoadFault : Refusal → Type 0
 IsLoadFault why = IsFault why ⊎ ((table : Place) × (why ≡ Damaged table))
+
+-- a fault stops the store, and a damaged table does not
+abbrev pub FaultOrDamage : (why : Refusal) → (stopped : Bool) → Type 0
+FaultOrDamage why stopped = (IsFault why × IsTrue stopped) ⊎ ((table : Place) × (why ≡ Damaged table) × IsFalse stopped)

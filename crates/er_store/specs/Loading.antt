@@ -1,5 +1,5 @@
 -- What a load finds in the tables.
-use Rattle.std.specs.Prelude.{◌≡◌, ◌≤◌, ℕ, [], ◌∷◌, map, IsPermutation}
+use Rattle.std.specs.Prelude.{◌≤◌, ℕ, [], ◌∷◌, map, IsPermutation}
 use Rattle.sqlite.specs.Effect.{Database}
 use Rattle.er_event.specs.declared.refusals.TheConstants.{MAX_SERIAL}
 use Rattle.er_event.specs.declared.parts.Parts.{Parts}
@@ -15,13 +15,6 @@ pub record ListsParts (db : Database) (parts : Parts) : Type 0 where
   pub players : Lists by_first (shown player_places (db.trees 1)) (map player_columns parts.players)
   pub pairings : Lists by_first_two (shown pairing_places (db.trees 3)) (map pairing_columns parts.pairings)
   pub bracket : Lists by_first_two (shown bracket_places (db.trees 6)) (map bracket_columns parts.bracket)
-
--- the rows of the event. Where a round has a bye, its pairing comes first, by its table 0.
-pub record IsPartsOf (e : EventValue) (serial : ℕ) (parts : Parts) : Type 0 where
-  pub event : parts.event ≡ event_row e serial ∷ []
-  pub players : parts.players ≡ player_rows e
-  pub pairings : Lists by_first_two (map pairing_columns (pairing_rows e)) (map pairing_columns parts.pairings)
-  pub bracket : parts.bracket ≡ bracket_rows e
 
 -- the rows of the four tables are those of a sound event, in any order
 pub record ShowsEvent (db : Database) (e : EventValue) (serial : ℕ) : Type 0 where

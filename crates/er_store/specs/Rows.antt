@@ -1,5 +1,5 @@
 -- The rows of an event, as SQL shows them and as they are stored.
-use Rattle.std.specs.Prelude.{ℕ, pos, Bool, List, [], ◌∷◌, map}
+use Rattle.std.specs.Prelude.{ℕ, ℤ, pos, Bool, List, [], ◌∷◌, map}
 use Rattle.sqlite.specs.declared.types.Value.{Value}
 use Rattle.sqlite.specs.declared.types.Value.TheVariants.{Null, Int, Text}
 use Rattle.sqlite.specs.Order.{Row, column}
@@ -51,3 +51,7 @@ stored_event e serial = number 1 ∷ Null ∷ number 1 ∷ number serial ∷ Tex
 
 abbrev pub stored_player : ℕ → List ℕ → Bool → Row
 stored_player number name dropped = Int (pos number) ∷ Null ∷ Text name ∷ Int (flag dropped) ∷ []
+
+-- a pairing has a rowid that no column shows
+abbrev pub stored_pairing : ℤ → PairingRow → Row
+stored_pairing id r = Int id ∷ pairing_columns r

@@ -35,13 +35,13 @@ impl<S: Alter> Store<S> {
     ghost use Rattle.sqlite.specs.Tree.{Trees};
     ghost use Rattle.er_event.specs.declared.refusals.TheConstants.{MAX_SERIAL};
     ghost use Rattle.er_event.specs.Event.{EventValue};
-    ghost use Rattle.er_event.specs.Sound.{IsSoundButForSeeds};
+    ghost use Rattle.er_event.specs.Sound.{IsInPlayoff, IsSoundButForSeeds};
     ghost use Rattle.er_event.specs.Change.{after, Fits};
     ghost use Rattle.er_store.specs.Tables.{no_schema};
     ghost use Rattle.er_store.specs.Standing.{HasTables, StandsFor, IsNew, IsStored, Shows, Leaves, Either, KeepsOthers, CanRead};
     ghost use Rattle.er_store.specs.Store as store;
     ghost use Rattle.er_store.specs.Store.{connection, is_stopped};
-    ghost use Rattle.er_store.specs.Fault.{IsFault, IsLoadFault};
+    ghost use Rattle.er_store.specs.Fault.{IsFault, FaultOrDamage};
     ghost use Rattle.er_store.specs.Loading.{ShowsEvent};
     ghost use Rattle.er_store.specs.Reading.{KeepsTables};
 
@@ -105,13 +105,13 @@ impl<S: Alter> Store<S> {
         }
     }
 
-    /// Reads the event and its serial. It changes no table.
+    /// Reads the event and its serial. It changes no table. Want of memory and a failing store end it as any fault does; a damaged table does not.
     pub fn load(&mut self, alloc: Global) -> Result<(Event, u32), Refusal>
         ensures stopped { IsTrue (is_stopped self.old) → (result ≡ Err Refusal.NeedsReopen) × (self.new ≡ self.old) }
-        ensures stops { IsFalse (is_stopped self.old) → MatchResult result (λ _. IsFalse (is_stopped self.new)) (λ why. IsLoadFault why × IsTrue (is_stopped self.new)) }
+        ensures stops { IsFalse (is_stopped self.old) → MatchResult result (λ _. IsFalse (is_stopped self.new)) (λ why. FaultOrDamage why (is_stopped self.new)) }
 
-        // Where the tables stand for a sound event with no round, it is found, or memory or the store fails.
-        ensures found { IsFalse (is_stopped self.old) → HasCleanDisk (store.state S.Store self.new) → (e : EventValue) (s : ℕ) → StandsFor (store.state S.Store self.old).now e s → IsSoundButForSeeds e → e.stored ≡ []
+        // Where the tables stand for a sound event that is in no playoff, it is found, or memory or the store fails.
+        ensures found { IsFalse (is_stopped self.old) → HasCleanDisk (store.state S.Store self.new) → (e : EventValue) (s : ℕ) → StandsFor (store.state S.Store self.old).now e s → IsSoundButForSeeds e → (IsInPlayoff e → ⊥)
             → MatchResult result (λ it. (it.0 ≡ e) × (it.1 ≡ s)) IsFault }
 
         // Whatever the tables hold, what is found is what they show.
@@ -124,7 +124,7 @@ impl<S: Alter> Store<S> {
             return Err(Refusal::NeedsReopen);
         }
         let read = load_tables(alloc, &mut self.conn);
-        self.needs_reopen = read.is_err();
+        self.needs_reopen = matches!(read, Err(Refusal::Memory | Refusal::Store { .. }));
         read
     }
 

@@ -4,11 +4,11 @@ ghost use Rattle.sqlite.specs.Held.{state};
 ghost use Rattle.er_event.specs.declared.refusals.TheConstants.{MAX_SERIAL};
 ghost use Rattle.er_event.specs.declared.refusals.Place.{Place};
 ghost use Rattle.er_event.specs.Event.{EventValue};
-ghost use Rattle.er_event.specs.Sound.{IsSoundButForSeeds};
+ghost use Rattle.er_event.specs.Sound.{IsInPlayoff, IsSoundButForSeeds};
 ghost use Rattle.er_event.specs.Rows.{event_row};
 ghost use Rattle.er_event.specs.Parts.{IsFirstFault, parts_of};
 ghost use Rattle.er_store.specs.Standing.{HasTables, StandsFor, Leaves};
-ghost use Rattle.er_store.specs.Loading.{ListsParts, IsPartsOf, ShowsEvent};
+ghost use Rattle.er_store.specs.Loading.{ListsParts, ShowsEvent};
 ghost use Rattle.er_store.specs.Fault.{IsFault, IsLoadFault, reading_refusal};
 ghost use Rattle.er_store.specs.Reading.{KeepsTables};
 
@@ -36,7 +36,7 @@ fn read_parts<S: Alter>(alloc: Global, conn: &mut Connection<S>) -> Result<Parts
     ensures lists { HasCleanDisk (state S.Store conn.new) → HasTables (state S.Store conn.old).now.schema
         → IfOk result (λ parts. ListsParts (state S.Store conn.old).now parts × IsUnchanged (state S.Store conn.old) (state S.Store conn.new)) }
     ensures exact { HasCleanDisk (state S.Store conn.new) → (e : EventValue) (s : ℕ) → StandsFor (state S.Store conn.old).now e s → IsSoundButForSeeds e
-        → IfOk result (IsPartsOf e s) }
+        → IfOk result (λ parts. parts ≡ parts_of e s) }
     ensures refused { HasCleanDisk (state S.Store conn.new) → (e : EventValue) (s : ℕ) → StandsFor (state S.Store conn.old).now e s → IsSoundButForSeeds e → IfErr result IsFault }
     ensures fault { IfErr result IsLoadFault }
     ensures kept { HasCleanDisk (state S.Store conn.new) → HasTables (state S.Store conn.old).now.schema → IfErr result (λ _. KeepsTables (state S.Store conn.old) (state S.Store conn.new)) }
@@ -67,6 +67,7 @@ fn serial_of(rows: &[EventRow]) -> Option<u32>
 /// The event that the rows are of, with its serial.
 fn event_of(alloc: Global, parts: Parts) -> Result<(Event, u32), Refusal>
     ensures value { IfOk result (λ it. (parts ≡ parts_of it.0 it.1) × (it.1 ≤ MAX_SERIAL) × IsSoundButForSeeds it.0) }
+    ensures only { (e : EventValue) (s : ℕ) → s ≤ MAX_SERIAL → parts ≡ parts_of e s → IsSoundButForSeeds e → IfOk result (λ it. (it.0 ≡ e) × (it.1 ≡ s)) }
     ensures refused { IfErr result (λ why. (why ≡ Refusal.Memory) ⊎ ((place : Place) × (why ≡ Refusal.Damaged place) × IsFirstFault parts place)) }
 {
     let serial = serial_of(parts.event.as_slice());
@@ -89,7 +90,7 @@ pub fn load_tables<S: Alter>(
     ensures mode { conn.old.in_transaction ≡ false → conn.new.in_transaction ≡ false }
     ensures shows { HasCleanDisk (state S.Store conn.new) → HasTables (state S.Store conn.old).now.schema
         → IfOk result (λ it. ShowsEvent (state S.Store conn.old).now it.0 it.1 × IsUnchanged (state S.Store conn.old) (state S.Store conn.new)) }
-    ensures found { HasCleanDisk (state S.Store conn.new) → (e : EventValue) (s : ℕ) → StandsFor (state S.Store conn.old).now e s → IsSoundButForSeeds e → e.stored ≡ []
+    ensures found { HasCleanDisk (state S.Store conn.new) → (e : EventValue) (s : ℕ) → StandsFor (state S.Store conn.old).now e s → IsSoundButForSeeds e → (IsInPlayoff e → ⊥)
         → MatchResult result (λ it. (it.0 ≡ e) × (it.1 ≡ s)) IsFault }
     ensures fault { IfErr result IsLoadFault }
     ensures kept { HasCleanDisk (state S.Store conn.new) → HasTables (state S.Store conn.old).now.schema → IfErr result (λ _. KeepsTables (state S.Store conn.old) (state S.Store conn.new)) }

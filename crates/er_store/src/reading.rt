@@ -3,7 +3,7 @@ ghost use Rattle.sqlite.specs.State.{HasCleanDisk, Survives, IsUnchanged};
 ghost use Rattle.sqlite.specs.Held.{state};
 ghost use Rattle.er_event.specs.Event.{EventValue};
 ghost use Rattle.er_event.specs.Sound.{IsSoundButForSeeds};
-ghost use Rattle.er_event.specs.Rows.{event_row, player_rows, pairing_rows, bracket_rows};
+ghost use Rattle.er_event.specs.Rows.{event_row, player_rows, keyed_pairing_rows, bracket_rows};
 ghost use Rattle.er_store.specs.Rows.{event_columns, player_columns, pairing_columns, bracket_columns, shown, event_places, player_places, pairing_places, bracket_places};
 ghost use Rattle.er_store.specs.Standing.{HasTables, StandsFor};
 ghost use Rattle.er_store.specs.Fault.{reading_refusal, IsLoadFault};
@@ -69,7 +69,7 @@ pub fn read_pairings<S: Alter>(
     ensures lists { HasCleanDisk (state S.Store conn.new) → HasTables (state S.Store conn.old).now.schema
         → IfOk result (λ rows. Lists by_first_two (shown pairing_places ((state S.Store conn.old).now.trees 3)) (map pairing_columns rows.items) × IsUnchanged (state S.Store conn.old) (state S.Store conn.new)) }
     ensures exact { HasCleanDisk (state S.Store conn.new) → (e : EventValue) (s : ℕ) → StandsFor (state S.Store conn.old).now e s → IsSoundButForSeeds e
-        → IfOk result (λ rows. Lists by_first_two (map pairing_columns (pairing_rows e)) (map pairing_columns rows.items)) }
+        → IfOk result (λ rows. rows.items ≡ keyed_pairing_rows e) }
     ensures refused { HasCleanDisk (state S.Store conn.new) → (e : EventValue) (s : ℕ) → StandsFor (state S.Store conn.old).now e s → IsSoundButForSeeds e
         → IfErr result (λ why. (why ≡ out_of_memory) ⊎ IsReadRefused (state S.Store conn.old) (state S.Store conn.new) why) }
     ensures kept { HasCleanDisk (state S.Store conn.new) → HasTables (state S.Store conn.old).now.schema → IfErr result (λ _. KeepsTables (state S.Store conn.old) (state S.Store conn.new)) }

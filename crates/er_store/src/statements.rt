@@ -1,17 +1,18 @@
-ghost use Rattle.std.specs.Prelude.{◌≡◌, ◌≤◌, ℕ, List, OnOk, Contains, length};
+ghost use Rattle.std.specs.Prelude.{◌≡◌, ◌≤◌, ◌+◌, ◌++◌, ◌∷◌, [], ℕ, List, Some, OnOk, Contains, IsFalse, length};
 ghost use Rattle.std.specs.List.{range_with_len};
 ghost use Rattle.sqlite.specs.State.{HasCleanDisk, Survives};
 ghost use Rattle.sqlite.specs.Held.{state};
 ghost use Rattle.er_event.specs.declared.refusals.TheConstants.{MAX_SERIAL};
 ghost use Rattle.er_event.specs.Event.{EventValue};
 ghost use Rattle.er_event.specs.Sound.{numbers};
-ghost use Rattle.er_event.specs.Change.{with_phase, with_dropped};
+ghost use Rattle.er_event.specs.Round.{is_bye, match_at};
+ghost use Rattle.er_event.specs.Change.{with_phase, with_dropped, with_round, with_score};
 ghost use Rattle.er_store.specs.Rows.{stored_player, stored_event};
-ghost use Rattle.er_event.specs.Rows.{phase_code};
+ghost use Rattle.er_event.specs.Rows.{phase_code, games_of};
 ghost use Rattle.er_store.specs.Standing.{HasTables, StandsFor};
 ghost use Rattle.er_store.specs.Steps.{Puts, Makes};
 
-use er_event::{Event, Phase};
+use er_event::{Event, Games, Match, Phase, Score};
 use sqlite::{Alter, Error, Transaction, params};
 
 pub const INSERT_PLAYER: &str = "INSERT INTO player (no, name, dropped) VALUES (?1, ?2, ?3)";
@@ -105,5 +106,77 @@ pub fn set_dropped<S: Alter>(tx: &mut Transaction<'_, S>, number: u32) -> Result
     ensures survives { Survives (state S.Store tx.old.conn.now) (state S.Store tx.new.conn.now) (λ _. ⊥) }
 {
     tx.execute(SET_DROPPED, params![number])?;
+    Ok(())
+}
+
+pub const SET_SCORE: &str =
+    "UPDATE pairing SET done = 1, x = ?3, y = ?4, d = ?5 WHERE round = ?1 AND tab = ?2";
+
+/// Gives the match of two players at this table of this round the score, whether it had one or not.
+pub fn set_score<S: Alter>(
+    tx: &mut Transaction<'_, S>,
+    round: u32,
+    table: u32,
+    score: Score,
+) -> Result<(), Error>
+    ensures same_reference { tx.new.conn.ghost_name ≡ tx.old.conn.ghost_name }
+    ensures makes { HasCleanDisk (state S.Store tx.new.conn.now) → (e : EventValue) (s : ℕ) → StandsFor (state S.Store tx.old.conn.now).now e s
+        → (m : Match) → match_at e round table ≡ Some m → IsFalse (is_bye m)
+        → OnOk result (Makes (state S.Store tx.old.conn.now) (state S.Store tx.new.conn.now) (with_score e round table score) s) }
+    ensures survives { Survives (state S.Store tx.old.conn.now) (state S.Store tx.new.conn.now) (λ _. ⊥) }
+{
+    let Games { x, y, d } = score.games();
+    tx.execute(
+        SET_SCORE,
+        params![round, table, u32::from(x), u32::from(y), u32::from(d)],
+    )?;
+    Ok(())
+}
+
+pub const INSERT_PAIRING: &str =
+    "INSERT INTO pairing (round, tab, lo, hi, swapped, done, x, y, d) VALUES (?1, ?2, ?3, ?4, ?5, ?6, ?7, ?8, ?9)";
+
+/// The games of a score, all 0 where there is none.
+fn games_of(score: Option<Score>) -> Games
+    ensures { result ≡ games_of score }
+{
+    match score {
+        Some(score) => score.games(),
+        None => Games { x: 0, y: 0, d: 0 },
+    }
+}
+
+/// Inserts the next match of a round that is being stored. `place` is its place in the round, from 1; a bye is at table 0.
+pub fn insert_pairing<S: Alter>(
+    tx: &mut Transaction<'_, S>,
+    round: u32,
+    place: u32,
+    played: &Match,
+) -> Result<(), Error>
+    ensures same_reference { tx.new.conn.ghost_name ≡ tx.old.conn.ghost_name }
+    ensures makes { HasCleanDisk (state S.Store tx.new.conn.now) → (e : EventValue) (before : List Match) (s : ℕ) → StandsFor (state S.Store tx.old.conn.now).now (with_round e before) s
+        → round ≡ length e.stored + 1 → place ≡ length before + 1
+        → OnOk result (Makes (state S.Store tx.old.conn.now) (state S.Store tx.new.conn.now) (with_round e (before ++ played.now ∷ [])) s) }
+    ensures survives { Survives (state S.Store tx.old.conn.now) (state S.Store tx.new.conn.now) (λ _. ⊥) }
+{
+    let table = if played.b == 0 { 0 } else { place };
+    let lower = u32::from(played.a.min(played.b));
+    let higher = u32::from(played.a.max(played.b));
+    let swapped = played.b < played.a;
+    let Games { x, y, d } = games_of(played.score);
+    tx.execute(
+        INSERT_PAIRING,
+        params![
+            round,
+            table,
+            lower,
+            higher,
+            swapped,
+            played.score.is_some(),
+            u32::from(x),
+            u32::from(y),
+            u32::from(d)
+        ],
+    )?;
     Ok(())
 }

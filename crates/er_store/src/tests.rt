@@ -2,6 +2,8 @@ ghost use Rattle.std.specs.Prelude.{◌≡◌, ◌<◌, false, IfOk};
 ghost use Rattle.er_event.specs.Change.{Fits};
 ghost use Rattle.er_store.specs.Standing.{IsNew};
 
+mod rounds;
+
 use super::*;
 use er_event::{Name, Phase, Place, PlayerNo};
 use sqlite::{Error, MemStore};
@@ -11,6 +13,10 @@ use std::test::Fail;
 // These have no clause, so that the proof of a test does not carry the state of each call.
 fn name(alloc: Global, text: &str) -> Result<Name, Fail> {
     Ok(Name::try_from_bytes(alloc, text.as_bytes())?)
+}
+
+fn open(alloc: Global) -> Result<Connection<MemStore>, Fail> {
+    Ok(Connection::open_in_memory(alloc)?)
 }
 
 fn number(conn: &mut Connection<MemStore>, sql: &str) -> Result<i64, Error> {
@@ -70,22 +76,26 @@ fn write(
     store.write(event, change, serial)
 }
 
-fn enrol(
-    alloc: Global,
+/// The change that enrols a player.
+fn player(alloc: Global, text: &str) -> Result<Change, Fail> {
+    let name = name(alloc, text)?;
+    Ok(Change::AddPlayer { name })
+}
+
+/// The answer to a change, if it fits.
+fn answer(
     store: &mut Store<MemStore>,
     event: &Event,
-    text: &str,
+    change: &Change,
     serial: u32,
-) -> Result<Result<(), Refusal>, Fail>
+) -> Option<Result<(), Refusal>>
     requires { serial < 999999 }
 {
-    let change = Change::AddPlayer {
-        name: name(alloc, text)?,
-    };
-    if !event.fits(&change) {
-        return Err("the change fits")?;
+    if event.fits(change) {
+        Some(write(store, event, change, serial))
+    } else {
+        None
     }
-    Ok(write(store, event, &change, serial))
 }
 
 /// Writes the change, and gives the event after it.
@@ -119,24 +129,34 @@ fn enter(
 ) -> Result<Event, Fail>
     requires { serial < 999999 }
 {
-    let name = name(alloc, text)?;
-    advance(alloc, store, event, Change::AddPlayer { name }, serial)
+    let change = player(alloc, text)?;
+    advance(alloc, store, event, change, serial)
+}
+
+/// Ana is enrolled: one command.
+fn with_ana(alloc: Global) -> Result<(Store<MemStore>, Event), Fail> {
+    let event = friday(alloc)?;
+    let mut store = in_memory(alloc, &event)?;
+    let event = enter(alloc, &mut store, event, "Ana", 0)?;
+    Ok((store, event))
+}
+
+fn start() -> Change {
+    let phase = Phase::Swiss;
+    Change::SetPhase { phase }
+}
+
+fn drop(number: u16) -> Result<Change, Fail> {
+    let player = PlayerNo::try_new(number).ok_or("a number")?;
+    Ok(Change::SetDropped { player })
 }
 
 /// Ana and Bo play, and Bo has dropped: four commands.
 fn started(alloc: Global) -> Result<(Store<MemStore>, Event), Fail> {
-    let event = friday(alloc)?;
-    let mut store = in_memory(alloc, &event)?;
-    let event = enter(alloc, &mut store, event, "Ana", 0)?;
+    let (mut store, event) = with_ana(alloc)?;
     let event = enter(alloc, &mut store, event, "Bo", 1)?;
-    let start = Change::SetPhase {
-        phase: Phase::Swiss,
-    };
-    let event = advance(alloc, &mut store, event, start, 2)?;
-    let drop = Change::SetDropped {
-        player: PlayerNo::try_new(2).ok_or("a number")?,
-    };
-    let event = advance(alloc, &mut store, event, drop, 3)?;
+    let event = advance(alloc, &mut store, event, start(), 2)?;
+    let event = advance(alloc, &mut store, event, drop(2)?, 3)?;
     Ok((store, event))
 }
 
@@ -160,10 +180,7 @@ fn edited(store: Store<MemStore>, sql: &str) -> Result<Store<MemStore>, Fail> {
 
 #[test]
 fn a_player_is_written_with_the_serial(rt: HostRuntime) -> Result<(), Fail> {
-    let alloc = rt.alloc();
-    let event = friday(alloc)?;
-    let mut store = in_memory(alloc, &event)?;
-    assert_eq!(rt; enrol(alloc, &mut store, &event, "Ana", 0)?, Ok(()));
+    let (store, _) = with_ana(rt.alloc())?;
     let mut conn = store.into_connection();
     let rows = [
         (
@@ -182,15 +199,17 @@ fn a_player_is_written_with_the_serial(rt: HostRuntime) -> Result<(), Fail> {
     for (sql, row) in rows {
         assert_eq!(rt; text(&mut conn, sql)?.as_str(), row);
     }
-    let counts = [
-        ("SELECT count(*) FROM event", 1),
-        ("SELECT count(*) FROM player", 1),
-        ("SELECT count(*) FROM pairing", 0),
-        ("SELECT count(*) FROM bracket", 0),
-    ];
-    for (sql, count) in counts {
-        assert_eq!(rt; number(&mut conn, sql)?, count, "{sql}");
-    }
+    Ok(())
+}
+
+#[test]
+fn a_player_is_one_row_more(rt: HostRuntime) -> Result<(), Fail> {
+    let (store, _) = with_ana(rt.alloc())?;
+    let mut conn = store.into_connection();
+    assert_eq!(rt; number(&mut conn, "SELECT count(*) FROM event")?, 1);
+    assert_eq!(rt; number(&mut conn, "SELECT count(*) FROM player")?, 1);
+    assert_eq!(rt; number(&mut conn, "SELECT count(*) FROM pairing")?, 0);
+    assert_eq!(rt; number(&mut conn, "SELECT count(*) FROM bracket")?, 0);
     Ok(())
 }
 
@@ -215,8 +234,7 @@ fn the_schema_is_that_of_the_format(rt: HostRuntime) -> Result<(), Fail> {
             "CREATE TABLE bracket(stage INTEGER NOT NULL, slot INTEGER NOT NULL, a INTEGER NOT NULL, b INTEGER NOT NULL, done INTEGER NOT NULL, x INTEGER NOT NULL, y INTEGER NOT NULL, d INTEGER NOT NULL, PRIMARY KEY(stage, slot))",
         ),
     ];
-    let event = friday(rt.alloc())?;
-    let store = in_memory(rt.alloc(), &event)?;
+    let (store, _) = with_ana(rt.alloc())?;
     let mut conn = store.into_connection();
     for (sql, want) in texts {
         assert_eq!(rt; text(&mut conn, sql)?.as_str(), want);
@@ -236,7 +254,8 @@ fn a_file_with_an_event_is_left_as_it_is(rt: HostRuntime) -> Result<(), Fail> {
     let alloc = rt.alloc();
     let event = friday(alloc)?;
     let mut store = in_memory(alloc, &event)?;
-    assert_eq!(rt; enrol(alloc, &mut store, &event, "Ana", 0)?, Ok(()));
+    let ana = player(alloc, "Ana")?;
+    assert_eq!(rt; answer(&mut store, &event, &ana, 0), Some(Ok(())));
     let Err((mut conn, why)) = create_again(store, &event) else {
         return Err("made twice")?;
     };
@@ -246,36 +265,55 @@ fn a_file_with_an_event_is_left_as_it_is(rt: HostRuntime) -> Result<(), Fail> {
     Ok(())
 }
 
-/// A name that is there breaks a rule of the table, which is a fault of the store: the event and the tables disagree.
+const REFUSED: Refusal = Refusal::Store {
+    cause: er_event::Cause::Refused,
+};
+
+/// A store with a fault behind it. A name that is there breaks a rule of the table: the event and the tables disagree.
+fn faulted(alloc: Global, event: &Event) -> Result<Store<MemStore>, Fail>
+    requires { IsNew event.now }
+{
+    let mut store = in_memory(alloc, event)?;
+    let ana = player(alloc, "Ana")?;
+    let first = answer(&mut store, event, &ana, 0);
+    let again = answer(&mut store, event, &ana, 1);
+    if first == Some(Ok(())) && again == Some(Err(REFUSED)) {
+        Ok(store)
+    } else {
+        Err("a fault at the second change")?
+    }
+}
+
 #[test]
 fn after_a_fault_each_call_is_refused(rt: HostRuntime) -> Result<(), Fail> {
     let alloc = rt.alloc();
     let event = friday(alloc)?;
-    let mut store = in_memory(alloc, &event)?;
-    assert_eq!(rt; enrol(alloc, &mut store, &event, "Ana", 0)?, Ok(()));
-    let fault = Refusal::Store {
-        cause: er_event::Cause::Refused,
-    };
-    assert_eq!(rt; enrol(alloc, &mut store, &event, "Ana", 1)?, Err(fault));
-    assert_eq!(rt;
-        enrol(alloc, &mut store, &event, "Bo", 1)?,
-        Err(Refusal::NeedsReopen)
-    );
-    let mut conn = store.into_connection();
+    let mut store = faulted(alloc, &event)?;
+    let bo = player(alloc, "Bo")?;
+    let stopped = Some(Err(Refusal::NeedsReopen));
+    assert_eq!(rt; answer(&mut store, &event, &bo, 1), stopped);
+    Ok(())
+}
+
+#[test]
+fn a_change_at_fault_is_not_written(rt: HostRuntime) -> Result<(), Fail> {
+    let alloc = rt.alloc();
+    let mut conn = faulted(alloc, &friday(alloc)?)?.into_connection();
     assert_eq!(rt; number(&mut conn, "SELECT count(*) FROM player")?, 1);
     assert_eq!(rt; number(&mut conn, "SELECT serial FROM event")?, 1);
     Ok(())
 }
 
+fn make_note(conn: &mut Connection<MemStore>) -> Result<usize, Error> {
+    run(conn, "CREATE TABLE note(id INTEGER PRIMARY KEY, body TEXT)")?;
+    run(conn, "INSERT INTO note VALUES (7, 'chairs')")
+}
+
 fn with_note(alloc: Global) -> Result<Connection<MemStore>, Fail>
     ensures { IfOk result (λ conn. conn.in_transaction ≡ false) }
 {
-    let mut conn = Connection::open_in_memory(alloc)?;
-    run(
-        &mut conn,
-        "CREATE TABLE note(id INTEGER PRIMARY KEY, body TEXT)",
-    )?;
-    run(&mut conn, "INSERT INTO note VALUES (7, 'chairs')")?;
+    let mut conn = open(alloc)?;
+    make_note(&mut conn)?;
     if conn.is_autocommit() {
         Ok(conn)
     } else {
@@ -289,7 +327,8 @@ fn other_tables_stay(rt: HostRuntime) -> Result<(), Fail> {
     let alloc = rt.alloc();
     let event = friday(alloc)?;
     let mut store = create(with_note(alloc)?, &event).ok().ok_or("created")?;
-    assert_eq!(rt; enrol(alloc, &mut store, &event, "Ana", 0)?, Ok(()));
+    let ana = player(alloc, "Ana")?;
+    assert_eq!(rt; answer(&mut store, &event, &ana, 0), Some(Ok(())));
     let mut conn = store.into_connection();
     assert_eq!(rt;
         text(&mut conn, "SELECT id || body FROM note")?.as_str(),
@@ -320,60 +359,65 @@ fn a_phase_and_a_drop_are_written(rt: HostRuntime) -> Result<(), Fail> {
     Ok(())
 }
 
+/// Whether two events have the same players.
+fn have_same_players(one: &Event, other: &Event) -> bool {
+    let mut pairs = one.players().iter().zip(other.players());
+    one.players().len() == other.players().len()
+        && pairs.all(|(one, other)| {
+            one.no == other.no
+                && one.name.as_str() == other.name.as_str()
+                && one.dropped == other.dropped
+        })
+}
+
 #[test]
 fn the_event_is_read_back(rt: HostRuntime) -> Result<(), Fail> {
-    let alloc = rt.alloc();
-    let (mut store, event) = started(alloc)?;
-    let Ok((read, serial)) = load(alloc, &mut store) else {
+    let (mut store, event) = started(rt.alloc())?;
+    let Ok((read, serial)) = load(rt.alloc(), &mut store) else {
         return Err("read")?;
     };
-    assert_eq!(rt; serial, 4);
-    assert_eq!(rt; read.name().as_str(), "Friday");
-    assert_eq!(rt; (read.rounds(), read.cut()), (3, 0));
-    assert_eq!(rt; read.phase(), event.phase());
-    assert_eq!(rt; read.players().len(), 2);
-    for (was, is) in event.players().iter().zip(read.players()) {
-        assert_eq!(rt; is.no, was.no);
-        assert_eq!(rt; is.name.as_str(), was.name.as_str());
-        assert_eq!(rt; is.dropped, was.dropped);
-    }
+    assert_eq!(rt; (serial, read.rounds(), read.cut()), (4, 3, 0));
+    assert!(rt; read.name().as_str() == "Friday" && read.phase() == Phase::Swiss);
+    assert!(rt; event.players().len() == 2 && have_same_players(&read, &event));
     Ok(())
 }
 
-/// The first table whose rows no event has is named, and the store is stopped.
+/// Whether each load names this table after a statement of another program.
+fn is_named(alloc: Global, sql: &str, table: Place) -> Result<bool, Fail> {
+    let (store, _) = started(alloc)?;
+    let mut store = edited(store, sql)?;
+    let first = load(alloc, &mut store).err();
+    let again = load(alloc, &mut store).err();
+    let damaged = Some(Refusal::Damaged { table });
+    Ok(first == damaged && again == damaged)
+}
+
+const BROKEN_EVENTS: &str = "\
+DELETE FROM event
+UPDATE event SET version = 2
+UPDATE event SET serial = 1000000
+UPDATE event SET phase = 4
+DROP TABLE event
+";
+
+const BROKEN_PLAYERS: &str = "\
+DELETE FROM player WHERE no = 2
+UPDATE player SET name = ' Bo' WHERE no = 2
+UPDATE player SET dropped = x'00' WHERE no = 2
+DROP TABLE player
+";
+
+/// The first table whose rows no event has is named, by each load.
 #[test]
 fn broken_tables_are_damage(rt: HostRuntime) -> Result<(), Fail> {
     let alloc = rt.alloc();
-    let edits = [
-        ("DELETE FROM event", Place::EventTable),
-        ("UPDATE event SET version = 2", Place::EventTable),
-        ("UPDATE event SET serial = 1000000", Place::EventTable),
-        ("UPDATE event SET phase = 4", Place::EventTable),
-        ("DROP TABLE event", Place::EventTable),
-        ("DELETE FROM player WHERE no = 2", Place::PlayerTable),
-        (
-            "UPDATE player SET name = ' Bo' WHERE no = 2",
-            Place::PlayerTable,
-        ),
-        (
-            "UPDATE player SET dropped = x'00' WHERE no = 2",
-            Place::PlayerTable,
-        ),
-        ("DROP TABLE player", Place::PlayerTable),
-        ("DROP TABLE pairing", Place::PairingTable),
-        ("DROP TABLE bracket", Place::BracketTable),
-    ];
-    for (sql, table) in edits {
-        let (store, _) = started(alloc)?;
-        let mut store = edited(store, sql)?;
-        let Err(why) = load(alloc, &mut store) else {
-            return Err("read")?;
-        };
-        assert_eq!(rt; why, Refusal::Damaged { table }, "{sql}");
-        let Err(why) = load(alloc, &mut store) else {
-            return Err("read")?;
-        };
-        assert_eq!(rt; why, Refusal::NeedsReopen);
+    for sql in BROKEN_EVENTS.lines() {
+        assert!(rt; is_named(alloc, sql, Place::EventTable)?, "{sql}");
     }
+    for sql in BROKEN_PLAYERS.lines() {
+        assert!(rt; is_named(alloc, sql, Place::PlayerTable)?, "{sql}");
+    }
+    assert!(rt; is_named(alloc, "DROP TABLE pairing", Place::PairingTable)?);
+    assert!(rt; is_named(alloc, "DROP TABLE bracket", Place::BracketTable)?);
     Ok(())
 }

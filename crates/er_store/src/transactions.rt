@@ -3,15 +3,36 @@ ghost use Rattle.sqlite.specs.State.{HasCleanDisk, Survives, IsUnchanged};
 ghost use Rattle.sqlite.specs.Held.{state};
 ghost use Rattle.sqlite.specs.Tree.{Trees};
 ghost use Rattle.er_event.specs.declared.refusals.TheConstants.{MAX_SERIAL};
-ghost use Rattle.er_event.specs.Change.{after, Fits};
+ghost use Rattle.er_event.specs.Change.{after, with_round, Fits};
 ghost use Rattle.er_store.specs.Tables.{no_schema};
 ghost use Rattle.er_store.specs.Standing.{StandsFor, IsStored, IsNew, Shows, Leaves, Either, KeepsOthers, CanRead};
 ghost use Rattle.er_store.specs.Steps.{Makes};
 
 use crate::creation::create_all;
-use crate::statements::{insert_event, insert_player, set_dropped, set_phase, set_serial};
-use er_event::{Change, Event};
+use crate::statements::{
+    insert_event, insert_pairing, insert_player, set_dropped, set_phase, set_score, set_serial,
+};
+use er_event::{Change, Event, Match};
 use sqlite::{Alter, Connection, Error, Transaction};
+
+/// Inserts the matches of one more round.
+fn insert_round<S: Alter>(
+    tx: &mut Transaction<'_, S>,
+    event: &Event,
+    matches: &[Match],
+) -> Result<(), Error>
+    requires fits { Fits event.now (Change.AddRound matches.now) }
+    ensures same_reference { tx.new.conn.ghost_name ≡ tx.old.conn.ghost_name }
+    ensures makes { HasCleanDisk (state S.Store tx.new.conn.now) → (s : ℕ) → StandsFor (state S.Store tx.old.conn.now).now event.now s
+        → OnOk result (Makes (state S.Store tx.old.conn.now) (state S.Store tx.new.conn.now) (with_round event.now matches.now) s) }
+    ensures survives { Survives (state S.Store tx.old.conn.now) (state S.Store tx.new.conn.now) (λ _. ⊥) }
+{
+    let round = event.stored().len() as u32 + 1;
+    for (place, played) in matches.iter().enumerate() {
+        insert_pairing(tx, round, place as u32 + 1, played)?;
+    }
+    Ok(())
+}
 
 /// Makes the change, and leaves the serial.
 fn change_tables<S: Alter>(
@@ -32,6 +53,12 @@ fn change_tables<S: Alter>(
         }
         Change::SetDropped { player } => set_dropped(tx, u32::from(player.get())),
         Change::SetPhase { phase } => set_phase(tx, *phase),
+        Change::AddRound { matches } => insert_round(tx, event, matches.as_slice()),
+        Change::SetScore {
+            round,
+            table,
+            score,
+        } => set_score(tx, u32::from(*round), u32::from(*table), *score),
     }
 }
 

@@ -1,5 +1,6 @@
-use Rattle.std.proofs.Common.{map, sym, subst, ◌∙◌, rules}
-use Rattle.er_event.specs.Rows.{pairing_rows}
+use Rattle.std.proofs.Common.{[], ◌∷◌, map, sym, subst, ◌∙◌, rules}
+use Rattle.er_event.specs.Rows.{event_row, player_rows, keyed_pairing_rows, bracket_rows}
+use Rattle.er_event.proofs.PartsLemmas.{parts_same}
 use Rattle.sqlite.specs.Held.{state}
 use Rattle.sqlite.specs.Effect.{Database}
 use Rattle.er_event.specs.declared.refusals.Place.TheVariants.{EventTable, PlayerTable, PairingTable, BracketTable}
@@ -204,12 +205,7 @@ returns-clause-exact g c clean e s stands0 sound =
     let exact1 = ok_of c.read_players.result _ _ (c.read_players.ensures.exact clean2 e s stands1 sound) c.in_ok-players.ensures.ok in
     let exact2 = ok_of c.read_pairings.result _ _ (c.read_pairings.ensures.exact clean3 e s stands2 sound) c.in_ok-pairings.ensures.ok in
     let exact3 = ok_of c.read_bracket.result _ _ (c.read_bracket.ensures.exact clean e s stands3 sound) c.in_ok-bracket.ensures.ok in
-    record {
-      event = sym exact0.2 ∙ exact0.1;
-      players = sym exact1.2 ∙ exact1.1;
-      pairings = subst (λ rows. Lists by_first_two (map pairing_columns (pairing_rows e)) (map pairing_columns rows)) exact2.2 exact2.1;
-      bracket = sym exact3.2 ∙ exact3.1;
-    }
+    parts_same _ (event_row e s ∷ []) (player_rows e) (keyed_pairing_rows e) (bracket_rows e) (sym exact0.2 ∙ exact0.1) (sym exact1.2 ∙ exact1.1) (sym exact2.2 ∙ exact2.1) (sym exact3.2 ∙ exact3.1)
 
 pub returns-in_err-event-clause-kept : goal.returns-in_err-event-clause-kept
 returns-in_err-event-clause-kept g c clean has0 =

@@ -1,6 +1,7 @@
 use Rattle.std.proofs.Common.{◌≡◌, ◌⊎◌, inl, inr, [], ◌∷◌, map, refl, sym, ap, ◌∙◌, subst, rules}
 use Rattle.sqlite.specs.Held.{state}
 use Rattle.sqlite.specs.Schema.{Schema}
+use Rattle.er_event.specs.Rows.{keyed_pairing_rows}
 use Rattle.er_store.specs.Tables as sql
 use Rattle.er_store.specs.Rows.{shown, pairing_places, pairing_columns}
 use Rattle.er_store.specs.Standing.{HasTables}
@@ -11,7 +12,8 @@ use Rattle.er_store.proofs.Together.{if_ok, if_err}
 use Rattle.er_store.proofs.ReadLemmas.{listed, listed_whole, unchanged, reads_only, sorted_by_two}
 use Rattle.er_store.proofs.Refusals.{read_refused}
 use Rattle.er_store.proofs.LoadLemmas.{unchanged_keeps, refused_keeps, on_err}
-use Rattle.er_store.proofs.Exact.{is_memory, pairings_exact, pairings_typed, pairings_text}
+use Rattle.er_store.proofs.Exact.{is_memory, pairings_text}
+use Rattle.er_store.proofs.Keyed.{pairings_exact, pairings_typed}
 use Rattle.er_store.proofs.reading.read_pairings.Goals as goal
 
 selected : (schema : Schema) → HasTables schema → Selects sql.read_pairings (table_query 3 pairing_places (1 ∷ 2 ∷ [])) schema
@@ -48,15 +50,15 @@ returns-clause-lists g c clean has =
 pub returns-clause-exact : goal.returns-clause-exact
 returns-clause-exact g c clean e s stands sound =
     let db = (state g.S.Store c.args.conn.now).now in
-    if_ok c.typed.result _ _ (λ typed both. pairings_exact db e s (map pairing_columns typed.items) stands both.0) (returns-clause-lists g c clean stands.tables)
+    if_ok c.typed.result _ _ (λ typed both. pairings_typed typed.items e (pairings_exact db e s (map pairing_columns typed.items) stands sound both.0)) (returns-clause-lists g c clean stands.tables)
 
 pub returns-clause-refused : goal.returns-clause-refused
 returns-clause-refused g c clean e s stands sound =
     let old = state g.S.Store c.args.conn.now in
     let rows = c.in_ok-rows.rows.items in
     let lists = listed 3 pairing_places (1 ∷ 2 ∷ []) by_first_two (sorted_by_two 3 1 2 (3 ∷ 4 ∷ 5 ∷ 6 ∷ 7 ∷ 8 ∷ 9 ∷ [])) sql.read_pairings old (state g.S.Store c.query_all.new.self) rows (selected old.now.schema stands.tables) (c.in_ok-rows.ensures.ok clean) in
-    let are = pairings_typed old.now e s rows stands lists in
-    if_err c.typed.result _ _ (λ why never. inl (is_memory why (λ unless. never unless are.0 (pairings_text are.0) (c.deref.ensures.value ∙ are.1)))) c.typed.ensures.refused
+    let are = pairings_exact old.now e s rows stands sound lists in
+    if_err c.typed.result _ _ (λ why never. inl (is_memory why (λ unless. never unless (keyed_pairing_rows e) (pairings_text (keyed_pairing_rows e)) (c.deref.ensures.value ∙ are)))) c.typed.ensures.refused
 
 pub returns-in_err-rows-clause-kept : goal.returns-in_err-rows-clause-kept
 returns-in_err-rows-clause-kept g c clean has =

@@ -1,9 +1,9 @@
-use Rattle.std.proofs.Common.{◌≡◌, ℕ, ◌+◌, length, false, OnOk, sym, ap, subst, ◌∙◌}
+use Rattle.std.proofs.Common.{◌≡◌, ℕ, ◌+◌, length, false, OnOk, sym, ap, subst, ◌∙◌, rules}
 use Rattle.sqlite.specs.Held.{state}
 use Rattle.er_event.specs.Event.{EventValue}
 use Rattle.er_event.specs.Change.{after, with_player, Fits}
 use Rattle.er_event.specs.declared.changes.Change.{Change}
-use Rattle.er_event.specs.declared.changes.Change.TheVariants.{SetDropped}
+use Rattle.er_event.specs.declared.changes.Change.TheVariants.{SetDropped, SetScore}
 use Rattle.er_store.specs.Rows.{stored_player}
 use Rattle.er_store.specs.Steps.{Puts, Makes}
 use Rattle.er_store.proofs.Picking.{numbered_before}
@@ -30,3 +30,14 @@ returns-in-SetDropped-clause-makes g c clean s stands =
     let fits : Fits e (SetDropped number) = subst (Fits e) (sym is) c.requires.fits in
     subst (λ (x : Change). OnOk c.set_dropped.result (Makes (state g.S.Store c.args.tx.now.conn.now) (state g.S.Store c.set_dropped.new.tx.conn.now) (after e x) s)) is
     (c.set_dropped.ensures.makes clean e s stands (numbered_before number e.players fits.sound.players.numbered) fits.named)
+
+pub returns-in-SetScore-clause-makes : goal.returns-in-SetScore-clause-makes
+returns-in-SetScore-clause-makes g c clean s stands =
+    let e = c.args.event.now in
+    let change = c.args.change.now in
+    let round = c.from-in-SetScore.result in
+    let table = c.from-in-SetScore-2.result in
+    let is : SetScore round table c.in-SetScore.score ≡ change = search rules in
+    let fits : Fits e (SetScore round table c.in-SetScore.score) = subst (Fits e) (sym is) c.requires.fits in
+    subst (λ (x : Change). OnOk c.set_score.result (Makes (state g.S.Store c.args.tx.now.conn.now) (state g.S.Store c.set_score.new.tx.conn.now) (after e x) s)) is
+    (c.set_score.ensures.makes clean e s stands fits.named.0 fits.named.1 fits.named.2)

@@ -1,8 +1,8 @@
-use Rattle.std.proofs.Common.{◌≡◌, ◌∙◌, ◌<◌, false, sym, inl, inr, arith}
+use Rattle.std.proofs.Common.{◌≡◌, ◌∙◌, ◌<◌, false, refl, sym, inl, inr, arith}
 use Rattle.std.proofs.lemmas.Result.{IfOk-weaker, IfErr-weaker}
 use Rattle.er_cli.specs.Session.{event_of, serial_of, is_stopped}
 use Rattle.er_cli.proofs.Leaving.{leaves_early}
-use Rattle.er_cli.proofs.Replies.{due_taken}
+use Rattle.er_cli.proofs.Replies.{due_taken, due_full}
 use Rattle.er_cli.proofs.session.Session.submit.Goals as goal
 
 pub returns-in_err-change-clause-crash : goal.returns-in_err-change-clause-crash
@@ -33,3 +33,11 @@ returns-clause-refused g c =
 pub returns-clause-crash : goal.returns-clause-crash
 returns-clause-crash g c shows clean trees may =
     elim (c.write.ensures.crash shows clean trees may) [ inl old ↦ inl old | inr new ↦ inr (_, c.in_ok-change.ensures.taken.1, new) ]
+
+pub returns-then-self-eq-MAX_SERIAL-clause-refused :
+    goal.returns-then-self-eq-MAX_SERIAL-clause-refused
+returns-then-self-eq-MAX_SERIAL-clause-refused g c =
+    let session = c.args.self.now in
+    let runs : is_stopped session ≡ false = sym session.told ∙ c.if-self.false in
+    let full : serial_of session ≡ 999999 = omega (arith, c.if-self-eq-MAX_SERIAL.true) in
+    inl (refl, inr (due_full _ runs (event_of session) (serial_of session) c.args.command.now _ c.in_ok-change.ensures.taken.1 full))

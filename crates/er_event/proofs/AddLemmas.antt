@@ -1,0 +1,176 @@
+-- An event with one more round is sound exactly where its checks hold.
+use Rattle.std.proofs.Common.{◌≡◌, ◌≢◌, suc, ◌+◌, ◌-◌, ◌<◌, ◌||◌, not, Bool, true, false, inl, inr, List, [], ◌∷◌, ◌++◌, length, take, flat_map, All, AllPairs, IsTrue, IsFalse, refl, sym, ap, subst, ◌∙◌, true≢false, arith, length-append, append-nil}
+use Rattle.std.specs.List.{list_all, list_any, AllByRecursion}
+use Rattle.std.proofs.lemmas.Bool.Decides.{nat_tests}
+use Rattle.std.proofs.lemmas.List.Elements.{All-push, All-weaker, All-head, All-tail, All-from_recursion, recursion_from_All}
+use Rattle.std.proofs.lemmas.List.Concat.{flat_map-append}
+use Rattle.std.proofs.lemmas.List.Folds.{list_any-append}
+use Rattle.er_event.specs.declared.events.Phase.TheVariants.{Enrolling, Swiss, Playoff, Finished}
+use Rattle.er_event.specs.declared.rounds.Match.{Match}
+use Rattle.er_event.specs.declared.rounds.Round.{Round}
+use Rattle.er_event.specs.Event.{EventValue}
+use Rattle.er_event.specs.Round.{is_counted, is_same_pairing, seats, matches_of}
+use Rattle.er_event.specs.Sound.{numbers, IsRound, HasRounds, IsInPlayoff, IsSoundButForSeeds}
+use Rattle.er_event.specs.Change.{with_round}
+use Rattle.er_event.proofs.Pairs.{Rec, from_rec, to_rec, rec_across, rec_append}
+use Rattle.er_event.proofs.RoundLemmas.{All-of, of-All}
+
+abbrev Differ : Match → Match → Type 0
+Differ m n = IsFalse (is_same_pairing m n)
+
+-- none of the stored matches has the two of this one
+abbrev pub is_new : List Round → Match → Bool
+is_new stored m = not (list_any (λ (r : Round). list_any (λ n. is_same_pairing n m) r.matches) stored)
+
+-- ---- within one round
+
+not_same : (m n : Match) → m.a ≢ n.a → m.a ≢ n.b → Differ m n
+not_same m n a b = grind (arith, nat_tests)
+
+differs : (m : Match) (ms : List Match) → AllByRecursion (λ p. m.a ≢ p) (flat_map seats ms) → AllByRecursion (Differ m) ms
+differs m [] h = tt
+differs m (n ∷ ms) h = (not_same m n h.0 h.1.0, differs m ms h.1.1)
+
+seated_differ : (ms : List Match) → Rec (λ p q. p ≢ q) (flat_map seats ms) → Rec Differ ms
+seated_differ [] h = tt
+seated_differ (m ∷ ms) h = (differs m ms h.0.1, seated_differ ms h.1.1)
+
+-- ---- with the rounds before
+
+pub any_stored : (p : Match → Bool) (rs : List Round) → list_any (λ (r : Round). list_any p r.matches) rs ≡ list_any p (matches_of rs)
+any_stored p [] = refl
+any_stored p (r ∷ rs) = ap (λ b. list_any p r.matches || b) (any_stored p rs) ∙ sym (list_any-append p r.matches (matches_of rs))
+
+or_false : (a b : Bool) → (a || b) ≡ false → (a ≡ false) × (b ≡ false)
+or_false false false h = (refl, refl)
+or_false false true h = absurd (true≢false h)
+or_false true b h = absurd (true≢false h)
+
+not_true : (b : Bool) → not b ≡ true → b ≡ false
+not_true false h = refl
+not_true true h = absurd (true≢false (sym h))
+
+-- this match differs from all of these
+none_same : (m : Match) (ns : List Match) → list_any (λ n. is_same_pairing n m) ns ≡ false → AllByRecursion (λ n. Differ n m) ns
+none_same m [] h = tt
+none_same m (n ∷ ns) h = let both = or_false (is_same_pairing n m) (list_any (λ k. is_same_pairing k m) ns) h in (both.0, none_same m ns both.1)
+
+same_none : (m : Match) (ns : List Match) → AllByRecursion (λ n. Differ n m) ns → list_any (λ n. is_same_pairing n m) ns ≡ false
+same_none m [] h = refl
+same_none m (n ∷ ns) h = let here : is_same_pairing n m ≡ false = h.0 in rw here (same_none m ns h.1)
+
+all_pair : (ns ms : List Match) → AllByRecursion (λ m. AllByRecursion (λ n. Differ n m) ns) ms → AllByRecursion (λ n. AllByRecursion (Differ n) ms) ns
+all_pair [] ms h = tt
+all_pair (n ∷ ns) ms h = (first ms h, all_pair ns ms (rest ms h))
+  where
+    first : (ks : List Match) → AllByRecursion (λ m. AllByRecursion (λ n. Differ n m) (n ∷ ns)) ks → AllByRecursion (Differ n) ks
+    first [] h = tt
+    first (k ∷ ks) h = (h.0.0, first ks h.1)
+
+    rest : (ks : List Match) → AllByRecursion (λ m. AllByRecursion (λ n. Differ n m) (n ∷ ns)) ks → AllByRecursion (λ m. AllByRecursion (λ n. Differ n m) ns) ks
+    rest [] h = tt
+    rest (k ∷ ks) h = (h.0.1, rest ks h.1)
+
+pair_all : (ns ms : List Match) → AllByRecursion (λ n. AllByRecursion (Differ n) ms) ns → AllByRecursion (λ m. AllByRecursion (λ n. Differ n m) ns) ms
+pair_all ns [] h = tt
+pair_all ns (m ∷ ms) h = (first ns h, pair_all ns ms (rest ns h))
+  where
+    first : (ks : List Match) → AllByRecursion (λ n. AllByRecursion (Differ n) (m ∷ ms)) ks → AllByRecursion (λ n. Differ n m) ks
+    first [] h = tt
+    first (k ∷ ks) h = (h.0.0, first ks h.1)
+
+    rest : (ks : List Match) → AllByRecursion (λ n. AllByRecursion (Differ n) (m ∷ ms)) ks → AllByRecursion (λ n. AllByRecursion (Differ n) ms) ks
+    rest [] h = tt
+    rest (k ∷ ks) h = (h.0.1, rest ks h.1)
+
+module _ (stored : List Round) where
+  all_new : (ms : List Match) → list_all (is_new stored) ms ≡ true → AllByRecursion (λ m. AllByRecursion (λ n. Differ n m) (matches_of stored)) ms
+  all_new ms new = recursion_from_All _ ms (All-weaker (λ m. IsTrue (is_new stored m)) (λ m. AllByRecursion (λ n. Differ n m) (matches_of stored)) (λ m h. none_same m (matches_of stored) (sym (any_stored (λ n. is_same_pairing n m) stored) ∙ not_true _ h)) ms (All-of (is_new stored) ms new))
+
+  new_all : (ms : List Match) → AllByRecursion (λ m. AllByRecursion (λ n. Differ n m) (matches_of stored)) ms → list_all (is_new stored) ms ≡ true
+  new_all ms h = of-All (is_new stored) ms (All-weaker (λ m. AllByRecursion (λ n. Differ n m) (matches_of stored)) (λ m. IsTrue (is_new stored m)) (λ m d. ap not (any_stored (λ n. is_same_pairing n m) stored ∙ same_none m (matches_of stored) d)) ms (All-from_recursion _ ms h))
+
+-- ---- the event
+
+matches-with : (stored : List Round) (ms : List Match) → matches_of (stored ++ record { matches = ms } ∷ []) ≡ matches_of stored ++ ms
+matches-with stored ms = flat_map-append (λ (r : Round). r.matches) stored (record { matches = ms } ∷ []) ∙ ap (λ l. matches_of stored ++ l) (append-nil ms)
+
+take-before : (rs : List Round) (r : Round) → take (length (rs ++ r ∷ []) - 1) (rs ++ r ∷ []) ≡ rs
+take-before [] r = refl
+take-before (s ∷ rs) r =
+    let e : length ((s ∷ rs) ++ r ∷ []) - 1 ≡ suc (length (rs ++ r ∷ []) - 1) = let len = length-append rs (r ∷ []) in omega arith in
+    ap (λ n. take n (s ∷ (rs ++ r ∷ []))) e ∙ ap (λ l. s ∷ l) (take-before rs r)
+
+some-stored : (rs : List Round) (r : Round) → rs ++ r ∷ [] ≡ [] → ⊥
+some-stored [] r e = cc
+some-stored (s ∷ rs) r e = cc
+
+module _ (e : EventValue) (ms : List Match) where
+  abbrev r : Round
+  r = record { matches = ms }
+
+  abbrev Plays : Round → Type 0
+  Plays s = IsRound (numbers e.players) s.matches
+
+  HasRounds-with : HasRounds e → e.phase ≡ Swiss → length e.stored < e.rounds → list_all (λ (s : Round). is_counted s.matches) e.stored ≡ true → IsRound (numbers e.players) ms → list_all (is_new e.stored) ms ≡ true → HasRounds (with_round e ms)
+  HasRounds-with h swiss room done round new =
+      let count : length (e.stored ++ r ∷ []) ≡ length e.stored + 1 = length-append e.stored (r ∷ []) in
+      record {
+        few = omega arith;
+        enrolling = λ phase. absurd (let never = sym swiss ∙ phase in cc);
+        each = All-push Plays e.stored r h.each round;
+        no_repeats = subst (AllPairs Differ) (sym (matches-with e.stored ms)) (from_rec Differ _ (rec_append Differ (matches_of e.stored) ms (to_rec Differ _ h.no_repeats)
+            (seated_differ ms (to_rec _ _ round.seated_once)) (all_pair (matches_of e.stored) ms (all_new e.stored ms new))));
+        earlier_done = subst (All (λ (s : Round). IsTrue (is_counted s.matches))) (sym (take-before e.stored r)) (All-of (λ (s : Round). is_counted s.matches) e.stored done);
+      }
+
+  pub IsSound-round : IsSoundButForSeeds e → e.phase ≡ Swiss → length e.stored < e.rounds → list_all (λ (s : Round). is_counted s.matches) e.stored ≡ true → IsRound (numbers e.players) ms → list_all (is_new e.stored) ms ≡ true → IsSoundButForSeeds (with_round e ms)
+  IsSound-round h swiss room done round new = record {
+    set_up = record { name = h.set_up.name; rounds = h.set_up.rounds; cut = h.set_up.cut };
+    players = record { few = h.players.few; numbered = h.players.numbered; lawful = h.players.lawful; distinct = h.players.distinct; enrolling = h.players.enrolling; started = h.players.started };
+    rounds = HasRounds-with h.rounds swiss room done round new;
+    bracket = record {
+      none = h.bracket.none;
+      rounds_done = λ over. absurd (not_over swiss over);
+      bracket = h.bracket.bracket;
+      decided = h.bracket.decided;
+      undecided = h.bracket.undecided;
+    };
+  }
+    where
+      not_over : e.phase ≡ Swiss → IsInPlayoff e → ⊥
+      not_over swiss (inl is) = let never = sym swiss ∙ is in cc
+      not_over swiss (inr is) = let never = sym swiss ∙ is in cc
+
+  module _ (h : IsSoundButForSeeds (with_round e ms)) where
+    pub round-few : length e.stored < e.rounds
+    round-few =
+        let count : length (e.stored ++ r ∷ []) ≡ length e.stored + 1 = length-append e.stored (r ∷ []) in
+        let few = h.rounds.few in
+        omega arith
+
+    pub round-counted : list_all (λ (s : Round). is_counted s.matches) e.stored ≡ true
+    round-counted = of-All (λ (s : Round). is_counted s.matches) e.stored (subst (All (λ (s : Round). IsTrue (is_counted s.matches))) (take-before e.stored r) h.rounds.earlier_done)
+
+    pub round-is : IsRound (numbers e.players) ms
+    round-is = last Plays e.stored r h.rounds.each
+      where
+        last : (P : Round → Type 0) (rs : List Round) (s : Round) → All P (rs ++ s ∷ []) → P s
+        last P [] s all = All-head P s [] all
+        last P (t ∷ rs) s all = last P rs s (All-tail P t (rs ++ s ∷ []) all)
+
+    pub round-new : list_all (is_new e.stored) ms ≡ true
+    round-new = new_all e.stored ms (pair_all (matches_of e.stored) ms (rec_across Differ (matches_of e.stored) ms (to_rec Differ _ (subst (AllPairs Differ) (matches-with e.stored ms) h.rounds.no_repeats))))
+
+    -- a sound event with all its rounds takes no more
+    pub round-swiss : IsSoundButForSeeds e → e.phase ≡ Swiss
+    round-swiss old = by_phase e.phase refl
+      where
+        over : IsInPlayoff e → ⊥
+        over is = let all = (old.bracket.rounds_done is).0 in let few = round-few in omega arith
+
+        by_phase : (p : _) → e.phase ≡ p → e.phase ≡ Swiss
+        by_phase Enrolling is = absurd (some-stored e.stored r (h.rounds.enrolling is))
+        by_phase Swiss is = is
+        by_phase Playoff is = absurd (over (inl is))
+        by_phase Finished is = absurd (over (inr is))

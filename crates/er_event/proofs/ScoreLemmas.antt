@@ -1,0 +1,277 @@
+-- An event with one score set anew is sound exactly where the score is lawful.
+use Rattle.std.proofs.Common.{◌≡◌, ◌≢◌, ℕ, zero, suc, ◌-◌, ◌==◌, ◌<◌, ◌≤◌, Bool, true, false, cond, List, [], ◌∷◌, ◌++◌, length, take, map, flat_map, get_or, All, AllPairs, Contains, IsTrue, IsFalse, Option, Some, None, IfSome, Bor, option_map, is_some, refl, sym, ap, ap₂, subst, ◌∙◌, true≢false, arith}
+use Rattle.std.specs.List.{slice_get, AllByRecursion}
+use Rattle.std.specs.Option.{option_and_then}
+use Rattle.std.proofs.Math.ListN.{set}
+use Rattle.std.proofs.lemmas.List.{length-set}
+use Rattle.std.proofs.lemmas.List.Elements.{All-from_recursion, recursion_from_All}
+use Rattle.std.proofs.lemmas.Option.{none-some, get_or_from_slice_get, slice_get_read}
+use Rattle.std.proofs.lemmas.Bool.Decides.{nat_tests}
+use Rattle.er_event.specs.declared.scores.Games.{Games}
+use Rattle.er_event.specs.declared.rounds.Match.{Match}
+use Rattle.er_event.specs.declared.rounds.Round.{Round}
+use Rattle.er_event.specs.Event.{EventValue}
+use Rattle.er_event.specs.Score.{is_swiss_score, bye_score}
+use Rattle.er_event.specs.Round.{is_bye, is_counted, is_same_pairing, seats, matches_of, numbered_from, match_in, match_at}
+use Rattle.er_event.specs.Bracket.{SameSlots}
+use Rattle.er_event.specs.Sound.{numbers, IsRound, HasRounds, IsSoundButForSeeds}
+use Rattle.er_event.specs.declared.changes.Change.TheVariants.{SetScore}
+use Rattle.er_event.specs.Change.{scored, score_table, with_score, Fits}
+use Rattle.er_event.proofs.Pairs.{Rec, from_rec, to_rec}
+use Rattle.er_event.proofs.RoundLemmas.{All-of, of-All}
+use Rattle.er_event.proofs.TableLemmas.{at-place, score-place}
+
+-- ---- one element set anew
+
+module _ {X : Type 0} (P : X → Type 0) (a : X) where
+  -- of the first k elements, where the new one has what the old one had
+  first-set : (k i : ℕ) (xs : List X) → (P (get_or xs i a) → P a) → AllByRecursion P (take k xs) → AllByRecursion P (take k (set xs i a))
+  first-set zero i xs here h = h
+  first-set (suc k) i [] here h = h
+  first-set (suc k) zero (x ∷ xs) here h = (here h.0, h.1)
+  first-set (suc k) (suc i) (x ∷ xs) here h = (h.0, first-set k i xs here h.1)
+
+  all-set : (i : ℕ) (xs : List X) → (P (get_or xs i a) → P a) → AllByRecursion P xs → AllByRecursion P (set xs i a)
+  all-set i [] here h = h
+  all-set zero (x ∷ xs) here h = (here h.0, h.1)
+  all-set (suc i) (x ∷ xs) here h = (h.0, all-set i xs here h.1)
+
+  First-set : (k i : ℕ) (xs : List X) → (P (get_or xs i a) → P a) → All P (take k xs) → All P (take k (set xs i a))
+  First-set k i xs here h = All-from_recursion P _ (first-set k i xs here (recursion_from_All P _ h))
+
+  All-set : (i : ℕ) (xs : List X) → (P (get_or xs i a) → P a) → All P xs → All P (set xs i a)
+  All-set i xs here h = All-from_recursion P _ (all-set i xs here (recursion_from_All P xs h))
+
+  of-set : (i : ℕ) (xs : List X) → i < length xs → AllByRecursion P (set xs i a) → P a
+  of-set i [] within h = absurd (omega arith)
+  of-set zero (x ∷ xs) within h = h.0
+  of-set (suc i) (x ∷ xs) within h = of-set i xs (omega arith) h.1
+
+  set-All : (i : ℕ) (xs : List X) → i < length xs → All P (set xs i a) → P a
+  set-All i xs within h = of-set i xs within (recursion_from_All P (set xs i a) h)
+
+-- ---- the same players
+
+abbrev Differ : Match → Match → Type 0
+Differ m n = IsFalse (is_same_pairing m n)
+
+slots-refl : (ms : List Match) → SameSlots ms ms
+slots-refl [] = tt
+slots-refl (m ∷ ms) = ((refl, refl), slots-refl ms)
+
+slots-set : (n : Match) (i : ℕ) (ms : List Match) → (get_or ms i n).a ≡ n.a → (get_or ms i n).b ≡ n.b → SameSlots ms (set ms i n)
+slots-set n i [] a b = tt
+slots-set n zero (m ∷ ms) a b = ((a, b), slots-refl ms)
+slots-set n (suc i) (m ∷ ms) a b = ((refl, refl), slots-set n i ms a b)
+
+slots-append : (ms ns more : List Match) → SameSlots ms ns → SameSlots (ms ++ more) (ns ++ more)
+slots-append [] [] more h = slots-refl more
+slots-append [] (n ∷ ns) more h = absurd h
+slots-append (m ∷ ms) [] more h = absurd h
+slots-append (m ∷ ms) (n ∷ ns) more h = (h.0, slots-append ms ns more h.1)
+
+slots-after : (more ms ns : List Match) → SameSlots ms ns → SameSlots (more ++ ms) (more ++ ns)
+slots-after [] ms ns h = h
+slots-after (m ∷ more) ms ns h = ((refl, refl), slots-after more ms ns h)
+
+slots-rounds : (r : Round) (j : ℕ) (rs : List Round) → SameSlots (get_or rs j r).matches r.matches → SameSlots (matches_of rs) (matches_of (set rs j r))
+slots-rounds r j [] h = tt
+slots-rounds r zero (s ∷ rs) h = slots-append s.matches r.matches (matches_of rs) h
+slots-rounds r (suc j) (s ∷ rs) h = slots-after s.matches (matches_of rs) (matches_of (set rs j r)) (slots-rounds r j rs h)
+
+slots-seats : (ms ns : List Match) → SameSlots ms ns → flat_map seats ms ≡ flat_map seats ns
+slots-seats [] [] h = refl
+slots-seats [] (n ∷ ns) h = absurd h
+slots-seats (m ∷ ms) [] h = absurd h
+slots-seats (m ∷ ms) (n ∷ ns) h = ap₂ ◌∷◌ h.0.0 (ap₂ ◌∷◌ h.0.1 (slots-seats ms ns h.1))
+
+same-pairing : (m n k l : Match) → m.a ≡ n.a → m.b ≡ n.b → k.a ≡ l.a → k.b ≡ l.b → is_same_pairing m k ≡ is_same_pairing n l
+same-pairing m n k l a b c d = rw (a, b, c, d) refl
+
+slots-differ : (m n : Match) → m.a ≡ n.a → m.b ≡ n.b → (ms ns : List Match) → SameSlots ms ns → AllByRecursion (Differ m) ms → AllByRecursion (Differ n) ns
+slots-differ m n a b [] [] h d = tt
+slots-differ m n a b [] (l ∷ ns) h d = absurd h
+slots-differ m n a b (k ∷ ms) [] h d = absurd h
+slots-differ m n a b (k ∷ ms) (l ∷ ns) h d = (sym (same-pairing m n k l a b h.0.0 h.0.1) ∙ d.0, slots-differ m n a b ms ns h.1 d.1)
+
+slots-rec : (ms ns : List Match) → SameSlots ms ns → Rec Differ ms → Rec Differ ns
+slots-rec [] [] h d = tt
+slots-rec [] (n ∷ ns) h d = absurd h
+slots-rec (m ∷ ms) [] h d = absurd h
+slots-rec (m ∷ ms) (n ∷ ns) h d = (slots-differ m n h.0.0 h.0.1 ms ns h.1 d.0, slots-rec ms ns h.1 d.1)
+
+-- ---- the round, and the event, whose match has a new score
+
+module _ (s : Games) (m : Match) (i : ℕ) (ms : List Match) (there : get_or ms i (scored s m) ≡ m) (seat : is_bye m ≡ false) where
+  abbrev new : List Match
+  new = set ms i (scored s m)
+
+  kept : (P : Match → Type 0) → (P m → P (scored s m)) → All P ms → All P new
+  kept P here h = All-set P (scored s m) i ms (λ p. here (subst P there p)) h
+
+  slots-new : SameSlots ms new
+  slots-new = slots-set (scored s m) i ms (ap (λ (k : Match). k.a) there) (ap (λ (k : Match). k.b) there)
+
+  round-scored : (known : List ℕ) → is_swiss_score s ≡ true → IsRound known ms → IsRound known new
+  round-scored known swiss h =
+      let count : length new ≡ length ms = length-set ms i (scored s m) in
+      record {
+        some = let some = h.some in omega arith;
+        first_known = kept (λ (k : Match). Contains known k.a) (λ p. p) h.first_known;
+        second_known = kept (λ (k : Match). IsFalse (is_bye k) → Contains known k.b) (λ p. p) h.second_known;
+        seated_once = subst (λ (ps : List ℕ). AllPairs (λ p q. (p ≡ q) → ⊥) ps) (slots-seats ms new slots-new) h.seated_once;
+        byes_won = kept (λ (k : Match). IsTrue (is_bye k) → k.score ≡ Some bye_score) (λ _ bye. absurd (true≢false (sym bye ∙ seat))) h.byes_won;
+        scores = kept (λ (k : Match). IfSome k.score (λ t. IsTrue (is_swiss_score t))) (λ _. swiss) h.scores;
+        bye_last = subst (λ (n : ℕ). All (λ (k : Match). IsFalse (is_bye k)) (take (n - 1) new)) (sym count) (First-set (λ (k : Match). IsFalse (is_bye k)) (scored s m) (length ms - 1) i ms (λ _. seat) h.bye_last);
+      }
+
+  counted-scored : is_counted ms ≡ true → is_counted new ≡ true
+  counted-scored all = of-All (λ (k : Match). is_some k.score) new (kept (λ (k : Match). IsTrue (is_some k.score)) (λ _. refl) (All-of (λ (k : Match). is_some k.score) ms all))
+
+  module _ (e : EventValue) (j : ℕ) (round : (get_or e.stored j (record { matches = new })).matches ≡ ms) where
+    abbrev r : Round
+    r = record { matches = new }
+
+    abbrev rounds : List Round
+    rounds = set e.stored j r
+
+    abbrev Counted : Round → Type 0
+    Counted q = IsTrue (is_counted q.matches)
+
+    count-rounds : length rounds ≡ length e.stored
+    count-rounds = length-set e.stored j r
+
+    counted-here : Counted (get_or e.stored j r) → Counted r
+    counted-here h = counted-scored (ap is_counted (sym round) ∙ h)
+
+    HasRounds-scored : is_swiss_score s ≡ true → HasRounds e → HasRounds (record e { stored = rounds })
+    HasRounds-scored swiss h =
+        let count = count-rounds in
+        record {
+          few = let few = h.few in omega arith;
+          enrolling = λ phase. ap (λ (rs : List Round). set rs j r) (h.enrolling phase);
+          each = All-set (λ (q : Round). IsRound (numbers e.players) q.matches) r j e.stored (λ is. round-scored (numbers e.players) swiss (subst (IsRound (numbers e.players)) round is)) h.each;
+          no_repeats = from_rec Differ (matches_of rounds) (slots-rec (matches_of e.stored) (matches_of rounds) (slots-rounds r j e.stored (subst (λ (ks : List Match). SameSlots ks new) (sym round) slots-new)) (to_rec Differ (matches_of e.stored) h.no_repeats));
+          earlier_done = subst (λ (n : ℕ). All Counted (take (n - 1) rounds)) (sym count) (First-set Counted r (length e.stored - 1) j e.stored counted-here h.earlier_done);
+        }
+
+    IsSound-scored : is_swiss_score s ≡ true → IsSoundButForSeeds e → IsSoundButForSeeds (record e { stored = rounds })
+    IsSound-scored swiss h = record {
+      set_up = record { name = h.set_up.name; rounds = h.set_up.rounds; cut = h.set_up.cut };
+      players = record { few = h.players.few; numbered = h.players.numbered; lawful = h.players.lawful; distinct = h.players.distinct; enrolling = h.players.enrolling; started = h.players.started };
+      rounds = HasRounds-scored swiss h.rounds;
+      bracket = record {
+        none = h.bracket.none;
+        rounds_done = λ over. (let done = h.bracket.rounds_done over in (count-rounds ∙ done.0, All-set Counted r j e.stored counted-here done.1));
+        bracket = h.bracket.bracket;
+        decided = h.bracket.decided;
+        undecided = h.bracket.undecided;
+      };
+    }
+
+    -- a sound event has no other score
+    scored-swiss : i < length ms → j < length e.stored → IsSoundButForSeeds (record e { stored = rounds }) → is_swiss_score s ≡ true
+    scored-swiss table within h =
+        let here : IsRound (numbers e.players) new = set-All (λ (q : Round). IsRound (numbers e.players) q.matches) r j e.stored within h.rounds.each in
+        set-All (λ (k : Match). IfSome k.score (λ t. IsTrue (is_swiss_score t))) (scored s m) i ms table here.scores
+
+-- ---- the match of a table of a round
+
+within-get : {X : Type 0} (xs : List X) (i : ℕ) (x : X) → slice_get xs i ≡ Some x → i < length xs
+within-get [] i x is = absurd (none-some x is)
+within-get (y ∷ xs) zero x is = omega arith
+within-get (y ∷ xs) (suc i) x is = let rest = within-get xs i x is in omega arith
+
+-- the round, and the match in it
+pub record Found (e : EventValue) (k t : ℕ) (m : Match) : Type 0 where
+  pub round : Round
+  pub stored : slice_get e.stored (k - 1) ≡ Some round
+  pub here : match_in round.matches t ≡ Some m
+
+found-round : (e : EventValue) (k t : ℕ) (m : Match) (o : Option Round) → slice_get e.stored (k - 1) ≡ o → option_and_then (λ (q : Round). match_in q.matches t) o ≡ Some m → Found e k t m
+found-round e k t m None at h = absurd (none-some m h)
+found-round e k t m (Some q) at h = record { round = q; stored = at; here = h }
+
+pub found : (e : EventValue) (k t : ℕ) (m : Match) → match_at e k t ≡ Some m → Found e k t m
+found e k t m is = by_zero (k == 0) is
+  where
+    by_zero : (b : Bool) → cond b None (option_and_then (λ (q : Round). match_in q.matches t) (slice_get e.stored (k - 1))) ≡ Some m → Found e k t m
+    by_zero true h = absurd (none-some m h)
+    by_zero false h = found-round e k t m (slice_get e.stored (k - 1)) refl h
+
+module _ (e : EventValue) (k t : ℕ) (s : Games) (m : Match) (is : match_at e k t ≡ Some m) (seat : is_bye m ≡ false) where
+  abbrev f : Found e k t m
+  f = found e k t m is
+
+  abbrev ms : List Match
+  ms = f.round.matches
+
+  table-read : slice_get ms (t - 1) ≡ Some m
+  table-read = (at-place ms t m f.here seat).1
+
+  table-is : (d : Match) → get_or ms (t - 1) d ≡ m
+  table-is d = get_or_from_slice_get ms (t - 1) m d table-read
+
+  round-is : (d : Round) → get_or e.stored (k - 1) d ≡ f.round
+  round-is d = get_or_from_slice_get e.stored (k - 1) f.round d f.stored
+
+  abbrev With : List Match → EventValue
+  With ks = record e { stored = set e.stored (k - 1) (record { matches = ks }) }
+
+  pub scored-is : with_score e k t s ≡ With (set ms (t - 1) (scored s m))
+  scored-is = ap With (ap (λ (q : Round). map (score_table t s) (numbered_from 1 q.matches)) (round-is (record { matches = [] })) ∙ score-place s t ms m f.here seat)
+
+  abbrev d : Round
+  d = record { matches = set ms (t - 1) (scored s m) }
+
+  pub Fits-score : is_swiss_score s ≡ true → IsSoundButForSeeds e → Fits e (SetScore k t s)
+  Fits-score swiss h = record {
+    named = (m, is, seat);
+    sound = subst IsSoundButForSeeds (sym scored-is) (IsSound-scored s m (t - 1) ms (table-is (scored s m)) seat e (k - 1) (ap (λ (q : Round). q.matches) (round-is d)) swiss h);
+  }
+
+  pub swiss-score : IsSoundButForSeeds (with_score e k t s) → is_swiss_score s ≡ true
+  swiss-score h =
+      scored-swiss s m (t - 1) ms (table-is (scored s m)) seat e (k - 1) (ap (λ (q : Round). q.matches) (round-is d))
+      (within-get ms (t - 1) m table-read) (within-get e.stored (k - 1) f.round f.stored) (subst IsSoundButForSeeds scored-is h)
+
+-- ---- the match that is read
+
+pub read-match : (e : EventValue) (k t i : ℕ) (q : Round) → k ≢ 0 → i ≡ k → i - 1 < length e.stored → q ≡ get_or e.stored (i - 1) q → match_at e k t ≡ match_in q.matches t
+read-match e k t i q some same within is =
+    let at : slice_get e.stored (i - 1) ≡ Some q = slice_get_read e.stored (length e.stored) (i - 1) q refl within is in
+    let there : slice_get e.stored (k - 1) ≡ Some q = ap (λ n. slice_get e.stored (n - 1)) (sym same) ∙ at in
+    let not_zero : (k == 0) ≡ false = grind (arith, nat_tests) in
+    rw (not_zero, there) refl
+
+pub read-fits : (e : EventValue) (k t : ℕ) (found : Option (Bor Match)) → IsSoundButForSeeds e → match_at e k t ≡ option_map (λ (m : Bor Match). m.now) found
+    → IfSome found (λ m. IsFalse (is_bye m.now) → (s : Games) → IsTrue (is_swiss_score s) → Fits e (SetScore k t s))
+read-fits e k t None sound is = tt
+read-fits e k t (Some m) sound is = λ seat s swiss. Fits-score e k t s m.now is seat swiss sound
+
+-- ---- the match that is written
+
+module _ (e : EventValue) (k t : ℕ) (s : Games) (fits : Fits e (SetScore k t s)) where
+  pub fits-swiss : is_swiss_score s ≡ true
+  fits-swiss = swiss-score e k t s fits.named.0 fits.named.1 fits.named.2 fits.sound
+
+  pub fits-low : 1 ≤ t
+  fits-low = let f = found e k t fits.named.0 fits.named.1 in (at-place f.round.matches t fits.named.0 f.here fits.named.2).0
+
+  module _ (i j : ℕ) (q : Round) (same : i ≡ k) (table : j ≡ t) (listed : q ≡ get_or e.stored (i - 1) q) where
+    listed-is : q ≡ (found e k t fits.named.0 fits.named.1).round
+    listed-is = listed ∙ (ap (λ n. get_or e.stored (n - 1) q) same ∙ round-is e k t s fits.named.0 fits.named.1 fits.named.2 q)
+
+    listed-there : slice_get q.matches (j - 1) ≡ Some fits.named.0
+    listed-there = ap (λ (r : Round). slice_get r.matches (j - 1)) listed-is ∙ (ap (λ n. slice_get (found e k t fits.named.0 fits.named.1).round.matches (n - 1)) table ∙ table-read e k t s fits.named.0 fits.named.1 fits.named.2)
+
+    pub listed-within : j - 1 < length q.matches
+    listed-within = within-get q.matches (j - 1) fits.named.0 listed-there
+
+    pub written : (new : List Match) → ((m : Match) → slice_get q.matches (j - 1) ≡ Some m → new ≡ set q.matches (j - 1) (scored s m)) → (let w : EventValue = record e { stored = set e.stored (i - 1) (record { matches = new }) } in w) ≡ with_score e k t s
+    written new set_there =
+        let m = fits.named.0 in
+        let made : new ≡ set (found e k t fits.named.0 fits.named.1).round.matches (t - 1) (scored s m) =
+        set_there m listed-there ∙ (ap (λ (r : Round). set r.matches (j - 1) (scored s m)) listed-is ∙ ap (λ n. set (found e k t fits.named.0 fits.named.1).round.matches (n - 1) (scored s m)) table) in
+        let put : List Match → ℕ → EventValue = λ ms n. record e { stored = set e.stored (n - 1) (record { matches = ms }) } in
+        ap (λ ms. put ms i) made ∙ (ap (λ n. put (set (found e k t fits.named.0 fits.named.1).round.matches (t - 1) (scored s m)) n) same ∙ sym (scored-is e k t s m fits.named.1 fits.named.2))

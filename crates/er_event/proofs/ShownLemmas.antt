@@ -1,0 +1,49 @@
+-- The rounds of a sound event can be shown by rows.
+use Rattle.std.proofs.Common.{◌≡◌, ℕ, ◌<◌, ◌≤◌, Bool, true, false, List, [], ◌∷◌, length, All, Contains, IsTrue, IsFalse, IfSome, refl, subst, arith}
+use Rattle.std.specs.List.{range_with_len}
+use Rattle.std.proofs.lemmas.Bool.Decides.{nat_tests}
+use Rattle.std.proofs.lemmas.List.FromFn.{length-range_with_len, get_or-range_with_len}
+use Rattle.std.proofs.lemmas.List.Elements.{All-head, All-tail, All-cons, All-nil, All-weaker}
+use Rattle.er_event.specs.declared.rounds.Match.{Match}
+use Rattle.er_event.specs.declared.rounds.Round.{Round}
+use Rattle.er_event.specs.Event.{EventValue}
+use Rattle.er_event.specs.Score.{is_swiss_score}
+use Rattle.er_event.specs.Round.{is_bye}
+use Rattle.er_event.specs.Sound.{numbers, IsRound, IsSetUp, HasPlayers, HasRounds}
+use Rattle.er_event.specs.Pairings.{IsShown, AreShown}
+
+module _ (n : ℕ) (few : n ≤ 512) where
+  below : (k : ℕ) → Contains (range_with_len 1 n) k → k < 65536
+  below k has =
+      let len = length-range_with_len 1 n in
+      let within = has.1 in
+      let at = get_or-range_with_len 1 n has.0 k (omega arith) in
+      let is = has.2 in
+      omega arith
+
+  second_below : (m : Match) (bye : Bool) → is_bye m ≡ bye → (IsFalse (is_bye m) → Contains (range_with_len 1 n) m.b) → m.b < 65536
+  second_below m true is known = let none : m.b ≡ 0 = grind (arith, nat_tests) in omega arith
+  second_below m false is known = below m.b (known is)
+
+  each_shown : (ms : List Match) → All (λ (m : Match). Contains (range_with_len 1 n) m.a) ms → All (λ (m : Match). IsFalse (is_bye m) → Contains (range_with_len 1 n) m.b) ms
+      → All (λ (m : Match). IfSome m.score (λ s. IsTrue (is_swiss_score s))) ms → All IsShown ms
+  each_shown [] a b c = All-nil IsShown
+  each_shown (m ∷ ms) a b c =
+      All-cons IsShown m ms
+      (record {
+        first = below m.a (All-head (λ (k : Match). Contains (range_with_len 1 n) k.a) m ms a);
+        second = second_below m (is_bye m) refl (All-head (λ (k : Match). IsFalse (is_bye k) → Contains (range_with_len 1 n) k.b) m ms b);
+        score = All-head (λ (k : Match). IfSome k.score (λ s. IsTrue (is_swiss_score s))) m ms c;
+      })
+      (each_shown ms (All-tail (λ (k : Match). Contains (range_with_len 1 n) k.a) m ms a) (All-tail (λ (k : Match). IsFalse (is_bye k) → Contains (range_with_len 1 n) k.b) m ms b) (All-tail (λ (k : Match). IfSome k.score (λ s. IsTrue (is_swiss_score s))) m ms c))
+
+  round_shown : (ms : List Match) → IsRound (range_with_len 1 n) ms → AreShown ms
+  round_shown ms h = record { some = h.some; each = each_shown ms h.first_known h.second_known h.scores; bye_last = h.bye_last }
+
+pub rounds_shown : (e : EventValue) → HasPlayers e → HasRounds e → All (λ (r : Round). AreShown r.matches) e.stored
+rounds_shown e players rounds =
+    All-weaker (λ (r : Round). IsRound (numbers e.players) r.matches) (λ (r : Round). AreShown r.matches)
+    (λ r h. round_shown (length e.players) players.few r.matches (subst (λ known. IsRound known r.matches) players.numbered h)) e.stored rounds.each
+
+pub rounds_few : (e : EventValue) → IsSetUp e → HasRounds e → length e.stored ≤ 9
+rounds_few e set_up rounds = let most = set_up.rounds.1 in let few = rounds.few in omega arith

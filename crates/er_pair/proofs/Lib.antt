@@ -1,0 +1,15 @@
+pub mod Picking
+pub mod Counting
+pub mod Opening
+pub mod Searching
+pub mod Settling
+pub mod Bounds
+pub mod Entries
+pub mod Meeting
+pub mod Turning
+pub mod Answering
+pub mod Pointing
+pub mod Placing
+pub mod Ordering
+pub mod Uniqueness
+pub mod Seating

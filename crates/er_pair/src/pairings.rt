@@ -1,0 +1,90 @@
+ghost use Rattle.std.specs.Prelude.{◌≡◌, ◌≢◌, ◌⊎◌, ◌↔◌, ℕ, List, ◌<◌, ◌≤◌, ◌%◌, length, All, AllPairs, IsPermutation, IsFalse, IfOk, Err};
+ghost use Rattle.er_pair.specs.Met.{has_met};
+ghost use Rattle.er_pair.specs.Pairing.{Pair, positions, all_positions, IsLegal, IsEarliest, entries};
+ghost use Rattle.er_pair.specs.Steps.{Needs, NeedsMore};
+
+use crate::meetings::Met;
+use crate::search::{Outcome, search};
+use er_event::{MAX_PLAYERS, Refusal};
+use std::alloc::{AllocError, Global};
+
+/// How many candidates a search for a pairing may look at.
+pub const MAX_STEPS: u32 = 1_000_000;
+
+/// Why there is no pairing.
+#[derive(Clone, Copy, Debug, PartialEq, Eq)]
+pub enum PairFault {
+    /// There is no legal pairing.
+    NoPairing,
+    /// The search would take more than these steps.
+    Budget { steps: u32 },
+    /// Memory is wanting.
+    Memory,
+}
+
+impl From<AllocError> for PairFault {
+    ghost use Rattle.std.specs.Prelude.{◌≡◌};
+    ghost use Rattle.er_pair.specs.declared.pairings.PairFault.TheVariants.{Memory};
+
+    ghost from_gives = { λ _ fault. fault ≡ Memory };
+
+    fn from(_error: AllocError) -> PairFault {
+        PairFault::Memory
+    }
+}
+
+impl From<PairFault> for Refusal {
+    ghost use Rattle.std.specs.Prelude.{◌≡◌};
+    ghost use Rattle.er_pair.specs.Fault.{refusal_of};
+
+    ghost from_gives = { λ fault why. why ≡ refusal_of fault };
+
+    fn from(fault: PairFault) -> Refusal {
+        match fault {
+            PairFault::NoPairing => Refusal::NoPairing,
+            PairFault::Budget { steps } => Refusal::Budget { steps },
+            PairFault::Memory => Refusal::Memory,
+        }
+    }
+}
+
+/// The neighbours of a list, two by two from the front on.
+fn neighbours(alloc: Global, list: &[u16]) -> Result<Vec<(u16, u16)>, AllocError>
+    requires even { length list.now % 2 ≡ 0 }
+    ensures { IfOk result (λ pairs. positions pairs.items ≡ list.now) }
+{
+    let mut pairs = Vec::with_capacity(alloc, list.len() / 2)?;
+    for pair in list.chunks_exact(2) {
+        pairs.push((pair[0], pair[1]))?;
+    }
+    Ok(pairs)
+}
+
+/// The earliest legal pairing of an order: its pairs of entries, in their order. In a legal pairing each place stands once, each
+/// pair opens with the least place not yet used, and no two that are paired have met; the earlier of two has the smaller partner
+/// in the first pair in which they differ. The entries are distinct, each at most 512, and 0, for the bye, stands only as the last.
+/// `Budget` comes where more than a million candidates would have to be looked at. The search goes as deep as there are tables.
+pub fn first_pairing(alloc: Global, order: &[u16], met: &Met) -> Result<Vec<(u16, u16)>, PairFault>
+    requires few { length order.now ≤ MAX_PLAYERS }
+    requires even { length order.now % 2 ≡ 0 }
+    ensures earliest { IfOk result (λ found. (pairs : List Pair) × IsEarliest (has_met met.now) order.now pairs × (found.items ≡ entries order.now pairs)) }
+    ensures seated { IfOk result (λ found. IsPermutation order.now (positions found.items)) }
+    ensures new_opponents { IfOk result (λ found. All (λ pair. IsFalse (has_met met.now pair.0 pair.1)) found.items) }
+    ensures in_order { (pairs : List Pair) → IsLegal (has_met met.now) order.now pairs → All (λ pair. pair.0 < pair.1) pairs }
+    ensures one { (pairs other : List Pair) → IsEarliest (has_met met.now) order.now pairs → IsEarliest (has_met met.now) order.now other → pairs ≡ other }
+    ensures none { result ≡ Err PairFault.NoPairing → (pairs : List Pair) → IsLegal (has_met met.now) order.now pairs → ⊥ }
+    ensures budget { (result ≡ Err PairFault.Memory) ⊎ ((result ≡ Err (PairFault.Budget MAX_STEPS)) ↔ NeedsMore (has_met met.now) order.now MAX_STEPS) }
+    ensures steps { (steps : ℕ) → result ≡ Err (PairFault.Budget steps) → steps ≡ 1000000 }
+    ensures short_steps { (steps : ℕ) → length order.now ≤ 14 → Needs (has_met met.now) order.now (all_positions order.now) steps → steps ≤ 325767 }
+    ensures short { (steps : ℕ) → length order.now ≤ 14 → result ≢ Err (PairFault.Budget steps) }
+    ensures fresh { (fault : PairFault) → AllPairs (λ p q. IsFalse (has_met met.now p q)) order.now → result ≡ Err fault → fault ≡ PairFault.Memory }
+{
+    let mut entries = Vec::from_slice(alloc, order)?;
+    let list = entries.as_mut_slice();
+    let mut steps = MAX_STEPS;
+    match search(list, met, &mut steps) {
+        Outcome::Paired => Ok(neighbours(alloc, list)?),
+        Outcome::DeadEnd => Err(PairFault::NoPairing),
+        Outcome::OutOfSteps => Err(PairFault::Budget { steps: MAX_STEPS }),
+    }
+}

@@ -1,0 +1,48 @@
+-- What stands in the columns of a line. Each text is nested to the right, as a format writes its parts.
+use Rattle.std.specs.Prelude.{ℕ, ◌-◌, ◌/◌, ◌%◌, ◌==◌, List, [], ◌∷◌, ◌++◌, length, replicate, find, Bool, if◌then◌else◌, Option, Some, None, codes}
+use Rattle.std.specs.Fmt.{decimal}
+use Rattle.er_share.specs.Fraction.{hundredths}
+use Rattle.er_share.specs.Share.{fraction_of}
+use Rattle.er_event.specs.declared.players.Player.{Player}
+use Rattle.er_event.specs.declared.scores.Games.{Games}
+use Rattle.er_event.specs.Event.{EventValue}
+
+-- a number in decimal, with spaces before it up to the width
+abbrev pub right : ℕ → ℕ → List ℕ
+right width n = replicate (width - length (decimal n)) 32 ++ decimal n
+
+-- a text with spaces after it up to the width
+abbrev pub left : ℕ → List ℕ → List ℕ
+left width text = text ++ replicate (width - length text) 32
+
+-- a number below a hundred in two digits
+abbrev pub two_digits : ℕ → List ℕ
+two_digits n = replicate (2 - length (decimal n)) 48 ++ decimal n
+
+-- whole percents in three places, a point, and two digits
+abbrev pub percent_of : ℕ → List ℕ
+percent_of n = right 3 (n / 100) ++ (46 ∷ two_digits (n % 100))
+
+-- a space, and the share as a percentage
+abbrev pub percent : ℕ → List ℕ
+percent share = 32 ∷ percent_of (hundredths (fraction_of share))
+
+abbrev pub mark : Bool → List ℕ
+mark dropped = if dropped then codes "D" else codes " "
+
+abbrev pub name_in : Option Player → List ℕ
+name_in None = []
+name_in (Some p) = p.name
+
+-- the name of the player with this number
+abbrev pub name_of : EventValue → ℕ → List ℕ
+name_of event number = name_in (find (λ (p : Player). p.no == number) event.players)
+
+-- `bye` stands for the missing opponent
+abbrev pub opponent_name : EventValue → ℕ → List ℕ
+opponent_name event number = if number == 0 then codes "bye" else name_of event number
+
+-- `-` where no score is reported
+abbrev pub score_text : Option Games → List ℕ
+score_text None = codes "-"
+score_text (Some s) = decimal s.x ++ (45 ∷ (decimal s.y ++ (45 ∷ decimal s.d)))

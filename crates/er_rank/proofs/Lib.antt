@@ -1,0 +1,9 @@
+pub mod Examples
+pub mod LineLemmas
+pub mod TallyLemmas
+pub mod MeritLemmas
+pub mod PlacingLemmas
+pub mod SoundLemmas
+pub mod StandingLemmas
+pub mod OrderLemmas
+pub mod ListLemmas

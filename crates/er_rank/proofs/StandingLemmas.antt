@@ -1,0 +1,187 @@
+-- Placings stand as the rules say.
+use Rattle.std.proofs.Common.{◌≡◌, ◌≢◌, ℕ, ◌+◌, ◌-◌, ◌*◌, ◌<◌, ◌==◌, ◌&&◌, ◌||◌, nat_lt, suc, Bool, true, false, cond, List, [], ◌∷◌, map, filter, length, get_or, sum_by, count_by, All, Contains, refl, sym, ap, ap₂, subst, ◌∙◌, arith}
+use Rattle.std.specs.List.{range_with_len}
+use Rattle.std.specs.List.Sorted.{IsPermutation}
+use Rattle.std.specs.declared.cmp.Ordering.{Ordering}
+use Rattle.std.specs.declared.cmp.Ordering.TheVariants.{Less, Equal, Greater}
+use Rattle.std.specs.Ordering.{nat_cmp, ordering_then, ordering_reverse, is_lt, is_eq, is_gt, bool_cmp}
+use Rattle.std.proofs.lemmas.Bool.Decides.{nat_tests}
+use Rattle.std.proofs.lemmas.List.{get_or-map, get_or_default, length-map}
+use Rattle.std.proofs.lemmas.List.Sorted.{sum_by-IsPermutation}
+use Rattle.std.proofs.lemmas.List.Sums.{sum_by-cons}
+use Rattle.std.proofs.lemmas.List.FromFn.{get_or-map-range_with_len}
+use Rattle.er_share.specs.Fraction.{Fraction, average}
+use Rattle.er_share.specs.Share.{IsShareOf}
+use Rattle.er_share.proofs.Shares.{share_cmp-same}
+use Rattle.er_event.specs.declared.players.Player.{Player}
+use Rattle.er_event.specs.Event.{EventValue}
+use Rattle.er_event.specs.Lines as event
+use Rattle.er_event.specs.Lines.{lines}
+use Rattle.er_event.specs.Totals.{Totals, totals}
+use Rattle.er_event.specs.Totals as event_totals
+use Rattle.er_rank.specs.declared.lines.Line.{Line}
+use Rattle.er_rank.specs.declared.placings.Placing.{Placing}
+use Rattle.er_rank.specs.Seen.{seen}
+use Rattle.er_rank.specs.Tally.{games_of, points_of, own_lines, totals_in, totals_at, no_totals, IsKnown, AreWithin, opponents_in, match_win_of, game_win_of}
+use Rattle.er_rank.specs.Merit.{IsMeritOf}
+use Rattle.er_rank.specs.Placing.{merit_cmp, placing_cmp, is_above, ArePlacings}
+use Rattle.er_rank.specs.Standings.{match_win, game_win, opponents, opponents_match_win, opponents_game_win, standing_cmp, is_better, is_listed_before}
+use Rattle.er_rank.proofs.PlacingLemmas.{merit_cmp-total, first_apart}
+use Rattle.er_rank.proofs.MeritLemmas.{opponents-known}
+
+-- ---- the lines as they are seen come to the same
+
+filter-map : {X Y : Type 0} (p : Y → Bool) (f : X → Y) (xs : List X) → filter p (map f xs) ≡ map f (filter (λ x. p (f x)) xs)
+filter-map p f [] = refl
+filter-map p f (x ∷ xs) = kept (p (f x)) (filter-map p f xs)
+  where
+    kept : (b : Bool) → filter p (map f xs) ≡ map f (filter (λ y. p (f y)) xs) → cond b (f x ∷ filter p (map f xs)) (filter p (map f xs)) ≡ map f (cond b (x ∷ filter (λ y. p (f y)) xs) (filter (λ y. p (f y)) xs))
+    kept true rest = ap (λ ys. f x ∷ ys) rest
+    kept false rest = rest
+
+sum_by-map : {X Y : Type 0} (g : Y → ℕ) (f : X → Y) (xs : List X) → sum_by g (map f xs) ≡ sum_by (λ x. g (f x)) xs
+sum_by-map g f [] = refl
+sum_by-map g f (x ∷ xs) = sum_by-cons g (f x) (map f xs) ∙ (ap (λ n. g (f x) + n) (sum_by-map g f xs) ∙ sym (sum_by-cons (λ y. g (f y)) x xs))
+
+pub map-map : {X Y Z : Type 0} (g : Y → Z) (f : X → Y) (xs : List X) → map g (map f xs) ≡ map (λ x. g (f x)) xs
+map-map g f [] = refl
+map-map g f (x ∷ xs) = ap (λ ys. g (f x) ∷ ys) (map-map g f xs)
+
+own_lines-seen : (ls : List event.Line) (player : ℕ) → own_lines (map seen ls) player ≡ map seen (filter (λ (l : event.Line). l.player == player) ls)
+own_lines-seen ls player = filter-map (λ (l : Line). l.player == player) seen ls
+
+abbrev totals_by : ℕ → ℕ → ℕ → ℕ → Totals
+totals_by points rounds game_points games = record { points = points; rounds = rounds; game_points = game_points; games = games }
+
+same_totals : (a b c d a' b' c' d' : ℕ) → a ≡ a' → b ≡ b' → c ≡ c' → d ≡ d' → totals_by a b c d ≡ totals_by a' b' c' d'
+same_totals a b c d a' b' c' d' first second third fourth = cc
+
+pub totals_in-seen : (e : EventValue) (player : ℕ) → totals_in (map seen (lines e)) player ≡ totals e player
+totals_in-seen e player =
+    let own : List event.Line = filter (λ (l : event.Line). l.player == player) (lines e) in
+    let are = own_lines-seen (lines e) player in
+    let points : sum_by points_of (own_lines (map seen (lines e)) player) ≡ sum_by event_totals.points_of own = ap (sum_by points_of) are ∙ sum_by-map points_of seen own in
+    let rounds : length (own_lines (map seen (lines e)) player) ≡ length own = ap length are ∙ length-map own seen in
+    let game_points : sum_by (λ (l : Line). 3 * l.won + l.drawn) (own_lines (map seen (lines e)) player) ≡ sum_by (λ (l : event.Line). 3 * l.won + l.drawn) own = ap (sum_by (λ (l : Line). 3 * l.won + l.drawn)) are ∙ sum_by-map (λ (l : Line). 3 * l.won + l.drawn) seen own in
+    let games : sum_by games_of (own_lines (map seen (lines e)) player) ≡ sum_by (λ (l : event.Line). l.won + l.lost + l.drawn) own = ap (sum_by games_of) are ∙ sum_by-map games_of seen own in
+    same_totals _ _ _ _ _ _ _ _ points rounds game_points games
+
+pub opponents_in-seen : (e : EventValue) (player : ℕ) → opponents_in (map seen (lines e)) player ≡ opponents e player
+opponents_in-seen e player =
+    ap (filter (λ q. nat_lt 0 q)) (ap (map (λ (l : Line). l.opponent)) (own_lines-seen (lines e) player) ∙ map-map (λ (l : Line). l.opponent) seen (filter (λ (l : event.Line). l.player == player) (lines e)))
+
+-- what stands at the place of a known player
+pub totals_at-known : (e : EventValue) (player : ℕ) (tallies : List Totals) → tallies ≡ map (totals_in (map seen (lines e))) (range_with_len 1 (length e.players)) → IsKnown (length e.players) player → totals_at tallies player ≡ totals e player
+totals_at-known e player tallies are known =
+    ap (λ ts. get_or ts (player - 1) no_totals) are
+    ∙ (get_or-map-range_with_len (totals_in (map seen (lines e))) 1 (length e.players) (player - 1) player no_totals (omega arith) (omega arith)
+    ∙ totals_in-seen e player)
+
+-- two functions that agree at each element
+map-agree : {X Y : Type 0} (f g : X → Y) (P : X → Type 0) → ((x : X) → P x → f x ≡ g x) → (xs : List X) → All P xs → map f xs ≡ map g xs
+map-agree f g P same [] all = refl
+map-agree f g P same (x ∷ xs) all = ap₂ (λ y ys. y ∷ ys) (same x (all 0 x (omega arith))) (map-agree f g P same xs (λ k d below. all (suc k) d (omega arith)))
+
+-- ---- a placing of one player of an event
+
+pub record IsPlacing (e : EventValue) (p : Placing) : Type 0 where
+  pub listed : Player
+  pub is_player : Contains e.players listed
+  pub number : p.player ≡ listed.no
+  pub dropped : p.dropped ≡ listed.dropped
+  pub points : p.merit.points.0 ≡ (totals e p.player).points
+  pub omw : IsShareOf p.merit.omw.0 (opponents_match_win e p.player)
+  pub gwp : IsShareOf p.merit.gwp.0 (game_win e p.player)
+  pub ogw : IsShareOf p.merit.ogw.0 (opponents_game_win e p.player)
+
+IsPlacing-merit : (e : EventValue) (tallies : List Totals) (p : Placing) (listed : Player) → AreWithin (length e.players) (map seen (lines e)) → tallies ≡ map (totals_in (map seen (lines e))) (range_with_len 1 (length e.players)) → Contains e.players listed → IsKnown (length e.players) p.player → p.player ≡ listed.no → p.dropped ≡ listed.dropped → IsMeritOf (map seen (lines e)) tallies p.player p.merit → IsPlacing e p
+IsPlacing-merit e tallies p listed within are contains known number dropped merit =
+    let own = totals_at-known e p.player tallies are known in
+    let met = opponents_in-seen e p.player in
+    let known_all = opponents-known (length e.players) (map seen (lines e)) p.player within in
+    let match_wins : map (λ (q : ℕ). match_win_of (totals_at tallies q)) (opponents_in (map seen (lines e)) p.player) ≡ map (match_win e) (opponents e p.player) =
+    map-agree (λ (q : ℕ). match_win_of (totals_at tallies q)) (match_win e) (IsKnown (length e.players)) (λ q is. ap match_win_of (totals_at-known e q tallies are is)) _ known_all ∙ ap (map (match_win e)) met in
+    let game_wins : map (λ (q : ℕ). game_win_of (totals_at tallies q)) (opponents_in (map seen (lines e)) p.player) ≡ map (game_win e) (opponents e p.player) =
+    map-agree (λ (q : ℕ). game_win_of (totals_at tallies q)) (game_win e) (IsKnown (length e.players)) (λ q is. ap game_win_of (totals_at-known e q tallies are is)) _ known_all ∙ ap (map (game_win e)) met in
+    record {
+      listed = listed;
+      is_player = contains;
+      number = number;
+      dropped = dropped;
+      points = merit.points ∙ ap (λ (t : Totals). t.points) own;
+      omw = subst (λ (fs : List Fraction). IsShareOf p.merit.omw.0 (average fs)) match_wins merit.omw;
+      gwp = subst (λ (t : Totals). IsShareOf p.merit.gwp.0 (game_win_of t)) own merit.gwp;
+      ogw = subst (λ (fs : List Fraction). IsShareOf p.merit.ogw.0 (average fs)) game_wins merit.ogw;
+    }
+
+nobody : Player
+nobody = record { no = 0; name = []; dropped = false }
+
+pub ArePlacings-each : (e : EventValue) (tallies : List Totals) (placings : List Placing) → AreWithin (length e.players) (map seen (lines e)) → All (λ (q : Player). IsKnown (length e.players) q.no) e.players → tallies ≡ map (totals_in (map seen (lines e))) (range_with_len 1 (length e.players)) → ArePlacings (map seen (lines e)) tallies e.players placings → All (IsPlacing e) placings
+ArePlacings-each e tallies placings within known are placed = λ k d below.
+    let count : length placings ≡ length e.players = sym (length-map placings (λ (p : Placing). p.player)) ∙ (ap length placed.numbers ∙ length-map e.players (λ (q : Player). q.no)) in
+    let inside : k < length e.players = omega arith in
+    let listed = get_or e.players k nobody in
+    let number : (get_or placings k d).player ≡ listed.no =
+    sym (get_or-map (λ (p : Placing). p.player) placings k d 0 below) ∙ (ap (λ ns. get_or ns k 0) placed.numbers ∙ get_or-map (λ (q : Player). q.no) e.players k nobody 0 inside) in
+    let dropped : (get_or placings k d).dropped ≡ listed.dropped =
+    sym (get_or-map (λ (p : Placing). p.dropped) placings k d false below) ∙ (ap (λ ds. get_or ds k false) placed.dropped ∙ get_or-map (λ (q : Player). q.dropped) e.players k nobody false inside) in
+    IsPlacing-merit e tallies (get_or placings k d) listed within are
+    (k, inside, get_or_default e.players k listed nobody inside)
+    (subst (IsKnown (length e.players)) (sym number) (known k nobody inside)) number dropped (placed.merits k d below)
+
+-- ---- the order of merits is the rules'
+
+pub merit_cmp-standing : (e : EventValue) (s t : Placing) → IsPlacing e s → IsPlacing e t → merit_cmp s.merit t.merit ≡ standing_cmp e t.player s.player
+merit_cmp-standing e s t one other =
+    ap₂ ordering_then (ap₂ nat_cmp other.points one.points)
+    (ap₂ ordering_then (share_cmp-same _ _ _ _ other.omw one.omw)
+    (ap₂ ordering_then (share_cmp-same _ _ _ _ other.gwp one.gwp) (share_cmp-same _ _ _ _ other.ogw one.ogw)))
+
+is_lt-reverse : (o : Ordering) → is_lt (ordering_reverse o) ≡ is_gt o
+is_lt-reverse Less = refl
+is_lt-reverse Equal = refl
+is_lt-reverse Greater = refl
+
+pub is_above-better : (e : EventValue) (s t : Placing) → IsPlacing e s → IsPlacing e t → is_above s t ≡ is_better e s.player t.player
+is_above-better e s t one other =
+    ap is_lt (merit_cmp-total.antisymm s.merit t.merit)
+    ∙ (is_lt-reverse (merit_cmp t.merit s.merit)
+    ∙ ap is_gt (merit_cmp-standing e t s other one))
+
+-- ---- ranks
+
+count_by-agree_all : {X : Type 0} (p q : X → Bool) (P : X → Type 0) → ((x : X) → P x → p x ≡ q x) → (xs : List X) → All P xs → count_by p xs ≡ count_by q xs
+count_by-agree_all p q P same [] all = refl
+count_by-agree_all p q P same (x ∷ xs) all =
+    sum_by-cons (λ y. cond (p y) 1 0) x xs
+    ∙ (rw (same x (all 0 x (omega arith)), count_by-agree_all p q P same xs (λ k d below. all (suc k) d (omega arith))) refl
+    ∙ sym (sum_by-cons (λ y. cond (q y) 1 0) x xs))
+
+count_by-map : {X Y : Type 0} (p : Y → Bool) (f : X → Y) (xs : List X) → count_by p (map f xs) ≡ count_by (λ x. p (f x)) xs
+count_by-map p f xs = sum_by-map (λ y. cond (p y) 1 0) f xs
+
+-- as many placings are above as there are better players
+pub rank-standing : (e : EventValue) (by_number placings : List Placing) (p : Placing) → All (IsPlacing e) placings → IsPlacing e p → IsPermutation by_number placings → map (λ (q : Placing). q.player) by_number ≡ map (λ (q : Player). q.no) e.players → count_by (λ q. is_above q p) placings ≡ count_by (λ (q : Player). is_better e q.no p.player) e.players
+rank-standing e by_number placings p all is same numbers =
+    let better : ℕ → Bool = λ q. is_better e q p.player in
+    count_by-agree_all (λ (q : Placing). is_above q p) (λ (q : Placing). better q.player) (IsPlacing e) (λ q placed. is_above-better e q p placed is) placings all
+    ∙ (sum_by-IsPermutation (λ (q : Placing). cond (better q.player) 1 0) by_number placings same
+    ∙ (sym (count_by-map better (λ (q : Placing). q.player) by_number)
+    ∙ (ap (count_by better) numbers
+    ∙ count_by-map better (λ (q : Player). q.no) e.players)))
+
+-- ---- the order of the list
+
+later_number : (p q : ℕ) → is_lt (nat_cmp q p) ≡ false → p ≢ q → nat_lt p q ≡ true
+later_number p q apart other = grind (arith, nat_tests)
+
+listed_by : (o : Ordering) (p q : ℕ) (later : Ordering) → is_lt (ordering_then o (ordering_then (nat_cmp q p) later)) ≡ false → p ≢ q → (is_gt o || (is_eq o && nat_lt p q)) ≡ true
+listed_by Less p q later apart other = cc
+listed_by Equal p q later apart other = later_number p q (first_apart (nat_cmp q p) later apart) other
+listed_by Greater p q later apart other = refl
+
+pub listed_before : (e : EventValue) (above below : Placing) → IsPlacing e above → IsPlacing e below → is_lt (placing_cmp below above) ≡ false → above.player ≢ below.player → is_listed_before e above.player below.player ≡ true
+listed_before e above below one other apart differ =
+    subst (λ (o : Ordering). (is_gt o || (is_eq o && nat_lt above.player below.player)) ≡ true) (merit_cmp-standing e below above other one)
+    (listed_by (merit_cmp below.merit above.merit) above.player below.player (bool_cmp below.dropped above.dropped) apart differ)

@@ -1,0 +1,5 @@
+pub mod Seen
+pub mod Standings
+pub mod Tally
+pub mod Placing
+pub mod Merit

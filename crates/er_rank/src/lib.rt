@@ -1,0 +1,37 @@
+//! The standings of an event by the Magic Tournament Rules, appendix Tiebreaker Explanation.
+#![tactic(auto)]
+
+ghost use Rattle.std.specs.Prelude.{◌≡◌, IfOk, List};
+ghost use Rattle.er_rank.specs.Standings.{AreStandings, IsTop, OneStandings, OneTop};
+
+mod lines;
+mod merits;
+mod placings;
+mod rows;
+mod tallies;
+
+use er_event::{Event, PlayerNo};
+pub use rows::Row;
+use std::alloc::{AllocError, Global};
+
+/// The standings: every player once, the better first, and players who are equal on match points and the three
+/// percentages by number. A round counts once it is complete. A dropped player stays listed, and stays an opponent.
+pub fn standings(alloc: Global, event: &Event) -> Result<Vec<Row>, AllocError>
+    ensures value { IfOk result (λ rows. AreStandings event.now rows.items) }
+    ensures only { IfOk result (λ rows. OneStandings event.now rows.items) }
+{
+    let players = event.players();
+    let lines = lines::lines_of(alloc, event.stored())?;
+    let tallies = tallies::tallies_of(alloc, lines.as_slice(), players.len())?;
+    let placings = placings::placings_of(alloc, players, lines.as_slice(), tallies.as_slice())?;
+    placings::rows_of(alloc, placings.as_slice())
+}
+
+/// The first `k` players of the standings who have not dropped, or all of them where there are fewer.
+pub fn top(alloc: Global, event: &Event, k: usize) -> Result<Vec<PlayerNo>, AllocError>
+    ensures value { IfOk result (λ players. IsTop event.now k players.items) }
+    ensures only { IfOk result (λ players. OneTop event.now k players.items) }
+{
+    let rows = standings(alloc, event)?;
+    rows::first_active(alloc, rows.as_slice(), k)
+}

@@ -1,0 +1,70 @@
+-- How many rounds, and matches of a round, a sound event may have.
+use Rattle.std.proofs.Common.{◌≡◌, ◌≢◌, ◌≤◌, ◌<◌, ◌+◌, ◌||◌, ◌==◌, ℕ, Bool, true, false, List, [], ◌∷◌, map, flat_map, length, Contains, refl, subst, arith}
+use Rattle.std.specs.List.{AllByRecursion, list_any, range_with_len}
+use Rattle.std.proofs.lemmas.Bool.Decides.{nat_tests, Decides-eqb}
+use Rattle.std.proofs.lemmas.List.{length-map}
+use Rattle.std.proofs.lemmas.List.Elements.{recursion_from_All}
+use Rattle.std.proofs.lemmas.List.FromFn.{length-range_with_len, get_or-range_with_len}
+use Rattle.std.proofs.lemmas.Map.Made.{IsDistinct-from_AllPairs}
+use Rattle.std.proofs.lemmas.Map.Steps.{length-le_from_distinct_below}
+use Rattle.er_event.specs.declared.rounds.Match.{Match}
+use Rattle.er_event.specs.declared.rounds.Round.{Round}
+use Rattle.er_event.specs.Event.{EventValue}
+use Rattle.er_event.specs.Change.{with_round}
+use Rattle.er_event.specs.Round.{seats}
+use Rattle.er_event.specs.Sound.{IsRound, IsSoundButForSeeds, numbers}
+use Rattle.er_event.proofs.Pairs.{Rec, from_rec, to_rec, all_right}
+
+abbrev Apart : ℕ → ℕ → Type 0
+Apart p q = p ≢ q
+
+-- who is named first at each table
+abbrev firsts : List Match → List ℕ
+firsts matches = map (λ (m : Match). m.a) matches
+
+first_apart : (p : ℕ) (ms : List Match) → AllByRecursion (Apart p) (flat_map seats ms) → AllByRecursion (Apart p) (firsts ms)
+first_apart p [] h = tt
+first_apart p (m ∷ ms) h = (h.0, first_apart p ms h.1.1)
+
+firsts_apart : (ms : List Match) → Rec Apart (flat_map seats ms) → Rec Apart (firsts ms)
+firsts_apart [] h = tt
+firsts_apart (m ∷ ms) h = (first_apart m.a ms h.0.1, firsts_apart ms h.1.1)
+
+known_below : (count k : ℕ) → Contains (range_with_len 1 count) k → k < count + 1
+known_below count k has =
+    let below = has.1 in
+    let len = length-range_with_len 1 count in
+    let at = get_or-range_with_len 1 count has.0 k (omega arith) in
+    let is = has.2 in
+    omega arith
+
+firsts_below : (count q : ℕ) (ms : List Match) → AllByRecursion (λ (m : Match). Contains (range_with_len 1 count) m.a) ms → list_any (λ p. q == p) (firsts ms) ≡ true → q < count + 1
+firsts_below count q [] known has = absurd (cc)
+firsts_below count q (m ∷ ms) known has = one_of_both (q == m.a) refl (known_below count m.a known.0) (firsts_below count q ms known.1) has
+  where
+    one_of_both : (b : Bool) → (q == m.a) ≡ b → m.a < count + 1 → (list_any (λ p. q == p) (firsts ms) ≡ true → q < count + 1) → (b || list_any (λ p. q == p) (firsts ms)) ≡ true → q < count + 1
+    one_of_both true e low more h = let same : q ≡ m.a = grind (arith, nat_tests) in omega (arith, low)
+    one_of_both false e low more h = more h
+
+-- nobody is named first at two tables
+few_firsts : (count : ℕ) (ms : List Match) → IsRound (range_with_len 1 count) ms → length ms ≤ count + 1
+few_firsts count ms round =
+    let apart = IsDistinct-from_AllPairs Decides-eqb (firsts ms) (from_rec Apart (firsts ms) (firsts_apart ms (to_rec Apart (flat_map seats ms) round.seated_once))) in
+    let known = recursion_from_All (λ (m : Match). Contains (range_with_len 1 count) m.a) ms round.first_known in
+    let few = length-le_from_distinct_below (firsts ms) (count + 1) apart (λ q has. firsts_below count q ms known has) in
+    let long = length-map ms (λ (m : Match). m.a) in
+    omega arith
+
+newest : (e : EventValue) (ms : List Match) → IsSoundButForSeeds (with_round e ms) → IsRound (numbers e.players) ms
+newest e ms sound =
+    let each = recursion_from_All (λ (r : Round). IsRound (numbers e.players) r.matches) (with_round e ms).stored sound.rounds.each in
+    (all_right (λ (r : Round). IsRound (numbers e.players) r.matches) e.stored (record { matches = ms } ∷ []) each).0
+
+pub few_matches : (e : EventValue) (ms : List Match) → IsSoundButForSeeds (with_round e ms) → length ms ≤ 513
+few_matches e ms sound =
+    let few = sound.players.few in
+    let within = few_firsts (length e.players) ms (subst (λ known. IsRound known ms) sound.players.numbered (newest e ms sound)) in
+    omega arith
+
+pub some_matches : (e : EventValue) (ms : List Match) → IsSoundButForSeeds (with_round e ms) → 0 < length ms
+some_matches e ms sound = (newest e ms sound).some

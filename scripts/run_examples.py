@@ -1,0 +1,151 @@
+"""Runs the program as it is built: each transcript of a folder, and then its edges: sizes, words and devices.
+
+A transcript is lines that are sent, each behind `>` and a space, and beneath them what they are answered. In a line that is sent \\t, \\r
+and \\xNN stand for one byte, `\\c` at its end says that it has no line feed, and ZERO is the seed of 64 digits 0. An empty line begins
+the next run, with an empty program. A line that begins with `#` says what is shown.
+"""
+import glob
+import os
+import re
+import resource
+import signal
+import struct
+import subprocess
+import sys
+import tempfile
+import time
+
+from chacha20 import words_of
+
+program, folder = sys.argv[1:]
+
+ESCAPES = {b"t": b"\t", b"r": b"\r", b"c": b""}
+
+
+def sent(line):
+    """The bytes of a line that is sent."""
+    end = b"" if line.endswith(b"\\c") else b"\n"
+    text = line[2:].replace(b"ZERO", b"0" * 64)
+    return re.sub(rb"\\(?:x([0-9a-f]{2})|([trc]))", lambda it: bytes([int(it[1], 16)]) if it[1] else ESCAPES[it[2]], text) + end
+
+
+def run(script, words=(), out=subprocess.PIPE):
+    ran = subprocess.run([program, *words], input=script, stdout=out, stderr=subprocess.PIPE, timeout=60)
+    return ran.returncode, ran.stdout, ran.stderr
+
+
+wrong = right = 0
+
+
+def check(name, got, want):
+    global wrong, right
+    if got == want:
+        right += 1
+    else:
+        wrong += 1
+        print(f"{name}: {got!r}, and not {want!r}", file=sys.stderr)
+
+
+def run_transcripts():
+    for file in sorted(glob.glob(f"{folder}/*.txt")):
+        at = 1
+        for part in open(file, "rb").read().split(b"\n\n"):
+            lines = part.strip(b"\n").split(b"\n")
+            script = b"".join(sent(line) for line in lines if line.startswith(b">"))
+            answers = b"".join(line + b"\n" for line in lines if not line.startswith((b">", b"#")))
+            check(f"{os.path.basename(file)}, line {at}", run(script), (0, answers, b""))
+            at += part.count(b"\n") + 2
+
+
+def run_sizes():
+    """A script is 65,536 bytes at most, of which the rest is empty lines here. Of a longer one nothing is run."""
+    for size in (65_535, 65_536):
+        check(f"{size} bytes", run(b"players".ljust(size, b"\n")), (0, b"refused 27 NoEvent\n", b""))
+    for size in (65_537, 70_000):
+        check(f"{size} bytes", run(b"players".ljust(size, b"\n")), (2, b"usage\n", b""))
+
+
+def run_full_event():
+    """An event has 512 players at most. A name that is taken comes first."""
+    script, answers = b"init\tFriday\t3\t0\n", b"ok 0\n"
+    for number in range(1, 513):
+        script += b"enrol\tN%d\n" % number
+        answers += b"ok %d\n" % number
+    script += b"enrol\tN1\nenrol\tN513\nenrol\t\nstart\npair\t1\t" + b"0" * 64 + b"\n"
+    answers += b"refused 2 NameTaken\nrefused 3 PlayersFull\nrefused 1 BadName\nok 513\nok 514\n"
+    check("512 players", run(script), (0, answers, b""))
+
+
+def run_seeds():
+    """The first round follows the words of the seed, which is read from the left, the high half of each byte first. Capital digits are alike."""
+    # RFC 8439, A.1, test vectors 1 and 3: the first block of the key of zeros, and the second of the key that ends in 1
+    check("vector 1", struct.pack("<4I", *words_of(bytes(32), 4)).hex(), "76b8e0ada0f13d90405d6ae55386bd28")
+    check("vector 3", struct.pack("<4I", *words_of(bytes(31) + b"\1", 20)[16:]).hex(), "3aeb5224ecf849929b9d828db1ced4dd")
+    for seed in (bytes(range(32)), b"\xa1" + bytes(30) + b"\x0f", b"\xff" * 32):
+        players = list(range(1, 38))
+        words = words_of(seed, len(players))
+        order = sorted(players, key=lambda it: (words[it - 1], it)) + [0]
+        script = b"init\tFriday\t3\t0\n" + b"".join(b"enrol\tP%d\n" % it for it in players) + b"start\n"
+        answers = b"".join(b"ok %d\n" % it for it in range(len(players) + 3)) + b" Tab    A    B Score Names\n"
+        for table, (a, b) in enumerate(zip(order[::2], order[1::2]), 1):
+            answers += b"%4d %4d %4d -     P%d - P%d\n" % (table, a, b, a, b) if b else b"   0 %4d    0 2-0-0 P%d - bye\n" % (a, a)
+        for word in (seed.hex(), seed.hex().upper()):
+            check(f"seed {word}", run(script + b"pair\t1\t%s\nslips\t1\n" % word.encode()), (0, answers, b""))
+
+
+def run_words():
+    """A text that is asked for goes to the output, and the help to the errors where none is."""
+    _, help_text, _ = run(b"", ["--help"])
+    check("--help", help_text.startswith(b"usage: event_reporter < SCRIPT\n"), True)
+    check("-h", run(b"", ["-h"]), (0, help_text, b""))
+    for word in ("--version", "-V"):
+        check(word, run(b"", [word]), (0, b"event_reporter 0.1.0\n", b""))
+    for words in (["help"], ["--help", "--help"], ["players", "friday.db"], [""]):
+        check(f"words {words}", run(b"players\n", words), (2, b"", help_text))
+
+
+FRIDAY = b"init\tFriday\t3\t0\nenrol\tAna\nenrol\tBo\nenrol\tCy\nenrol\tDi\nplayers\n"
+
+
+def run_in_room(room):
+    """Runs a script into a file that takes so many bytes, and then none."""
+
+    def narrow():
+        signal.signal(signal.SIGXFSZ, signal.SIG_IGN)
+        resource.setrlimit(resource.RLIMIT_FSIZE, (room, room))
+
+    with tempfile.TemporaryFile() as out:
+        ran = subprocess.run([program], input=FRIDAY, stdout=out, stderr=subprocess.PIPE, timeout=60, preexec_fn=narrow, restore_signals=False)
+        out.seek(0)
+        return ran.returncode, out.read(), ran.stderr
+
+
+def run_slowly():
+    """Input that comes a byte at a time is read to its end."""
+    with subprocess.Popen([program], stdin=subprocess.PIPE, stdout=subprocess.PIPE, bufsize=0) as ran:
+        for byte in FRIDAY:
+            ran.stdin.write(bytes([byte]))
+            time.sleep(0.001)
+        ran.stdin.close()
+        answers = ran.stdout.read()
+    check("a slow input", (ran.returncode, answers), (0, run(FRIDAY)[1]))
+
+
+def run_devices():
+    """An output that takes no byte and an input that gives none end the program with 3, and no words with them."""
+    with open("/dev/full", "wb") as full:
+        check("a full output", run(b"players\n", out=full), (3, None, b""))
+        check("a full output for the help", run(b"", ["--help"], out=full), (3, None, b""))
+    for room, taken in ((0, b""), (7, b"ok 0\nok"), (13, b"ok 0\nok 1\nok "), (30, b"ok 0\nok 1\nok 2\nok 3\nok 4\n  No ")):
+        check(f"an output with room for {room} bytes", run_in_room(room), (3, taken, b""))
+    directory = os.open("/", os.O_RDONLY)
+    ran = subprocess.run([program], stdin=directory, capture_output=True, timeout=60)
+    os.close(directory)
+    check("an input that fails", (ran.returncode, ran.stdout, ran.stderr), (3, b"", b""))
+
+
+for part in (run_transcripts, run_sizes, run_full_event, run_seeds, run_words, run_slowly, run_devices):
+    part()
+print("the examples, as the program is built")
+print(f"{right} passed, {wrong} failed")
+sys.exit(1 if wrong else 0)
