@@ -163,19 +163,6 @@ fn a_name_that_is_taken_does_not_fit(rt: HostRuntime) -> Result<(), Fail> {
 }
 
 #[test]
-fn an_event_has_room_for_512_players(rt: HostRuntime) -> Result<(), Fail> {
-    let alloc = rt.alloc();
-    let mut event = friday(alloc, 3, 0)?.ok().ok_or("friday")?;
-    for i in 1u16..=512 {
-        let text = format!(in alloc; "N{i}")?;
-        event = with_player(alloc, event, text.as_str())?.ok_or("room")?;
-    }
-    assert_eq!(rt; event.players().len(), 512);
-    assert!(rt; with_player(alloc, event, "N513")?.is_none());
-    Ok(())
-}
-
-#[test]
 fn numbers_lists_and_refusals_read_back(rt: HostRuntime) -> Result<(), Fail> {
     assert_eq!(rt; PlayerNo::try_new(512).map(PlayerNo::get), Some(512));
     assert!(rt; PlayerNo::try_new(0).is_none() && PlayerNo::try_new(513).is_none());

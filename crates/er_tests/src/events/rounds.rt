@@ -132,22 +132,6 @@ fn round(alloc: Global, matches: &[Match]) -> Result<Change, Fail> {
     })
 }
 
-#[test]
-fn rounds_follow_in_turn(rt: HostRuntime) -> Result<(), Fail> {
-    let alloc = rt.alloc();
-    let event = Event::from_parts(alloc, paired(alloc, &[])?)?;
-    let first = [played(2, 1, 1, 2), played(3, 0, 2, 0)];
-    let event = changed(alloc, event, &round(alloc, &first)?)?.ok_or("first")?;
-    assert!(rt; !event.fits(&round(alloc, &first)?));
-    let second = [played(1, 3, 2, 0), played(2, 0, 2, 0)];
-    let event = changed(alloc, event, &round(alloc, &second)?)?.ok_or("second")?;
-    assert_eq!(rt; event.stored().len(), 2);
-    assert_eq!(rt; event.stored()[1].matches.as_slice(), second.as_slice());
-    let copy = event.copy(alloc)?;
-    assert_eq!(rt; copy.stored()[0].matches.as_slice(), first.as_slice());
-    Ok(())
-}
-
 fn set_score(round: u8, table: u16, x: u8, y: u8) -> Result<Change, Fail> {
     let score = Score::swiss(Games { x, y, d: 0 }).ok_or("score")?;
     Ok(Change::SetScore {
@@ -168,21 +152,6 @@ fn open_round(alloc: Global) -> Result<Event, Fail> {
     let event = Event::from_parts(alloc, paired(alloc, &[])?)?;
     let change = round(alloc, &[OPEN, played(3, 0, 2, 0)])?;
     Ok(changed(alloc, event, &change)?.ok_or("round")?)
-}
-
-#[test]
-fn a_score_is_entered_and_corrected(rt: HostRuntime) -> Result<(), Fail> {
-    let alloc = rt.alloc();
-    let event = open_round(alloc)?;
-    assert_eq!(rt; event.match_at(1, 1).copied(), Some(OPEN));
-    let event = changed(alloc, event, &set_score(1, 1, 1, 2)?)?.ok_or("entered")?;
-    let entered = [played(2, 1, 1, 2), played(3, 0, 2, 0)];
-    assert_eq!(rt; event.stored().len(), 1);
-    assert_eq!(rt; event.stored()[0].matches.as_slice(), entered.as_slice());
-    let event = changed(alloc, event, &set_score(1, 1, 2, 0)?)?.ok_or("corrected")?;
-    assert_eq!(rt; event.match_at(1, 1).copied(), Some(played(2, 1, 2, 0)));
-    assert_eq!(rt; event.match_at(1, 0).copied(), Some(played(3, 0, 2, 0)));
-    Ok(())
 }
 
 /// The bye has table 0, so no match has table 2.
@@ -213,26 +182,5 @@ fn a_score_is_lawful_in_a_round(rt: HostRuntime) -> Result<(), Fail> {
         };
         assert_eq!(rt; event.fits(&change), lawful, "{x} {y}");
     }
-    Ok(())
-}
-
-#[test]
-fn a_correction_keeps_later_rounds(rt: HostRuntime) -> Result<(), Fail> {
-    let alloc = rt.alloc();
-    let event = Event::from_parts(alloc, paired(alloc, &[BYE, TABLE])?)?;
-    let second = [
-        Match {
-            a: 1,
-            b: 3,
-            score: None,
-        },
-        played(2, 0, 2, 0),
-    ];
-    let event = changed(alloc, event, &round(alloc, &second)?)?.ok_or("second")?;
-    let event = changed(alloc, event, &set_score(1, 1, 2, 0)?)?.ok_or("corrected")?;
-    assert_eq!(rt; event.stored().len(), 2);
-    let first = [played(2, 1, 2, 0), played(3, 0, 2, 0)];
-    assert_eq!(rt; event.stored()[0].matches.as_slice(), first.as_slice());
-    assert_eq!(rt; event.stored()[1].matches.as_slice(), second.as_slice());
     Ok(())
 }
