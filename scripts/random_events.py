@@ -1,6 +1,10 @@
 """Plays random events by scripts on the program as it is built, beside a plain and slow reading of the rules (docs/RULES.md).
 
-Each answer is compared: of commands that are taken and refused, slips after each pairing, and the standings after most steps.
+Every second event is small, 2 to 11 players, and does this and that: pairings, results, corrections, drops and cuts come in any order.
+The others have 8 to 32 players and are played from the first round to the champion, where they have a cut and enough players for it.
+
+Each answer is compared: of commands that are taken and refused, slips after each pairing, and the standings after most steps. Of the
+playoff, the whole bracket after each score, and the standings at its end, which are those before the cut.
 """
 import random
 import subprocess
@@ -13,11 +17,29 @@ program, count = sys.argv[1], int(sys.argv[2])
 
 LEAST = Fraction(33, 100)
 BYE = (2, 0, 0)
+ENROLLING, SWISS, PLAYOFF, FINISHED = range(4)
+
+# which seeds meet in the slots of the first stage
+SLOTS = {2: [(1, 2)], 4: [(1, 4), (2, 3)], 8: [(1, 8), (4, 5), (2, 7), (3, 6)]}
 
 
 def swiss(score):
     x, y, d = score
     return x <= 2 and y <= 2 and d <= 3 and (x, y) != (2, 2)
+
+
+def of_playoff(score):
+    x, y, d = score
+    return x <= 3 and y <= 3 and d <= 3 and x != y
+
+
+def winner(match):
+    a, b, (x, y, _) = match
+    return a if x > y else b
+
+
+def shown(score):
+    return f"{'-'.join(map(str, score)) if score else '-':5}"
 
 
 def mean(shares):
@@ -30,11 +52,11 @@ def printed(share):
 
 
 class Event:
-    """Rounds are lists of [first, second or 0, score or None]; the bye stands last."""
+    """Rounds and stages are lists of [first, second or 0, score or None]; the bye stands last."""
 
-    def __init__(self, rounds):
-        self.rounds, self.serial, self.is_started = rounds, 0, False
-        self.names, self.dropped, self.stored = [], set(), []
+    def __init__(self, rounds, cut):
+        self.rounds, self.cut, self.serial, self.phase = rounds, cut, 0, ENROLLING
+        self.names, self.dropped, self.stored, self.stages = [], set(), [], []
 
     def numbers(self):
         return range(1, len(self.names) + 1)
@@ -65,11 +87,16 @@ class Event:
         opponents = [other for other, _ in self.played(player) if other]
         return self.points(player), mean([self.match_wins(it) for it in opponents]), self.game_wins(player), mean([self.game_wins(it) for it in opponents])
 
-    def standings(self):
+    def merits(self):
+        """What the players are ranked by, in the order of the standings."""
         merits = {it: self.merit(it) for it in self.numbers()}
+        return {it: merits[it] for it in sorted(merits, key=lambda it: ([-value for value in merits[it]], it))}
+
+    def standings(self):
+        merits = self.merits()
         lines = ["Rank   No Pts    OMW    GWP    OGW D Name"]
-        for it in sorted(self.numbers(), key=lambda it: ([-value for value in merits[it]], it)):
-            rank = 1 + sum(merits[other] > merits[it] for other in self.numbers())
+        for it in merits:
+            rank = 1 + sum(other > merits[it] for other in merits.values())
             shares = " ".join(f"{printed(share):>6}" for share in merits[it][1:])
             lines.append(f"{rank:4} {it:4} {merits[it][0]:3} {shares} {'D' if it in self.dropped else ' '} {self.names[it - 1]}")
         return lines
@@ -79,17 +106,38 @@ class Event:
             return ["refused 12 NoSuchMatch"]
         lines = [" Tab    A    B Score Names"]
         for place, (a, b, score) in enumerate(self.stored[number - 1], 1):
-            shown = "-".join(map(str, score)) if score else "-"
             other = self.names[b - 1] if b else "bye"
-            lines.append(f"{place if b else 0:4} {a:4} {b:4} {shown:5} {self.names[a - 1]} - {other}")
+            lines.append(f"{place if b else 0:4} {a:4} {b:4} {shown(score)} {self.names[a - 1]} - {other}")
+        return lines
+
+    def bracket(self):
+        lines = [" Stg Slot    A    B Score Names"]
+        for stage, matches in enumerate(self.stages, 1):
+            for slot, (a, b, score) in enumerate(matches, 1):
+                lines.append(f"{stage:4} {slot:4} {a:4} {b:4} {shown(score)} {self.names[a - 1]} - {self.names[b - 1]}")
+        if self.phase == FINISHED:
+            champion = winner(self.stages[-1][0])
+            lines.append(f"Champion {champion} {self.names[champion - 1]}")
         return lines
 
     def taken(self):
         self.serial += 1
         return [f"ok {self.serial}"]
 
+    def enrol(self, name):
+        if self.phase != ENROLLING:
+            return ["refused 4 NotEnrolling"]
+        self.names.append(name)
+        return self.taken()
+
+    def start(self):
+        if self.phase != ENROLLING:
+            return ["refused 4 NotEnrolling"]
+        self.phase = SWISS
+        return self.taken()
+
     def pair(self, number, seed):
-        if not self.is_started:
+        if self.phase != SWISS:
             return ["refused 6 NotSwiss"]
         if number != len(self.stored) + 1:
             return ["refused 7 WrongRound"]
@@ -110,7 +158,7 @@ class Event:
         return self.taken()
 
     def report(self, number, table, score, is_new):
-        if not self.is_started:
+        if self.phase != SWISS:
             return ["refused 6 NotSwiss"]
         matches = self.stored[number - 1] if 1 <= number <= len(self.stored) else []
         found = [it for place, it in enumerate(matches, 1) if table == (place if it[1] else 0)]
@@ -128,13 +176,46 @@ class Event:
         return self.taken()
 
     def drop(self, player):
-        if not self.is_started:
+        if self.phase != SWISS:
             return ["refused 6 NotSwiss"]
         if player not in self.numbers():
             return ["refused 17 NoSuchPlayer"]
         if player in self.dropped:
             return ["refused 18 AlreadyDropped"]
         self.dropped.add(player)
+        return self.taken()
+
+    def end_rounds(self):
+        if self.phase != SWISS:
+            return ["refused 6 NotSwiss"]
+        if self.cut == 0:
+            return ["refused 20 NoCut"]
+        if len(self.stored) < self.rounds or not all(score for matches in self.stored for _, _, score in matches):
+            return ["refused 19 RoundsNotDone"]
+        seeds = [it for it in self.merits() if it not in self.dropped]
+        if len(seeds) < self.cut:
+            return ["refused 21 TooFewForCut"]
+        self.phase = PLAYOFF
+        self.stages.append([[seeds[one - 1], seeds[other - 1], None] for one, other in SLOTS[self.cut]])
+        return self.taken()
+
+    def play(self, stage, slot, score):
+        if self.phase != PLAYOFF:
+            return ["refused 22 NotPlayoff"]
+        if not 1 <= stage <= len(self.stages) or not 1 <= slot <= len(self.stages[stage - 1]):
+            return ["refused 12 NoSuchMatch"]
+        matches = self.stages[stage - 1]
+        if matches[slot - 1][2]:
+            return ["refused 14 AlreadyReported"]
+        if not of_playoff(score):
+            return ["refused 13 BadScore"]
+        matches[slot - 1][2] = score
+        if all(score for _, _, score in matches):
+            if len(matches) == 1:
+                self.phase = FINISHED
+            else:
+                on = [winner(match) for match in matches]
+                self.stages.append([[a, b, None] for a, b in zip(on[::2], on[1::2])])
         return self.taken()
 
 
@@ -156,55 +237,151 @@ def random_score(dice):
     return dice.randrange(4), dice.randrange(4), dice.randrange(5)
 
 
-def random_event(dice):
+def random_playoff_score(dice):
+    if dice.random() < 0.7:
+        return dice.choice([(2, 0, 0), (2, 1, 0), (1, 2, 0), (0, 2, 0), (1, 0, 3), (0, 1, 0), (3, 2, 0), (2, 3, 1), (3, 0, 3)])
+    return dice.randrange(5), dice.randrange(5), dice.randrange(5)
+
+
+class Play:
     """A script, and what it is answered."""
-    players, event = dice.randint(2, 11), Event(dice.randint(1, 9))
-    lines, answers = [f"init\tE\t{event.rounds}\t0"], ["ok 0"]
 
-    def send(line, answer):
-        lines.append(line)
-        answers.extend(answer)
+    def __init__(self, dice, players, rounds, cut):
+        self.dice, self.event, self.players = dice, Event(rounds, cut), players
+        self.lines, self.answers = [f"init\tE\t{rounds}\t{cut}"], ["ok 0"]
+        for number in range(1, players + 1):
+            self.send(f"enrol\tP{number}", self.event.enrol(f"P{number}"))
+        if dice.random() < 0.1:
+            self.cut()
+        self.send("start", self.event.start())
 
-    for number in range(1, players + 1):
-        event.names.append(f"P{number}")
-        send(f"enrol\tP{number}", event.taken())
-    event.is_started = True
-    send("start", event.taken())
+    def send(self, line, answer):
+        self.lines.append(line)
+        self.answers.extend(answer)
+
+    def is_open(self):
+        stored = self.event.stored
+        return bool(stored) and not all(score for _, _, score in stored[-1])
+
+    def standings(self):
+        self.send("standings", self.event.standings())
+
+    def pair(self, number):
+        seed = self.dice.randbytes(32)
+        self.send(f"pair\t{number}\t{seed.hex()}", self.event.pair(number, seed))
+        self.send(f"slips\t{number}", self.event.slips(number))
+
+    def report(self, is_new, number, table, score):
+        verb = "result" if is_new else "correct"
+        self.send(f"{verb}\t{number}\t{table}\t{score[0]}\t{score[1]}\t{score[2]}", self.event.report(number, table, score, is_new))
+
+    def drop(self):
+        player = self.dice.randint(0, self.players + 1)
+        self.send(f"drop\t{player}", self.event.drop(player))
+
+    def cut(self):
+        self.send("cut", self.event.end_rounds())
+        self.send("bracket", self.event.bracket())
+
+    def playoff(self):
+        """A score of a match that is open, or of any, or of none."""
+        stages, dice = self.event.stages, self.dice
+        is_open = [(stage, slot) for stage, matches in enumerate(stages, 1) for slot, match in enumerate(matches, 1) if not match[2]]
+        any_at = dice.randint(0, len(stages) + 1), dice.randint(0, self.event.cut // 2 + 1)
+        stage, slot = dice.choice(is_open) if is_open and dice.random() < 0.7 else any_at
+        score = random_playoff_score(dice)
+        self.send(f"playoff\t{stage}\t{slot}\t{score[0]}\t{score[1]}\t{score[2]}", self.event.play(stage, slot, score))
+        self.send("bracket", self.event.bracket())
+
+    def late(self):
+        """A command for which it is too late once the rounds are over."""
+        number, what = len(self.event.stored), self.dice.randrange(7)
+        if what == 0:
+            self.pair(number + self.dice.randrange(2))
+        elif what in (1, 2):
+            self.report(what == 1, number, 1, random_score(self.dice))
+        elif what == 3:
+            self.drop()
+        elif what == 4:
+            self.cut()
+        elif what == 5:
+            self.send("start", self.event.start())
+        else:
+            self.send("enrol\tLate", self.event.enrol("Late"))
+
+
+def this_and_that(dice):
+    """A small event, to which one thing after another is done, in order or not."""
+    play = Play(dice, dice.randint(2, 11), dice.randint(1, 9), dice.choice((0, 0, 2, 4, 8)))
     for _ in range(dice.randint(1, 60)):
-        what, number = dice.random(), len(event.stored)
-        is_open = bool(event.stored) and not all(score for _, _, score in event.stored[-1])
-        if what < (0.1 if is_open else 0.7):
-            number = number + 1 if dice.random() < 0.95 else dice.randrange(11)
-            seed = dice.randbytes(32)
-            send(f"pair\t{number}\t{seed.hex()}", event.pair(number, seed))
-            send(f"slips\t{number}", event.slips(number))
-        elif what < 0.95:
+        what, number, is_open = dice.random(), len(play.event.stored), play.is_open()
+        if play.event.phase != SWISS and what < 0.8:
+            play.playoff()
+        elif what < (0.1 if is_open else 0.6):
+            play.pair(number + 1 if dice.random() < 0.95 else dice.randrange(11))
+        elif what < 0.9:
             is_new = dice.random() < (0.85 if is_open else 0.2)
             number = number if is_new or dice.random() < 0.3 else dice.randint(0, number + 1)
-            table, score = dice.randint(0, players // 2 + 1), random_score(dice)
-            verb = "result" if is_new else "correct"
-            send(f"{verb}\t{number}\t{table}\t{score[0]}\t{score[1]}\t{score[2]}", event.report(number, table, score, is_new))
+            play.report(is_new, number, dice.randint(0, play.players // 2 + 1), random_score(dice))
+        elif what < 0.95:
+            play.drop()
+        elif what < 0.99:
+            play.cut()
         else:
-            player = dice.randint(0, players + 1)
-            send(f"drop\t{player}", event.drop(player))
+            play.playoff()
         if dice.random() < 0.7:
-            send("standings", event.standings())
-    return lines, answers
+            play.standings()
+    return play
+
+
+def to_the_champion(dice):
+    """An event that is played from its first round to its end."""
+    play = Play(dice, dice.randint(8, 32), dice.randint(1, 5), dice.choice((0, 2, 4, 8, 8)))
+    event = play.event
+    for number in range(1, event.rounds + 1):
+        play.pair(number)
+        while play.is_open():
+            tables = [table for table, (_, _, score) in enumerate(event.stored[-1], 1) if not score]
+            table = dice.choice(tables) if dice.random() < 0.95 else dice.randint(0, play.players // 2 + 1)
+            play.report(dice.random() < 0.95, number, table, random_score(dice))
+        if dice.random() < 0.3:
+            play.drop()
+        if dice.random() < 0.2:
+            play.cut()
+    while event.phase == SWISS and dice.random() < 0.5:
+        play.drop()
+    play.standings()
+    play.cut()
+    before = event.standings()
+    while event.phase == PLAYOFF:
+        if dice.random() < 0.9:
+            play.playoff()
+        else:
+            play.late()
+    play.send("standings", before)
+    for _ in range(dice.randrange(3)):
+        if dice.random() < 0.5:
+            play.late()
+        else:
+            play.playoff()
+    return play
 
 
 def main():
-    dice, wrong, rounds = random.Random(20261122), 0, 0
+    dice, wrong, rounds, champions = random.Random(20261122), 0, 0, 0
     for number in range(count):
-        lines, answers = random_event(dice)
+        play = (this_and_that, to_the_champion)[number % 2](dice)
+        lines, answers = play.lines, play.answers
         script = "".join(line + "\n" for line in lines).encode()
         ran = subprocess.run([program], input=script, capture_output=True, timeout=60)
         rounds += sum(line.startswith("pair") for line in lines)
+        champions += play.event.phase == FINISHED
         if ran.returncode or ran.stdout.decode() != "".join(line + "\n" for line in answers):
             wrong += 1
             got = ran.stdout.decode().splitlines()
             at = next((i for i, (a, b) in enumerate(zip(got, answers)) if a != b), min(len(got), len(answers)))
             print(f"event {number}, line {at + 1} of the answers: {got[at:at + 1]}, and not {answers[at:at + 1]}", file=sys.stderr)
-    print(f"random events: {rounds} pairings asked for")
+    print(f"random events: {rounds} pairings asked for, {champions} champions")
     print(f"{count - wrong} passed, {wrong} failed")
     sys.exit(1 if wrong else 0)
 

@@ -1,4 +1,5 @@
-"""Runs the program as it is built: each transcript of a folder, and then its edges: sizes, words and devices.
+"""Runs the program as it is built: each transcript of a folder, each script beside that folder that has its answers, and then the
+program's edges: sizes, words and devices.
 
 A transcript is lines that are sent, each behind `>` and a space, and beneath them what they are answered. In a line that is sent \\t, \\r
 and \\xNN stand for one byte, `\\c` at its end says that it has no line feed, and ZERO is the seed of 64 digits 0. An empty line begins
@@ -55,6 +56,13 @@ def run_transcripts():
             answers = b"".join(line + b"\n" for line in lines if not line.startswith((b">", b"#")))
             check(f"{os.path.basename(file)}, line {at}", run(script), (0, answers, b""))
             at += part.count(b"\n") + 2
+
+
+def run_scripts():
+    """The scripts of the README, of which the answers stand beside them."""
+    for file in sorted(glob.glob(f"{folder}/../*.answers")):
+        script, answers = open(file.replace(".answers", ".txt"), "rb").read(), open(file, "rb").read()
+        check(os.path.basename(file), run(script), (0, answers, b""))
 
 
 def run_sizes():
@@ -144,7 +152,7 @@ def run_devices():
     check("an input that fails", (ran.returncode, ran.stdout, ran.stderr), (3, b"", b""))
 
 
-for part in (run_transcripts, run_sizes, run_full_event, run_seeds, run_words, run_slowly, run_devices):
+for part in (run_transcripts, run_scripts, run_sizes, run_full_event, run_seeds, run_words, run_slowly, run_devices):
     part()
 print("the examples, as the program is built")
 print(f"{right} passed, {wrong} failed")

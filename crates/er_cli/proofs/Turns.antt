@@ -1,5 +1,5 @@
 -- The turns of a script's lines.
-use Rattle.std.proofs.Common.{◌≡◌, ℕ, Bool, true, false, not, IsTrue, IsFalse, List, [], ◌∷◌, Option, Some, None, Result, Ok, Err, IfErr, OnOk, is_some, refl, sym, subst, ◌∙◌, inl, inr, true≢false}
+use Rattle.std.proofs.Common.{◌≡◌, ℕ, Bool, true, false, not, IsTrue, IsFalse, List, [], ◌∷◌, Option, Some, None, Result, Ok, Err, IfOk, IfErr, OnOk, MatchResult, is_some, refl, sym, subst, ◌∙◌, inl, inr, true≢false}
 use Rattle.sqlite_trees.specs.declared.store.Store.{Ghosts}
 use Rattle.sqlite_trees.specs.declared.memory.MemStore.{MemStore}
 use Rattle.sqlite.specs.Steps.{over_memory}
@@ -9,14 +9,16 @@ use Rattle.er_event.specs.Event.{EventValue}
 use Rattle.er_event.specs.Change.{created}
 use Rattle.er_store.specs.Standing.{Shows}
 use Rattle.er_cli.specs.declared.session.Session.{Session}
-use Rattle.er_cli.specs.declared.texts.Answer.TheVariants.{Accepted, Refused}
+use Rattle.er_paper.specs.Texts.{IsStandingsText}
+use Rattle.er_cli.specs.declared.texts.Answer.{Answer}
+use Rattle.er_cli.specs.declared.texts.Answer.TheVariants.{Accepted, Text, Refused}
 use Rattle.er_cli.specs.declared.words.Line.{Line}
-use Rattle.er_cli.specs.declared.words.Line.TheVariants.{Init}
+use Rattle.er_cli.specs.declared.words.Line.TheVariants.{Init, Standings}
 use Rattle.er_rules.specs.Commands.{first_refusal}
 use Rattle.er_cli.specs.Setup.{is_setup}
 use Rattle.er_cli.specs.Session.{state, event_of, serial_of, is_stopped, Refuses}
 use Rattle.er_event.specs.declared.refusals.Command.{Command}
-use Rattle.er_cli.specs.Script.{Kept, Turn, IsTurn, Answers, unless, kept_of}
+use Rattle.er_cli.specs.Script.{Kept, Turn, IsTurn, Answers, unless, kept_of, shown}
 
 pub is_some-kept : {S : Type 0} {g : Ghosts S} (session : Option (Session S g)) → is_some (kept_of session) ≡ is_some session
 is_some-kept None = refl
@@ -52,3 +54,9 @@ module _ (old new : Session MemStore over_memory) where
 pub memory_answers : (old : Option Kept) (line : Option Line) → Answers old line (Refused Memory) old
 memory_answers old None = (refl, inr refl)
 memory_answers old (Some line) = inr (inl (refl, refl))
+
+-- the standings' text is the turn's answer, or memory was wanting
+pub standings_answers : {V E : Type 0} (items : V → List ℕ) (old : Option Kept) (event : EventValue) (text : Result V E) (answer : Answer)
+    → shown old ≡ Ok event → IfOk text (λ t. IsStandingsText event (items t)) → MatchResult text (λ t. answer ≡ Text (items t)) (λ _. answer ≡ Refused Memory) → Answers old (Some Standings) answer old
+standings_answers items old event (Ok t) answer is written printed = inl (rw is (items t, written, printed), refl)
+standings_answers items old event (Err e) answer is written printed = inr (inl (printed, refl))

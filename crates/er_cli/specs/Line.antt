@@ -8,9 +8,8 @@ use Rattle.er_cli.specs.declared.words.LineFault.{LineFault}
 use Rattle.er_cli.specs.declared.words.LineFault.TheVariants.{Usage, Memory}
 use Rattle.er_cli.specs.declared.words.Line.{Line}
 use Rattle.er_event.specs.declared.scores.Games.{Games}
-use Rattle.er_event.specs.declared.refusals.Command.TheVariants.{Enrol, Start, Pair, Result as Report, Correct, Drop}
-use Rattle.er_rules.specs.Step.{IsWritten}
-use Rattle.er_cli.specs.declared.words.Line.TheVariants.{Init, Submit, Players, Standings, Slips}
+use Rattle.er_event.specs.declared.refusals.Command.TheVariants.{Enrol, Start, Pair, Result as Report, Correct, Drop, Cut, Playoff}
+use Rattle.er_cli.specs.declared.words.Line.TheVariants.{Init, Submit, Players, Standings, Slips, Bracket}
 
 -- the number below the limit that a word of digits is
 abbrev pub number_below : ℕ → List ℕ → Option ℕ
@@ -74,11 +73,12 @@ abbrev pub games_of : List (List ℕ) → Option Games
 games_of (x ∷ y ∷ d ∷ []) = games_with (number_below 256 x) (number_below 256 y) (number_below 256 d)
 games_of _ = None
 
+-- of a round and its table, or of a stage and its slot
 abbrev pub report_with : Option ℕ → Option ℕ → Option Games → Option (ℕ × ℕ × Games)
-report_with (Some round) (Some table) (Some games) = Some (round, table, games)
-report_with (Some round) (Some table) None = None
-report_with (Some round) None games = None
-report_with None table games = None
+report_with (Some part) (Some place) (Some games) = Some (part, place, games)
+report_with (Some part) (Some place) None = None
+report_with (Some part) None games = None
+report_with None place games = None
 
 -- `ROUND TABLE X Y D`
 abbrev pub report_of : List (List ℕ) → Option (ℕ × ℕ × Games)
@@ -98,6 +98,20 @@ abbrev pub drop_of : List (List ℕ) → Option Line
 drop_of (player ∷ []) = option_map (λ number. Submit (Drop number)) (number_below 65536 player)
 drop_of _ = None
 
+-- `cut`
+abbrev pub cut_of : List (List ℕ) → Option Line
+cut_of [] = Some (Submit Cut)
+cut_of _ = None
+
+-- `STAGE SLOT X Y D`
+abbrev pub slot_report_of : List (List ℕ) → Option (ℕ × ℕ × Games)
+slot_report_of (stage ∷ slot ∷ games) = report_with (number_below 256 stage) (number_below 256 slot) (games_of games)
+slot_report_of _ = None
+
+-- `playoff STAGE SLOT X Y D`
+abbrev pub playoff_of : List (List ℕ) → Option Line
+playoff_of words = option_map (λ it. Submit (Playoff it.0 it.1 it.2)) (slot_report_of words)
+
 -- `players`
 abbrev pub players_of : List (List ℕ) → Option Line
 players_of [] = Some Players
@@ -113,6 +127,11 @@ abbrev pub slips_of : List (List ℕ) → Option Line
 slips_of (round ∷ []) = option_map Slips (number_below 256 round)
 slips_of _ = None
 
+-- `bracket`
+abbrev pub bracket_of : List (List ℕ) → Option Line
+bracket_of [] = Some Bracket
+bracket_of _ = None
+
 -- a command is its first word
 abbrev pub command_of : List (List ℕ) → Option Line
 command_of [] = None
@@ -124,10 +143,13 @@ command_of (command ∷ words) =
     else (if bytes_eq command (codes "result") then result_of words
     else (if bytes_eq command (codes "correct") then correct_of words
     else (if bytes_eq command (codes "drop") then drop_of words
+    else (if bytes_eq command (codes "cut") then cut_of words
+    else (if bytes_eq command (codes "playoff") then playoff_of words
     else (if bytes_eq command (codes "players") then players_of words
     else (if bytes_eq command (codes "standings") then standings_of words
     else (if bytes_eq command (codes "slips") then slips_of words
-    else None)))))))))
+    else (if bytes_eq command (codes "bracket") then bracket_of words
+    else None))))))))))))
 
 -- a line is UTF-8
 abbrev pub line_of : List ℕ → Option Line
@@ -138,8 +160,3 @@ abbrev pub Reads : Option Line → Result Line LineFault → Type 0
 Reads found (Ok line) = found ≡ Some line
 Reads found (Err Usage) = found ≡ None
 Reads found (Err Memory) = Unit {0}
-
--- its command is one that is decided so far
-abbrev pub IsKnown : Line → Type 0
-IsKnown (Submit command) = IsWritten command
-IsKnown _ = Unit {0}

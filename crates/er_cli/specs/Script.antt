@@ -11,14 +11,14 @@ use Rattle.er_event.specs.declared.refusals.Refusal.TheVariants.{Memory, NoEvent
 use Rattle.er_event.specs.Event.{EventValue}
 use Rattle.er_event.specs.Change.{created}
 use Rattle.er_rules.specs.Commands.{first_refusal}
-use Rattle.er_paper.specs.Texts.{players_text, IsStandingsText, pairings_text}
+use Rattle.er_paper.specs.Texts.{players_text, IsStandingsText, pairings_text, bracket_text}
 use Rattle.er_store.specs.Fault.{IsFault}
 use Rattle.er_store.specs.Standing.{Shows}
 use Rattle.er_cli.specs.declared.session.Session.{Session}
 use Rattle.er_cli.specs.declared.texts.Answer.{Answer}
 use Rattle.er_cli.specs.declared.texts.Answer.TheVariants.{Accepted, Text, Refused, Usage}
 use Rattle.er_cli.specs.declared.words.Line.{Line}
-use Rattle.er_cli.specs.declared.words.Line.TheVariants.{Init, Submit, Players, Standings, Slips}
+use Rattle.er_cli.specs.declared.words.Line.TheVariants.{Init, Submit, Players, Standings, Slips, Bracket}
 use Rattle.er_cli.specs.Setup.{init_checks}
 use Rattle.er_cli.specs.Line.{line_of}
 use Rattle.er_cli.specs.Reply.{IsDue}
@@ -79,6 +79,9 @@ slips_answer (Some text) = Text text
 abbrev pub ShowsSlips : ℕ → EventValue → Answer → Type 0
 ShowsSlips round event answer = answer ≡ slips_answer (pairings_text event round)
 
+abbrev pub ShowsBracket : EventValue → Answer → Type 0
+ShowsBracket event answer = answer ≡ Text (bracket_text event)
+
 -- the turn of a line, where memory and the store serve. All but `init` want an event.
 abbrev pub IsTurn : Option Kept → Line → Turn → Type 0
 IsTurn old (Init name rounds cut) turn = turn ≡ unless (first_refusal (init_checks (is_some old) name rounds cut)) old (Accepted (record { serial = 0 }), kept (created name rounds cut) 0 false)
@@ -87,6 +90,7 @@ IsTurn None (Submit command) turn = turn ≡ (Refused NoEvent, None)
 IsTurn old Players turn = IsShown old ShowsPlayers turn
 IsTurn old Standings turn = IsShown old ShowsStandings turn
 IsTurn old (Slips round) turn = IsShown old (ShowsSlips round) turn
+IsTurn old Bracket turn = IsShown old ShowsBracket turn
 
 -- the line is due to be written
 abbrev pub Writes : Option Kept → Line → Type 0

@@ -22,12 +22,16 @@ Each line is one command; its words are separated by one TAB. So far there are:
   result ROUND TABLE X Y D   enters a score: games won by the first-named player, by the second, and drawn
   correct ROUND TABLE X Y D  replaces a score that was entered, as often as it must be
   drop PLAYER                drops the player of this number, who stays listed
+  cut                        once all rounds are complete, seeds the playoff by the standings, dropped players left out
+  playoff STAGE SLOT X Y D   enters a score of the playoff, with its games as for result; one of the two must have won more
   players                    lists the players by number, with a D at those who were dropped
   standings                  lists the players by rank, with their points and percentages
   slips ROUND                lists the matches of a round that was paired, table by table
+  bracket                    lists the matches of the playoff, stage by stage, and then its champion
 
 Begin with init, then enrol each player, and start. Then pair 1 SEED pairs the first round, slips 1 lists its matches,
 and result 1 1 2 0 0 enters 2-0-0 at its first table. Once each match has its score, pair 2 SEED pairs the next round.
+After the last round, cut seeds the playoff, bracket lists it, and playoff 1 1 2 0 0 enters 2-0-0 in its first slot.
 A command that is taken is answered `ok` and how many were taken so far; another `refused`, a number and a name.
 Try it: ./event_reporter < examples/friday.txt
 

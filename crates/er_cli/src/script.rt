@@ -4,9 +4,8 @@ ghost use Rattle.er_store.specs.Fault.{IsFault};
 ghost use Rattle.er_store.specs.Standing.{IsNew, Shows};
 ghost use Rattle.sqlite.specs.Steps.{over_memory};
 ghost use Rattle.er_cli.specs.Session.{state, event_of, serial_of, is_stopped};
-ghost use Rattle.er_rules.specs.Step as step;
-ghost use Rattle.er_cli.specs.Line.{line_of, IsKnown};
-ghost use Rattle.er_cli.specs.declared.words.Line.TheVariants.{Init, Submit, Players, Standings, Slips};
+ghost use Rattle.er_cli.specs.Line.{line_of};
+ghost use Rattle.er_cli.specs.declared.words.Line.TheVariants.{Init, Submit, Players, Standings, Slips, Bracket};
 ghost use Rattle.er_cli.specs.Script.{Answers, IsWritten, Prints, kept_of, receipt_answer, shown, slips_answer};
 
 use crate::session::Session;
@@ -14,7 +13,7 @@ use crate::setup::set_up;
 use crate::texts::{Answer, print_answer};
 use crate::words::{Line, LineFault, read_line};
 use er_event::{Command, Event, Items, Receipt, Refusal};
-use er_paper::{pairings_text, players_text, standings_text};
+use er_paper::{bracket_text, pairings_text, players_text, standings_text};
 use sqlite::{Connection, MemStore};
 use std::alloc::{AllocError, Global};
 use std::io::{self, Write};
@@ -85,7 +84,6 @@ impl Runner {
     }
 
     fn submit(&mut self, command: &Command) -> Result<Receipt, Refusal>
-        requires known { step.IsWritten command.now }
         ensures answers { Answers (kept_of self.old.session) (Some (Submit command.now)) (receipt_answer result) (kept_of self.new.session) }
         ensures written { IsWritten self.old.session → IsWritten self.new.session }
     {
@@ -132,8 +130,16 @@ impl Runner {
         }
     }
 
+    fn bracket(&self) -> Answer
+        ensures { Answers (kept_of self.now.session) (Some Bracket) result (kept_of self.now.session) }
+    {
+        match self.event() {
+            Ok(event) => text_answer(bracket_text(self.alloc, event)),
+            Err(why) => Answer::Refused(why),
+        }
+    }
+
     fn run(&mut self, line: &Line) -> Answer
-        requires known { IsKnown line.now }
         ensures answers { Answers (kept_of self.old.session) (Some line.now) result (kept_of self.new.session) }
         ensures written { IsWritten self.old.session → IsWritten self.new.session }
     {
@@ -145,6 +151,7 @@ impl Runner {
             Line::Players => self.players(),
             Line::Standings => self.standings(),
             Line::Slips { round } => self.slips(*round),
+            Line::Bracket => self.bracket(),
         }
     }
 

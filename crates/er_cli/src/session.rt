@@ -45,7 +45,6 @@ impl<S: Alter> Session<S> {
     ghost use Rattle.er_store.specs.Tables.{no_schema};
     ghost use Rattle.er_store.specs.Standing.{IsNew, IsStored, Shows, Leaves, Either, KeepsOthers};
     ghost use Rattle.er_store.specs.Fault.{IsFault};
-    ghost use Rattle.er_rules.specs.Step.{IsWritten};
     ghost use Rattle.er_cli.specs.Reply.{IsStoredAfter};
     ghost use Rattle.er_cli.specs.Session.{state, event_of, serial_of, is_stopped, Counts, Stops, Takes, Refuses};
 
@@ -113,7 +112,6 @@ impl<S: Alter> Session<S> {
 
     /// Takes a command. A refusal leaves the event and its serial as they were.
     pub fn submit(&mut self, alloc: Global, command: &Command) -> Result<Receipt, Refusal>
-        requires known { IsWritten command.now }
         ensures taken { IfOk result (Takes self.old self.new command.now) }
         ensures refused { IfErr result (Refuses self.old self.new command.now) }
         ensures stopped { IsTrue (is_stopped self.old) → result ≡ Err Refusal.NeedsReopen }

@@ -1,7 +1,7 @@
 ghost use Rattle.std.specs.Prelude.{◌≡◌, IfOk, map};
 ghost use Rattle.std.specs.List.{list_all, list_any};
 ghost use Rattle.std.specs.Char.{is_ascii_digit};
-ghost use Rattle.er_cli.specs.Line.{Reads, IsKnown, number_below, seed_of, games_of, report_of, words_of, is_option, init_of, enrol_of, start_of, pair_of, result_of, correct_of, drop_of, players_of, standings_of, slips_of, command_of, line_of};
+ghost use Rattle.er_cli.specs.Line.{Reads, number_below, seed_of, games_of, report_of, slot_report_of, words_of, is_option, init_of, enrol_of, start_of, pair_of, result_of, correct_of, drop_of, cut_of, playoff_of, players_of, standings_of, slips_of, bracket_of, command_of, line_of};
 
 use er_event::{Command, Games, Items};
 use hex::FromHex;
@@ -25,6 +25,7 @@ pub enum Line {
     Slips {
         round: u8,
     },
+    Bracket,
 }
 
 /// Why a line was not read.
@@ -108,8 +109,7 @@ fn bytes_of(alloc: Global, word: &str) -> Result<Items<u8>, AllocError>
 }
 
 fn read_init(alloc: Global, words: &[&str]) -> Result<Line, LineFault>
-    ensures reads { Reads (init_of (map (λ word. word.now) words.now)) result }
-    ensures known { IfOk result IsKnown }
+    ensures { Reads (init_of (map (λ word. word.now) words.now)) result }
 {
     let [name, rounds, cut] = *words else {
         return Err(LineFault::Usage);
@@ -125,8 +125,7 @@ fn read_init(alloc: Global, words: &[&str]) -> Result<Line, LineFault>
 }
 
 fn read_enrol(alloc: Global, words: &[&str]) -> Result<Line, LineFault>
-    ensures reads { Reads (enrol_of (map (λ word. word.now) words.now)) result }
-    ensures known { IfOk result IsKnown }
+    ensures { Reads (enrol_of (map (λ word. word.now) words.now)) result }
 {
     let [name] = *words else {
         return Err(LineFault::Usage);
@@ -138,8 +137,7 @@ fn read_enrol(alloc: Global, words: &[&str]) -> Result<Line, LineFault>
 }
 
 fn read_start(words: &[&str]) -> Result<Line, LineFault>
-    ensures reads { Reads (start_of (map (λ word. word.now) words.now)) result }
-    ensures known { IfOk result IsKnown }
+    ensures { Reads (start_of (map (λ word. word.now) words.now)) result }
 {
     if words.is_empty() {
         Ok(Line::Submit {
@@ -151,8 +149,7 @@ fn read_start(words: &[&str]) -> Result<Line, LineFault>
 }
 
 fn read_pair(words: &[&str]) -> Result<Line, LineFault>
-    ensures reads { Reads (pair_of (map (λ word. word.now) words.now)) result }
-    ensures known { IfOk result IsKnown }
+    ensures { Reads (pair_of (map (λ word. word.now) words.now)) result }
 {
     let [round, seed] = *words else {
         return Err(LineFault::Usage);
@@ -190,8 +187,7 @@ fn report_of(words: &[&str]) -> Option<(u8, u16, Games)>
 }
 
 fn read_result(words: &[&str]) -> Result<Line, LineFault>
-    ensures reads { Reads (result_of (map (λ word. word.now) words.now)) result }
-    ensures known { IfOk result IsKnown }
+    ensures { Reads (result_of (map (λ word. word.now) words.now)) result }
 {
     let Some((round, table, score)) = report_of(words) else {
         return Err(LineFault::Usage);
@@ -206,8 +202,7 @@ fn read_result(words: &[&str]) -> Result<Line, LineFault>
 }
 
 fn read_correct(words: &[&str]) -> Result<Line, LineFault>
-    ensures reads { Reads (correct_of (map (λ word. word.now) words.now)) result }
-    ensures known { IfOk result IsKnown }
+    ensures { Reads (correct_of (map (λ word. word.now) words.now)) result }
 {
     let Some((round, table, score)) = report_of(words) else {
         return Err(LineFault::Usage);
@@ -222,8 +217,7 @@ fn read_correct(words: &[&str]) -> Result<Line, LineFault>
 }
 
 fn read_drop(words: &[&str]) -> Result<Line, LineFault>
-    ensures reads { Reads (drop_of (map (λ word. word.now) words.now)) result }
-    ensures known { IfOk result IsKnown }
+    ensures { Reads (drop_of (map (λ word. word.now) words.now)) result }
 {
     let [player] = *words else {
         return Err(LineFault::Usage);
@@ -236,9 +230,45 @@ fn read_drop(words: &[&str]) -> Result<Line, LineFault>
     })
 }
 
+fn read_cut(words: &[&str]) -> Result<Line, LineFault>
+    ensures { Reads (cut_of (map (λ word. word.now) words.now)) result }
+{
+    if words.is_empty() {
+        Ok(Line::Submit {
+            command: Command::Cut,
+        })
+    } else {
+        Err(LineFault::Usage)
+    }
+}
+
+/// The stage, the slot and the games that the words of a playoff's report are.
+fn slot_report_of(words: &[&str]) -> Option<(u8, u8, Games)>
+    ensures { result ≡ slot_report_of (map (λ word. word.now) words.now) }
+{
+    let [stage, slot, games @ ..] = words else {
+        return None;
+    };
+    Some((
+        small_number_of(stage)?,
+        small_number_of(slot)?,
+        games_of(games)?,
+    ))
+}
+
+fn read_playoff(words: &[&str]) -> Result<Line, LineFault>
+    ensures { Reads (playoff_of (map (λ word. word.now) words.now)) result }
+{
+    let Some((stage, slot, score)) = slot_report_of(words) else {
+        return Err(LineFault::Usage);
+    };
+    Ok(Line::Submit {
+        command: Command::Playoff { stage, slot, score },
+    })
+}
+
 fn read_players(words: &[&str]) -> Result<Line, LineFault>
-    ensures reads { Reads (players_of (map (λ word. word.now) words.now)) result }
-    ensures known { IfOk result IsKnown }
+    ensures { Reads (players_of (map (λ word. word.now) words.now)) result }
 {
     if words.is_empty() {
         Ok(Line::Players)
@@ -248,8 +278,7 @@ fn read_players(words: &[&str]) -> Result<Line, LineFault>
 }
 
 fn read_standings(words: &[&str]) -> Result<Line, LineFault>
-    ensures reads { Reads (standings_of (map (λ word. word.now) words.now)) result }
-    ensures known { IfOk result IsKnown }
+    ensures { Reads (standings_of (map (λ word. word.now) words.now)) result }
 {
     if words.is_empty() {
         Ok(Line::Standings)
@@ -259,8 +288,7 @@ fn read_standings(words: &[&str]) -> Result<Line, LineFault>
 }
 
 fn read_slips(words: &[&str]) -> Result<Line, LineFault>
-    ensures reads { Reads (slips_of (map (λ word. word.now) words.now)) result }
-    ensures known { IfOk result IsKnown }
+    ensures { Reads (slips_of (map (λ word. word.now) words.now)) result }
 {
     let [round] = *words else {
         return Err(LineFault::Usage);
@@ -271,10 +299,19 @@ fn read_slips(words: &[&str]) -> Result<Line, LineFault>
     Ok(Line::Slips { round })
 }
 
+fn read_bracket(words: &[&str]) -> Result<Line, LineFault>
+    ensures { Reads (bracket_of (map (λ word. word.now) words.now)) result }
+{
+    if words.is_empty() {
+        Ok(Line::Bracket)
+    } else {
+        Err(LineFault::Usage)
+    }
+}
+
 /// What the words of a line ask for.
 fn read_command(alloc: Global, words: &[&str]) -> Result<Line, LineFault>
-    ensures reads { Reads (command_of (map (λ word. word.now) words.now)) result }
-    ensures known { IfOk result IsKnown }
+    ensures { Reads (command_of (map (λ word. word.now) words.now)) result }
 {
     let [command, words @ ..] = words else {
         return Err(LineFault::Usage);
@@ -287,17 +324,19 @@ fn read_command(alloc: Global, words: &[&str]) -> Result<Line, LineFault>
         "result" => read_result(words),
         "correct" => read_correct(words),
         "drop" => read_drop(words),
+        "cut" => read_cut(words),
+        "playoff" => read_playoff(words),
         "players" => read_players(words),
         "standings" => read_standings(words),
         "slips" => read_slips(words),
+        "bracket" => read_bracket(words),
         _ => Err(LineFault::Usage),
     }
 }
 
 /// What a line asks for.
 pub fn read_line(alloc: Global, line: &[u8]) -> Result<Line, LineFault>
-    ensures reads { Reads (line_of line.now) result }
-    ensures known { IfOk result IsKnown }
+    ensures { Reads (line_of line.now) result }
 {
     let Ok(line) = str::from_utf8(line) else {
         return Err(LineFault::Usage);

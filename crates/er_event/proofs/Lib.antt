@@ -9,7 +9,15 @@ pub mod SeatLemmas
 pub mod PartsLemmas
 pub mod ShownLemmas
 pub mod PartsRounds
+pub mod PartsBracket
 pub mod PairingLemmas
 pub mod RoundRowLemmas
 pub mod TableLemmas
+pub mod StageLemmas
+pub mod StagesShown
 pub mod ScoreLemmas
+pub mod SlotLemmas
+pub mod BracketLemmas
+pub mod PlayoffLemmas
+pub mod SlotScoreLemmas
+pub mod EndLemmas

@@ -24,7 +24,7 @@ pair_first a b c d e = ap (λ (p : ℕ × ℕ). p.0) e
 pair_second : (a b c d : ℕ) → ◌≡◌ {A = ℕ × ℕ} (a, b) (c, d) → b ≡ d
 pair_second a b c d e = ap (λ (p : ℕ × ℕ). p.1) e
 
-match_same : (a b : ℕ) (score : Option Games) (m : Match) → a ≡ m.a → b ≡ m.b → score ≡ m.score → (let made : Match = record { a = a; b = b; score = score } in made ≡ m)
+pub match_same : (a b : ℕ) (score : Option Games) (m : Match) → a ≡ m.a → b ≡ m.b → score ≡ m.score → (let made : Match = record { a = a; b = b; score = score } in made ≡ m)
 match_same a b score m x y z = rw (x, y, z)
 
 pub match_found : (players : Option (ℕ × ℕ)) (scored : Option (Option Games)) (a b : ℕ) (score : Option Games) (m : Match)
@@ -38,7 +38,7 @@ never_none o x none some = absurd (none-some x (sym none ∙ some))
 
 -- ---- rows that agree in each column
 
-and_true : (a b : Bool) → (a && b) ≡ true → (a ≡ true) × (b ≡ true)
+pub and_true : (a b : Bool) → (a && b) ≡ true → (a ≡ true) × (b ≡ true)
 and_true true b h = (refl, h)
 and_true false b h = absurd (true≢false (sym h))
 
@@ -75,7 +75,7 @@ columns_equal a b e = subst (λ (c : PairingRow). same_columns a c ≡ true) e (
 
 -- ---- the rows of tables in turn
 
-numbered-push : (n : ℕ) (ms : List Match) (m : Match) → numbered_from n (ms ++ m ∷ []) ≡ numbered_from n ms ++ (n + length ms, m) ∷ []
+pub numbered-push : (n : ℕ) (ms : List Match) (m : Match) → numbered_from n (ms ++ m ∷ []) ≡ numbered_from n ms ++ (n + length ms, m) ∷ []
 numbered-push n [] m = let e : n ≡ n + 0 = omega arith in ap (λ k. (k, m) ∷ []) e
 numbered-push n (k ∷ ms) m =
     let e : (n + 1) + length ms ≡ n + length (k ∷ ms) = omega arith in

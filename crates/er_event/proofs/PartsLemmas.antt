@@ -1,5 +1,5 @@
 -- Rows, and the event that they are of.
-use Rattle.std.proofs.Common.{◌≡◌, ◌≢◌, ◌≤◌, ◌<◌, ◌+◌, ◌||◌, ◌==◌, ℕ, ℤ, pos, Bool, true, false, suc, drop, ap₂, IsFalse, List, [], ◌∷◌, ◌++◌, length, map, take, get_or, All, AllPairs, IsTrue, Result, Err, refl, sym, ap, subst, ◌∙◌, ◌⊎◌, inl, inr, true≢false, not-suc-le-zero, arith, length-take}
+use Rattle.std.proofs.Common.{◌≡◌, ◌≢◌, ◌≤◌, ◌<◌, ◌+◌, ◌||◌, ◌==◌, ℕ, ℤ, pos, Bool, true, false, suc, drop, ap₂, IsFalse, List, [], ◌∷◌, ◌++◌, length, map, take, get_or, All, AllPairs, IsTrue, Result, Err, refl, sym, ap, subst, ◌∙◌, true≢false, not-suc-le-zero, arith, length-take}
 use Rattle.std.specs.List.{range_with_len}
 use Rattle.std.specs.Str.{bytes_eq}
 use Rattle.std.proofs.Math.ListN.{get_or-map, length-map}
@@ -252,15 +252,12 @@ pub none-when : {A : Type 0} (xs ys : List A) → xs ≡ ys → (length xs == 0)
 none-when [] ys same none = sym same
 none-when (x ∷ xs) ys same none = absurd (let n : ◌≡◌ {A = ℕ} (suc (length xs)) 0 = grind (arith, nat_tests) in omega arith)
 
+pub some-of : {A : Type 0} (xs : List A) (count : ℕ) → count ≡ length xs → (count == 0) ≡ false → xs ≢ []
+some-of {A} xs count is some none = true≢false (sym (ap (λ n. n == 0) (is ∙ ap (length {A = A}) none)) ∙ some)
+
 pub none-of : {A : Type 0} (xs : List A) (count : ℕ) → count ≡ length xs → (count == 0) ≡ true → xs ≡ []
 none-of [] count is none = refl
 none-of (x ∷ xs) count is none = absurd (let n : ◌≡◌ {A = ℕ} count 0 = grind (arith, nat_tests) in omega arith)
-
-pub early : (p : Phase) → (p ≡ Enrolling) ⊎ (p ≡ Swiss) → (p ≡ Playoff) ⊎ (p ≡ Finished) → ⊥
-early p (inl a) (inl b) = cc
-early p (inl a) (inr b) = cc
-early p (inr a) (inl b) = cc
-early p (inr a) (inr b) = cc
 
 pub parts_same : (parts : Parts) (event : List EventRow) (players : List PlayerRow) (pairings : List PairingRow) (bracket : List BracketRow) → parts.event ≡ event → parts.players ≡ players → parts.pairings ≡ pairings → parts.bracket ≡ bracket
     → (let same : Parts = record { event = event; players = players; pairings = pairings; bracket = bracket } in parts ≡ same)

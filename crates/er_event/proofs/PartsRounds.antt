@@ -1,11 +1,10 @@
--- The event of the first three tables, and the first table at fault.
-use Rattle.std.proofs.Common.{◌≡◌, ◌≢◌, ◌⊎◌, ℕ, inl, inr, false, ◌-◌, ◌≤◌, List, [], ◌∷◌, length, map, take, All, AllPairs, IsTrue, refl, sym, ap, subst, ◌∙◌, arith, not-suc-le-zero}
+-- The event of the first tables, and the first table at fault.
+use Rattle.std.proofs.Common.{◌≡◌, ◌≢◌, ◌⊎◌, ℕ, inl, inr, false, ◌-◌, ◌≤◌, List, [], length, map, take, All, AllPairs, IsTrue, refl, sym, ap, subst, ◌∙◌, arith, not-suc-le-zero}
 use Rattle.std.proofs.lemmas.List.Elements.{All-nil}
-use Rattle.er_event.specs.declared.refusals.Place.TheVariants.{PairingTable, BracketTable}
+use Rattle.er_event.specs.declared.refusals.Place.TheVariants.{PairingTable}
 use Rattle.er_event.specs.declared.events.Phase.{Phase}
 use Rattle.er_event.specs.declared.events.Phase.TheVariants.{Enrolling, Swiss, Playoff, Finished}
 use Rattle.er_event.specs.declared.players.Player.{Player}
-use Rattle.er_event.specs.declared.rounds.Match.{Match}
 use Rattle.er_event.specs.declared.rounds.Round.{Round}
 use Rattle.er_event.specs.declared.parts.Parts.{Parts}
 use Rattle.er_event.specs.declared.rows.EventRow.{EventRow}
@@ -14,15 +13,16 @@ use Rattle.er_event.specs.declared.rows.PairingRow.{PairingRow}
 use Rattle.er_event.specs.Event.{EventValue}
 use Rattle.er_event.specs.Round.{is_counted, is_same_pairing, matches_of}
 use Rattle.er_event.specs.Sound.{numbers, IsRound, HasPlayers, HasRounds, IsInPlayoff, AllRoundsDone, IsSoundButForSeeds}
-use Rattle.er_event.specs.Rows.{event_row, player_row, keyed_rows_from, bracket_rows_from}
-use Rattle.er_event.specs.Parts.{IsBlank, IsEventRow, HasPlayerRows, HasRoundRows, IsFirstFault, IsOf}
+use Rattle.er_event.specs.Rows.{player_row, keyed_rows_from}
+use Rattle.er_event.specs.Parts.{IsBlank, IsEventRow, HasRoundRows, IsFirstFault, IsOf}
 use Rattle.er_event.specs.Pairings.{AreShown}
 use Rattle.er_event.specs.Change.{with_phase}
-use Rattle.er_event.proofs.PartsLemmas.{here, same_players, same_phase, row_name, row_rounds, row_cut, has_players, parts_same}
+use Rattle.er_event.specs.Reading.{before_playoff, IsListed, IsPaired}
+use Rattle.er_event.proofs.PartsLemmas.{here, same_players, same_phase, row_name, row_rounds, row_cut, has_players}
 use Rattle.er_event.proofs.ShownLemmas.{rounds_shown, rounds_few}
 
 -- the same rounds in an event with the same players and the same number of rounds
-rounds_moved : (e g : EventValue) → g.players ≡ e.players → g.stored ≡ e.stored → g.rounds ≡ e.rounds → (g.phase ≡ Enrolling → g.stored ≡ []) → HasRounds e → HasRounds g
+pub rounds_moved : (e g : EventValue) → g.players ≡ e.players → g.stored ≡ e.stored → g.rounds ≡ e.rounds → (g.phase ≡ Enrolling → g.stored ≡ []) → HasRounds e → HasRounds g
 rounds_moved e g players stored rounds enrolling h = record {
   few = subst (λ n. length g.stored ≤ n) (sym rounds) (subst (λ (rs : List Round). length rs ≤ e.rounds) (sym stored) h.few);
   enrolling = enrolling;
@@ -44,174 +44,162 @@ rounds_of parts e is sound = record {
   done = sound.bracket.rounds_done;
 }
 
-abbrev event_with : List ℕ → ℕ → ℕ → Phase → List Player → List Round → List (List Match) → EventValue
-event_with name rounds cut phase players stored stages = record { name = name; rounds = rounds; cut = cut; phase = phase; players = players; stored = stored; bracket = record { stages = stages } }
+-- ---- the event of the first two tables
 
-event_same : (e f : EventValue) → e.name ≡ f.name → e.rounds ≡ f.rounds → e.cut ≡ f.cut → e.phase ≡ f.phase → e.players ≡ f.players → e.stored ≡ f.stored → e.bracket.stages ≡ f.bracket.stages → e ≡ f
-event_same e f name rounds cut phase players stored stages =
-    ap (λ x. event_with x e.rounds e.cut e.phase e.players e.stored e.bracket.stages) name
-    ∙ (ap (λ x. event_with f.name x e.cut e.phase e.players e.stored e.bracket.stages) rounds
-    ∙ (ap (λ x. event_with f.name f.rounds x e.phase e.players e.stored e.bracket.stages) cut
-    ∙ (ap (λ x. event_with f.name f.rounds f.cut x e.players e.stored e.bracket.stages) phase
-    ∙ (ap (λ x. event_with f.name f.rounds f.cut f.phase x e.stored e.bracket.stages) players
-    ∙ (ap (λ x. event_with f.name f.rounds f.cut f.phase f.players x e.bracket.stages) stored
-    ∙ ap (λ x. event_with f.name f.rounds f.cut f.phase f.players f.stored x) stages)))))
+abbrev event_with : List ℕ → ℕ → ℕ → Phase → List Player → EventValue → EventValue
+event_with name rounds cut phase players rest = record { name = name; rounds = rounds; cut = cut; phase = phase; players = players; stored = rest.stored; bracket = rest.bracket }
 
--- an event that was just set up, with players, rounds and a phase
+-- events that differ in their rounds and stages
+event_same : (e g : EventValue) → e.name ≡ g.name → e.rounds ≡ g.rounds → e.cut ≡ g.cut → e.phase ≡ g.phase → e.players ≡ g.players → e ≡ event_with g.name g.rounds g.cut g.phase g.players e
+event_same e g name rounds cut phase players =
+    ap (λ x. event_with x e.rounds e.cut e.phase e.players e) name
+    ∙ (ap (λ x. event_with g.name x e.cut e.phase e.players e) rounds
+    ∙ (ap (λ x. event_with g.name g.rounds x e.phase e.players e) cut
+    ∙ (ap (λ x. event_with g.name g.rounds g.cut x e.players e) phase
+    ∙ ap (λ x. event_with g.name g.rounds g.cut g.phase x e) players)))
+
 module _ (parts : Parts) (rows : List EventRow) (b : EventValue) (phase : Phase) (same : rows ≡ parts.event) (blank : IsBlank b) (row : IsEventRow rows (with_phase b phase))
-    (prows : List PlayerRow) (players : List Player) (are : prows ≡ parts.players) (read : prows ≡ map player_row players) (plays : HasPlayers (record b { phase = phase; players = players }))
-    (rrows : List PairingRow) (paired : rrows ≡ parts.pairings) where
+    (prows : List PlayerRow) (players : List Player) (are : prows ≡ parts.players) (read : prows ≡ map player_row players) (plays : HasPlayers (record b { phase = phase; players = players })) where
   abbrev f : EventValue
   f = with_phase b phase
 
-  abbrev listed : EventValue
-  listed = record b { phase = phase; players = players }
+  abbrev pub listed : EventValue
+  listed = record b { players = players; phase = before_playoff phase }
 
-  pub listed_rows : HasPlayerRows parts listed
-  listed_rows = has_players parts rows f same row prows players are read plays
+  early_plays : (p : Phase) → HasPlayers (record b { phase = p; players = players }) → HasPlayers (record b { players = players; phase = before_playoff p })
+  early_plays Enrolling h = h
+  early_plays Swiss h = h
+  early_plays Playoff h = record { few = h.few; numbered = h.numbered; lawful = h.lawful; distinct = h.distinct; enrolling = λ is. absurd (cc); started = λ _. h.started (λ is. cc) }
+  early_plays Finished h = record { few = h.few; numbered = h.numbered; lawful = h.lawful; distinct = h.distinct; enrolling = λ is. absurd (cc); started = λ _. h.started (λ is. cc) }
 
-  -- the rounds that an event of these rows has
-  pub stored_shown : (e : EventValue) → HasRoundRows parts e → All (λ (r : Round). AreShown r.matches) e.stored
-  stored_shown e has = rounds_shown e has.players.players has.rounds
+  pub starts : HasPlayers listed
+  starts = early_plays phase plays
 
-  pub stored_few : (e : EventValue) → HasRoundRows parts e → length e.stored ≤ 9
-  stored_few e has = rounds_few e has.players.event.set_up has.rounds
+  pub is_listed : IsListed parts phase listed
+  is_listed = record {
+    rows = has_players parts rows f same row prows players are read plays;
+    early = refl;
+    no_rounds = ap (λ (g : EventValue). g.stored) blank.is;
+    no_stages = ap (λ (g : EventValue). g.bracket.stages) blank.is;
+    only = λ other has.
+        let one = has.event in
+        let at = here parts rows f same row in
+        event_same other (record b { players = players; phase = phase }) (row_name parts.event other f one at) (row_rounds parts.event other f one at) (row_cut parts.event other f one at)
+        (same_phase parts rows f same row prows players are read other has) (same_players parts rows f same row prows players are read other has);
+  }
 
-  pub stored_rows : (e : EventValue) → HasRoundRows parts e → rrows ≡ keyed_rows_from 1 e.stored
-  stored_rows e has = paired ∙ has.rows
+early_enrolling : (p q : Phase) → q ≡ before_playoff p → p ≡ Enrolling → q ≡ Enrolling
+early_enrolling p q early is = early ∙ ap before_playoff is
 
-  pub phase_of : (e : EventValue) → HasRoundRows parts e → e.phase ≡ phase
-  phase_of e has = same_phase parts rows f same row prows players are read e has.players
+early_swiss : (p q : Phase) → q ≡ before_playoff p → p ≢ Enrolling → q ≡ Swiss
+early_swiss Enrolling q early started = absurd (started refl)
+early_swiss Swiss q early started = early
+early_swiss Playoff q early started = early
+early_swiss Finished q early started = early
 
-  -- an event of these rows has these rounds, and there it is sound in Swiss
-  module _ (rounds : List Round) where
+-- ---- the event of the first three tables
+
+abbrev Shown : Round → Type 0
+Shown r = AreShown r.matches
+
+module _ (parts : Parts) (phase : Phase) (e : EventValue) (h : IsListed parts phase e) (rrows : List PairingRow) (paired : rrows ≡ parts.pairings) where
+  pub no_rounds_fault : ((rs : List Round) → All (λ (r : Round). AreShown r.matches) rs → length rs ≤ 9 → rrows ≡ keyed_rows_from 1 rs → ⊥) → IsFirstFault parts PairingTable
+  no_rounds_fault never = ((_, h.rows), λ f has. never f.stored (rounds_shown f has.players.players has.rounds) (rounds_few f has.players.event.set_up has.rounds) (paired ∙ has.rows))
+
+  pub swiss_now : phase ≢ Enrolling → e.phase ≡ Swiss
+  swiss_now started = early_swiss phase e.phase h.early started
+
+  module _ (rounds : List Round) (exact : (rs : List Round) → All (λ (r : Round). AreShown r.matches) rs → length rs ≤ 9 → rrows ≡ keyed_rows_from 1 rs → rounds ≡ rs) where
     abbrev base : EventValue
-    base = record b { players = players; phase = Swiss; stored = rounds }
+    base = record e { stored = rounds }
 
-    pub swiss_sound : (e : EventValue) → HasRoundRows parts e → rounds ≡ e.stored → phase ≢ Enrolling → IsSoundButForSeeds base
-    swiss_sound e has stored started = record {
-      set_up = record { name = blank.set_up.name; rounds = blank.set_up.rounds; cut = blank.set_up.cut };
-      players = record { few = plays.few; numbered = plays.numbered; lawful = plays.lawful; distinct = plays.distinct; enrolling = λ is. absurd (cc); started = λ _. plays.started started };
-      rounds = rounds_moved e base (sym (same_players parts rows f same row prows players are read e has.players)) stored (sym (row_rounds parts.event e f has.players.event (here parts rows f same row))) (λ is. absurd (cc)) has.rounds;
-      bracket = record {
-        none = λ _. ap (λ (g : EventValue). g.bracket.stages) blank.is;
-        rounds_done = λ over. absurd (never over);
-        bracket = λ over. absurd (never over);
-        decided = λ is. absurd (cc);
-        undecided = λ is. absurd (cc);
-      };
-    }
+    found : (f : EventValue) → HasRoundRows parts f → rounds ≡ f.stored
+    found f has = exact f.stored (rounds_shown f has.players.players has.rounds) (rounds_few f has.players.event.set_up has.rounds) (paired ∙ has.rows)
+
+    phase_of : (f : EventValue) → HasRoundRows parts f → f.phase ≡ phase
+    phase_of f has = ap (λ (g : EventValue). g.phase) (h.only f has.players)
+
+    rounds_there : (f : EventValue) → HasRoundRows parts f → HasRounds base
+    rounds_there f has =
+        let only = h.only f has.players in
+        rounds_moved f base (sym (ap (λ (g : EventValue). g.players) only)) (found f has) (sym (ap (λ (g : EventValue). g.rounds) only))
+        (λ is. found f has ∙ has.rounds.enrolling (phase_of f has ∙ enrolling_too phase is h.early))
+        has.rounds
       where
-        never : IsInPlayoff base → ⊥
-        never (inl is) = cc
-        never (inr is) = cc
+        enrolling_too : (p : Phase) → e.phase ≡ Enrolling → e.phase ≡ before_playoff p → p ≡ Enrolling
+        enrolling_too Enrolling is early = refl
+        enrolling_too Swiss is early = absurd (let never = sym is ∙ early in cc)
+        enrolling_too Playoff is early = absurd (let never = sym is ∙ early in cc)
+        enrolling_too Finished is early = absurd (let never = sym is ∙ early in cc)
 
-    pub done_there : (e : EventValue) → HasRoundRows parts e → rounds ≡ e.stored → phase ≢ Enrolling → phase ≢ Swiss → AllRoundsDone base
-    done_there e has stored started later =
-        let done = has.done (over e.phase (phase_of e has)) in
-        let limit = row_rounds parts.event e f has.players.event (here parts rows f same row) in
-        (ap length stored ∙ (done.0 ∙ limit), subst (λ (rs : List Round). All (λ (r : Round). IsTrue (is_counted r.matches)) rs) (sym stored) done.1)
+    pub enrolling_fault : phase ≡ Enrolling → rounds ≢ [] → IsFirstFault parts PairingTable
+    enrolling_fault is some = ((_, h.rows), λ f has. some (found f has ∙ has.rounds.enrolling (phase_of f has ∙ is)))
+
+    sound_there : phase ≢ Enrolling → HasRounds base → IsSoundButForSeeds base
+    sound_there started has =
+        let set_up = h.rows.event.set_up in
+        let players = h.rows.players in
+        let swiss = swiss_now started in
+        record {
+          set_up = record { name = set_up.name; rounds = set_up.rounds; cut = set_up.cut };
+          players = record { few = players.few; numbered = players.numbered; lawful = players.lawful; distinct = players.distinct; enrolling = λ is. absurd (let never = sym swiss ∙ is in cc); started = λ _. players.started started };
+          rounds = has;
+          bracket = record {
+            none = λ _. h.no_stages;
+            rounds_done = λ over. absurd (never swiss over);
+            bracket = λ over. absurd (never swiss over);
+            decided = λ is. absurd (never swiss (inr is));
+            undecided = λ is. absurd (never swiss (inl is));
+          };
+        }
       where
-        over : (p : Phase) → p ≡ phase → (p ≡ Playoff) ⊎ (p ≡ Finished)
-        over Enrolling is = absurd (started (sym is))
-        over Swiss is = absurd (later (sym is))
-        over Playoff is = inl refl
-        over Finished is = inr refl
+        never : e.phase ≡ Swiss → IsInPlayoff base → ⊥
+        never swiss (inl is) = let never = sym swiss ∙ is in cc
+        never swiss (inr is) = let never = sym swiss ∙ is in cc
 
-    abbrev whole : EventValue
-    whole = record b { players = players; phase = phase; stored = rounds }
+    pub swiss_fault : phase ≢ Enrolling → (IsSoundButForSeeds base → ⊥) → IsFirstFault parts PairingTable
+    swiss_fault started never = ((_, h.rows), λ f has. never (sound_there started (rounds_there f has)))
 
-    -- the event of the three tables
-    pub whole_rows : rrows ≡ keyed_rows_from 1 rounds → HasRounds whole → (IsInPlayoff whole → AllRoundsDone whole) → HasRoundRows parts whole
-    whole_rows keyed has done = record {
-      players = record {
-        event = (let at = listed_rows.event in record { serial = at.serial; low = at.low; set_up = record { name = at.set_up.name; rounds = at.set_up.rounds; cut = at.set_up.cut }; row = at.row });
-        rows = listed_rows.rows;
-        players = record { few = plays.few; numbered = plays.numbered; lawful = plays.lawful; distinct = plays.distinct; enrolling = plays.enrolling; started = plays.started };
-      };
-      rows = sym paired ∙ keyed;
-      rounds = has;
-      done = done;
-    }
-
-    -- the rounds of an enrolling event
-    pub none_enrolling : (e : EventValue) → HasRoundRows parts e → rounds ≡ e.stored → phase ≡ Enrolling → rounds ≡ []
-    none_enrolling e has stored is = stored ∙ has.rounds.enrolling (phase_of e has ∙ is)
-
-    module _ (exact : (rs : List Round) → All (λ (r : Round). AreShown r.matches) rs → length rs ≤ 9 → rrows ≡ keyed_rows_from 1 rs → rounds ≡ rs) where
-      pub found : (e : EventValue) → HasRoundRows parts e → rounds ≡ e.stored
-      found e has = exact e.stored (stored_shown e has) (stored_few e has) (stored_rows e has)
-
-      pub enrolling_fault : phase ≡ Enrolling → rounds ≢ [] → IsFirstFault parts PairingTable
-      enrolling_fault is some = ((listed, listed_rows), λ e has. some (none_enrolling e has (found e has) is))
-
-      pub pairing_fault : phase ≢ Enrolling → (IsSoundButForSeeds base → (phase ≢ Swiss → AllRoundsDone base) → ⊥) → IsFirstFault parts PairingTable
-      pairing_fault started never = ((listed, listed_rows), λ e has. never (swiss_sound e has (found e has) started) (λ later. done_there e has (found e has) started later))
-
-    pub bracket_fault : phase ≢ Enrolling → phase ≢ Swiss → rrows ≡ keyed_rows_from 1 rounds → IsSoundButForSeeds base → AllRoundsDone base → IsFirstFault parts BracketTable
-    bracket_fault started later keyed sound done = (
-      (whole, whole_rows keyed (rounds_moved base whole refl refl refl (λ is. absurd (started is)) sound.rounds) (λ _. done)),
-      λ e none. none.phase (over e.phase (phase_of e none.rounds)),
+    pub open_fault : IsInPlayoff (with_phase e phase) → (AllRoundsDone base → ⊥) → IsFirstFault parts PairingTable
+    open_fault over never = (
+      (_, h.rows),
+      λ f has.
+          let done = has.done (subst (λ (p : Phase). (p ≡ Playoff) ⊎ (p ≡ Finished)) (sym (phase_of f has)) over) in
+          let limit : f.rounds ≡ e.rounds = ap (λ (g : EventValue). g.rounds) (h.only f has.players) in
+          never (ap length (found f has) ∙ (done.0 ∙ limit), subst (λ (rs : List Round). All (λ (r : Round). IsTrue (is_counted r.matches)) rs) (sym (found f has)) done.1),
     )
-      where
-        over : (p : Phase) → p ≡ phase → (p ≡ Playoff) ⊎ (p ≡ Finished)
-        over Enrolling is = absurd (started (sym is))
-        over Swiss is = absurd (later (sym is))
-        over Playoff is = inl refl
-        over Finished is = inr refl
 
-    -- ---- what the bracket adds
+    pub is_paired : rrows ≡ keyed_rows_from 1 rounds → HasRounds base → (IsInPlayoff (with_phase e phase) → AllRoundsDone base) → IsPaired parts phase base
+    is_paired keyed has done = record {
+      rows = record {
+        players = (let at = h.rows in record {
+          event = record { serial = at.event.serial; low = at.event.low; set_up = record { name = at.event.set_up.name; rounds = at.event.set_up.rounds; cut = at.event.set_up.cut }; row = at.event.row };
+          rows = at.rows;
+          players = record { few = at.players.few; numbered = at.players.numbered; lawful = at.players.lawful; distinct = at.players.distinct; enrolling = at.players.enrolling; started = at.players.started };
+        });
+        rows = sym paired ∙ keyed;
+        rounds = rounds_moved base (with_phase base phase) refl refl refl (λ is. has.enrolling (early_enrolling phase e.phase h.early is)) has;
+        done = done;
+      };
+      early = h.early;
+      no_stages = h.no_stages;
+      only = λ f are. h.only f are.players ∙ ap (λ (rs : List Round). (let g : EventValue = record e { phase = phase; stored = rs; bracket = f.bracket } in g)) (sym (found f are));
+    }
 
-    swiss_rounds : phase ≡ Swiss → IsSoundButForSeeds base → HasRounds whole
-    swiss_rounds is sound = rounds_moved base whole refl refl refl (λ enrolling. absurd (let never = sym enrolling ∙ is in cc)) sound.rounds
-
-    swiss_not_over : phase ≡ Swiss → IsInPlayoff whole → AllRoundsDone whole
-    swiss_not_over is (inl over) = absurd (let never = sym is ∙ over in cc)
-    swiss_not_over is (inr over) = absurd (let never = sym is ∙ over in cc)
-
-    enrolling_not_over : phase ≡ Enrolling → IsInPlayoff whole → AllRoundsDone whole
-    enrolling_not_over is (inl over) = absurd (let never = sym is ∙ over in cc)
-    enrolling_not_over is (inr over) = absurd (let never = sym is ∙ over in cc)
-
-    enrolling_rounds : rounds ≡ [] → HasRounds whole
-    enrolling_rounds none = subst (λ (rs : List Round). HasRounds (record b { players = players; phase = phase; stored = rs })) (sym none) (record {
+    no_rounds : rounds ≡ [] → HasRounds base
+    no_rounds none = subst (λ (rs : List Round). HasRounds (record e { stored = rs })) (sym none) (record {
       few = omega arith;
       enrolling = λ _. refl;
-      each = All-nil (λ (r : Round). IsRound (numbers players) r.matches);
+      each = All-nil (λ (r : Round). IsRound (numbers e.players) r.matches);
       no_repeats = λ i j d before within. absurd (not-suc-le-zero within);
       earlier_done = All-nil (λ (r : Round). IsTrue (is_counted r.matches));
     })
 
-    pub swiss_rows : phase ≡ Swiss → rrows ≡ keyed_rows_from 1 rounds → IsSoundButForSeeds base → HasRoundRows parts whole
-    swiss_rows is keyed sound = whole_rows keyed (swiss_rounds is sound) (swiss_not_over is)
-
-    pub enrolling_rows : phase ≡ Enrolling → rounds ≡ [] → rrows ≡ keyed_rows_from 1 rounds → HasRoundRows parts whole
-    enrolling_rows is none keyed = whole_rows keyed (enrolling_rounds none) (enrolling_not_over is)
-
-    pub some_bracket : HasRoundRows parts whole → parts.bracket ≢ [] → IsFirstFault parts BracketTable
-    some_bracket has some = ((whole, has), λ e none. some none.rows)
-
-    pub value_of : (e : EventValue) → HasRoundRows parts whole → parts.bracket ≡ [] → e ≡ whole → IsOf parts e
-    value_of e has empty is =
-        let stages : b.bracket.stages ≡ [] = ap (λ (g : EventValue). g.bracket.stages) blank.is in
-        subst (IsOf parts) (sym is) (record {
-          serial = has.players.event.serial;
-          low = has.players.event.low;
-          are = parts_same parts (event_row whole has.players.event.serial ∷ []) (map player_row players) (keyed_rows_from 1 rounds) (bracket_rows_from 1 b.bracket.stages)
-              has.players.event.row has.players.rows has.rows (empty ∙ ap (bracket_rows_from 1) (sym stages));
-        })
-
-    -- no other sound event has the rows
-    pub only : ((rs : List Round) → All (λ (r : Round). AreShown r.matches) rs → length rs ≤ 9 → rrows ≡ keyed_rows_from 1 rs → rounds ≡ rs)
-        → (phase ≡ Enrolling) ⊎ (phase ≡ Swiss) → (e : EventValue) → IsOf parts e → IsSoundButForSeeds e → e ≡ whole
-    only exact early e is sound =
-        let has = rounds_of parts e is sound in
-        let at = here parts rows f same row in
-        let one = has.players.event in
-        let same_phase : e.phase ≡ phase = phase_of e has in
-        let none = sound.bracket.none (subst (λ (p : Phase). (p ≡ Enrolling) ⊎ (p ≡ Swiss)) (sym same_phase) early) in
-        event_same e whole
-        (row_name parts.event e f one at) (row_rounds parts.event e f one at) (row_cut parts.event e f one at) same_phase
-        (same_players parts rows f same row prows players are read e has.players)
-        (sym (exact e.stored (stored_shown e has) (stored_few e has) (stored_rows e has)))
-        (none ∙ sym (ap (λ (g : EventValue). g.bracket.stages) blank.is))
+    pub enrolling_paired : phase ≡ Enrolling → rounds ≡ [] → rrows ≡ keyed_rows_from 1 rounds → IsPaired parts phase e
+    enrolling_paired is none keyed =
+        subst (λ (rs : List Round). IsPaired parts phase (record e { stored = rs })) (none ∙ sym h.no_rounds)
+        (is_paired keyed (no_rounds none) (λ over. absurd (never over)))
+      where
+        never : IsInPlayoff (with_phase e phase) → ⊥
+        never (inl over) = let never = sym is ∙ over in cc
+        never (inr over) = let never = sym is ∙ over in cc

@@ -33,7 +33,7 @@ both_true false b x y = x
 
 -- ---- who is known
 
-known_contains : (count k : ℕ) → is_known count k ≡ true → Contains (range_with_len 1 count) k
+pub known_contains : (count k : ℕ) → is_known count k ≡ true → Contains (range_with_len 1 count) k
 known_contains count k known =
     let within = and_true (nat_le 1 k) (nat_le k count) known in
     let low : 1 ≤ k = grind (arith, nat_tests) in
@@ -42,7 +42,7 @@ known_contains count k known =
     let at = get_or-range_with_len 1 count (k - 1) k (omega arith) in
     (k - 1, omega arith, omega arith)
 
-contains_known : (count k : ℕ) → Contains (range_with_len 1 count) k → is_known count k ≡ true
+pub contains_known : (count k : ℕ) → Contains (range_with_len 1 count) k → is_known count k ≡ true
 contains_known count k has =
     let len = length-range_with_len 1 count in
     let below = has.1 in

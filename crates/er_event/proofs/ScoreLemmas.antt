@@ -39,7 +39,7 @@ module _ {X : Type 0} (P : X → Type 0) (a : X) where
   First-set : (k i : ℕ) (xs : List X) → (P (get_or xs i a) → P a) → All P (take k xs) → All P (take k (set xs i a))
   First-set k i xs here h = All-from_recursion P _ (first-set k i xs here (recursion_from_All P _ h))
 
-  All-set : (i : ℕ) (xs : List X) → (P (get_or xs i a) → P a) → All P xs → All P (set xs i a)
+  pub All-set : (i : ℕ) (xs : List X) → (P (get_or xs i a) → P a) → All P xs → All P (set xs i a)
   All-set i xs here h = All-from_recursion P _ (all-set i xs here (recursion_from_All P xs h))
 
   of-set : (i : ℕ) (xs : List X) → i < length xs → AllByRecursion P (set xs i a) → P a
@@ -47,7 +47,7 @@ module _ {X : Type 0} (P : X → Type 0) (a : X) where
   of-set zero (x ∷ xs) within h = h.0
   of-set (suc i) (x ∷ xs) within h = of-set i xs (omega arith) h.1
 
-  set-All : (i : ℕ) (xs : List X) → i < length xs → All P (set xs i a) → P a
+  pub set-All : (i : ℕ) (xs : List X) → i < length xs → All P (set xs i a) → P a
   set-All i xs within h = of-set i xs within (recursion_from_All P (set xs i a) h)
 
 -- ---- the same players
@@ -55,11 +55,11 @@ module _ {X : Type 0} (P : X → Type 0) (a : X) where
 abbrev Differ : Match → Match → Type 0
 Differ m n = IsFalse (is_same_pairing m n)
 
-slots-refl : (ms : List Match) → SameSlots ms ms
+pub slots-refl : (ms : List Match) → SameSlots ms ms
 slots-refl [] = tt
 slots-refl (m ∷ ms) = ((refl, refl), slots-refl ms)
 
-slots-set : (n : Match) (i : ℕ) (ms : List Match) → (get_or ms i n).a ≡ n.a → (get_or ms i n).b ≡ n.b → SameSlots ms (set ms i n)
+pub slots-set : (n : Match) (i : ℕ) (ms : List Match) → (get_or ms i n).a ≡ n.a → (get_or ms i n).b ≡ n.b → SameSlots ms (set ms i n)
 slots-set n i [] a b = tt
 slots-set n zero (m ∷ ms) a b = ((a, b), slots-refl ms)
 slots-set n (suc i) (m ∷ ms) a b = ((refl, refl), slots-set n i ms a b)
@@ -79,7 +79,7 @@ slots-rounds r j [] h = tt
 slots-rounds r zero (s ∷ rs) h = slots-append s.matches r.matches (matches_of rs) h
 slots-rounds r (suc j) (s ∷ rs) h = slots-after s.matches (matches_of rs) (matches_of (set rs j r)) (slots-rounds r j rs h)
 
-slots-seats : (ms ns : List Match) → SameSlots ms ns → flat_map seats ms ≡ flat_map seats ns
+pub slots-seats : (ms ns : List Match) → SameSlots ms ns → flat_map seats ms ≡ flat_map seats ns
 slots-seats [] [] h = refl
 slots-seats [] (n ∷ ns) h = absurd h
 slots-seats (m ∷ ms) [] h = absurd h
@@ -177,7 +177,7 @@ module _ (s : Games) (m : Match) (i : ℕ) (ms : List Match) (there : get_or ms 
 
 -- ---- the match of a table of a round
 
-within-get : {X : Type 0} (xs : List X) (i : ℕ) (x : X) → slice_get xs i ≡ Some x → i < length xs
+pub within-get : {X : Type 0} (xs : List X) (i : ℕ) (x : X) → slice_get xs i ≡ Some x → i < length xs
 within-get [] i x is = absurd (none-some x is)
 within-get (y ∷ xs) zero x is = omega arith
 within-get (y ∷ xs) (suc i) x is = let rest = within-get xs i x is in omega arith

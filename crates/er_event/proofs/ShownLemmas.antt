@@ -13,7 +13,7 @@ use Rattle.er_event.specs.Sound.{numbers, IsRound, IsSetUp, HasPlayers, HasRound
 use Rattle.er_event.specs.Pairings.{IsShown, AreShown}
 
 module _ (n : ℕ) (few : n ≤ 512) where
-  below : (k : ℕ) → Contains (range_with_len 1 n) k → k < 65536
+  pub below : (k : ℕ) → Contains (range_with_len 1 n) k → k < 65536
   below k has =
       let len = length-range_with_len 1 n in
       let within = has.1 in

@@ -1,7 +1,10 @@
 -- Single elimination: who goes on, and when a next stage stands.
-use Rattle.std.specs.Prelude.{◌≡◌, ℕ, ◌<◌, nat_lt, if◌then◌else◌, List, [], ◌∷◌, length, Option, Some, None, IsTrue, IsSome, MatchOption}
+use Rattle.std.specs.Prelude.{◌≡◌, ℕ, ◌-◌, ◌<◌, ◌==◌, ◌&&◌, ◌||◌, nat_lt, Bool, if◌then◌else◌, List, [], ◌∷◌, length, slice_get, option_and_then, option_map, Option, Some, None, IsTrue, IsSome, MatchOption}
 use Rattle.er_event.specs.declared.scores.Games.{Games}
+use Rattle.er_event.specs.declared.events.Phase.{Phase}
+use Rattle.er_event.specs.declared.events.Phase.TheVariants.{Finished}
 use Rattle.er_event.specs.declared.rounds.Match.{Match}
+use Rattle.er_event.specs.Event.{EventValue}
 use Rattle.er_event.specs.Round.{is_counted}
 
 abbrev pub open_match : ℕ → ℕ → Match
@@ -48,3 +51,26 @@ last_match (stage ∷ next ∷ more) = last_match (next ∷ more)
 -- the final is played
 abbrev pub IsDecided : List (List Match) → Type 0
 IsDecided stages = MatchOption (last_match stages) ⊥ (λ m. IsSome m.score)
+
+-- who won the final, once the playoff is over
+abbrev pub champion_in : Phase → List (List Match) → Option ℕ
+champion_in Finished stages = option_map winner (last_match stages)
+champion_in _ stages = None
+
+abbrev pub champion : EventValue → Option ℕ
+champion event = champion_in event.phase event.bracket.stages
+
+-- the match of a slot of a stage, both numbered from 1
+abbrev pub slot_in : List (List Match) → ℕ → ℕ → Option Match
+slot_in stages stage slot = if stage == 0 || slot == 0 then None else option_and_then (λ (matches : List Match). slice_get matches (slot - 1)) (slice_get stages (stage - 1))
+
+abbrev pub slot_at : EventValue → ℕ → ℕ → Option Match
+slot_at event stage slot = slot_in event.bracket.stages stage slot
+
+-- the stage of the winners, where this one is complete and has more than one slot
+abbrev pub following : List Match → Option (List Match)
+following stage = if is_counted stage && nat_lt 1 (length stage) then Some (next_stage stage) else None
+
+-- the stage was the final, and is played
+abbrev pub is_over : List Match → Bool
+is_over stage = is_counted stage && length stage == 1

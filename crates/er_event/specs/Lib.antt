@@ -11,5 +11,7 @@ pub mod Change
 pub mod Rows
 pub mod Parts
 pub mod Pairings
+pub mod Stages
+pub mod Reading
 pub mod Lines
 pub mod Totals

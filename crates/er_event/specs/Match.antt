@@ -2,7 +2,7 @@
 use Rattle.std.specs.Prelude.{ℕ, ◌==◌, ◌&&◌, ◌||◌, nat_le, Bool, true, false, Option, Some, None}
 use Rattle.er_event.specs.declared.rounds.Match.{Match}
 use Rattle.er_event.specs.declared.scores.Games.{Games}
-use Rattle.er_event.specs.Score.{is_swiss_score}
+use Rattle.er_event.specs.Score.{is_swiss_score, is_playoff_score}
 use Rattle.er_event.specs.Round.{is_bye}
 
 -- one of so many players, who are numbered from 1
@@ -25,3 +25,8 @@ is_lawful_match count m = is_known count m.a && (is_bye m || is_known count m.b)
 -- one who sits in both
 abbrev pub shares_seat : Match → Match → Bool
 shares_seat m n = m.a == n.a || m.a == n.b || m.b == n.a || m.b == n.b
+
+-- open, or with a score that is lawful in the playoff
+abbrev pub is_lawful_slot_score : Option Games → Bool
+is_lawful_slot_score None = true
+is_lawful_slot_score (Some s) = is_playoff_score s

@@ -13,7 +13,7 @@ use Rattle.er_event.specs.declared.players.TheConstants.{MAX_PLAYERS}
 use Rattle.er_event.specs.Name.{is_lawful_name}
 use Rattle.er_event.specs.Rows.{event_row, player_rows, keyed_pairing_rows, bracket_rows}
 use Rattle.er_event.specs.Change.{created}
-use Rattle.er_event.specs.Sound.{IsSetUp, HasPlayers, HasRounds, IsInPlayoff, AllRoundsDone}
+use Rattle.er_event.specs.Sound.{IsSetUp, HasPlayers, HasRounds, HasBracket, IsInPlayoff, AllRoundsDone}
 
 -- the rows of an event with this serial, each table in the order of its key
 abbrev pub parts_of : EventValue → ℕ → Parts
@@ -61,15 +61,15 @@ pub record HasRoundRows (parts : Parts) (e : EventValue) : Type 0 where
   pub rounds : HasRounds e
   pub done : IsInPlayoff e → AllRoundsDone e
 
--- So far no match of the playoff is read: one, or a phase that has some, is a fault.
-pub record HasNoBracket (parts : Parts) (e : EventValue) : Type 0 where
+-- the event of all four tables
+pub record HasAllRows (parts : Parts) (e : EventValue) : Type 0 where
   pub rounds : HasRoundRows parts e
-  pub rows : parts.bracket ≡ []
-  pub phase : IsInPlayoff e → ⊥
+  pub rows : parts.bracket ≡ bracket_rows e
+  pub bracket : HasBracket e
 
 -- the checks of the tables before this one hold, and those of this one do not
 abbrev pub IsFirstFault : Parts → Place → Type 0
 IsFirstFault parts EventTable = (e : EventValue) → IsEventRow parts.event e → ⊥
 IsFirstFault parts PlayerTable = ((e : EventValue) × IsEventRow parts.event e) × ((e : EventValue) → HasPlayerRows parts e → ⊥)
 IsFirstFault parts PairingTable = ((e : EventValue) × HasPlayerRows parts e) × ((e : EventValue) → HasRoundRows parts e → ⊥)
-IsFirstFault parts BracketTable = ((e : EventValue) × HasRoundRows parts e) × ((e : EventValue) → HasNoBracket parts e → ⊥)
+IsFirstFault parts BracketTable = ((e : EventValue) × HasRoundRows parts e) × ((e : EventValue) → HasAllRows parts e → ⊥)

@@ -1,6 +1,6 @@
 ghost use Rattle.std.specs.Prelude.{◌≡◌, ◌≢◌, ◌↔◌, ◌-◌, ◌==◌, ◌||◌, ◌&&◌, nat_le, not, Some, is_some, length, flat_map, take, AllPairs, IsTrue};
 ghost use Rattle.std.specs.List.{list_all, list_any, range_with_len};
-ghost use Rattle.er_event.specs.Score.{is_swiss_score, bye_score};
+ghost use Rattle.er_event.specs.Score.{is_swiss_score, is_playoff_score, bye_score};
 ghost use Rattle.er_event.specs.Round.{is_bye, is_counted, is_same_pairing, seats};
 ghost use Rattle.er_event.specs.Match.{is_known, is_lawful_match, shares_seat};
 ghost use Rattle.er_event.specs.Sound.{IsRound};
@@ -12,7 +12,7 @@ use crate::scores::{Games, Score};
 pub const BYE: Games = Games { x: 2, y: 0, d: 0 };
 
 /// Whether a player has this number, of so many who are numbered from 1.
-fn is_known(count: u16, number: u16) -> bool
+pub(crate) fn is_known(count: u16, number: u16) -> bool
     ensures { result ≡ is_known count number }
 {
     (1..=count).contains(&number)
@@ -23,6 +23,13 @@ pub fn is_swiss(score: Score) -> bool
     ensures { result ≡ is_swiss_score score }
 {
     Score::swiss(score.games()).is_some()
+}
+
+/// Whether the score is lawful in the playoff.
+pub fn is_playoff(score: Score) -> bool
+    ensures { result ≡ is_playoff_score score }
+{
+    Score::playoff(score.games()).is_some()
 }
 
 /// Whether the match may stand in a Swiss round of so many players.
@@ -53,7 +60,7 @@ fn is_seat_taken(earlier: &[Match], played: &Match) -> bool
 }
 
 /// Whether nobody sits at two tables, or opposite to themself.
-fn are_seated_once(matches: &[Match]) -> bool
+pub(crate) fn are_seated_once(matches: &[Match]) -> bool
     ensures { IsTrue result ↔ AllPairs (λ p q. p ≢ q) (flat_map seats matches.now) }
 {
     for (place, played) in matches.iter().enumerate() {

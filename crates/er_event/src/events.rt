@@ -3,11 +3,12 @@ ghost use Rattle.er_event.specs.declared.scores.Games.{Games};
 ghost use Rattle.er_event.specs.Round.{is_bye, match_at};
 ghost use Rattle.er_event.specs.Score.{is_swiss_score};
 ghost use Rattle.er_event.specs.Sound.{IsSoundButForSeeds};
-ghost use Rattle.er_event.specs.Change.{created, has_name, Fits, IsNextRound};
+ghost use Rattle.er_event.specs.Change.{created, has_name, Fits, IsNextRound, IsOpening};
 ghost use Rattle.er_event.specs.declared.rounds.Match.{Match};
 
 mod changing;
 mod copying;
+mod playoff;
 mod reading;
 
 use crate::changes::Change;
@@ -91,8 +92,10 @@ impl Event {
         self.rounds
     }
 
+    /// How many players go to the playoff, or 0 where there is none. Once all Swiss rounds are complete, the playoff may begin with a stage of so many.
     pub fn cut(&self) -> u8
         ensures value { result ≡ self.now.cut }
+        ensures fits { (matches : List Match) → IsOpening self.now matches → Fits self.now (Change.AddBracket matches) }
     {
         self.cut
     }
@@ -150,8 +153,10 @@ impl Event {
         match_in(round.matches.as_slice(), table)
     }
 
+    /// The playoff, which has no stage before the cut.
     pub fn bracket(&self) -> &Bracket
         ensures value { result.now ≡ self.now.bracket }
+        ensures sound { IsSoundButForSeeds self.now }
     {
         &self.bracket
     }

@@ -1,4 +1,4 @@
-ghost use Rattle.std.specs.Prelude.{◌≡◌, ◌<◌, ◌++◌, ◌∷◌, [], length, slice_set, IfOk, IfErr, OnOk};
+ghost use Rattle.std.specs.Prelude.{◌≡◌, ◌<◌, ◌++◌, ◌∷◌, [], length, slice_index_or, slice_set, IfOk, IfErr, OnOk};
 
 use std::alloc::{AllocError, Global};
 use std::marker::Model;
@@ -77,5 +77,27 @@ impl<T: Copy> Items<T> {
         Ok(Items {
             vec: Vec::from_slice(alloc, self.vec.as_slice())?,
         })
+    }
+}
+
+impl<T: Drop> Items<T> {
+    /// Puts an element that owns memory at the end. Where memory is wanting, the list stays as it was.
+    pub(crate) fn append(&mut self, element: T) -> Result<(), AllocError>
+        ensures ok { OnOk result (self.new ≡ self.old ++ element ∷ []) }
+        ensures err { IfErr result (λ _. self.new ≡ self.old) }
+    {
+        self.vec.push(element)?;
+        Ok(())
+    }
+}
+
+impl<T: Copy> Items<Items<T>> {
+    /// Puts the element in the place of the one that stands there, in the list of this row.
+    pub(crate) fn set_in(&mut self, row: usize, at: usize, element: T)
+        requires row { row < length self.old }
+        requires at { at < length (slice_index_or self.old row []) }
+        ensures { self.new ≡ slice_set self.old row (slice_set (slice_index_or self.old row []) at element) }
+    {
+        self.vec[row].set(at, element);
     }
 }

@@ -2,6 +2,7 @@
 //! with the changes that keep it so.
 #![tactic(auto)]
 
+mod brackets;
 mod changes;
 mod checks;
 mod events;
@@ -14,6 +15,7 @@ mod refusals;
 mod rounds;
 mod rows;
 mod scores;
+mod stages;
 
 pub use changes::Change;
 pub use events::{Event, MAX_ROUNDS, Phase};

@@ -69,7 +69,7 @@ fn table_of(table: usize, played: &Match) -> usize
 }
 
 /// The games of a score, or none where there is no score.
-fn games_of(score: Option<Score>) -> Games
+pub(crate) fn games_of(score: Option<Score>) -> Games
     ensures { result ≡ games_of score }
 {
     match score {

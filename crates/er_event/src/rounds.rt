@@ -28,15 +28,19 @@ pub struct Bracket {
     pub stages: Items<Items<Match>>,
 }
 
+/// Whether each match has its score.
+pub(crate) fn is_complete(matches: &[Match]) -> bool
+    ensures { result ≡ is_counted matches.now }
+{
+    matches.iter().all(|played| played.score.is_some())
+}
+
 impl Round {
     /// Whether each match has its score.
     pub fn is_complete(&self) -> bool
         ensures { result ≡ is_counted self.now.matches }
     {
-        self.matches
-            .as_slice()
-            .iter()
-            .all(|played| played.score.is_some())
+        is_complete(self.matches.as_slice())
     }
 
     pub fn copy(&self, alloc: Global) -> Result<Round, AllocError>

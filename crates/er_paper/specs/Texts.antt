@@ -1,10 +1,12 @@
 -- The printed texts of an event: a heading, and one line for each row, player or match.
-use Rattle.std.specs.Prelude.{◌≡◌, ℕ, ◌-◌, ◌==◌, List, [], ◌∷◌, ◌++◌, flat_map, if◌then◌else◌, Option, None, option_map, slice_get, codes}
+use Rattle.std.specs.Prelude.{◌≡◌, ℕ, ◌+◌, ◌-◌, ◌==◌, List, [], ◌∷◌, ◌++◌, flat_map, if◌then◌else◌, Option, None, Some, option_map, slice_get, codes}
+use Rattle.std.specs.Fmt.{decimal}
 use Rattle.er_event.specs.declared.players.Player.{Player}
 use Rattle.er_event.specs.declared.rounds.Match.{Match}
 use Rattle.er_event.specs.declared.rounds.Round.{Round}
 use Rattle.er_event.specs.Event.{EventValue}
 use Rattle.er_event.specs.Round.{numbered_from, table_of}
+use Rattle.er_event.specs.Bracket.{champion}
 use Rattle.er_rank.specs.declared.rows.Row.{Row}
 use Rattle.er_rank.specs.Standings.{AreStandings}
 use Rattle.er_paper.specs.Column.{right, percent, mark, name_of, opponent_name, left, score_text}
@@ -53,3 +55,22 @@ round_text event matches = codes " Tab    A    B Score Names" ++ (10 ∷ flat_ma
 -- none where the round isn't stored
 abbrev pub pairings_text : EventValue → ℕ → Option (List ℕ)
 pairings_text event round = if round == 0 then None else option_map (λ (r : Round). round_text event r.matches) (slice_get event.stored (round - 1))
+
+-- the stage, and then as a table is printed
+abbrev pub slot_line : EventValue → ℕ → ℕ × Match → List ℕ
+slot_line event stage numbered = right 4 stage ++ (32 ∷ pairing_line event numbered.0 numbered.1)
+
+abbrev pub stage_lines : EventValue → ℕ → List Match → List ℕ
+stage_lines event stage matches = flat_map (slot_line event stage) (numbered_from 1 matches)
+
+abbrev pub stages_lines : EventValue → ℕ → List (List Match) → List ℕ
+stages_lines event stage [] = []
+stages_lines event stage (matches ∷ later) = stage_lines event stage matches ++ stages_lines event (stage + 1) later
+
+abbrev pub champion_line : EventValue → Option ℕ → List ℕ
+champion_line event None = []
+champion_line event (Some player) = codes "Champion " ++ (decimal player ++ (32 ∷ (name_of event player ++ (10 ∷ []))))
+
+-- stage by stage, and then the champion, once there is one
+abbrev pub bracket_text : EventValue → List ℕ
+bracket_text event = codes " Stg Slot    A    B Score Names" ++ (10 ∷ (stages_lines event 1 event.bracket.stages ++ champion_line event (champion event)))

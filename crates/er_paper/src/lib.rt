@@ -1,11 +1,13 @@
 //! The printed texts of an event, exact to the byte.
 #![tactic(auto)]
 
+mod brackets;
 mod columns;
 mod pairings;
 mod players;
 mod standings;
 
+pub use brackets::bracket_text;
 pub use pairings::pairings_text;
 pub use players::players_text;
 pub use standings::standings_text;

@@ -31,7 +31,8 @@ fn opponent_name(event: &Event, number: u16) -> &str
     }
 }
 
-fn push_pairing(
+/// Appends the line of a match at this table, or in this slot.
+pub fn push_pairing(
     alloc: Global,
     text: &mut String,
     event: &Event,

@@ -75,10 +75,10 @@ seats_same ps = subst (λ (l : List ℕ). IsPermutation l (flat_map seats (seate
 abbrev Apart : List ℕ → Type 0
 Apart = AllPairs (λ p q. p ≢ q)
 
-flips : (x y : ℕ) → (x == y) ≡ (y == x)
+pub flips : (x y : ℕ) → (x == y) ≡ (y == x)
 flips x y = grind (arith, nat_tests)
 
-apart_moved : (xs ys : List ℕ) → IsPermutation xs ys → Apart xs → Apart ys
+pub apart_moved : (xs ys : List ℕ) → IsPermutation xs ys → Apart xs → Apart ys
 apart_moved xs ys same apart = AllPairs-from_IsDistinct Decides-eqb ys (IsDistinct-IsPermutation ◌==◌ flips xs ys same (IsDistinct-from_AllPairs Decides-eqb xs apart))
 
 -- ---- the bye stands last

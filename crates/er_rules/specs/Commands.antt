@@ -1,5 +1,5 @@
 -- The checks of each command, in order, and what it makes of an event that it is taken on.
-use Rattle.std.specs.Prelude.{ℕ, ◌+◌, ◌-◌, ◌==◌, nat_le, nat_lt, Bool, true, false, ◌&&◌, ◌||◌, not, if◌then◌else◌, List, [], ◌∷◌, ◌++◌, length, filter, find, slice_get, drop, option_map, option_and_then, Option, Some, None, is_none}
+use Rattle.std.specs.Prelude.{ℕ, ◌+◌, ◌-◌, ◌==◌, nat_le, nat_lt, Bool, true, false, ◌&&◌, not, List, [], ◌∷◌, ◌++◌, length, filter, find, drop, option_map, Option, Some, None, is_none}
 use Rattle.std.specs.List.{list_any, list_all}
 use Rattle.er_event.specs.declared.scores.Games.{Games}
 use Rattle.er_event.specs.declared.events.Phase.{Phase}
@@ -14,6 +14,7 @@ use Rattle.er_event.specs.declared.players.TheConstants.{MAX_PLAYERS}
 use Rattle.er_event.specs.Name.{is_lawful_name}
 use Rattle.er_event.specs.Score.{is_swiss_score, is_playoff_score}
 use Rattle.er_event.specs.Round.{is_bye, is_counted, match_at}
+use Rattle.er_event.specs.Bracket.{slot_at}
 use Rattle.er_event.specs.Change.{has_name}
 
 abbrev pub is_enrolling : Phase → Bool
@@ -34,8 +35,9 @@ active event = filter (λ p. not p.dropped) event.players
 abbrev pub newest_is_open : EventValue → Bool
 newest_is_open event = list_any (λ (r : Round). not (is_counted r.matches)) (drop (length event.stored - 1) event.stored)
 
-abbrev pub slot_at : EventValue → ℕ → ℕ → Option Match
-slot_at event stage slot = if stage == 0 || slot == 0 then None else option_and_then (λ (matches : List Match). slice_get matches (slot - 1)) (slice_get event.bracket.stages (stage - 1))
+-- all Swiss rounds are paired and complete
+abbrev pub all_rounds_done : EventValue → Bool
+all_rounds_done event = length event.stored == event.rounds && list_all (λ (r : Round). is_counted r.matches) event.stored
 
 -- a check that fails, with the refusal that it means
 abbrev pub Check : Type 0
@@ -96,7 +98,7 @@ abbrev pub cut_checks : EventValue → List Check
 cut_checks event =
     (not (is_swiss event.phase), NotSwiss)
     ∷ (event.cut == 0, NoCut)
-    ∷ (not (length event.stored == event.rounds && list_all (λ (r : Round). is_counted r.matches) event.stored), RoundsNotDone)
+    ∷ (not (all_rounds_done event), RoundsNotDone)
     ∷ (nat_lt (length (active event)) event.cut, TooFewForCut)
     ∷ []
 

@@ -1,4 +1,4 @@
-pub mod Seeds
 pub mod Commands
 pub mod Tables
 pub mod Step
+pub mod Sound

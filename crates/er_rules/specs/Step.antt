@@ -1,18 +1,17 @@
 -- What a command does to an event: it is taken, or refused by the first check that fails.
-use Rattle.std.specs.Prelude.{◌≡◌, ◌⊎◌, ℕ, ◌-◌, ◌==◌, if◌then◌else◌, List, [], ◌∷◌, ◌++◌, length, slice_set, slice_index_or, None, MatchOption, Result, Ok, Err}
+use Rattle.std.specs.Prelude.{◌≡◌, ◌⊎◌, ℕ, List, [], ◌∷◌, ◌++◌, None, MatchOption, Result, Ok, Err}
 use Rattle.er_event.specs.declared.scores.Games.{Games}
 use Rattle.er_event.specs.declared.refusals.Command.{Command}
 use Rattle.er_event.specs.declared.refusals.Command.TheVariants.{Enrol, Start, Pair, Result as Report, Correct, Drop, Cut, Playoff as PlayOff}
 use Rattle.er_event.specs.declared.refusals.Refusal.{Refusal}
 use Rattle.er_event.specs.declared.refusals.Refusal.TheVariants.{NoPairing, Budget}
-use Rattle.er_event.specs.declared.events.Phase.TheVariants.{Swiss, Playoff, Finished}
+use Rattle.er_event.specs.declared.events.Phase.TheVariants.{Swiss, Playoff}
 use Rattle.er_event.specs.declared.rounds.Match.{Match}
 use Rattle.er_event.specs.Event.{EventValue}
-use Rattle.er_event.specs.Round.{is_counted}
-use Rattle.er_event.specs.Change.{with_player, with_dropped, with_phase, scored, with_score}
+use Rattle.er_event.specs.Change.{with_player, with_dropped, with_phase, with_score, stage_of, scored_slot, with_bracket_score}
 use Rattle.er_rank.specs.Standings.{IsTop}
-use Rattle.er_event.specs.Bracket.{next_stage, open_match}
-use Rattle.er_rules.specs.Seeds.{first_stage}
+use Rattle.er_event.specs.Bracket.{following, is_over}
+use Rattle.er_bracket.specs.Seeds.{first_stage}
 use Rattle.er_pair.specs.Met.{have_met}
 use Rattle.er_pair.specs.Order.{seed_words, IsOrder}
 use Rattle.er_pair.specs.Pairing.{IsLegal, IsEarliest, round_of}
@@ -23,17 +22,13 @@ use Rattle.er_rules.specs.Commands.{first_refusal, enrol_checks, start_checks, p
 
 -- ---- the events after
 
--- a stage that is complete is followed by the next, or was the final
-abbrev pub after_stage : EventValue → List (List Match) → List Match → EventValue
-after_stage event stages stage =
-    if is_counted stage then (if length stage == 1 then record event { bracket = record { stages = stages }; phase = Finished } else record event { bracket = record { stages = stages ++ next_stage stage ∷ [] } })
-    else record event { bracket = record { stages = stages } }
+-- the stage with the score in this slot
+abbrev pub scored_at : EventValue → ℕ → ℕ → Games → List Match
+scored_at event stage slot score = scored_slot (stage_of event.bracket.stages stage) slot score
 
+-- The score is stored. A stage that ends with it is followed by that of its winners, or the playoff is over.
 abbrev pub with_stage_score : EventValue → ℕ → ℕ → Games → EventValue
-with_stage_score event stage slot score =
-    let matches = slice_index_or event.bracket.stages (stage - 1) [] in
-    let after = slice_set matches (slot - 1) (scored score (slice_index_or matches (slot - 1) (open_match 0 0))) in
-    after_stage event (slice_set event.bracket.stages (stage - 1) after) after
+with_stage_score event stage slot score = with_bracket_score event stage slot score (following (scored_at event stage slot score)) (is_over (scored_at event stage slot score))
 
 -- ---- the step
 
@@ -79,13 +74,3 @@ NeedsMoreSteps event command = ⊥
 -- what a command is answered, where memory lasts: the step, unless the search that it asks for has too few steps
 abbrev pub Answers : EventValue → Command → Result EventValue Refusal → Type 0
 Answers event command result = (Steps event command result × (NeedsMoreSteps event command → ⊥)) ⊎ ((result ≡ Err (Budget MAX_STEPS)) × NeedsMoreSteps event command)
-
--- the commands that are decided so far
-abbrev pub IsWritten : Command → Type 0
-IsWritten (Enrol name) = Unit {0}
-IsWritten Start = Unit {0}
-IsWritten (Pair round seed) = Unit {0}
-IsWritten (Report round table score) = Unit {0}
-IsWritten (Correct round table score) = Unit {0}
-IsWritten (Drop player) = Unit {0}
-IsWritten _ = ⊥

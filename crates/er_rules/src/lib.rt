@@ -5,14 +5,19 @@ ghost use Rattle.std.specs.Prelude.{◌≡◌, ◌⊎◌, Ok, Err, IfOk, IfErr, 
 ghost use Rattle.er_event.specs.Name.{is_lawful_name};
 ghost use Rattle.er_event.specs.Change.{after, Fits};
 ghost use Rattle.er_rules.specs.Commands.{first_refusal, enrol_checks, start_checks, drop_checks};
-ghost use Rattle.er_rules.specs.Step.{Answers, IsWritten};
+ghost use Rattle.er_rules.specs.Sound.{IsSound};
+ghost use Rattle.er_rules.specs.Step.{Answers};
 
 mod pairing;
+mod playoff;
 mod results;
+mod seeds;
 
 use er_event::{Change, Command, Event, MAX_PLAYERS, Name, NameFault, Phase, Refusal};
 use pairing::decide_pair;
+use playoff::{decide_cut, decide_playoff};
 use results::{decide_correct, decide_result};
+pub use seeds::seeds_agree;
 use std::alloc::Global;
 
 fn read_name(alloc: Global, name: &[u8]) -> Result<Name, Refusal>
@@ -80,12 +85,11 @@ fn decide_drop(event: &Event, number: u16) -> Result<Change, Refusal>
     Ok(Change::SetDropped { player: player.no })
 }
 
-/// What a command makes of an event: a change that fits it, or the refusal of the first check that fails. Want of memory may
-/// come in place of either, and `Budget` where the search for a pairing would take more than a million steps. So far a command is
-/// `Enrol`, `Start`, `Pair`, `Result`, `Correct` or `Drop`.
+/// What a command makes of an event: a change that fits it, or the refusal of the first check that fails. A sound event stays sound, its
+/// seeds too. Want of memory may come in place of either, and `Budget` where the search for a pairing would take more than a million steps.
 pub fn decide(alloc: Global, event: &Event, command: &Command) -> Result<Change, Refusal>
-    requires { IsWritten command.now }
     ensures taken { IfOk result (λ change. Fits event.now change × Answers event.now command.now (Ok (after event.now change))) }
+    ensures keeps { IfOk result (λ change. IsSound event.now → IsSound (after event.now change)) }
     ensures refused { IfErr result (λ why. (why ≡ Refusal.Memory) ⊎ Answers event.now command.now (Err why)) }
 {
     match command {
@@ -103,6 +107,9 @@ pub fn decide(alloc: Global, event: &Event, command: &Command) -> Result<Change,
             score,
         } => decide_correct(event, *round, *table, *score),
         Command::Drop { player } => decide_drop(event, *player),
-        _ => unreachable!(),
+        Command::Cut => decide_cut(alloc, event),
+        Command::Playoff { stage, slot, score } => decide_playoff(
+            alloc, event, *stage, *slot, *score,
+        ),
     }
 }

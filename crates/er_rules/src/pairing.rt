@@ -26,7 +26,7 @@ fn newest_is_open(event: &Event) -> bool
     }
 }
 
-fn active_count(event: &Event) -> usize
+pub fn active_count(event: &Event) -> usize
     ensures { result ≡ length (active event.now) }
 {
     event

@@ -25,17 +25,18 @@ use Rattle.sqlite_schema.specs.declared.schema.Index.{Index}
 use Rattle.sqlite_schema.specs.declared.schema.View.{View}
 use Rattle.er_event.specs.declared.events.Phase.{Phase}
 use Rattle.er_event.specs.declared.rows.PairingRow.{PairingRow}
+use Rattle.er_event.specs.declared.rows.BracketRow.{BracketRow}
 use Rattle.er_event.specs.Event.{EventValue}
 use Rattle.er_event.specs.Change.{with_phase}
 use Rattle.er_event.specs.Rows.{flag, phase_code, event_row}
-use Rattle.er_store.specs.Tables.{event, player, pairing, insert_event, insert_player, insert_pairing, set_serial, set_phase}
-use Rattle.er_store.specs.Rows.{number, event_columns, pairing_columns, event_places, stored_event, stored_player, stored_pairing, shown}
+use Rattle.er_store.specs.Tables.{event, player, pairing, bracket, insert_event, insert_player, insert_pairing, insert_slot, set_serial, set_phase}
+use Rattle.er_store.specs.Rows.{number, event_columns, pairing_columns, bracket_columns, event_places, stored_event, stored_player, stored_pairing, stored_slot, shown}
 use Rattle.er_store.specs.Standing.{HasTables, StandsFor, CanRead}
 use Rattle.er_store.specs.Steps.{Goes, Puts}
 use Rattle.er_store.proofs.Values.{cast_int, cast_null}
 use Rattle.er_store.proofs.Inserts.{puts_one}
 use Rattle.er_store.proofs.Updates.{update_goes, sets_off_nothing, event_rows}
-use Rattle.er_store.proofs.Meaning.{full, event_terms, event_is, event_plain, player_terms, player_is, player_plain, pairing_terms, pairing_is, pairing_plain, event_query, serial_terms, serial_is, serial_plain, phase_terms, phase_is, phase_plain, readable}
+use Rattle.er_store.proofs.Meaning.{full, event_terms, event_is, event_plain, player_terms, player_is, player_plain, pairing_terms, pairing_is, pairing_plain, slot_terms, slot_is, slot_plain, event_query, serial_terms, serial_is, serial_plain, phase_terms, phase_is, phase_plain, readable}
 
 -- what holds of each schema with the four tables in front holds of this one
 pub at_ours : (schema : Schema) (has : HasTables schema) (P : Schema → Type 0) → P (full has.others schema.indexes schema.views) → P schema
@@ -92,6 +93,19 @@ puts_pairing old new r count has inside h =
     (at_ours old.now.schema has (λ s. command_of (understood s insert_pairing) ≡ Insert 2 (Values pairing_terms 10)) (pairing_is _ _ _))
     (at_ours old.now.schema has (λ s. IsPlain (understood s insert_pairing)) (pairing_plain _ _ _))
     (ap (λ ts. slice_get ts 2) has.are) refl (pairing_news r (old.now.trees 3)) inside h
+
+-- ---- a row of the bracket, which takes the next rowid too
+
+slot_news : (r : BracketRow) (rows : List Row) → numbered Chosen rows (cast_row (bracket 6) (Null ∷ bracket_columns r) ∷ []) ≡ stored_slot (next_rowid rows) r ∷ []
+slot_news r rows = rw (cast_null, cast_int r.stage, cast_int r.slot, cast_int r.a, cast_int r.b, cast_int r.done, cast_int r.x, cast_int r.y, cast_int r.d)
+
+pub puts_slot : (old new : State) (r : BracketRow) (count : ℕ) → HasTables old.now.schema → IsTrue old.in_transaction
+    → ExecutesInside 0 insert_slot (bracket_columns r) old new (Ok count) → Puts 6 (stored_slot (next_rowid (old.now.trees 6)) r) old new
+puts_slot old new r count has inside h =
+    puts_one insert_slot (bracket_columns r) old new 3 9 (bracket 6) slot_terms (stored_slot (next_rowid (old.now.trees 6)) r) count
+    (at_ours old.now.schema has (λ s. command_of (understood s insert_slot) ≡ Insert 3 (Values slot_terms 9)) (slot_is _ _ _))
+    (at_ours old.now.schema has (λ s. IsPlain (understood s insert_slot)) (slot_plain _ _ _))
+    (ap (λ ts. slice_get ts 3) has.are) refl (slot_news r (old.now.trees 6)) inside h
 
 -- ---- the row of the event
 

@@ -5,11 +5,14 @@ pub mod Updates
 pub mod Effects
 pub mod Together
 pub mod Pairing
+pub mod Slots
 pub mod Rounds
+pub mod StageLemmas
 pub mod Where
 pub mod Picking
 pub mod Dropping
 pub mod PickingTable
+pub mod PickingSlot
 pub mod Scoring
 pub mod Crash
 pub mod Creates

@@ -22,7 +22,7 @@ use Rattle.sqlite.specs.Listing.{understood, listing_schema, reads_listing}
 use Rattle.sqlite.proofs.Callers.{IsPlain, command_of}
 use Rattle.er_store.specs.Standing.{with_ours, CanRead}
 use Rattle.er_store.specs.Rows.{event_places, player_places, pairing_places, bracket_places}
-use Rattle.er_store.specs.Tables.{no_schema, event_text, player_text, pairing_text, bracket_text, event, player, pairing, bracket, insert_event, insert_player, set_serial, set_phase, set_dropped, set_score, insert_pairing, find_event, read_event, read_players, read_pairings, read_bracket}
+use Rattle.er_store.specs.Tables.{no_schema, event_text, player_text, pairing_text, bracket_text, event, player, pairing, bracket, insert_event, insert_player, set_serial, set_phase, set_dropped, set_score, insert_pairing, insert_slot, set_slot_score, find_event, read_event, read_players, read_pairings, read_bracket}
 
 pub event_defined : table_defined_by event_text ≡ Ok (event 0)
 unfolding understood everything
@@ -48,6 +48,9 @@ event_terms = lit (Int (pos 1)) ∷ lit Null ∷ lit (Int (pos 1)) ∷ col 0 0 �
 
 abbrev pub pairing_terms : List Term
 pairing_terms = lit Null ∷ col 0 0 ∷ col 0 1 ∷ col 0 2 ∷ col 0 3 ∷ col 0 4 ∷ col 0 5 ∷ col 0 6 ∷ col 0 7 ∷ col 0 8 ∷ []
+
+abbrev pub slot_terms : List Term
+slot_terms = lit Null ∷ col 0 0 ∷ col 0 1 ∷ col 0 2 ∷ col 0 3 ∷ col 0 4 ∷ col 0 5 ∷ col 0 6 ∷ col 0 7 ∷ []
 
 abbrev plain_query : Join → List Term → List Term → Query
 plain_query from filter project = record { from = from; filter = filter; group = None; project = project; distinct = false; collations = []; order = []; limit = lit (Int (negsuc 0)); offset = lit (Int (pos 0)) }
@@ -88,6 +91,14 @@ score_tests = op2 (Compare Eq Binary) (col 1 1) (op1 ToNumeric (col 0 0)) ∷ op
 
 abbrev pub score_query : Query
 score_query = rows_query 3 score_tests score_terms
+
+-- the old rowid, and then the row with another score
+abbrev pub slot_score_terms : List Term
+slot_score_terms = col 1 0 ∷ col 1 0 ∷ col 1 1 ∷ col 1 2 ∷ col 1 3 ∷ col 1 4 ∷ lit (Int (pos 1)) ∷ col 0 2 ∷ col 0 3 ∷ col 0 4 ∷ []
+
+-- only the match of the stage and the slot that are given passes
+abbrev pub slot_score_query : Query
+slot_score_query = rows_query 6 score_tests slot_score_terms
 
 -- the columns at these places of each row of a table, by some of them
 abbrev pub table_query : ℕ → List ℕ → List ℕ → Query
@@ -166,6 +177,22 @@ module _ (others : List Table) (indexes : List Index) (views : List View) where
   pub score_plain : IsPlain (understood full set_score)
   unfolding understood everything
   score_plain = (refl, refl)
+
+  pub slot_is : command_of (understood full insert_slot) ≡ Insert 3 (Values slot_terms 9)
+  unfolding understood everything
+  slot_is = refl
+
+  pub slot_plain : IsPlain (understood full insert_slot)
+  unfolding understood everything
+  slot_plain = (refl, refl)
+
+  pub slot_score_is : command_of (understood full set_slot_score) ≡ Update 3 (record { lets = []; body = slot_score_query })
+  unfolding understood everything
+  slot_score_is = refl
+
+  pub slot_score_plain : IsPlain (understood full set_slot_score)
+  unfolding understood everything
+  slot_score_plain = (refl, refl)
 
   pub event_selected : Selects read_event (table_query 0 event_places (0 ∷ [])) full
   unfolding understood everything

@@ -116,7 +116,7 @@ pub record Same (old new : State) : Type 0 where
   pub now_is : new.now ≡ old.now
   pub committed_is : new.committed ≡ old.committed
 
-same_moves : (old mid new : State) → Same old mid → Moves mid new → Moves old new
+pub same_moves : (old mid new : State) → Same old mid → Moves mid new → Moves old new
 same_moves old mid new same moves = record {
   was = sym same.mode ∙ moves.was;
   shows = record { was_open = sym same.is_open ∙ moves.shows.was_open; is_open = moves.shows.is_open; now_is = moves.shows.now_is; committed_is = moves.shows.committed_is ∙ same.committed_is; mode = moves.shows.mode };

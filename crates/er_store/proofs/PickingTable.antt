@@ -35,7 +35,7 @@ is_elsewhere k t row = not (picks_table k t row)
 
 -- ---- the test, of a match's row
 
-equal : (n k : ℕ) → is_true (binary (Compare Eq Binary) (number n) (unary ToNumeric (number k))) ≡ (n == k)
+pub equal : (n k : ℕ) → is_true (binary (Compare Eq Binary) (number n) (unary ToNumeric (number k))) ≡ (n == k)
 unfolding binary unary
 equal n k = by_equal (n == k) refl
   where
@@ -63,7 +63,7 @@ own_round k t n b at = picks-row k t k n ∙ (ap₂ (λ a c. a && (c && true)) (
 -- ---- one row gives way to another
 
 -- the test picks the row alone, the other stands in its place, and all else is as it was
-record Swaps {X : Type 0} (test : X → Bool) (old new : List X) (row other : X) : Type 0 where
+pub record Swaps {X : Type 0} (test : X → Bool) (old new : List X) (row other : X) : Type 0 where
   pub before : List X
   pub after : List X
   pub was : old ≡ before ++ row ∷ after
@@ -73,10 +73,10 @@ record Swaps {X : Type 0} (test : X → Bool) (old new : List X) (row other : X)
   pub none_after : AllByRecursion (λ x. test x ≡ false) after
 
 module _ {X : Type 0} (test : X → Bool) where
-  abbrev None_of : List X → Type 0
+  abbrev pub None_of : List X → Type 0
   None_of = AllByRecursion (λ x. test x ≡ false)
 
-  swaps-before : (xs old new : List X) (row other : X) → None_of xs → Swaps test old new row other → Swaps test (xs ++ old) (xs ++ new) row other
+  pub swaps-before : (xs old new : List X) (row other : X) → None_of xs → Swaps test old new row other → Swaps test (xs ++ old) (xs ++ new) row other
   swaps-before xs old new row other none s = record {
     before = xs ++ s.before;
     after = s.after;
@@ -87,7 +87,7 @@ module _ {X : Type 0} (test : X → Bool) where
     none_after = s.none_after;
   }
 
-  swaps-after : (xs old new : List X) (row other : X) → None_of xs → Swaps test old new row other → Swaps test (old ++ xs) (new ++ xs) row other
+  pub swaps-after : (xs old new : List X) (row other : X) → None_of xs → Swaps test old new row other → Swaps test (old ++ xs) (new ++ xs) row other
   swaps-after xs old new row other none s = record {
     before = s.before;
     after = s.after ++ xs;
@@ -115,6 +115,19 @@ module _ {X : Type 0} (test : X → Bool) where
       subst (λ xs. IsPermutation (xs ++ other ∷ []) new) (sym kept)
       (subst (IsPermutation ((s.before ++ s.after) ++ other ∷ [])) (sym s.is)
       (IsPermutation-trans _ _ _ (IsPermutation-to_front (s.before ++ s.after) other) (IsPermutation-sym _ _ (IsPermutation-middle s.before other s.after))))
+
+-- the columns of the rows, of which the test picks one
+module _ {X : Type 0} (columns : X → Row) (test : Row → Bool) (old new : List X) (row other : X) (swaps : Swaps (λ x. test (columns x)) old new row other) where
+  pub picked-alone : filter test (map columns old) ≡ columns row ∷ []
+  picked-alone = filter-map test columns old ∙ ap (map columns) (swaps-alone (λ x. test (columns x)) old new row other swaps)
+
+  pub picked-replaced : IsPermutation (filter (λ x. not (test x)) (map columns old) ++ columns other ∷ []) (map columns new)
+  picked-replaced =
+      let rest = filter (λ x. not (test (columns x))) old in
+      let swapped = IsPermutation-map columns (rest ++ other ∷ []) new (swaps-replaced (λ x. test (columns x)) old new row other swaps) in
+      let joined : map columns (rest ++ other ∷ []) ≡ filter (λ x. not (test x)) (map columns old) ++ columns other ∷ [] =
+      map-append columns rest (other ∷ []) ∙ ap (λ xs. xs ++ columns other ∷ []) (sym (filter-map (λ x. not (test x)) columns old)) in
+      subst (λ xs. IsPermutation xs (map columns new)) joined swapped
 
 -- ---- the matches of a round
 
@@ -243,13 +256,9 @@ picks_one_table e k t s m found seat =
     let read : get_or e.stored (k - 1) (record { matches = [] }) ≡ f.round = get_or_from_slice_get e.stored (k - 1) f.round (record { matches = [] }) f.is in
     let put : List Match → List PairingRow = λ new. pairing_rows_from 1 (set e.stored (k - 1) (record { matches = new })) in
     let after : pairing_rows (with_score e k t s) ≡ put (again k t s 1 ms) = ap (λ (q : Round). put (again k t s 1 q.matches)) read in
-    let others : filter (is_elsewhere k t) (map pairing_columns (pairing_rows e)) ≡ map pairing_columns (filter (λ r. is_elsewhere k t (pairing_columns r)) (pairing_rows e)) = filter-map (is_elsewhere k t) pairing_columns (pairing_rows e) in
-    let swapped = IsPermutation-map pairing_columns (filter (λ r. is_elsewhere k t (pairing_columns r)) (pairing_rows e) ++ other ∷ []) (put (again k t s 1 ms)) (swaps-replaced (test k t s) (pairing_rows e) (put (again k t s 1 ms)) row other all) in
-    let joined : map pairing_columns (filter (λ r. is_elsewhere k t (pairing_columns r)) (pairing_rows e) ++ other ∷ []) ≡ filter (is_elsewhere k t) (map pairing_columns (pairing_rows e)) ++ pairing_columns other ∷ [] =
-    map-append pairing_columns (filter (λ r. is_elsewhere k t (pairing_columns r)) (pairing_rows e)) (other ∷ []) ∙ ap (λ xs. xs ++ pairing_columns other ∷ []) (sym others) in
     record {
       it = it;
-      alone = filter-map (picks_table k t) pairing_columns (pairing_rows e) ∙ ap (map pairing_columns) (swaps-alone (test k t s) (pairing_rows e) (put (again k t s 1 ms)) row other all);
+      alone = picked-alone pairing_columns (picks_table k t) (pairing_rows e) (put (again k t s 1 ms)) row other all;
       replaced = subst (λ rs. IsPermutation (filter (is_elsewhere k t) (map pairing_columns (pairing_rows e)) ++ pairing_columns other ∷ []) (map pairing_columns rs)) (sym after)
-          (subst (λ xs. IsPermutation xs (map pairing_columns (put (again k t s 1 ms)))) joined swapped);
+          (picked-replaced pairing_columns (picks_table k t) (pairing_rows e) (put (again k t s 1 ms)) row other all);
     }

@@ -18,6 +18,7 @@ use Rattle.er_event.specs.Change.{new_player, with_player, with_phase}
 use Rattle.er_event.specs.Rows.{event_row, player_row, player_rows, pairing_rows, pairing_rows_from, bracket_rows, bracket_rows_from}
 use Rattle.er_event.specs.declared.players.Player.{Player}
 use Rattle.er_event.specs.declared.rounds.Round.{Round}
+use Rattle.er_event.specs.declared.rounds.Match.{Match}
 use Rattle.er_store.specs.Tables.{our_schema}
 use Rattle.er_store.specs.Rows.{event_columns, player_columns, pairing_columns, bracket_columns, stored_event, stored_player, shown, event_places, player_places, pairing_places, bracket_places}
 use Rattle.er_store.specs.Standing.{HasTables, StandsFor, IsKeyed, IsNew, IsOther, KeepsOthers}
@@ -97,6 +98,9 @@ moves_then a b c p q = record {
   schema = q.schema ∙ p.schema;
 }
 
+pub makes_then : (a b c : State) (e f : EventValue) (s : ℕ) → Makes a b e s → Makes b c f s → Makes a c f s
+makes_then a b c e f s p q = record { moves = moves_then a b c p.moves q.moves; stands = q.stands }
+
 -- ---- the changes
 
 -- the tables of pairings and of the bracket are as they were
@@ -152,6 +156,26 @@ pairings_set old new e stored s stands goes set keyed =
         bracket = subst (λ rows. IsPermutation (shown bracket_places rows) (map bracket_columns (bracket_rows e))) (sym (others.bracket (λ e. cc))) stands.bracket;
         pairings_keyed = keyed;
         bracket_keyed = subst IsKeyed (sym (others.bracket (λ e. cc))) stands.bracket_keyed;
+      };
+    }
+
+-- the bracket's rows alone are others
+pub bracket_set : (old new : State) (e : EventValue) (stages : List (List Match)) (s : ℕ) → StandsFor old.now e s → Goes 6 old new
+    → IsPermutation (shown bracket_places (new.now.trees 6)) (map bracket_columns (bracket_rows_from 1 stages)) → IsKeyed (new.now.trees 6) → Makes old new (record e { bracket = record { stages = stages } }) s
+bracket_set old new e stages s stands goes set keyed =
+    let has = stands.tables in
+    let others = kept 6 old new has goes in
+    record {
+      moves = goes_moves 6 old new (λ t other. other.3) goes;
+      stands = record {
+        low = stands.low;
+        tables = subst HasTables (sym goes.schema) has;
+        event = subst (λ rows. IsPermutation (shown event_places rows) (event_columns (event_row e s) ∷ [])) (sym (others.event (λ e. cc))) stands.event;
+        players = subst (λ rows. IsPermutation (shown player_places rows) (map player_columns (player_rows e))) (sym (others.player (λ e. cc))) stands.players;
+        pairings = subst (λ rows. IsPermutation (shown pairing_places rows) (map pairing_columns (pairing_rows e))) (sym (others.pairing (λ e. cc))) stands.pairings;
+        bracket = set;
+        pairings_keyed = subst IsKeyed (sym (others.pairing (λ e. cc))) stands.pairings_keyed;
+        bracket_keyed = keyed;
       };
     }
 

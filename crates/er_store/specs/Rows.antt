@@ -55,3 +55,7 @@ stored_player number name dropped = Int (pos number) ∷ Null ∷ Text name ∷ 
 -- a pairing has a rowid that no column shows
 abbrev pub stored_pairing : ℤ → PairingRow → Row
 stored_pairing id r = Int id ∷ pairing_columns r
+
+-- and so has a match of the bracket
+abbrev pub stored_slot : ℤ → BracketRow → Row
+stored_slot id r = Int id ∷ bracket_columns r

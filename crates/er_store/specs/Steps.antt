@@ -1,5 +1,5 @@
 -- What one statement does within a transaction.
-use Rattle.std.specs.Prelude.{◌≡◌, ◌≢◌, ℕ, true, false, [], IsTrue}
+use Rattle.std.specs.Prelude.{◌≡◌, ◌≢◌, ◌<◌, ◌≤◌, ℕ, true, false, List, [], length, IsTrue}
 use Rattle.std.specs.List.{AllByRecursion}
 use Rattle.sqlite.specs.Tree.{put_row}
 use Rattle.sqlite.specs.Schema.{Schema}
@@ -8,6 +8,7 @@ use Rattle.sqlite.specs.Order.{Row}
 use Rattle.sqlite.specs.Effect.{IsDatabase}
 use Rattle.sqlite.specs.State.{State, Shows}
 use Rattle.sqlite_rules.specs.Edit.{is_taken}
+use Rattle.er_event.specs.declared.rounds.Match.{Match}
 use Rattle.er_event.specs.Event.{EventValue}
 use Rattle.er_store.specs.Tables.{our_schema}
 use Rattle.er_store.specs.Standing.{StandsFor, KeepsOthers}
@@ -38,6 +39,10 @@ pub record Moves (old new : State) : Type 0 where
 pub record Makes (old new : State) (e : EventValue) (serial : ℕ) : Type 0 where
   pub moves : Moves old new
   pub stands : StandsFor new.now e serial
+
+-- a stage of the playoff: at most four matches, and at least one
+abbrev pub IsStage : List Match → Type 0
+IsStage matches = (0 < length matches) × (length matches ≤ 4)
 
 -- A table was made, with no row. The rows of the other tables stay.
 pub record Creates (before after : Schema) (old new : State) : Type 0 where

@@ -1,7 +1,7 @@
 -- The four tables of an event, as the texts that make them say.
 use Rattle.std.specs.Prelude.{ℕ, pos, Bool, true, false, List, [], ◌∷◌, Some, None, codes}
 use Rattle.er_store.specs.declared.creation.TheConstants.{CREATE_EVENT, CREATE_PLAYER, CREATE_PAIRING, CREATE_BRACKET}
-use Rattle.er_store.specs.declared.statements.TheConstants.{INSERT_EVENT, INSERT_PLAYER, INSERT_PAIRING, SET_SERIAL, SET_PHASE, SET_DROPPED, SET_SCORE}
+use Rattle.er_store.specs.declared.statements.TheConstants.{INSERT_EVENT, INSERT_PLAYER, INSERT_PAIRING, SET_SERIAL, SET_PHASE, SET_DROPPED, SET_SCORE, INSERT_SLOT, SET_SLOT_SCORE}
 use Rattle.er_store.specs.declared.transactions.TheConstants.{FIND_EVENT}
 use Rattle.er_store.specs.declared.reading.TheConstants.{READ_EVENT, READ_PLAYERS, READ_PAIRINGS, READ_BRACKET}
 use Rattle.sqlite.specs.declared.types.Value.TheVariants.{Null, Int}
@@ -146,6 +146,12 @@ set_dropped = SET_DROPPED.now
 
 abbrev pub set_score : List ℕ
 set_score = SET_SCORE.now
+
+abbrev pub insert_slot : List ℕ
+insert_slot = INSERT_SLOT.now
+
+abbrev pub set_slot_score : List ℕ
+set_slot_score = SET_SLOT_SCORE.now
 
 -- whether a table `event` can be read
 abbrev pub find_event : List ℕ

@@ -35,7 +35,7 @@ impl<S: Alter> Store<S> {
     ghost use Rattle.sqlite.specs.Tree.{Trees};
     ghost use Rattle.er_event.specs.declared.refusals.TheConstants.{MAX_SERIAL};
     ghost use Rattle.er_event.specs.Event.{EventValue};
-    ghost use Rattle.er_event.specs.Sound.{IsInPlayoff, IsSoundButForSeeds};
+    ghost use Rattle.er_event.specs.Sound.{IsSoundButForSeeds};
     ghost use Rattle.er_event.specs.Change.{after, Fits};
     ghost use Rattle.er_store.specs.Tables.{no_schema};
     ghost use Rattle.er_store.specs.Standing.{HasTables, StandsFor, IsNew, IsStored, Shows, Leaves, Either, KeepsOthers, CanRead};
@@ -110,8 +110,8 @@ impl<S: Alter> Store<S> {
         ensures stopped { IsTrue (is_stopped self.old) → (result ≡ Err Refusal.NeedsReopen) × (self.new ≡ self.old) }
         ensures stops { IsFalse (is_stopped self.old) → MatchResult result (λ _. IsFalse (is_stopped self.new)) (λ why. FaultOrDamage why (is_stopped self.new)) }
 
-        // Where the tables stand for a sound event that is in no playoff, it is found, or memory or the store fails.
-        ensures found { IsFalse (is_stopped self.old) → HasCleanDisk (store.state S.Store self.new) → (e : EventValue) (s : ℕ) → StandsFor (store.state S.Store self.old).now e s → IsSoundButForSeeds e → (IsInPlayoff e → ⊥)
+        // Where the tables stand for a sound event, it is found, or memory or the store fails.
+        ensures found { IsFalse (is_stopped self.old) → HasCleanDisk (store.state S.Store self.new) → (e : EventValue) (s : ℕ) → StandsFor (store.state S.Store self.old).now e s → IsSoundButForSeeds e
             → MatchResult result (λ it. (it.0 ≡ e) × (it.1 ≡ s)) IsFault }
 
         // Whatever the tables hold, what is found is what they show.

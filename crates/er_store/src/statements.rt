@@ -6,7 +6,8 @@ ghost use Rattle.er_event.specs.declared.refusals.TheConstants.{MAX_SERIAL};
 ghost use Rattle.er_event.specs.Event.{EventValue};
 ghost use Rattle.er_event.specs.Sound.{numbers};
 ghost use Rattle.er_event.specs.Round.{is_bye, match_at};
-ghost use Rattle.er_event.specs.Change.{with_phase, with_dropped, with_round, with_score};
+ghost use Rattle.er_event.specs.Bracket.{slot_at};
+ghost use Rattle.er_event.specs.Change.{with_phase, with_dropped, with_round, with_score, with_stage, with_slot_score};
 ghost use Rattle.er_store.specs.Rows.{stored_player, stored_event};
 ghost use Rattle.er_event.specs.Rows.{phase_code, games_of};
 ghost use Rattle.er_store.specs.Standing.{HasTables, StandsFor};
@@ -177,6 +178,63 @@ pub fn insert_pairing<S: Alter>(
             u32::from(y),
             u32::from(d)
         ],
+    )?;
+    Ok(())
+}
+
+pub const INSERT_SLOT: &str =
+    "INSERT INTO bracket (stage, slot, a, b, done, x, y, d) VALUES (?1, ?2, ?3, ?4, ?5, ?6, ?7, ?8)";
+
+/// Inserts the next match of a stage that is being stored. Stage and slot are numbered from 1.
+pub fn insert_slot<S: Alter>(
+    tx: &mut Transaction<'_, S>,
+    stage: u32,
+    slot: u32,
+    played: &Match,
+) -> Result<(), Error>
+    ensures same_reference { tx.new.conn.ghost_name ≡ tx.old.conn.ghost_name }
+    ensures makes { HasCleanDisk (state S.Store tx.new.conn.now) → (e : EventValue) (before : List Match) (s : ℕ) → StandsFor (state S.Store tx.old.conn.now).now (with_stage e before) s
+        → stage ≡ length e.bracket.stages + 1 → slot ≡ length before + 1
+        → OnOk result (Makes (state S.Store tx.old.conn.now) (state S.Store tx.new.conn.now) (with_stage e (before ++ played.now ∷ [])) s) }
+    ensures survives { Survives (state S.Store tx.old.conn.now) (state S.Store tx.new.conn.now) (λ _. ⊥) }
+{
+    let Games { x, y, d } = games_of(played.score);
+    tx.execute(
+        INSERT_SLOT,
+        params![
+            stage,
+            slot,
+            u32::from(played.a),
+            u32::from(played.b),
+            played.score.is_some(),
+            u32::from(x),
+            u32::from(y),
+            u32::from(d)
+        ],
+    )?;
+    Ok(())
+}
+
+pub const SET_SLOT_SCORE: &str =
+    "UPDATE bracket SET done = 1, x = ?3, y = ?4, d = ?5 WHERE stage = ?1 AND slot = ?2";
+
+/// Gives the match of this slot of this stage the score.
+pub fn set_slot_score<S: Alter>(
+    tx: &mut Transaction<'_, S>,
+    stage: u32,
+    slot: u32,
+    score: Score,
+) -> Result<(), Error>
+    ensures same_reference { tx.new.conn.ghost_name ≡ tx.old.conn.ghost_name }
+    ensures makes { HasCleanDisk (state S.Store tx.new.conn.now) → (e : EventValue) (s : ℕ) → StandsFor (state S.Store tx.old.conn.now).now e s
+        → (m : Match) → slot_at e stage slot ≡ Some m
+        → OnOk result (Makes (state S.Store tx.old.conn.now) (state S.Store tx.new.conn.now) (with_slot_score e stage slot score) s) }
+    ensures survives { Survives (state S.Store tx.old.conn.now) (state S.Store tx.new.conn.now) (λ _. ⊥) }
+{
+    let Games { x, y, d } = score.games();
+    tx.execute(
+        SET_SLOT_SCORE,
+        params![stage, slot, u32::from(x), u32::from(y), u32::from(d)],
     )?;
     Ok(())
 }

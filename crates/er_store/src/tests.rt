@@ -3,6 +3,7 @@ ghost use Rattle.er_event.specs.Change.{Fits};
 ghost use Rattle.er_store.specs.Standing.{IsNew};
 
 mod rounds;
+mod stages;
 
 use super::*;
 use er_event::{Name, Phase, Place, PlayerNo};
@@ -31,15 +32,22 @@ fn run(conn: &mut Connection<MemStore>, sql: &str) -> Result<usize, Error> {
     conn.execute(sql, &[])
 }
 
-/// A new event named Friday, of three rounds and no cut.
-fn friday(alloc: Global) -> Result<Event, Fail>
+/// A new event named Friday.
+fn new_event(alloc: Global, rounds: u8, cut: u8) -> Result<Event, Fail>
     ensures { IfOk result IsNew }
 {
     let title = name(alloc, "Friday")?;
-    match Event::create(alloc, title, 3, 0) {
+    match Event::create(alloc, title, rounds, cut) {
         Ok(event) => Ok(event),
         Err(_) => Err("the event is lawful")?,
     }
+}
+
+/// A new event of three rounds and no cut.
+fn friday(alloc: Global) -> Result<Event, Fail>
+    ensures { IfOk result IsNew }
+{
+    new_event(alloc, 3, 0)
 }
 
 type Made = Result<Store<MemStore>, (Connection<MemStore>, Refusal)>;

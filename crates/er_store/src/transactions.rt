@@ -1,18 +1,23 @@
-ghost use Rattle.std.specs.Prelude.{◌≡◌, ◌+◌, ◌<◌, false, ℕ, OnOk, IfOk, ◌↔◌, IsTrue};
+ghost use Rattle.std.specs.Prelude.{◌≡◌, ◌+◌, ◌<◌, ◌≤◌, length, false, ℕ, Some, option_map, OnOk, IfOk, IfSome, ◌↔◌, IsTrue};
 ghost use Rattle.sqlite.specs.State.{HasCleanDisk, Survives, IsUnchanged};
 ghost use Rattle.sqlite.specs.Held.{state};
 ghost use Rattle.sqlite.specs.Tree.{Trees};
 ghost use Rattle.er_event.specs.declared.refusals.TheConstants.{MAX_SERIAL};
-ghost use Rattle.er_event.specs.Change.{after, with_round, Fits};
+ghost use Rattle.er_event.specs.Event.{EventValue};
+ghost use Rattle.er_event.specs.Change.{after, with_round, with_stage, with_bracket, with_bracket_score, Fits};
+ghost use Rattle.er_event.specs.Bracket.{slot_at};
+ghost use Rattle.er_event.specs.declared.rounds.Match.{Match};
+ghost use Rattle.er_store.specs.Steps.{IsStage};
 ghost use Rattle.er_store.specs.Tables.{no_schema};
 ghost use Rattle.er_store.specs.Standing.{StandsFor, IsStored, IsNew, Shows, Leaves, Either, KeepsOthers, CanRead};
 ghost use Rattle.er_store.specs.Steps.{Makes};
 
 use crate::creation::create_all;
 use crate::statements::{
-    insert_event, insert_pairing, insert_player, set_dropped, set_phase, set_score, set_serial,
+    insert_event, insert_pairing, insert_player, insert_slot, set_dropped, set_phase, set_score,
+    set_serial, set_slot_score,
 };
-use er_event::{Change, Event, Match};
+use er_event::{Change, Event, Items, Match, Phase, Score};
 use sqlite::{Alter, Connection, Error, Transaction};
 
 /// Inserts the matches of one more round.
@@ -32,6 +37,70 @@ fn insert_round<S: Alter>(
         insert_pairing(tx, round, place as u32 + 1, played)?;
     }
     Ok(())
+}
+
+/// Inserts the matches of one more stage of the playoff.
+fn insert_stage<S: Alter>(
+    tx: &mut Transaction<'_, S>,
+    stage: u32,
+    matches: &[Match],
+) -> Result<(), Error>
+    requires { IsStage matches.now }
+    ensures same_reference { tx.new.conn.ghost_name ≡ tx.old.conn.ghost_name }
+    ensures makes { HasCleanDisk (state S.Store tx.new.conn.now) → (e : EventValue) (s : ℕ) → StandsFor (state S.Store tx.old.conn.now).now e s → stage ≡ length e.bracket.stages + 1
+        → OnOk result (Makes (state S.Store tx.old.conn.now) (state S.Store tx.new.conn.now) (with_stage e matches.now) s) }
+    ensures survives { Survives (state S.Store tx.old.conn.now) (state S.Store tx.new.conn.now) (λ _. ⊥) }
+{
+    for (place, played) in matches.iter().enumerate() {
+        insert_slot(tx, stage, place as u32 + 1, played)?;
+    }
+    Ok(())
+}
+
+/// The number of the stage that would be next.
+fn next_number(event: &Event) -> u32
+    ensures { result ≡ length event.now.bracket.stages + 1 }
+{
+    event.bracket().stages.as_slice().len() as u32 + 1
+}
+
+/// Inserts the first stage of the playoff, which begins.
+fn begin_playoff<S: Alter>(
+    tx: &mut Transaction<'_, S>,
+    event: &Event,
+    matches: &[Match],
+) -> Result<(), Error>
+    requires fits { Fits event.now (Change.AddBracket matches.now) }
+    ensures same_reference { tx.new.conn.ghost_name ≡ tx.old.conn.ghost_name }
+    ensures makes { HasCleanDisk (state S.Store tx.new.conn.now) → (s : ℕ) → StandsFor (state S.Store tx.old.conn.now).now event.now s
+        → OnOk result (Makes (state S.Store tx.old.conn.now) (state S.Store tx.new.conn.now) (with_bracket event.now matches.now) s) }
+    ensures survives { Survives (state S.Store tx.old.conn.now) (state S.Store tx.new.conn.now) (λ _. ⊥) }
+{
+    insert_stage(tx, next_number(event), matches)?;
+    set_phase(tx, Phase::Playoff)
+}
+
+/// Gives the match of a slot the score, and inserts the stage that follows, if one does.
+fn score_stages<S: Alter>(
+    tx: &mut Transaction<'_, S>,
+    event: &Event,
+    stage: u8,
+    slot: u8,
+    score: Score,
+    next: Option<&Items<Match>>,
+) -> Result<(), Error>
+    requires found { (m : Match) × (slot_at event.now stage slot ≡ Some m) }
+    requires few { IfSome next (λ matches. IsStage matches.now) }
+    ensures same_reference { tx.new.conn.ghost_name ≡ tx.old.conn.ghost_name }
+    ensures makes { HasCleanDisk (state S.Store tx.new.conn.now) → (s : ℕ) → StandsFor (state S.Store tx.old.conn.now).now event.now s
+        → OnOk result (Makes (state S.Store tx.old.conn.now) (state S.Store tx.new.conn.now) (with_bracket_score event.now stage slot score (option_map (λ m. m.now) next.entry) false) s) }
+    ensures survives { Survives (state S.Store tx.old.conn.now) (state S.Store tx.new.conn.now) (λ _. ⊥) }
+{
+    set_slot_score(tx, u32::from(stage), u32::from(slot), score)?;
+    match next {
+        Some(matches) => insert_stage(tx, next_number(event), matches.as_slice()),
+        None => Ok(()),
+    }
 }
 
 /// Makes the change, and leaves the serial.
@@ -59,6 +128,20 @@ fn change_tables<S: Alter>(
             table,
             score,
         } => set_score(tx, u32::from(*round), u32::from(*table), *score),
+        Change::AddBracket { matches } => begin_playoff(tx, event, matches.as_slice()),
+        Change::SetBracketScore {
+            stage,
+            slot,
+            score,
+            next,
+            finished,
+        } => {
+            score_stages(tx, event, *stage, *slot, *score, next.as_ref())?;
+            if *finished {
+                set_phase(tx, Phase::Finished)?;
+            }
+            Ok(())
+        }
     }
 }
 

@@ -1,4 +1,5 @@
 mod rounds;
+mod stages;
 
 use er_event::{
     BracketRow, Change, Event, EventRow, Games, Items, Name, NameFault, PairingRow, Parts,
@@ -436,8 +437,9 @@ fn too_few_players_are_a_fault(rt: HostRuntime) -> Result<(), Fail> {
     Ok(())
 }
 
+/// The first phase of the playoff is after the last round, and no row of a bracket stands in a phase before.
 #[test]
-fn playoffs_are_not_read_so_far(rt: HostRuntime) -> Result<(), Fail> {
+fn a_bracket_stands_in_the_playoff_alone(rt: HostRuntime) -> Result<(), Fail> {
     let alloc = rt.alloc();
     let playoff = parts(
         alloc,

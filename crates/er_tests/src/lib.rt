@@ -2,6 +2,8 @@
 #![tactic(auto)]
 
 #[cfg(test)]
+mod brackets;
+#[cfg(test)]
 mod events;
 #[cfg(test)]
 mod rules;

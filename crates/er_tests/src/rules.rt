@@ -1,15 +1,10 @@
-ghost use Rattle.std.specs.Prelude.{IfOk};
-ghost use Rattle.er_rules.specs.Step.{IsWritten};
-
 use er_event::{Command, Event, Games, Items, Name, Refusal, Score};
 use er_rules::decide;
 use std::alloc::Global;
 use std::test::Fail;
 
 /// The event after a command that is taken.
-fn after(alloc: Global, event: Event, command: &Command) -> Result<Event, Fail>
-    requires { IsWritten command.now }
-{
+fn after(alloc: Global, event: Event, command: &Command) -> Result<Event, Fail> {
     let change = decide(alloc, &event, command)?;
     match event.apply(alloc, &change) {
         Ok(event) => Ok(event),
@@ -17,23 +12,17 @@ fn after(alloc: Global, event: Event, command: &Command) -> Result<Event, Fail>
     }
 }
 
-fn refusal_of(alloc: Global, event: &Event, command: &Command) -> Option<Refusal>
-    requires { IsWritten command.now }
-{
+fn refusal_of(alloc: Global, event: &Event, command: &Command) -> Option<Refusal> {
     decide(alloc, event, command).err()
 }
 
-fn enrol(alloc: Global, name: &[u8]) -> Result<Command, Fail>
-    ensures { IfOk result IsWritten }
-{
+fn enrol(alloc: Global, name: &[u8]) -> Result<Command, Fail> {
     Ok(Command::Enrol {
         name: Items::from(Vec::from_slice(alloc, name)?),
     })
 }
 
-fn pair(round: u8) -> Command
-    ensures { IsWritten result }
-{
+fn pair(round: u8) -> Command {
     Command::Pair {
         round,
         seed: [0; 32],
@@ -41,9 +30,7 @@ fn pair(round: u8) -> Command
 }
 
 /// The score of the first table.
-fn report(x: u8, y: u8) -> Command
-    ensures { IsWritten result }
-{
+fn report(x: u8, y: u8) -> Command {
     Command::Result {
         round: 1,
         table: 1,

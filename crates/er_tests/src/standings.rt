@@ -1,3 +1,5 @@
+mod seeds;
+
 use er_event::{Change, Event, Games, Items, Match, Name, Phase, PlayerNo, Score};
 use er_rank::{standings, top};
 use std::alloc::Global;
@@ -13,9 +15,9 @@ fn changed(alloc: Global, event: Event, change: Change) -> Result<Event, Fail> {
     }
 }
 
-/// As many players after the start, of whom the second has left, and no round.
+/// As many players after the start of an event with one round and a cut to four, of whom the second has left.
 fn friday(alloc: Global, players: u16) -> Result<Event, Fail> {
-    let mut event = Event::create(alloc, Name::try_from_bytes(alloc, b"Friday")?, 3, 0)?;
+    let mut event = Event::create(alloc, Name::try_from_bytes(alloc, b"Friday")?, 1, 4)?;
     for number in 0..players {
         let text = format!(in alloc; "P{number}")?;
         let name = Name::try_from_bytes(alloc, text.as_bytes())?;
@@ -64,13 +66,18 @@ fn won(a: u16, b: u16) -> Match {
     Match { a, b, score }
 }
 
+/// The six of worked example 17 after its round.
+fn six(alloc: Global) -> Result<Event, Fail> {
+    let round = [won(6, 4), won(2, 1), won(5, 3)];
+    let matches = Items::from(Vec::from_slice(alloc, &round)?);
+    changed(alloc, friday(alloc, 6)?, Change::AddRound { matches })
+}
+
 /// The four who go on in worked example 17, in which player 2 has left.
 #[test]
 fn a_dropped_player_is_no_seed(rt: HostRuntime) -> Result<(), Fail> {
     let alloc = rt.alloc();
-    let round = [won(6, 4), won(2, 1), won(5, 3)];
-    let matches = Items::from(Vec::from_slice(alloc, &round)?);
-    let event = changed(alloc, friday(alloc, 6)?, Change::AddRound { matches })?;
+    let event = six(alloc)?;
     assert!(rt; are_first(alloc, &event, 4, &[5, 6, 1, 3])?);
     Ok(())
 }

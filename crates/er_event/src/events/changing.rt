@@ -5,6 +5,7 @@ ghost use Rattle.er_event.specs.Round.{is_bye, match_in};
 ghost use Rattle.er_event.specs.declared.rounds.Match.{Match};
 ghost use Rattle.er_event.specs.Sound.{numbers, IsSoundButForSeeds};
 
+use super::playoff::copy_next;
 use super::{Event, Phase};
 use crate::changes::Change;
 use crate::checks::{are_counted, are_new, is_round, is_swiss};
@@ -142,6 +143,14 @@ impl Event {
                 table,
                 score,
             } => self.fits_score(*round, *table, *score),
+            Change::AddBracket { matches } => self.fits_bracket(matches),
+            Change::SetBracketScore {
+                stage,
+                slot,
+                score,
+                next,
+                finished,
+            } => self.fits_bracket_score(*stage, *slot, *score, next.as_ref(), *finished),
         }
     }
 
@@ -222,6 +231,20 @@ impl Event {
                 table,
                 score,
             } => Ok(self.set_score(*round, *table, *score)),
+            Change::AddBracket { matches } => match matches.copy(alloc) {
+                Ok(matches) => self.add_bracket(matches),
+                Err(error) => Err((self, error)),
+            },
+            Change::SetBracketScore {
+                stage,
+                slot,
+                score,
+                next,
+                finished,
+            } => match copy_next(alloc, next.as_ref()) {
+                Ok(next) => self.set_bracket_score(*stage, *slot, *score, next, *finished),
+                Err(error) => Err((self, error)),
+            },
         }
     }
 }

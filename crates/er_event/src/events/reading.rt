@@ -2,16 +2,36 @@ ghost use Rattle.std.specs.Prelude.{◌≡◌, ◌≢◌, ◌↔◌, Err, IfOk, 
 ghost use Rattle.er_event.specs.declared.refusals.Place.{Place};
 ghost use Rattle.er_event.specs.Event.{EventValue};
 ghost use Rattle.er_event.specs.Parts.{IsBlank, IsOf, IsFirstFault};
+ghost use Rattle.er_event.specs.Reading.{before_playoff, FitsStages, IsListed, IsPaired, IsWhole};
 ghost use Rattle.er_event.specs.Sound.{HasPlayers, IsSoundButForSeeds, AllRoundsDone};
 
 use super::{Event, Phase};
+use crate::brackets::{is_bracket, is_decided};
 use crate::checks::are_counted;
+use crate::items::Items;
 use crate::pairings::read_rounds;
 use crate::parts::{Parts, PartsFault, may_play, read_event, read_players};
 use crate::players::Player;
 use crate::refusals::Place;
-use crate::rounds::Round;
+use crate::rounds::{Bracket, Match, Round};
+use crate::stages::read_stages;
 use std::alloc::Global;
+
+/// The phase of an event whose stages are not read yet.
+fn before_playoff(phase: Phase) -> Phase
+    ensures { result ≡ before_playoff phase }
+{
+    match phase {
+        Phase::Enrolling => Phase::Enrolling,
+        _ => Phase::Swiss,
+    }
+}
+
+fn is_playoff(phase: Phase) -> bool
+    ensures { IsTrue result ↔ ((phase ≡ Phase.Playoff) ⊎ (phase ≡ Phase.Finished)) }
+{
+    matches!(phase, Phase::Playoff | Phase::Finished)
+}
 
 impl Event {
     fn with_players(mut self, players: Vec<Player>, phase: Phase) -> Event
@@ -46,7 +66,7 @@ impl Event {
     }
 
     /// Whether all Swiss rounds are paired and complete.
-    fn has_all_rounds(&self) -> bool
+    pub(super) fn has_all_rounds(&self) -> bool
         ensures { IsTrue result ↔ AllRoundsDone self.now }
     {
         if self.stored().len() != usize::from(self.rounds) {
@@ -55,71 +75,95 @@ impl Event {
         are_counted(self.stored())
     }
 
-    /// The event of these rows of pairings, in this phase. So far a phase of the playoff is a fault of the bracket.
-    fn with_pairings(
+    /// Whether the stages may be the bracket of the event in this phase of the playoff.
+    fn fits_stages(&self, phase: Phase, stages: &[Items<Match>]) -> bool
+        ensures { IsTrue result ↔ FitsStages self.now phase stages.now }
+    {
+        if !is_bracket(self.players().len() as u16, self.cut(), stages) {
+            return false;
+        }
+        is_decided(stages) == (phase == Phase::Finished)
+    }
+
+    fn with_stages(mut self, phase: Phase, stages: Vec<Items<Match>>) -> Event
+        requires { IsSoundButForSeeds (record self { phase = phase; bracket = record { stages = stages.items } }) }
+        ensures { result ≡ record self { phase = phase; bracket = record { stages = stages.items } } }
+    {
+        self.phase = phase;
+        self.bracket = Bracket {
+            stages: Items::from(stages),
+        };
+        self
+    }
+
+    /// The event of the rows of the first two tables, and the phase that its row has.
+    fn read_listed(alloc: Global, parts: &Parts) -> Result<(Event, Phase), PartsFault>
+        ensures value { IfOk result (λ read. IsListed parts.now read.1 read.0) }
+        ensures damaged { (place : Place) → result ≡ Err (PartsFault.Damaged place) → IsFirstFault parts.now place }
+    {
+        let (event, phase) = read_event(alloc, parts.event.as_slice())?;
+        let players = read_players(alloc, parts.players.as_slice())?;
+        if !may_play(phase, players.as_slice()) {
+            return Err(PartsFault::Damaged(Place::PlayerTable));
+        }
+        let early = before_playoff(phase);
+        Ok((event.with_players(players, early), phase))
+    }
+
+    /// The event with the rounds of the rows.
+    fn with_pairings(self, alloc: Global, phase: Phase, parts: &Parts) -> Result<Event, PartsFault>
+        requires { IsListed parts.now phase self }
+        ensures value { IfOk result (IsPaired parts.now phase) }
+        ensures damaged { (place : Place) → result ≡ Err (PartsFault.Damaged place) → IsFirstFault parts.now place }
+    {
+        let rounds = read_rounds(alloc, parts.pairings.as_slice())?;
+        if phase == Phase::Enrolling {
+            if rounds.is_empty() {
+                return Ok(self);
+            }
+            return Err(PartsFault::Damaged(Place::PairingTable));
+        }
+        let event = self.with_rounds(alloc, rounds.as_slice())?;
+        if is_playoff(phase) && !event.has_all_rounds() {
+            return Err(PartsFault::Damaged(Place::PairingTable));
+        }
+        Ok(event)
+    }
+
+    /// The event with the stages of the rows, in its phase.
+    fn with_bracket_rows(
         self,
         alloc: Global,
         phase: Phase,
-        rounds: &[Round],
+        parts: &Parts,
     ) -> Result<Event, PartsFault>
-        requires started { (self.phase ≡ Phase.Swiss) × (self.stored ≡ []) }
-        requires phase { phase ≢ Phase.Enrolling }
-        ensures value { IfOk result (λ e. (e ≡ record self { stored = rounds.now }) × (phase ≡ Phase.Swiss)) }
-        ensures refused { IfErr result (λ why. (why ≡ PartsFault.Memory)
-            ⊎ ((why ≡ PartsFault.Damaged Place.PairingTable) × (IsSoundButForSeeds (record self { stored = rounds.now }) → (phase ≢ Phase.Swiss → AllRoundsDone (record self { stored = rounds.now })) → ⊥))
-            ⊎ ((why ≡ PartsFault.Damaged Place.BracketTable) × (phase ≢ Phase.Swiss) × IsSoundButForSeeds (record self { stored = rounds.now }) × AllRoundsDone (record self { stored = rounds.now }))) }
+        requires { IsPaired parts.now phase self }
+        ensures value { IfOk result (IsWhole parts.now) }
+        ensures damaged { (place : Place) → result ≡ Err (PartsFault.Damaged place) → IsFirstFault parts.now place }
     {
-        let event = self.with_rounds(alloc, rounds)?;
-        if phase == Phase::Swiss {
-            return Ok(event);
+        let rows = parts.bracket.as_slice();
+        if !is_playoff(phase) {
+            if rows.is_empty() {
+                return Ok(self);
+            }
+            return Err(PartsFault::Damaged(Place::BracketTable));
         }
-        if event.has_all_rounds() {
-            Err(PartsFault::Damaged(Place::BracketTable))
-        } else {
-            Err(PartsFault::Damaged(Place::PairingTable))
+        let stages = read_stages(alloc, rows)?;
+        if !self.fits_stages(phase, stages.as_slice()) {
+            return Err(PartsFault::Damaged(Place::BracketTable));
         }
+        Ok(self.with_stages(phase, stages))
     }
 
-    /// The event that the rows are of. So far a match of the bracket, or a phase that has some, is a fault of its table.
+    /// The event that the rows are of, or else the first of the four tables that is at fault.
     pub fn from_parts(alloc: Global, parts: Parts) -> Result<Event, PartsFault>
         ensures value { IfOk result (IsOf parts) }
         // No other sound event has these rows.
         ensures only { IfOk result (λ e. (other : EventValue) → IsOf parts other → IsSoundButForSeeds other → other ≡ e) }
         ensures damaged { (place : Place) → result ≡ Err (PartsFault.Damaged place) → IsFirstFault parts place }
     {
-        let (event, phase) = match read_event(alloc, parts.event.as_slice()) {
-            Ok(read) => read,
-            Err(fault) => return Err(fault),
-        };
-        let players = match read_players(alloc, parts.players.as_slice()) {
-            Ok(players) => players,
-            Err(fault) => return Err(fault),
-        };
-        if !may_play(phase, players.as_slice()) {
-            return Err(PartsFault::Damaged(Place::PlayerTable));
-        }
-        let rounds = match read_rounds(alloc, parts.pairings.as_slice()) {
-            Ok(rounds) => rounds,
-            Err(fault) => return Err(fault),
-        };
-        let event = match phase {
-            Phase::Enrolling => {
-                if !rounds.is_empty() {
-                    return Err(PartsFault::Damaged(Place::PairingTable));
-                }
-                event.with_players(players, Phase::Enrolling)
-            }
-            _ => {
-                let event = event.with_players(players, Phase::Swiss);
-                match event.with_pairings(alloc, phase, rounds.as_slice()) {
-                    Ok(event) => event,
-                    Err(fault) => return Err(fault),
-                }
-            }
-        };
-        if !parts.bracket.as_slice().is_empty() {
-            return Err(PartsFault::Damaged(Place::BracketTable));
-        }
-        Ok(event)
+        let (event, phase) = Event::read_listed(alloc, &parts)?;
+        let event = event.with_pairings(alloc, phase, &parts)?;
+        event.with_bracket_rows(alloc, phase, &parts)
     }
 }

@@ -6,15 +6,15 @@ use Rattle.er_store.proofs.Loaded.{no_fault, shows_event}
 use Rattle.er_store.proofs.loading.load_tables.Goals as goal
 
 pub returns-in_err-parts-clause-found : goal.returns-in_err-parts-clause-found
-returns-in_err-parts-clause-found g c clean e s stands sound early =
+returns-in_err-parts-clause-found g c clean e s stands sound =
     let why : IsFault c.in_err-parts.field-0.0 = c.in_err-parts.ensures.refused clean e s stands sound in
     search (rules, why)
 
 pub returns-clause-found : goal.returns-clause-found
-returns-clause-found g c clean e s stands sound early =
+returns-clause-found g c clean e s stands sound =
     let are = c.in_ok-parts.ensures.exact clean e s stands sound in
     match_of c.event_of.result _ _ _ _ (λ it same. same)
-    (λ why refused. elim refused [ inl memory ↦ inl memory | inr damaged ↦ absurd (no_fault c.in_ok-parts.parts e s stands.low sound early are damaged.0 damaged.2) ])
+    (λ why refused. elim refused [ inl memory ↦ inl memory | inr damaged ↦ absurd (no_fault c.in_ok-parts.parts e s stands.low sound are damaged.0 damaged.2) ])
     (c.event_of.ensures.only e s stands.low are sound) c.event_of.ensures.refused
 
 pub returns-clause-kept : goal.returns-clause-kept

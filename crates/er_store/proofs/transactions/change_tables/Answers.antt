@@ -1,13 +1,16 @@
-use Rattle.std.proofs.Common.{◌≡◌, ℕ, ◌+◌, length, false, OnOk, sym, ap, subst, ◌∙◌, rules}
+use Rattle.std.proofs.Common.{◌≡◌, ℕ, ◌+◌, length, true, false, List, Option, Some, None, IfSome, OnOk, Bor, option_map, sym, ap, subst, ◌∙◌, rules}
 use Rattle.sqlite.specs.Held.{state}
 use Rattle.er_event.specs.Event.{EventValue}
-use Rattle.er_event.specs.Change.{after, with_player, Fits}
+use Rattle.er_event.specs.Change.{after, with_player, with_bracket_score, Fits}
 use Rattle.er_event.specs.declared.changes.Change.{Change}
-use Rattle.er_event.specs.declared.changes.Change.TheVariants.{SetDropped, SetScore}
+use Rattle.er_event.specs.declared.changes.Change.TheVariants.{SetDropped, SetScore, SetBracketScore}
+use Rattle.er_event.specs.declared.rounds.Match.{Match}
 use Rattle.er_store.specs.Rows.{stored_player}
-use Rattle.er_store.specs.Steps.{Puts, Makes}
+use Rattle.er_store.specs.Steps.{Puts, Makes, IsStage}
 use Rattle.er_store.proofs.Picking.{numbered_before}
-use Rattle.er_store.proofs.Together.{player_added, on_ok}
+use Rattle.er_store.proofs.Together.{player_added, on_ok, makes_then}
+use Rattle.er_store.proofs.Crash.{was_clean}
+use Rattle.er_store.proofs.StageLemmas.{next_is}
 use Rattle.er_store.proofs.transactions.change_tables.Goals as goal
 
 pub returns-in-AddPlayer-clause-makes : goal.returns-in-AddPlayer-clause-makes
@@ -41,3 +44,37 @@ returns-in-SetScore-clause-makes g c clean s stands =
     let fits : Fits e (SetScore round table c.in-SetScore.score) = subst (Fits e) (sym is) c.requires.fits in
     subst (λ (x : Change). OnOk c.set_score.result (Makes (state g.S.Store c.args.tx.now.conn.now) (state g.S.Store c.set_score.new.tx.conn.now) (after e x) s)) is
     (c.set_score.ensures.makes clean e s stands fits.named.0 fits.named.1 fits.named.2)
+
+-- what holds of the stage that a reference leads to
+led : (o : Option (Bor (List Match))) (next : Option (List Match)) → option_map (λ (m : Bor (List Match)). m.now) o ≡ next → IfSome next IsStage → IfSome o (λ (m : Bor (List Match)). IsStage m.now)
+led None next is h = tt
+led (Some m) next is h = subst (λ (n : Option (List Match)). IfSome n IsStage) (sym is) h
+
+pub score_stages-requires-clause-few : goal.score_stages-requires-clause-few
+score_stages-requires-clause-few g c =
+    let e = c.args.event.now in
+    let it = c.in-SetBracketScore in
+    let fits = subst (Fits e) it.is c.requires.fits in
+    led c.as_ref.result it.next c.as_ref.ensures.value (next_is e it.stage it.slot it.score it.next it.finished fits.sound)
+
+pub returns-in_ok-set_phase-in-SetBracketScore-clause-makes : goal.returns-in_ok-set_phase-in-SetBracketScore-clause-makes
+returns-in_ok-set_phase-in-SetBracketScore-clause-makes g c clean s stands =
+    let old = state g.S.Store c.args.tx.now.conn.now in
+    let mid = state g.S.Store c.score_stages.new.tx.conn.now in
+    let new = state g.S.Store c.set_phase-then-finished.new.tx.conn.now in
+    let e = c.args.event.now in
+    let it = c.in-SetBracketScore in
+    let one = c.in_ok-score_stages-in-SetBracketScore.ensures.makes (was_clean mid new _ c.set_phase-then-finished.ensures.survives clean) s stands in
+    let two = c.in_ok-set_phase-in-SetBracketScore.ensures.makes clean _ s one.stands in
+    let both = subst (λ (o : Option (List Match)). Makes old new (with_bracket_score e it.stage it.slot it.score o true) s) c.as_ref.ensures.value (makes_then old mid new _ _ s one two) in
+    subst (λ (x : Change). Makes old new (after e x) s) (ap (SetBracketScore it.stage it.slot it.score it.next) (sym c.if-finished.true) ∙ sym it.is) both
+
+pub returns-else-finished-clause-makes : goal.returns-else-finished-clause-makes
+returns-else-finished-clause-makes g c clean s stands =
+    let old = state g.S.Store c.args.tx.now.conn.now in
+    let new = state g.S.Store c.score_stages.new.tx.conn.now in
+    let e = c.args.event.now in
+    let it = c.in-SetBracketScore in
+    let one = c.in_ok-score_stages-in-SetBracketScore.ensures.makes clean s stands in
+    let made = subst (λ (o : Option (List Match)). Makes old new (with_bracket_score e it.stage it.slot it.score o false) s) c.as_ref.ensures.value one in
+    subst (λ (x : Change). Makes old new (after e x) s) (ap (SetBracketScore it.stage it.slot it.score it.next) (sym c.if-finished.false) ∙ sym it.is) made

@@ -1,9 +1,19 @@
 use Rattle.std.proofs.Common.{◌≡◌, ◌∙◌, ◌<◌, false, refl, sym, inl, inr, arith}
-use Rattle.std.proofs.lemmas.Result.{IfOk-weaker, IfErr-weaker}
+use Rattle.std.proofs.lemmas.Result.{IfOk-weaker, IfErr-weaker, err_from_is_err_and}
 use Rattle.er_cli.specs.Session.{event_of, serial_of, is_stopped}
 use Rattle.er_cli.proofs.Leaving.{leaves_early}
-use Rattle.er_cli.proofs.Replies.{due_taken, due_full}
+use Rattle.er_cli.proofs.Replies.{due_taken, due_full, due_refused}
 use Rattle.er_cli.proofs.session.Session.submit.Goals as goal
+
+pub returns-in_err-change-clause-refused : goal.returns-in_err-change-clause-refused
+returns-in_err-change-clause-refused g c =
+    let session = c.args.self.now in
+    let runs : is_stopped session ≡ false = sym session.told ∙ c.if-self.false in
+    let same = err_from_is_err_and c.from_residual.result c.from_residual.ensures.1 in
+    rw (same.1, same.2) (elim c.in_err-change.ensures.refused [
+      | inl memory ↦ inl (refl, inl memory)
+      | inr refused ↦ inl (refl, inr (due_refused _ runs (event_of session) (serial_of session) c.args.command.now _ refused))
+    ])
 
 pub returns-in_err-change-clause-crash : goal.returns-in_err-change-clause-crash
 returns-in_err-change-clause-crash g c shows =

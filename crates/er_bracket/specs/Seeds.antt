@@ -3,7 +3,7 @@ use Rattle.std.specs.Prelude.{ℕ, ◌==◌, if◌then◌else◌, List, [], ◌�
 use Rattle.er_event.specs.declared.rounds.Match.{Match}
 use Rattle.er_event.specs.Bracket.{open_match}
 
--- which seeds meet in the slots of stage 1, the better one first
+-- which seeds meet in the slots, the better one first
 abbrev pub seeds_by_slot : ℕ → List (ℕ × ℕ)
 seeds_by_slot cut =
     if cut == 2 then (1, 2) ∷ []
@@ -15,5 +15,6 @@ seeds_by_slot cut =
 abbrev pub seeded : List ℕ → ℕ → ℕ
 seeded players seed = slice_index_or (0 ∷ players) seed 0
 
+-- one open match for each slot
 abbrev pub first_stage : List ℕ → List Match
 first_stage players = map (λ (s : ℕ × ℕ). open_match (seeded players s.0) (seeded players s.1)) (seeds_by_slot (length players))

@@ -1,0 +1,9 @@
+//! The playoff: who meets whom in its stages, and who is its champion.
+#![tactic(auto)]
+
+mod champions;
+mod stages;
+mod winners;
+
+pub use champions::champion;
+pub use stages::{first_stage, next_stage};

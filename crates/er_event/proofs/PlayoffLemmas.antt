@@ -1,0 +1,217 @@
+-- An event whose playoff begins, or has one more score, is sound exactly where its checks hold.
+use Rattle.std.proofs.Common.{◌≡◌, ◌⊎◌, inl, inr, ℕ, zero, suc, ◌<◌, ◌≤◌, ◌==◌, ◌||◌, ◌&&◌, Bool, true, false, not, List, [], ◌∷◌, ◌++◌, length, drop, All, Option, Some, None, IsTrue, IfSome, is_some, refl, sym, ap, subst, ◌∙◌, true≢false, arith}
+use Rattle.std.specs.List.{slice_get, AllByRecursion}
+use Rattle.std.proofs.Math.ListN.{set}
+use Rattle.std.proofs.lemmas.List.Elements.{All-from_recursion, recursion_from_All, All-weaker}
+use Rattle.std.proofs.lemmas.Option.{none-some, same_Some}
+use Rattle.std.proofs.lemmas.Bool.Decides.{nat_tests}
+use Rattle.er_event.specs.declared.scores.Games.{Games}
+use Rattle.er_event.specs.declared.rounds.Match.{Match}
+use Rattle.er_event.specs.declared.events.Phase.{Phase}
+use Rattle.er_event.specs.declared.events.Phase.TheVariants.{Enrolling, Swiss, Playoff, Finished}
+use Rattle.er_event.specs.declared.changes.Change.TheVariants.{AddBracket}
+use Rattle.er_event.specs.Event.{EventValue}
+use Rattle.er_event.specs.Score.{is_playoff_score}
+use Rattle.er_event.specs.Round.{is_counted}
+use Rattle.er_event.specs.Bracket.{next_stage, SameSlots, FollowOn, last_match, IsDecided}
+use Rattle.er_event.specs.Sound.{numbers, IsBracket, AllRoundsDone, IsSoundButForSeeds}
+use Rattle.er_event.specs.Change.{with_bracket, Fits, IsOpening}
+use Rattle.er_event.proofs.ScoreLemmas.{slots-refl}
+use Rattle.er_event.proofs.SlotLemmas.{follow-split, over-counted, last-after}
+use Rattle.er_event.proofs.BracketLemmas.{Lawful}
+
+-- ---- stages of which one has new scores, with more behind
+
+pub same-trans : (ks ms ns : List Match) → SameSlots ks ms → SameSlots ms ns → SameSlots ks ns
+same-trans [] [] ns a b = b
+same-trans [] (m ∷ ms) ns a b = absurd a
+same-trans (k ∷ ks) [] ns a b = absurd a
+same-trans (k ∷ ks) (m ∷ ms) [] a b = absurd b
+same-trans (k ∷ ks) (m ∷ ms) (n ∷ ns) a b = ((a.0.0 ∙ b.0.0, a.0.1 ∙ b.0.1), same-trans ks ms ns a.1 b.1)
+
+module _ (new : List Match) (more : List (List Match)) where
+  pub follow-new : (k : ℕ) (stages : List (List Match)) (old : List Match) → slice_get stages k ≡ Some old → SameSlots new old → FollowOn stages → FollowOn (new ∷ (drop (suc k) stages ++ more)) → FollowOn (set stages k new ++ more)
+  follow-new k [] old at same f h = absurd (none-some old at)
+  follow-new zero (s ∷ stages) old at same f h = h
+  follow-new (suc k) (s ∷ []) old at same f h = absurd (none-some old at)
+  follow-new (suc zero) (s ∷ t ∷ stages) old at same f h = (f.0, f.1, same-trans new t (next_stage s) (subst (SameSlots new) (sym (same_Some t old at)) same) f.2, h)
+  follow-new (suc (suc k)) (s ∷ t ∷ stages) old at same f h = (f.0, f.1, f.2, follow-new (suc k) (t ∷ stages) old at same f.3 h)
+
+  pub drop-new : (k : ℕ) (stages : List (List Match)) (old : List Match) → slice_get stages k ≡ Some old → drop k (set stages k new ++ more) ≡ new ∷ (drop (suc k) stages ++ more)
+  drop-new k [] old at = absurd (none-some old at)
+  drop-new zero (s ∷ stages) old at = refl
+  drop-new (suc k) (s ∷ stages) old at = drop-new k stages old at
+
+  pub length-new : (k : ℕ) (stages : List (List Match)) (old : List Match) → slice_get stages k ≡ Some old → k < length (set stages k new ++ more)
+  length-new k [] old at = absurd (none-some old at)
+  length-new zero (s ∷ stages) old at = omega arith
+  length-new (suc k) (s ∷ stages) old at = let rest = length-new k stages old at in omega arith
+
+  pub all-new : (P : List Match → Type 0) (k : ℕ) (stages : List (List Match)) → P new → AllByRecursion P more → AllByRecursion P stages → AllByRecursion P (set stages k new ++ more)
+  all-new P k [] here behind h = behind
+  all-new P zero (s ∷ stages) here behind h = (here, append stages h.1)
+    where
+      append : (ss : List (List Match)) → AllByRecursion P ss → AllByRecursion P (ss ++ more)
+      append [] a = behind
+      append (t ∷ ss) a = (a.0, append ss a.1)
+  all-new P (suc k) (s ∷ stages) here behind h = (h.0, all-new P k stages here behind h.1)
+
+  pub all-old : (P : List Match → Type 0) (k : ℕ) (stages : List (List Match)) (old : List Match) → slice_get stages k ≡ Some old → AllByRecursion P (set stages k new ++ more) → P new × AllByRecursion P more
+  all-old P k [] old at h = absurd (none-some old at)
+  all-old P zero (s ∷ stages) old at h = (h.0, behind stages h.1)
+    where
+      behind : (ss : List (List Match)) → AllByRecursion P (ss ++ more) → AllByRecursion P more
+      behind [] a = a
+      behind (t ∷ ss) a = behind ss a.1
+  all-old P (suc k) (s ∷ stages) old at h = all-old P k stages old at h.1
+
+  pub first-new : (k : ℕ) (stages : List (List Match)) (old first : List Match) → slice_get stages k ≡ Some old → SameSlots new old → slice_get stages 0 ≡ Some first
+      → (f : List Match) × (slice_get (set stages k new ++ more) 0 ≡ Some f) × SameSlots f first
+  first-new k [] old first at same is = absurd (none-some first is)
+  first-new zero (s ∷ stages) old first at same is = (new, refl, subst (SameSlots new) (sym (same_Some s old at) ∙ same_Some s first is) same)
+  first-new (suc k) (s ∷ stages) old first at same is = (s, refl, subst (SameSlots s) (same_Some s first is) (slots-refl s))
+
+pub follow-drop : (k : ℕ) (stages : List (List Match)) → FollowOn stages → FollowOn (drop k stages)
+follow-drop zero stages h = h
+follow-drop (suc k) [] h = tt
+follow-drop (suc k) (s ∷ stages) h = follow-drop k stages ((follow-split s stages).0 h).1
+
+pub last-drop : (k : ℕ) (stages : List (List Match)) → k < length stages → last_match stages ≡ last_match (drop k stages)
+last-drop zero stages within = refl
+last-drop (suc k) [] within = absurd (omega arith)
+last-drop (suc k) (s ∷ []) within = absurd (omega arith)
+last-drop (suc k) (s ∷ t ∷ more) within = last-after s t more ∙ last-drop k (t ∷ more) (omega arith)
+
+pub drop-here : (k : ℕ) (stages : List (List Match)) (old : List Match) → slice_get stages k ≡ Some old → drop k stages ≡ old ∷ drop (suc k) stages
+drop-here k [] old at = absurd (none-some old at)
+drop-here zero (s ∷ stages) old at = ap (λ (t : List Match). t ∷ stages) (same_Some s old at)
+drop-here (suc k) (s ∷ stages) old at = drop-here k stages old at
+
+-- ---- an event in the playoff
+
+abbrev pub IsOver : Phase → Type 0
+IsOver p = (p ≡ Playoff) ⊎ (p ≡ Finished)
+
+not-enrolling : (p : Phase) → IsOver p → p ≡ Enrolling → ⊥
+not-enrolling p (inl is) e = let never = sym is ∙ e in cc
+not-enrolling p (inr is) e = let never = sym is ∙ e in cc
+
+pub not-before : (p : Phase) → IsOver p → (p ≡ Enrolling) ⊎ (p ≡ Swiss) → ⊥
+not-before p is (inl e) = not-enrolling p is e
+not-before p (inl is) (inr e) = let never = sym is ∙ e in cc
+not-before p (inr is) (inr e) = let never = sym is ∙ e in cc
+
+none-length : {X : Type 0} (xs : List X) → xs ≡ [] → length xs ≡ 0
+none-length xs e = ap length e
+
+module _ (e : EventValue) (p : Phase) (stages : List (List Match)) where
+  abbrev pub in_playoff : EventValue
+  in_playoff = record e { phase = p; bracket = record { stages = stages } }
+
+  pub sound-playoff : IsSoundButForSeeds e → IsOver p → AllRoundsDone e → IsBracket (numbers e.players) e.cut stages → (p ≡ Finished → IsDecided stages) → (p ≡ Playoff → IsDecided stages → ⊥) → IsSoundButForSeeds in_playoff
+  sound-playoff h over done bracket decided undecided = record {
+    set_up = record { name = h.set_up.name; rounds = h.set_up.rounds; cut = h.set_up.cut };
+    players = record { few = h.players.few; numbered = h.players.numbered; lawful = h.players.lawful; distinct = h.players.distinct; enrolling = λ is. absurd (not-enrolling p over is); started = λ _. h.players.started begun };
+    rounds = record { few = h.rounds.few; enrolling = λ is. absurd (not-enrolling p over is); each = h.rounds.each; no_repeats = h.rounds.no_repeats; earlier_done = h.rounds.earlier_done };
+    bracket = record { none = λ before. absurd (not-before p over before); rounds_done = λ _. done; bracket = λ _. bracket; decided = decided; undecided = undecided };
+  }
+    where
+      begun : e.phase ≡ Enrolling → ⊥
+      begun is = let none = none-length e.stored (h.rounds.enrolling is) in let all = done.0 in let some = h.set_up.rounds.0 in omega arith
+
+-- stages that follow on one another end, so that no stage comes behind them
+pub follow-never : (l : List Match) (later : List (List Match)) (ns : List Match) → FollowOn (l ∷ later) → FollowOn (l ∷ (later ++ ns ∷ [])) → ⊥
+follow-never l [] ns f h = let one = f h.0 in let two = h.1 in omega arith
+follow-never l (t ∷ later) ns f h = follow-never t later ns f.3 h.3
+
+by-phase : (p q : Phase) → p ≡ q → ((p ≡ Enrolling) ⊎ (p ≡ Swiss)) ⊎ IsOver p
+by-phase p Enrolling is = inl (inl is)
+by-phase p Swiss is = inl (inr is)
+by-phase p Playoff is = inr (inl is)
+by-phase p Finished is = inr (inr is)
+
+-- an event with a stage is in the playoff
+pub started : (e : EventValue) → IsSoundButForSeeds e → (e.bracket.stages ≡ [] → ⊥) → IsOver e.phase
+started e h some = by (by-phase e.phase e.phase refl)
+  where
+    by : ((e.phase ≡ Enrolling) ⊎ (e.phase ≡ Swiss)) ⊎ IsOver e.phase → IsOver e.phase
+    by (inl before) = absurd (some (h.bracket.none before))
+    by (inr over) = over
+
+-- ---- the playoff begins
+
+module _ (e : EventValue) (ms : List Match) (h : IsSoundButForSeeds e) where
+  module _ (none : e.bracket.stages ≡ []) where
+    alone : e.bracket.stages ++ ms ∷ [] ≡ ms ∷ []
+    alone = ap (λ (ss : List (List Match)). ss ++ ms ∷ []) none
+
+    pub sound-opening : AllRoundsDone e → IsBracket (numbers e.players) e.cut (ms ∷ []) → (IsDecided (ms ∷ []) → ⊥) → IsSoundButForSeeds (with_bracket e ms)
+    sound-opening done bracket undecided =
+        subst (λ (ss : List (List Match)). IsSoundButForSeeds (in_playoff e Playoff ss)) (sym alone) (sound-playoff e Playoff (ms ∷ []) h (inl refl) done bracket (λ is. absurd (let never = is in cc)) (λ _. undecided))
+
+    pub opening-bracket : IsSoundButForSeeds (with_bracket e ms) → IsBracket (numbers e.players) e.cut (ms ∷ [])
+    opening-bracket s = subst (IsBracket (numbers e.players) e.cut) alone (s.bracket.bracket (inl refl))
+
+    pub opening-undecided : IsSoundButForSeeds (with_bracket e ms) → IsDecided (ms ∷ []) → ⊥
+    opening-undecided s = subst (λ (ss : List (List Match)). IsDecided ss → ⊥) alone (s.bracket.undecided refl)
+
+  pub opening-done : IsSoundButForSeeds (with_bracket e ms) → AllRoundsDone e
+  opening-done s = s.bracket.rounds_done (inl refl)
+
+  -- no stage stands before
+  pub opening-first : IsSoundButForSeeds (with_bracket e ms) → length e.bracket.stages ≡ 0
+  opening-first s = by e.bracket.stages refl
+    where
+      by : (ss : List (List Match)) → e.bracket.stages ≡ ss → length e.bracket.stages ≡ 0
+      by [] is = ap length is
+      by (l ∷ later) is =
+          let over = started e h (λ none. (let never = sym none ∙ is in cc)) in
+          absurd (follow-never l later ms (subst FollowOn is (h.bracket.bracket over).follows) (subst (λ (ts : List (List Match)). FollowOn (ts ++ ms ∷ [])) is (s.bracket.bracket (inl refl)).follows))
+
+pub no-stage : (stages : List (List Match)) → length stages ≡ 0 → stages ≡ []
+no-stage [] is = refl
+no-stage (s ∷ stages) is = absurd (omega arith)
+
+pub empty-true : (n : ℕ) (b : Bool) → n ≡ 0 → b ≡ (n == 0) → b ≡ false → ⊥
+empty-true n b none test some = let is : (n == 0) ≡ true = grind (arith, nat_tests) in true≢false (sym is ∙ (sym test ∙ some))
+
+pub true-empty : (n : ℕ) (b : Bool) → b ≡ (n == 0) → b ≡ true → n ≡ 0
+true-empty n b test is = let zero : (n == 0) ≡ true = sym test ∙ is in grind (arith, nat_tests)
+
+pub not-true : (b : Bool) → (b ≡ true → ⊥) → not b ≡ true
+not-true true h = absurd (h refl)
+not-true false h = refl
+
+pub true-not : (b : Bool) → not b ≡ true → b ≡ true → ⊥
+true-not true n e = true≢false (sym n)
+true-not false n e = true≢false (sym e)
+
+-- ---- what may open the playoff
+
+all-open : (ms : List Match) → 0 < length ms → AllByRecursion (λ (m : Match). m.score ≡ None) ms → is_counted ms ≡ true → ⊥
+all-open [] some free h = absurd (omega arith)
+all-open (m ∷ ms) some free h = true≢false (sym h ∙ ap (λ (o : Option Games). is_some o && is_counted ms) free.0)
+
+open-lawful : (m : Match) → m.score ≡ None → Lawful m
+open-lawful m free = subst (λ (o : Option Games). IfSome o (λ s. IsTrue (is_playoff_score s))) (sym free) tt
+
+some-cut : (cut : ℕ) → (cut == 0 || cut == 2 || cut == 4 || cut == 8) ≡ true → 0 < cut → 2 ≤ cut
+some-cut cut set some = grind (arith, nat_tests)
+
+pub opening-fits : (e : EventValue) (ms : List Match) → IsSoundButForSeeds e → IsOpening e ms → Fits e (AddBracket ms)
+opening-fits e ms h o =
+    let two = some-cut e.cut h.set_up.cut o.cut in
+    let slots = o.slots in
+    let some : 0 < length ms = omega arith in
+    let free = all-open ms some (recursion_from_All (λ (m : Match). m.score ≡ None) ms o.unplayed) in
+    let lawful = All-weaker (λ (m : Match). m.score ≡ None) Lawful open-lawful ms o.unplayed in
+    record {
+      named = tt;
+      sound = sound-opening e ms h (h.bracket.none (inr o.swiss)) o.done
+          (record { cut_is_played = o.cut; first = ms; is_first = refl; slots = o.slots; known_players = o.known; seated_once = o.seated_once; scores = All-from_recursion (λ (stage : List Match). All Lawful stage) (ms ∷ []) (lawful, tt); follows = λ counted. absurd (free counted) })
+          (λ dec. free (and-first (is_counted ms) (length ms == 1) ((over-counted ms).0 dec)));
+    }
+  where
+    and-first : (a b : Bool) → (a && b) ≡ true → a ≡ true
+    and-first true b h = refl
+    and-first false b h = absurd (true≢false (sym h))

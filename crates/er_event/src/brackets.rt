@@ -1,0 +1,135 @@
+ghost use Rattle.std.specs.Prelude.{◌≡◌, ◌≢◌, ◌↔◌, ◌<◌, ◌/◌, ◌&&◌, IsTrue, All, AllPairs, Contains, flat_map, length};
+ghost use Rattle.std.specs.List.{list_all, range_with_len};
+ghost use Rattle.er_event.specs.Match.{is_known, is_lawful_slot_score};
+ghost use Rattle.er_event.specs.Round.{is_counted, seats};
+ghost use Rattle.er_event.specs.Sound.{IsBracket};
+ghost use Rattle.er_event.specs.Bracket.{winner, next_stage, SameSlots, FollowOn, IsDecided, is_over};
+
+use crate::checks::{are_seated_once, is_known, is_playoff};
+use crate::items::Items;
+use crate::rounds::{Match, is_complete};
+
+/// Whether the stage was the final, and is played.
+pub(crate) fn is_over(stage: &[Match]) -> bool
+    ensures { result ≡ is_over stage.now }
+{
+    is_complete(stage) && stage.len() == 1
+}
+
+/// Whether the stage may be the last: where it is complete, it was the final.
+pub(crate) fn may_be_last(stage: &[Match]) -> bool
+    ensures { IsTrue result ↔ (IsTrue (is_counted stage.now) → length stage.now ≡ 1) }
+{
+    !is_complete(stage) || stage.len() == 1
+}
+
+/// Whether each score is lawful in the playoff.
+pub(crate) fn are_lawful(stage: &[Match]) -> bool
+    ensures { result ≡ list_all (λ m. is_lawful_slot_score m.score) stage.now }
+{
+    stage.iter().all(|played| played.score.is_none_or(|score| is_playoff(score)))
+}
+
+fn are_all_lawful(stages: &[Items<Match>]) -> bool
+    ensures { result ≡ list_all (λ stage. list_all (λ m. is_lawful_slot_score m.score) stage) stages.now }
+{
+    stages.iter().all(|stage| are_lawful(stage.as_slice()))
+}
+
+/// The number of the player who won the match, and 0 where it is open.
+fn winner(played: &Match) -> u16
+    ensures { result ≡ winner played.now }
+{
+    match played.score {
+        Some(score) => {
+            let games = score.games();
+            if games.x > games.y {
+                played.a
+            } else {
+                played.b
+            }
+        }
+        None => 0,
+    }
+}
+
+/// Whether each slot of the next stage has the winners of two slots of this one.
+fn has_winners(stage: &[Match], next: &[Match]) -> bool
+    ensures { IsTrue result ↔ SameSlots next.now (next_stage stage.now) }
+{
+    if next.len() != stage.len() / 2 {
+        return false;
+    }
+    for (place, played) in next.iter().enumerate() {
+        let first = winner(&stage[2 * place]);
+        let second = winner(&stage[2 * place + 1]);
+        if played.a != first || played.b != second {
+            return false;
+        }
+    }
+    true
+}
+
+/// Whether the next stage may come after this one.
+pub(crate) fn follows(stage: &[Match], next: &[Match]) -> bool
+    ensures { IsTrue result ↔ (IsTrue (is_counted stage.now) × (1 < length stage.now) × SameSlots next.now (next_stage stage.now)) }
+{
+    is_complete(stage) && stage.len() > 1 && has_winners(stage, next)
+}
+
+fn follow_on(stages: &[Items<Match>]) -> bool
+    ensures { IsTrue result ↔ FollowOn stages.now }
+{
+    for (place, stage) in stages.iter().enumerate() {
+        let stands = match stages.get(place + 1) {
+            Some(next) => follows(stage.as_slice(), next.as_slice()),
+            None => may_be_last(stage.as_slice()),
+        };
+        if !stands {
+            return false;
+        }
+    }
+    true
+}
+
+fn are_known(count: u16, first: &[Match]) -> bool
+    ensures { result ≡ list_all (λ m. is_known count m.a && is_known count m.b) first.now }
+{
+    first.iter().all(|played| is_known(count, played.a) && is_known(count, played.b))
+}
+
+/// Whether the stage has the slots for so many players, who are of the event, and sit in one slot each.
+fn is_first(count: u16, cut: u8, first: &[Match]) -> bool
+    ensures { IsTrue result ↔ ((length first.now ≡ cut / 2) × All (λ no. Contains (range_with_len 1 count) no) (flat_map seats first.now) × AllPairs (λ p q. p ≢ q) (flat_map seats first.now)) }
+{
+    if first.len() != usize::from(cut / 2) || !are_known(count, first) {
+        return false;
+    }
+    are_seated_once(first)
+}
+
+/// Whether the stages may be the bracket of so many players, of whom this many play it.
+pub fn is_bracket(count: u16, cut: u8, stages: &[Items<Match>]) -> bool
+    ensures { IsTrue result ↔ IsBracket (range_with_len 1 count) cut stages.now }
+{
+    let Some(first) = stages.first() else {
+        return false;
+    };
+    if cut == 0 || !is_first(count, cut, first.as_slice()) {
+        return false;
+    }
+    if !are_all_lawful(stages) {
+        return false;
+    }
+    follow_on(stages)
+}
+
+/// Whether the final is played.
+pub fn is_decided(stages: &[Items<Match>]) -> bool
+    ensures { IsTrue result ↔ IsDecided stages.now }
+{
+    match stages.last() {
+        Some(last) => is_over(last.as_slice()),
+        None => false,
+    }
+}

@@ -1,0 +1,101 @@
+-- What one more match of a stage makes of the tables.
+use Rattle.std.proofs.Common.{◌≡◌, ◌<◌, ◌+◌, ℕ, zero, suc, ℤ, length, List, [], ◌∷◌, ◌++◌, map, refl, sym, ap, subst, ◌∙◌, arith, append_assoc, append-nil, not-suc-le-zero}
+use Rattle.std.specs.List.Sorted.{IsPermutation}
+use Rattle.std.proofs.lemmas.List.{map-append}
+use Rattle.sqlite.specs.Tree.{put_row}
+use Rattle.sqlite.specs.Effect.{Database}
+use Rattle.sqlite.specs.State.{State}
+use Rattle.er_event.specs.declared.rounds.Match.{Match}
+use Rattle.er_event.specs.declared.rows.BracketRow.{BracketRow}
+use Rattle.er_event.specs.Event.{EventValue}
+use Rattle.er_event.specs.Change.{with_stage}
+use Rattle.er_event.specs.Round.{numbered_from}
+use Rattle.er_event.specs.Rows.{bracket_row, stage_rows, bracket_rows_from, bracket_rows}
+use Rattle.er_store.specs.Rows.{bracket_columns, stored_slot, shown, bracket_places}
+use Rattle.er_store.specs.Standing.{StandsFor, IsKeyed}
+use Rattle.er_store.specs.Steps.{Puts, Moves, Makes}
+use Rattle.er_store.proofs.Together.{shows_more, bracket_set, moves_then}
+use Rattle.er_store.proofs.Pairing.{keyed_put, Same, same_moves}
+
+-- ---- the rows of one more stage
+
+numbered_more : (stage n : ℕ) (ms : List Match) (m : Match) → map (bracket_row stage) (numbered_from n (ms ++ m ∷ [])) ≡ map (bracket_row stage) (numbered_from n ms) ++ bracket_row stage (n + length ms, m) ∷ []
+numbered_more stage n [] m = let here : n ≡ n + 0 = omega arith in ap (λ k. bracket_row stage (k, m) ∷ []) here
+numbered_more stage n (x ∷ ms) m =
+    let on : n + 1 + length ms ≡ n + length (x ∷ ms) = omega arith in
+    ap (λ rows. bracket_row stage (n, x) ∷ rows) (numbered_more stage (n + 1) ms m ∙ ap (λ k. map (bracket_row stage) (numbered_from (n + 1) ms) ++ bracket_row stage (k, m) ∷ []) on)
+
+rows_more : (n : ℕ) (stages : List (List Match)) (ms : List Match) → bracket_rows_from n (stages ++ ms ∷ []) ≡ bracket_rows_from n stages ++ stage_rows (n + length stages) ms
+rows_more n [] ms = let here : n ≡ n + 0 = omega arith in append-nil (stage_rows n ms) ∙ ap (λ k. stage_rows k ms) here
+rows_more n (stage ∷ stages) ms =
+    let on : n + 1 + length stages ≡ n + length (stage ∷ stages) = omega arith in
+    ap (λ rows. stage_rows n stage ++ rows) (rows_more (n + 1) stages ms ∙ ap (λ k. bracket_rows_from (n + 1) stages ++ stage_rows k ms) on)
+    ∙ sym (append_assoc (stage_rows n stage) (bracket_rows_from (n + 1) stages) (stage_rows (n + length (stage ∷ stages)) ms))
+
+-- the row of the match after these
+abbrev pub next_slot : EventValue → List Match → Match → BracketRow
+next_slot e before m = bracket_row (length e.bracket.stages + 1) (length before + 1, m)
+
+slots_more : (e : EventValue) (before : List Match) (m : Match) → bracket_rows (with_stage e (before ++ m ∷ [])) ≡ bracket_rows (with_stage e before) ++ next_slot e before m ∷ []
+slots_more e before m =
+    let stages = e.bracket.stages in
+    let stage : 1 + length stages ≡ length stages + 1 = omega arith in
+    let place : 1 + length before ≡ length before + 1 = omega arith in
+    let front = bracket_rows_from 1 stages in
+    let k = 1 + length stages in
+    rows_more 1 stages (before ++ m ∷ [])
+    ∙ ap (λ rows. front ++ rows) (numbered_more k 1 before m)
+    ∙ sym (append_assoc front (stage_rows k before) (bracket_row k (1 + length before, m) ∷ []))
+    ∙ ap (λ rows. rows ++ bracket_row k (1 + length before, m) ∷ []) (sym (rows_more 1 stages before))
+    ∙ ap (λ j. bracket_rows (with_stage e before) ++ bracket_row j (1 + length before, m) ∷ []) stage
+    ∙ ap (λ j. bracket_rows (with_stage e before) ++ bracket_row (length stages + 1) (j, m) ∷ []) place
+
+slots_none : (e : EventValue) → bracket_rows (with_stage e []) ≡ bracket_rows e
+slots_none e = rows_more 1 e.bracket.stages [] ∙ append-nil (bracket_rows e)
+
+-- ---- the tables
+
+-- The stage has one match more.
+pub slot_added : (old new : State) (e : EventValue) (before : List Match) (m : Match) (s : ℕ) (id : ℤ) → StandsFor old.now (with_stage e before) s → Puts 6 (stored_slot id (next_slot e before m)) old new
+    → Makes old new (with_stage e (before ++ m ∷ [])) s
+slot_added old new e before m s id stands put =
+    let row = stored_slot id (next_slot e before m) in
+    let more = with_stage e (before ++ m ∷ []) in
+    let all : map bracket_columns (bracket_rows more) ≡ map bracket_columns (bracket_rows (with_stage e before)) ++ bracket_columns (next_slot e before m) ∷ [] =
+    ap (map bracket_columns) (slots_more e before m) ∙ map-append bracket_columns (bracket_rows (with_stage e before)) (next_slot e before m ∷ []) in
+    bracket_set old new (with_stage e before) more.bracket.stages s stands put.goes
+    (subst (λ rows. IsPermutation (shown bracket_places rows) (map bracket_columns (bracket_rows more))) (sym put.rows)
+    (subst (IsPermutation (shown bracket_places (put_row row (old.now.trees 6)))) (sym all)
+    (shows_more bracket_places row (old.now.trees 6) (bracket_columns (next_slot e before m)) (map bracket_columns (bracket_rows (with_stage e before))) put.free refl stands.bracket)))
+    (subst IsKeyed (sym put.rows) (keyed_put id (bracket_columns (next_slot e before m)) (old.now.trees 6) stands.bracket_keyed))
+
+-- a stage of no match has no row
+none_added : (db : Database) (e : EventValue) (s : ℕ) → StandsFor db e s → StandsFor db (with_stage e []) s
+none_added db e s stands = record {
+  low = stands.low;
+  tables = stands.tables;
+  event = stands.event;
+  players = stands.players;
+  pairings = stands.pairings;
+  bracket = subst (λ rows. IsPermutation (shown bracket_places (db.trees 6)) (map bracket_columns rows)) (sym (slots_none e)) stands.bracket;
+  pairings_keyed = stands.pairings_keyed;
+  bracket_keyed = stands.bracket_keyed;
+}
+
+-- ---- matches, one after the other
+
+-- so many matches of a stage are stored
+pub record AddsSlots (e : EventValue) (count : ℕ) (matches : List Match) (serial : ℕ) (old new : State) : Type 0 where
+  pub none : count ≡ 0 → Same old new
+  pub some : 0 < count → Moves old new
+  pub stands : StandsFor new.now (with_stage e matches) serial
+
+pub slots_start : (s : State) (e : EventValue) (serial : ℕ) → StandsFor s.now e serial → AddsSlots e 0 [] serial s s
+slots_start s e serial stands = record { none = λ _. record { is_open = refl; mode = refl; now_is = refl; committed_is = refl }; some = λ never. absurd (not-suc-le-zero never); stands = none_added s.now e serial stands }
+
+pub slots_next : (old mid new : State) (e : EventValue) (count : ℕ) (before after : List Match) (serial : ℕ) → AddsSlots e count before serial old mid → Makes mid new (with_stage e after) serial → AddsSlots e (count + 1) after serial old new
+slots_next old mid new e count before after serial was made = record { none = λ never. absurd (omega (arith, never)); some = λ _. moves count was.none was.some; stands = made.stands }
+  where
+    moves : (n : ℕ) → (n ≡ 0 → Same old mid) → (0 < n → Moves old mid) → Moves old new
+    moves zero none some = same_moves old mid new (none refl) made.moves
+    moves (suc n) none some = moves_then old mid new (some (omega arith)) made.moves
