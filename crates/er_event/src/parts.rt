@@ -83,7 +83,7 @@ fn small_of(value: i64) -> Option<u8>
 fn is_serial(value: i64) -> bool
     ensures { IsTrue result ↔ ((serial : ℕ) × (serial ≤ MAX_SERIAL) × (value ≡ pos serial)) }
 {
-    (0..=i64::from(MAX_SERIAL)).contains(&value)
+    u32::try_from(value).is_ok_and(|serial| serial <= MAX_SERIAL)
 }
 
 const DAMAGED: PartsFault = PartsFault::Damaged(Place::EventTable);
