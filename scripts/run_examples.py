@@ -10,6 +10,7 @@ import os
 import re
 import resource
 import signal
+import socket
 import struct
 import subprocess
 import sys
@@ -128,6 +129,22 @@ def run_in_room(room):
         return ran.returncode, out.read(), ran.stderr
 
 
+def run_in_writes():
+    """Each answer goes out by one write, so that a program that is stopped leaves no half of one: what was acknowledged is there with its number."""
+    ours, theirs = socket.socketpair(socket.AF_UNIX, socket.SOCK_DGRAM)
+    with ours, theirs:
+        ran = subprocess.run([program], input=FRIDAY + b"enrol\tAna\nenrol\n", stdout=theirs, stderr=subprocess.PIPE, timeout=60)
+        ours.setblocking(False)
+        writes = []
+        try:
+            while True:
+                writes.append(ours.recv(65_536))
+        except BlockingIOError:
+            pass
+    players = b"  No D Name\n   1   Ana\n   2   Bo\n   3   Cy\n   4   Di\n"
+    check("one write an answer", (ran.returncode, writes), (0, [b"ok %d\n" % it for it in range(5)] + [players, b"refused 2 NameTaken\n", b"usage\n"]))
+
+
 def run_slowly():
     """Input that comes a byte at a time is read to its end."""
     with subprocess.Popen([program], stdin=subprocess.PIPE, stdout=subprocess.PIPE, bufsize=0) as ran:
@@ -152,7 +169,7 @@ def run_devices():
     check("an input that fails", (ran.returncode, ran.stdout, ran.stderr), (3, b"", b""))
 
 
-for part in (run_transcripts, run_scripts, run_sizes, run_full_event, run_seeds, run_words, run_slowly, run_devices):
+for part in (run_transcripts, run_scripts, run_sizes, run_full_event, run_seeds, run_words, run_in_writes, run_slowly, run_devices):
     part()
 print("the examples, as the program is built")
 print(f"{right} passed, {wrong} failed")

@@ -6,3 +6,5 @@ pub mod Runs
 pub mod Seeds
 pub mod Turns
 pub mod WordLemmas
+pub mod Sending
+pub mod Examples

@@ -1,5 +1,5 @@
 -- What the lines of a script are answered.
-use Rattle.std.specs.Prelude.{◌≡◌, ◌⊎◌, ℕ, ◌+◌, Bool, true, false, if◌then◌else◌, IsFalse, IfSome, List, [], ◌∷◌, flat_map, Option, Some, None, Result, Ok, Err, MatchResult, option_map, is_some}
+use Rattle.std.specs.Prelude.{◌≡◌, ◌⊎◌, ℕ, ◌+◌, Bool, true, false, if◌then◌else◌, IsFalse, IfSome, List, [], ◌∷◌, take, flat_map, Option, Some, None, Result, Ok, Err, MatchResult, option_map, is_some}
 use Rattle.std.specs.Io.KnownBytes.{Appends}
 use Rattle.sqlite_trees.specs.declared.store.Store.{Ghosts}
 use Rattle.sqlite_trees.specs.declared.memory.MemStore.{MemStore}
@@ -23,7 +23,7 @@ use Rattle.er_cli.specs.Setup.{init_checks}
 use Rattle.er_cli.specs.Line.{line_of}
 use Rattle.er_cli.specs.Reply.{IsDue}
 use Rattle.er_cli.specs.Session.{state, event_of, serial_of, is_stopped}
-use Rattle.er_cli.specs.Texts.{answer_text}
+use Rattle.er_cli.specs.Texts.{answer_text, AppendsPart}
 
 -- the event of a script
 pub record Kept : Type 0 where
@@ -132,6 +132,14 @@ pub record Prints (lines : List (List ℕ)) (before after : Option (List ℕ)) :
   pub last : Option Kept
   pub runs : Runs None lines answers last
   pub printed : Appends before after (flat_map answer_text answers)
+
+-- what a writer holds where a write failed: the answers to the first lines, of which the last may be cut
+pub record PrintsPart (lines : List (List ℕ)) (before after : Option (List ℕ)) : Type 0 where
+  pub count : ℕ
+  pub answers : List Answer
+  pub last : Option Kept
+  pub runs : Runs None (take count lines) answers last
+  pub printed : AppendsPart before after (flat_map answer_text answers)
 
 -- the tables in memory stand for the event, where no fault of the store is behind
 abbrev pub IsWritten : Option (Session MemStore over_memory) → Type 0

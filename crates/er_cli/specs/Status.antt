@@ -1,6 +1,6 @@
 -- How running a script ends.
 use Rattle.std.specs.Prelude.{◌≡◌, ◌⊎◌, ℕ, ◌<◌, ◌≤◌, List, length, Option, IfSome}
-use Rattle.std.specs.Io.KnownBytes.{Appends}
+use Rattle.std.specs.Io.KnownBytes.{Appends, Keeps}
 use Rattle.er_event.specs.declared.refusals.Refusal.TheVariants.{Memory}
 use Rattle.er_cli.specs.declared.TheConstants.{DONE, USAGE, DEVICE, MEMORY}
 use Rattle.er_cli.specs.declared.input.InputFault.{InputFault}
@@ -8,9 +8,9 @@ use Rattle.er_cli.specs.declared.input.InputFault.TheVariants as fault
 use Rattle.er_cli.specs.declared.input.InputFault.TheVariants.{TooLong, Read}
 use Rattle.er_cli.specs.declared.input.TheConstants.{MAX_SCRIPT_BYTES}
 use Rattle.er_cli.specs.declared.texts.Answer.TheVariants.{Refused, Usage}
-use Rattle.er_cli.specs.Texts.{answer_text}
+use Rattle.er_cli.specs.Texts.{answer_text, AppendsPart}
 use Rattle.er_cli.specs.Input.{lines_of}
-use Rattle.er_cli.specs.Script.{Prints}
+use Rattle.er_cli.specs.Script.{Prints, PrintsPart}
 
 -- the whole input was run as a script, and its answers were printed
 pub record Serves (input before after : Option (List ℕ)) : Type 0 where
@@ -19,15 +19,41 @@ pub record Serves (input before after : Option (List ℕ)) : Type 0 where
   pub small : length script ≤ MAX_SCRIPT_BYTES
   pub prints : Prints (lines_of script) before after
 
+-- the whole input was read as a script, and a write or the flush failed
+pub record ServesPart (input before after : Option (List ℕ)) : Type 0 where
+  pub script : List ℕ
+  pub whole : IfSome input (λ all. script ≡ all)
+  pub small : length script ≤ MAX_SCRIPT_BYTES
+  pub prints : PrintsPart (lines_of script) before after
+
 -- the status of a script that is not run, and what is printed of it
 abbrev pub EndsUnread : InputFault → Option (List ℕ) → Option (List ℕ) → ℕ → Type 0
 EndsUnread TooLong before after status = (status ≡ USAGE) × Appends before after (answer_text Usage)
-EndsUnread Read before after status = (status ≡ DEVICE) × (after ≡ before)
+EndsUnread Read before after status = (status ≡ DEVICE) × Keeps before after
 EndsUnread fault.Memory before after status = (status ≡ MEMORY) × Appends before after (answer_text (Refused Memory))
+
+-- what is printed of it where a write failed
+abbrev pub UnreadPart : InputFault → Option (List ℕ) → Option (List ℕ) → Type 0
+UnreadPart TooLong before after = AppendsPart before after (answer_text Usage)
+UnreadPart Read before after = Keeps before after
+UnreadPart fault.Memory before after = AppendsPart before after (answer_text (Refused Memory))
+
+-- the input is longer than a script may be
+abbrev pub IsTooLong : Option (List ℕ) → Type 0
+IsTooLong input = IfSome input (λ all. MAX_SCRIPT_BYTES < length all)
+
+-- A read, a write or the flush failed. What was printed is nothing, or a beginning of what is due.
+abbrev pub Breaks : (input before after : Option (List ℕ)) → Type 0
+Breaks input before after =
+    Keeps before after
+    ⊎ ServesPart input before after
+    ⊎ (IsTooLong input × AppendsPart before after (answer_text Usage))
+    ⊎ AppendsPart before after (answer_text (Refused Memory))
 
 -- the bytes that the reader had left, those that the writer held before and holds now, and the status
 pub record Ends (input before after : Option (List ℕ)) (status : ℕ) : Type 0 where
   pub done : status ≡ DONE → Serves input before after
-  pub too_long : status ≡ USAGE → IfSome input (λ all. MAX_SCRIPT_BYTES < length all) × Appends before after (answer_text Usage)
+  pub too_long : status ≡ USAGE → IsTooLong input × Appends before after (answer_text Usage)
+  pub device : status ≡ DEVICE → Breaks input before after
   pub memory : status ≡ MEMORY → Appends before after (answer_text (Refused Memory))
   pub one_of : (status ≡ DONE) ⊎ (status ≡ USAGE) ⊎ (status ≡ DEVICE) ⊎ (status ≡ MEMORY)

@@ -1,9 +1,11 @@
-ghost use Rattle.std.specs.Prelude.{◌≡◌, ◌⊎◌, MatchOption, OnOk, map, option_map, string_bytes};
+ghost use Rattle.std.specs.Prelude.{◌≡◌, ◌⊎◌, MatchOption, OnOk, OnErr, map, option_map, string_bytes};
 ghost use Rattle.std.specs.Io.KnownBytes.{Appends};
-ghost use Rattle.er_cli.specs.Help.{text_of, text_for, Says};
+ghost use Rattle.er_cli.specs.Help.{text_of, text_for, Says, SaysPart};
+ghost use Rattle.er_cli.specs.Texts.{AppendsPart};
 
+use crate::texts::{WriteFault, flush, send};
 use crate::{DEVICE, DONE, USAGE};
-use std::io::{self, Write};
+use std::io::Write;
 
 /// What `--version` prints.
 pub const VERSION: &str = "event_reporter 0.1.0\n";
@@ -39,11 +41,12 @@ Try it: ./event_reporter < examples/friday.txt
   -V, --version              prints the version
 ";
 
-fn say<W: Write>(writer: &mut W, text: &str) -> io::Result<()>
-    ensures { OnOk result (Appends (W.contents writer.old) (W.contents writer.new) text.now) }
+fn say<W: Write>(writer: &mut W, text: &str) -> Result<(), WriteFault>
+    ensures sent { OnOk result (Appends (W.contents writer.old) (W.contents writer.new) text.now) }
+    ensures part { OnErr result (AppendsPart (W.contents writer.old) (W.contents writer.new) text.now) }
 {
-    writer.write_all(text.as_bytes())?;
-    writer.flush()
+    send(writer, text.as_bytes())?;
+    flush(writer)
 }
 
 /// The text that a word asks for.
@@ -69,7 +72,8 @@ fn text_for(words: &[String]) -> Option<&'static str>
 
 /// Answers the words of a command line, and gives the status to end with.
 pub fn run<O: Write, E: Write>(words: &[String], out: &mut O, err: &mut E) -> u8
-    ensures says { Says (map string_bytes words.now) (O.contents out.old) (O.contents out.new) (E.contents err.old) (E.contents err.new) result ⊎ (result ≡ DEVICE) }
+    ensures says { Says (map string_bytes words.now) (O.contents out.old) (O.contents out.new) (E.contents err.old) (E.contents err.new) result
+        ⊎ SaysPart (map string_bytes words.now) (O.contents out.old) (O.contents out.new) (E.contents err.old) (E.contents err.new) result }
 
     // The stream that is not meant stays as it is, also where the other fails.
     ensures silent { MatchOption (text_for (map string_bytes words.now)) (O.contents out.new ≡ O.contents out.old) (λ _. E.contents err.new ≡ E.contents err.old) }
@@ -80,6 +84,6 @@ pub fn run<O: Write, E: Write>(words: &[String], out: &mut O, err: &mut E) -> u8
     };
     match said {
         Ok(()) => status,
-        Err(_error) => DEVICE,
+        Err(WriteFault) => DEVICE,
     }
 }

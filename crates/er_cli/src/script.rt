@@ -1,4 +1,4 @@
-ghost use Rattle.std.specs.Prelude.{◌≡◌, Some, Ok, Err, IsFalse, IfOk, IfErr, OnOk, MatchResult, map, option_map};
+ghost use Rattle.std.specs.Prelude.{◌≡◌, Some, Ok, Err, IsFalse, IfOk, IfErr, OnOk, OnErr, MatchResult, map, option_map};
 ghost use Rattle.er_event.specs.Change.{created};
 ghost use Rattle.er_store.specs.Fault.{IsFault};
 ghost use Rattle.er_store.specs.Standing.{IsNew, Shows};
@@ -6,17 +6,17 @@ ghost use Rattle.sqlite.specs.Steps.{over_memory};
 ghost use Rattle.er_cli.specs.Session.{state, event_of, serial_of, is_stopped};
 ghost use Rattle.er_cli.specs.Line.{line_of};
 ghost use Rattle.er_cli.specs.declared.words.Line.TheVariants.{Init, Submit, Players, Standings, Slips, Bracket};
-ghost use Rattle.er_cli.specs.Script.{Answers, IsWritten, Prints, kept_of, receipt_answer, shown, slips_answer};
+ghost use Rattle.er_cli.specs.Script.{Answers, IsWritten, Prints, PrintsPart, kept_of, receipt_answer, shown, slips_answer};
 
 use crate::session::Session;
 use crate::setup::set_up;
-use crate::texts::{Answer, print_answer};
+use crate::texts::{Answer, WriteFault, print_answer};
 use crate::words::{Line, LineFault, read_line};
 use er_event::{Command, Event, Items, Receipt, Refusal};
 use er_paper::{bracket_text, pairings_text, players_text, standings_text};
 use sqlite::{Connection, MemStore};
 use std::alloc::{AllocError, Global};
-use std::io::{self, Write};
+use std::io::Write;
 
 /// A script that is run on one store in memory. It has a session once an event is made.
 #[derive(Drop)]
@@ -169,8 +169,9 @@ impl Runner {
 }
 
 /// Runs lines one after the other, and prints their answers.
-pub fn run_lines<W: Write>(alloc: Global, lines: &[&[u8]], writer: &mut W) -> io::Result<()>
-    ensures { OnOk result (Prints (map (λ line. line.now) lines.now) (W.contents writer.old) (W.contents writer.new)) }
+pub fn run_lines<W: Write>(alloc: Global, lines: &[&[u8]], writer: &mut W) -> Result<(), WriteFault>
+    ensures whole { OnOk result (Prints (map (λ line. line.now) lines.now) (W.contents writer.old) (W.contents writer.new)) }
+    ensures part { OnErr result (PrintsPart (map (λ line. line.now) lines.now) (W.contents writer.old) (W.contents writer.new)) }
 {
     let mut runner = Runner {
         alloc,

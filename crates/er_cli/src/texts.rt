@@ -1,9 +1,10 @@
-ghost use Rattle.std.specs.Prelude.{OnOk};
-ghost use Rattle.std.specs.Io.KnownBytes.{Appends};
-ghost use Rattle.er_cli.specs.Texts.{answer_text};
+ghost use Rattle.std.specs.Prelude.{◌≡◌, OnOk, OnErr};
+ghost use Rattle.std.specs.Io.KnownBytes.{Appends, Keeps};
+ghost use Rattle.er_cli.specs.Texts.{answer_text, AppendsPart};
 
 use er_event::{Items, Receipt, Refusal};
-use std::io::{self, Write};
+use er_paper::ShortText;
+use std::io::Write;
 
 /// What a line of a script is answered.
 #[derive(Debug, Drop)]
@@ -14,34 +15,69 @@ pub enum Answer {
     Usage,
 }
 
-fn print_ok<W: Write>(writer: &mut W, serial: u32) -> io::Result<()>
-    ensures { OnOk result (Appends (W.contents writer.old) (W.contents writer.new) (answer_text (Answer.Accepted (record { serial = serial })))) }
+/// A write or a flush failed.
+#[derive(Clone, Copy, Debug, PartialEq, Eq)]
+pub struct WriteFault;
+
+/// Writes the bytes, by one call where the writer takes them all. A call that takes none has failed.
+pub fn send<W: Write>(writer: &mut W, bytes: &[u8]) -> Result<(), WriteFault>
+    ensures sent { OnOk result (Appends (W.contents writer.old) (W.contents writer.new) bytes.now) }
+    ensures part { OnErr result (AppendsPart (W.contents writer.old) (W.contents writer.new) bytes.now) }
 {
-    writeln!(writer, "ok {serial}")
+    let mut sent = 0;
+    for _ in 0..bytes.len() {
+        if sent == bytes.len() {
+            break;
+        }
+        match writer.write(&bytes[sent..]) {
+            Ok(0) | Err(_) => return Err(WriteFault),
+            Ok(count) => sent += count,
+        }
+    }
+    Ok(())
 }
 
-fn print_usage<W: Write>(writer: &mut W) -> io::Result<()>
-    ensures { OnOk result (Appends (W.contents writer.old) (W.contents writer.new) (answer_text Answer.Usage)) }
+/// Has the writer pass on what it holds back.
+pub fn flush<W: Write>(writer: &mut W) -> Result<(), WriteFault>
+    ensures { Keeps (W.contents writer.old) (W.contents writer.new) }
 {
-    writeln!(writer, "usage")
+    match writer.flush() {
+        Ok(()) => Ok(()),
+        Err(_error) => Err(WriteFault),
+    }
 }
 
-fn print_refusal<W: Write>(writer: &mut W, refusal: &Refusal) -> io::Result<()>
-    ensures { OnOk result (Appends (W.contents writer.old) (W.contents writer.new) (answer_text (Answer.Refused refusal.now))) }
+fn ok_line(serial: u32) -> ShortText
+    ensures { result ≡ answer_text (Answer.Accepted (record { serial = serial })) }
 {
-    let number = refusal.number();
-    let name = refusal.name();
-    writeln!(writer, "refused {number} {name}")
+    let mut line = ShortText::new();
+    line.push(b"ok ");
+    line.push_number(u64::from(serial));
+    line.push(b"\n");
+    line
 }
 
-/// Prints an answer. It takes no memory.
-pub fn print_answer<W: Write>(writer: &mut W, answer: &Answer) -> io::Result<()>
-    ensures { OnOk result (Appends (W.contents writer.old) (W.contents writer.new) (answer_text answer.now)) }
+fn refusal_line(refusal: &Refusal) -> ShortText
+    ensures { result ≡ answer_text (Answer.Refused refusal.now) }
+{
+    let mut line = ShortText::new();
+    line.push(b"refused ");
+    line.push_number(u64::from(refusal.number()));
+    line.push(b" ");
+    line.push(refusal.name().as_bytes());
+    line.push(b"\n");
+    line
+}
+
+/// Prints an answer, by one write where the writer takes it whole. It takes no memory.
+pub fn print_answer<W: Write>(writer: &mut W, answer: &Answer) -> Result<(), WriteFault>
+    ensures sent { OnOk result (Appends (W.contents writer.old) (W.contents writer.new) (answer_text answer.now)) }
+    ensures part { OnErr result (AppendsPart (W.contents writer.old) (W.contents writer.new) (answer_text answer.now)) }
 {
     match answer {
-        Answer::Accepted(receipt) => print_ok(writer, receipt.serial),
-        Answer::Text(text) => writer.write_all(text.as_slice()),
-        Answer::Refused(refusal) => print_refusal(writer, refusal),
-        Answer::Usage => print_usage(writer),
+        Answer::Accepted(receipt) => send(writer, ok_line(receipt.serial).as_slice()),
+        Answer::Text(text) => send(writer, text.as_slice()),
+        Answer::Refused(refusal) => send(writer, refusal_line(refusal).as_slice()),
+        Answer::Usage => send(writer, b"usage\n"),
     }
 }

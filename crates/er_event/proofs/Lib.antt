@@ -21,3 +21,4 @@ pub mod BracketLemmas
 pub mod PlayoffLemmas
 pub mod SlotScoreLemmas
 pub mod EndLemmas
+pub mod Examples

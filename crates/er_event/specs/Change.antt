@@ -96,6 +96,13 @@ after e (SetScore round table score) = with_score e round table score
 after e (AddBracket matches) = with_bracket e matches
 after e (SetBracketScore stage slot score next finished) = with_bracket_score e stage slot score next finished
 
+-- the change puts something into the event that has to be kept
+abbrev pub TakesMemory : Change → Type 0
+TakesMemory (SetDropped player) = ⊥
+TakesMemory (SetPhase phase) = ⊥
+TakesMemory (SetScore round table score) = ⊥
+TakesMemory _ = Unit {0}
+
 -- the event has the player, the match of two players, or the slot that the change names
 abbrev pub NamesStored : EventValue → Change → Type 0
 NamesStored e (SetDropped player) = Contains (numbers e.players) player

@@ -6,7 +6,7 @@ use crate::rounds::Match;
 use crate::scores::Score;
 
 /// What one accepted command does to an event.
-#[derive(Debug, Drop)]
+#[derive(Drop)]
 pub enum Change {
     /// A new player with the next number.
     AddPlayer {

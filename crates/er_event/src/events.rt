@@ -34,7 +34,7 @@ pub enum Phase {
 }
 
 /// One tournament. Each value is sound, save that the playoff may seed any of its players.
-#[derive(Debug, Drop)]
+#[derive(Drop)]
 pub struct Event {
     name: Name,
     rounds: u8,

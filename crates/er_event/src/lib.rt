@@ -18,6 +18,7 @@ mod scores;
 mod stages;
 
 pub use changes::Change;
+pub use checks::BYE;
 pub use events::{Event, MAX_ROUNDS, Phase};
 pub use items::Items;
 pub use names::{MAX_NAME_BYTES, Name, NameFault};

@@ -29,7 +29,7 @@ impl From<AllocError> for NameFault {
 }
 
 /// The name of an event or a player: 1 to 60 bytes of UTF-8 with no control character and no space at either end.
-#[derive(Debug, Drop)]
+#[derive(Drop)]
 pub struct Name {
     text: String,
 }

@@ -21,7 +21,7 @@ use crate::rows::{BracketRow, EventRow, PairingRow, PlayerRow};
 use std::alloc::{AllocError, Global};
 
 /// The rows of an event's four tables, each list in the order of the table's key.
-#[derive(Debug, Drop)]
+#[derive(Drop)]
 pub struct Parts {
     pub event: Items<EventRow>,
     pub players: Items<PlayerRow>,

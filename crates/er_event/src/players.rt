@@ -47,7 +47,7 @@ impl PlayerNo {
 }
 
 /// A player of an event.
-#[derive(Debug, Drop)]
+#[derive(Drop)]
 pub struct Player {
     pub no: PlayerNo,
     pub name: Name,

@@ -17,13 +17,13 @@ pub struct Match {
 }
 
 /// A Swiss round: the matches of tables 1, 2, .., and then the bye, if there is one.
-#[derive(Debug, Drop)]
+#[derive(Drop)]
 pub struct Round {
     pub matches: Items<Match>,
 }
 
 /// The playoff: the matches of each stage by slot.
-#[derive(Debug, Drop)]
+#[derive(Drop)]
 pub struct Bracket {
     pub stages: Items<Items<Match>>,
 }

@@ -1,7 +1,7 @@
 use crate::items::Items;
 
 /// The row of the table `event`.
-#[derive(Debug, Drop)]
+#[derive(Drop)]
 pub struct EventRow {
     pub id: i64,
     pub version: i64,
@@ -13,7 +13,7 @@ pub struct EventRow {
 }
 
 /// A row of the table `player`.
-#[derive(Debug, Drop)]
+#[derive(Drop)]
 pub struct PlayerRow {
     pub no: i64,
     pub name: Items<u8>,
@@ -21,7 +21,7 @@ pub struct PlayerRow {
 }
 
 /// A row of the table `pairing`.
-#[derive(Clone, Copy, Debug, PartialEq, Eq)]
+#[derive(Clone, Copy, PartialEq, Eq)]
 pub struct PairingRow {
     pub round: i64,
     pub tab: i64,
@@ -35,7 +35,7 @@ pub struct PairingRow {
 }
 
 /// A row of the table `bracket`.
-#[derive(Clone, Copy, Debug, PartialEq, Eq)]
+#[derive(Clone, Copy, PartialEq, Eq)]
 pub struct BracketRow {
     pub stage: i64,
     pub slot: i64,

@@ -13,3 +13,4 @@ pub mod Placing
 pub mod Ordering
 pub mod Uniqueness
 pub mod Seating
+pub mod Examples

@@ -14,6 +14,3 @@ pub use meetings::Met;
 pub use orders::order;
 pub use pairings::{MAX_STEPS, PairFault, first_pairing};
 pub use words::keys;
-
-#[cfg(test)]
-mod tests;

@@ -1,3 +1,4 @@
 pub mod ColumnLemmas
 pub mod PairingLemmas
 pub mod StageLemmas
+pub mod Numerals

@@ -5,3 +5,7 @@ pub mod SlotLemmas
 pub mod Keeping
 pub mod Playing
 pub mod Deciding
+pub mod Differing
+pub mod Sound
+pub mod Once
+pub mod Examples

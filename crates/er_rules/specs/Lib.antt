@@ -1,4 +1,5 @@
 pub mod Commands
+pub mod Refusing
 pub mod Tables
 pub mod Step
 pub mod Sound

@@ -5,9 +5,11 @@ ghost use Rattle.std.specs.Prelude.{◌≡◌, ◌⊎◌, Ok, Err, IfOk, IfErr, 
 ghost use Rattle.er_event.specs.Name.{is_lawful_name};
 ghost use Rattle.er_event.specs.Change.{after, Fits};
 ghost use Rattle.er_rules.specs.Commands.{first_refusal, enrol_checks, start_checks, drop_checks};
+ghost use Rattle.er_rules.specs.Refusing.{IsOfRules, TakesMemory};
 ghost use Rattle.er_rules.specs.Sound.{IsSound};
 ghost use Rattle.er_rules.specs.Step.{Answers};
 
+pub mod laws;
 mod pairing;
 mod playoff;
 mod results;
@@ -23,6 +25,7 @@ use std::alloc::Global;
 fn read_name(alloc: Global, name: &[u8]) -> Result<Name, Refusal>
     ensures ok { IfOk result (λ read. (read ≡ name.now) × IsTrue (is_lawful_name name.now)) }
     ensures refused { IfErr result (λ why. (why ≡ Refusal.Memory) ⊎ ((why ≡ Refusal.BadName) × IsFalse (is_lawful_name name.now))) }
+    ensures named { IfErr result (λ why. (why ≡ Refusal.Memory) ⊎ IsOfRules why) }
 {
     match Name::try_from_bytes(alloc, name) {
         Ok(name) => Ok(name),
@@ -36,6 +39,7 @@ fn decide_enrol(alloc: Global, event: &Event, name: &[u8]) -> Result<Change, Ref
     ensures fits { IfOk result (Fits event.now) }
     ensures accepted { OnOk result (first_refusal (enrol_checks event.now name.now) ≡ None) }
     ensures refused { IfErr result (λ why. (why ≡ Refusal.Memory) ⊎ (first_refusal (enrol_checks event.now name.now) ≡ Some why)) }
+    ensures named { IfErr result (λ why. (why ≡ Refusal.Memory) ⊎ IsOfRules why) }
 {
     if event.phase() != Phase::Enrolling {
         return Err(Refusal::NotEnrolling);
@@ -55,6 +59,7 @@ fn decide_start(event: &Event) -> Result<Change, Refusal>
     ensures fits { IfOk result (Fits event.now) }
     ensures accepted { OnOk result (first_refusal (start_checks event.now) ≡ None) }
     ensures refused { IfErr result (λ why. first_refusal (start_checks event.now) ≡ Some why) }
+    ensures named { IfErr result IsOfRules }
 {
     if event.phase() != Phase::Enrolling {
         return Err(Refusal::NotEnrolling);
@@ -72,6 +77,7 @@ fn decide_drop(event: &Event, number: u16) -> Result<Change, Refusal>
     ensures fits { IfOk result (Fits event.now) }
     ensures accepted { OnOk result (first_refusal (drop_checks event.now number) ≡ None) }
     ensures refused { IfErr result (λ why. first_refusal (drop_checks event.now number) ≡ Some why) }
+    ensures named { IfErr result IsOfRules }
 {
     if event.phase() != Phase::Swiss {
         return Err(Refusal::NotSwiss);
@@ -86,11 +92,14 @@ fn decide_drop(event: &Event, number: u16) -> Result<Change, Refusal>
 }
 
 /// What a command makes of an event: a change that fits it, or the refusal of the first check that fails. A sound event stays sound, its
-/// seeds too. Want of memory may come in place of either, and `Budget` where the search for a pairing would take more than a million steps.
+/// seeds too. Want of memory may come in place of either, where the command takes some, and `Budget` where the search for a pairing would
+/// take more than a million steps. No other refusal speaks of memory, of the event's file or of how many commands it takes.
 pub fn decide(alloc: Global, event: &Event, command: &Command) -> Result<Change, Refusal>
     ensures taken { IfOk result (λ change. Fits event.now change × Answers event.now command.now (Ok (after event.now change))) }
     ensures keeps { IfOk result (λ change. IsSound event.now → IsSound (after event.now change)) }
     ensures refused { IfErr result (λ why. (why ≡ Refusal.Memory) ⊎ Answers event.now command.now (Err why)) }
+    ensures memory { result ≡ Err Refusal.Memory → TakesMemory command.now }
+    ensures named { IfErr result (λ why. (why ≡ Refusal.Memory) ⊎ IsOfRules why) }
 {
     match command {
         Command::Enrol { name } => decide_enrol(alloc, event, name.as_slice()),

@@ -6,15 +6,13 @@ ghost use Rattle.er_event.specs.Sound.{IsSoundButForSeeds};
 ghost use Rattle.er_event.specs.Round.{is_bye};
 ghost use Rattle.er_pair.specs.Order.{seed_words, IsOrder};
 ghost use Rattle.er_rules.specs.Commands.{active, newest_is_open, first_refusal, pair_checks};
+ghost use Rattle.er_rules.specs.Refusing.{IsOfRules};
 ghost use Rattle.er_rules.specs.Step.{Answers};
 ghost use Rattle.er_rules.specs.Tables.{match_of, tables_of};
 
-use er_event::{Change, Event, Games, Items, MAX_PLAYERS, Match, Phase, Refusal, Score};
+use er_event::{BYE, Change, Event, Items, MAX_PLAYERS, Match, Phase, Refusal, Score};
 use er_pair::{Met, first_pairing, keys, order};
 use std::alloc::{AllocError, Global};
-
-/// What a bye is scored.
-const BYE: Games = Games { x: 2, y: 0, d: 0 };
 
 /// Whether a match of the newest round lacks its score.
 fn newest_is_open(event: &Event) -> bool
@@ -43,6 +41,7 @@ fn check_pair(event: &Event, round: u8) -> Result<(), Refusal>
     ensures fits { OnOk result ((matches : List Match) → IsNextRound event.now matches → Fits event.now (Change.AddRound matches)) }
     ensures sound { IsSoundButForSeeds event.now }
     ensures refused { IfErr result (λ why. first_refusal (pair_checks event.now round) ≡ Some why) }
+    ensures named { IfErr result IsOfRules }
 {
     if event.phase() != Phase::Swiss {
         return Err(Refusal::NotSwiss);
@@ -127,6 +126,7 @@ pub fn decide_pair(
 ) -> Result<Change, Refusal>
     ensures taken { IfOk result (λ change. Fits event.now change × Answers event.now (Pair round seed.now) (Ok (after event.now change))) }
     ensures refused { IfErr result (λ why. (why ≡ Refusal.Memory) ⊎ Answers event.now (Pair round seed.now) (Err why)) }
+    ensures named { IfErr result (λ why. (why ≡ Refusal.Memory) ⊎ IsOfRules why) }
 {
     check_pair(event, round)?;
     let order = seeded_order(alloc, event, seed)?;

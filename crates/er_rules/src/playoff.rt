@@ -8,6 +8,7 @@ ghost use Rattle.er_event.specs.Sound.{AllRoundsDone, IsSoundButForSeeds};
 ghost use Rattle.er_event.specs.declared.events.Phase.TheVariants.{Swiss, Playoff};
 ghost use Rattle.er_event.specs.declared.refusals.Command.TheVariants.{Cut};
 ghost use Rattle.er_rules.specs.Commands.{active, all_rounds_done, first_refusal, cut_checks, playoff_checks};
+ghost use Rattle.er_rules.specs.Refusing.{IsOfRules};
 ghost use Rattle.er_rules.specs.Step.{Steps, scored_at};
 
 use crate::pairing::active_count;
@@ -42,6 +43,7 @@ fn check_cut(event: &Event) -> Result<(), Refusal>
     ensures sound { IsSoundButForSeeds event.now }
     ensures fits { OnOk result ((matches : List Match) → IsOpening event.now matches → Fits event.now (Change.AddBracket matches)) }
     ensures refused { IfErr result (λ why. first_refusal (cut_checks event.now) ≡ Some why) }
+    ensures named { IfErr result IsOfRules }
 {
     if event.phase() != Phase::Swiss {
         return Err(Refusal::NotSwiss);
@@ -106,6 +108,7 @@ fn is_over(matches: &[Match]) -> bool
 fn playoff_score(games: Games) -> Result<Score, Refusal>
     ensures ok { IfOk result (λ score. (score ≡ games) × IsTrue (is_playoff_score games)) }
     ensures refused { IfErr result (λ why. (why ≡ Refusal.BadScore) × IsFalse (is_playoff_score games)) }
+    ensures named { IfErr result IsOfRules }
 {
     match Score::playoff(games) {
         Some(score) => Ok(score),
@@ -121,6 +124,7 @@ fn check_playoff(event: &Event, stage: u8, slot: u8, games: Games) -> Result<Sco
     ensures found { OnOk result ((m : Match) × (slot_at event.now stage slot ≡ Some m)) }
     ensures fits { OnOk result (Fits event.now (Change.SetBracketScore stage slot games (following (scored_at event.now stage slot games)) (is_over (scored_at event.now stage slot games)))) }
     ensures refused { IfErr result (λ why. first_refusal (playoff_checks event.now stage slot games) ≡ Some why) }
+    ensures named { IfErr result IsOfRules }
 {
     if event.phase() != Phase::Playoff {
         return Err(Refusal::NotPlayoff);
@@ -138,6 +142,7 @@ fn check_playoff(event: &Event, stage: u8, slot: u8, games: Games) -> Result<Sco
 pub fn decide_cut(alloc: Global, event: &Event) -> Result<Change, Refusal>
     ensures taken { IfOk result (λ change. Fits event.now change × Steps event.now Cut (Ok (after event.now change))) }
     ensures refused { IfErr result (λ why. (why ≡ Refusal.Memory) ⊎ (first_refusal (cut_checks event.now) ≡ Some why)) }
+    ensures named { IfErr result (λ why. (why ≡ Refusal.Memory) ⊎ IsOfRules why) }
 {
     check_cut(event)?;
     let seeds = top(alloc, event, usize::from(event.cut()))?;
@@ -157,6 +162,7 @@ pub fn decide_playoff(
     ensures fits { IfOk result (Fits event.now) }
     ensures accepted { OnOk result (first_refusal (playoff_checks event.now stage slot games) ≡ None) }
     ensures refused { IfErr result (λ why. (why ≡ Refusal.Memory) ⊎ (first_refusal (playoff_checks event.now stage slot games) ≡ Some why)) }
+    ensures named { IfErr result (λ why. (why ≡ Refusal.Memory) ⊎ IsOfRules why) }
 {
     let score = check_playoff(event, stage, slot, games)?;
     let matches = &event.bracket().stages.as_slice()[usize::from(stage) - 1];

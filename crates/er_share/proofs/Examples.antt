@@ -1,8 +1,24 @@
--- Worked examples 11, 12 and 34, computed from the definitions.
+-- Worked examples 11, 12 and 34, computed from the definitions, and the limits.
 use Rattle.std.proofs.Common.{◌≡◌, ℕ, ◌*◌, true, [], ◌∷◌, map, replicate, refl}
 use Rattle.std.specs.Ordering.{is_gt}
-use Rattle.er_share.specs.declared.TheConstants.{WHOLE}
+use Rattle.er_share.specs.declared.TheConstants.{MAX_ROUNDS, MAX_GAMES, BASE, WHOLE}
 use Rattle.er_share.specs.Fraction.{Fraction, fraction, IsSame, fraction_cmp, minimum_percentage, percentage, average, hundredths}
+
+-- each limit as the rules have it, so that the code's constant can't move from it
+
+pub nine_rounds : MAX_ROUNDS ≡ 9
+nine_rounds = refl
+
+pub fifty_four_games : MAX_GAMES ≡ 54
+fifty_four_games = refl
+
+pub parts_of_rounds : BASE ≡ 2520
+parts_of_rounds = refl
+
+pub parts_of_one_whole : WHOLE ≡ 1241725151961285960320352000
+parts_of_one_whole = refl
+
+-- ---- the examples
 
 abbrev match_win : ℕ → ℕ → Fraction
 match_win points rounds = percentage points (3 * rounds)

@@ -124,6 +124,3 @@ pub(crate) fn percentage_of(points: u16, count: u8) -> Share
         parts: parts.max(MINIMUM),
     }
 }
-
-#[cfg(test)]
-mod tests;

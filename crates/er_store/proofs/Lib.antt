@@ -24,3 +24,6 @@ pub mod Exact
 pub mod Keyed
 pub mod LoadLemmas
 pub mod Loaded
+pub mod Selecting
+pub mod Committed
+pub mod Damaging

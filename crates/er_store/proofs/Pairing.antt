@@ -122,7 +122,6 @@ same_moves old mid new same moves = record {
   shows = record { was_open = sym same.is_open ∙ moves.shows.was_open; is_open = moves.shows.is_open; now_is = moves.shows.now_is; committed_is = moves.shows.committed_is ∙ same.committed_is; mode = moves.shows.mode };
   sound = moves.sound;
   keeps = subst (λ d. KeepsOthers d new.now) same.now_is moves.keeps;
-  schema = moves.schema ∙ ap (λ (d : Database). d.schema) same.now_is;
 }
 
 -- so many matches of a round are stored

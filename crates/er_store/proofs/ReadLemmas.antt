@@ -15,11 +15,8 @@ use Rattle.sqlite.specs.Query.{IsAnswer, output, output_cmp, Output}
 use Rattle.sqlite.specs.Program.{overlay}
 use Rattle.sqlite.specs.Tree.{Trees}
 use Rattle.sqlite.specs.Command.TheVariants.{Select}
-use Rattle.sqlite.specs.Clock.{timed}
-use Rattle.sqlite.specs.Listing.{understood}
-use Rattle.sqlite.specs.State.{State, Shown, ShowsRows, Survives, CommitsShowing, IsUnchanged}
-use Rattle.sqlite.proofs.StateLemmas.{survives_weaker}
-use Rattle.sqlite.proofs.Callers.{IsPlain, reads_as, never_commits}
+use Rattle.sqlite.specs.State.{State, Shown}
+use Rattle.sqlite.proofs.Callers.{reads_as}
 use Rattle.er_store.specs.Rows.{shown}
 use Rattle.er_store.specs.Reading.{by_first, by_first_two, Lists, first_columns}
 use Rattle.er_store.proofs.Meaning.{table_query, Selects}
@@ -81,17 +78,6 @@ module _ (tree : ℕ) (places keys : List ℕ) (order : Row → Row → Ordering
   listed sql old new rows it h =
       let read = reads_as sql [] old new old.now.schema refl (Select (record { lets = []; body = table_query tree places keys }) it.names) it.is it.plain it.unlisted rows h in
       answer_lists old.now.trees rows (read.answer Null)
-
--- a read that shows rows changes nothing
-pub unchanged : (sql : List ℕ) (old new : State) (rows : List Row) → IsPlain (understood old.now.schema sql) → Shown sql [] old new rows → IsUnchanged old new
-unfolding Shown
-unchanged sql old new rows plain h =
-    let none = (subst IsPlain h.1.is plain).0 in
-    (subst (ShowsRows old new sql h.0 (timed [] h.0.formats h.1.now) rows) none h.2).3
-
--- a query commits nothing
-pub reads_only : (sql : List ℕ) (old new : State) → IsPlain (understood old.now.schema sql) → Survives old new (CommitsShowing sql [] old) → Survives old new (λ _. ⊥)
-reads_only sql old new plain = survives_weaker old new _ _ (λ _ db. never_commits sql [] old db plain)
 
 -- ---- the two kinds of key
 

@@ -76,26 +76,28 @@ others_kept tree old new apart [] all = tt
 others_kept tree old new apart (t ∷ more) all = (λ other. all.0 (apart t.tree other), others_kept tree old new apart more all.1)
 
 pub goes_keeps : (tree : ℕ) (old new : State) → ((t : ℕ) → IsOther t → t ≢ tree) → Goes tree old new → KeepsOthers old.now new.now
-goes_keeps tree old new apart goes = others_kept tree old.now.trees new.now.trees apart old.now.schema.tables goes.others
+goes_keeps tree old new apart goes = record { schema = goes.schema; rows = others_kept tree old.now.trees new.now.trees apart old.now.schema.tables goes.others }
 
 both_kept : (a b c : Trees) (tables : List Table) → AllByRecursion (λ (t : Table). IsOther t.tree → b t.tree ≡ a t.tree) tables → AllByRecursion (λ (t : Table). IsOther t.tree → c t.tree ≡ b t.tree) tables
     → AllByRecursion (λ (t : Table). IsOther t.tree → c t.tree ≡ a t.tree) tables
 both_kept a b c [] p q = tt
 both_kept a b c (t ∷ more) p q = (λ other. q.0 other ∙ p.0 other, both_kept a b c more p.1 q.1)
 
-pub keeps_then : (a b c : Database) → b.schema ≡ a.schema → KeepsOthers a b → KeepsOthers b c → KeepsOthers a c
-keeps_then a b c same p q = both_kept a.trees b.trees c.trees a.schema.tables p (subst (λ (s : Schema). AllByRecursion (λ (t : Table). IsOther t.tree → c.trees t.tree ≡ b.trees t.tree) s.tables) same q)
+pub keeps_then : (a b c : Database) → KeepsOthers a b → KeepsOthers b c → KeepsOthers a c
+keeps_then a b c p q = record {
+  schema = q.schema ∙ p.schema;
+  rows = both_kept a.trees b.trees c.trees a.schema.tables p.rows (subst (λ (s : Schema). AllByRecursion (λ (t : Table). IsOther t.tree → c.trees t.tree ≡ b.trees t.tree) s.tables) p.schema q.rows);
+}
 
 pub goes_moves : (tree : ℕ) (old new : State) → ((t : ℕ) → IsOther t → t ≢ tree) → Goes tree old new → Moves old new
-goes_moves tree old new apart goes = record { was = goes.was; shows = goes.shows; sound = goes.sound; keeps = goes_keeps tree old new apart goes; schema = goes.schema }
+goes_moves tree old new apart goes = record { was = goes.was; shows = goes.shows; sound = goes.sound; keeps = goes_keeps tree old new apart goes }
 
 pub moves_then : (a b c : State) → Moves a b → Moves b c → Moves a c
 moves_then a b c p q = record {
   was = p.was;
   shows = record { was_open = p.shows.was_open; is_open = q.shows.is_open; now_is = refl; committed_is = q.shows.committed_is ∙ p.shows.committed_is; mode = q.shows.mode };
   sound = q.sound;
-  keeps = keeps_then a.now b.now c.now p.schema p.keeps q.keeps;
-  schema = q.schema ∙ p.schema;
+  keeps = keeps_then a.now b.now c.now p.keeps q.keeps;
 }
 
 pub makes_then : (a b c : State) (e f : EventValue) (s : ℕ) → Makes a b e s → Makes b c f s → Makes a c f s

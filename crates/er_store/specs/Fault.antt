@@ -5,8 +5,8 @@ use Rattle.er_event.specs.declared.refusals.Refusal.TheVariants.{Memory, Store, 
 use Rattle.er_event.specs.declared.refusals.Place.{Place}
 use Rattle.er_event.specs.declared.refusals.Cause.TheVariants.{Refused}
 use Rattle.sqlite.specs.declared.error.Error.{Error}
-use Rattle.sqlite.specs.declared.error.Error.TheVariants.{SqliteFailure, SqlInputError, InvalidColumnType, IntegralValueOutOfRange, Utf8Error}
-use Rattle.sqlite.specs.declared.error.ErrorCode.TheVariants.{OutOfMemory, TypeMismatch}
+use Rattle.sqlite.specs.declared.error.Error.TheVariants.{SqliteFailure}
+use Rattle.sqlite.specs.declared.error.ErrorCode.TheVariants.{OutOfMemory, CannotOpen, DatabaseBusy, NotADatabase, DatabaseCorrupt, SystemIoFailure, DiskFull, TooBig, SchemaTooBig, Closed, OperationInterrupted, TransactionState, NoSuchSavepoint}
 
 abbrev pub refusal_of : Error → Refusal
 refusal_of (SqliteFailure OutOfMemory) = Memory
@@ -16,16 +16,22 @@ refusal_of _ = Store Refused
 abbrev pub IsFault : Refusal → Type 0
 IsFault why = (why ≡ Memory) ⊎ (why ≡ Store Refused)
 
--- what a refusal of a read of this table means: a table or column that is not there or of another type, or a value of another kind, is damage
+-- what a refusal of a read of this table means: one that names the file, the device, a size, or what the connection is in, is the store's, and any other lies in the statement that reads the table
 abbrev pub reading_refusal : Place → Error → Refusal
 reading_refusal table (SqliteFailure OutOfMemory) = Memory
-reading_refusal table (SqliteFailure TypeMismatch) = Damaged table
-reading_refusal table (SqliteFailure _) = Store Refused
-reading_refusal table (SqlInputError fault) = Damaged table
-reading_refusal table (InvalidColumnType at kind) = Damaged table
-reading_refusal table (IntegralValueOutOfRange at) = Damaged table
-reading_refusal table (Utf8Error at) = Damaged table
-reading_refusal table _ = Store Refused
+reading_refusal table (SqliteFailure CannotOpen) = Store Refused
+reading_refusal table (SqliteFailure DatabaseBusy) = Store Refused
+reading_refusal table (SqliteFailure NotADatabase) = Store Refused
+reading_refusal table (SqliteFailure DatabaseCorrupt) = Store Refused
+reading_refusal table (SqliteFailure SystemIoFailure) = Store Refused
+reading_refusal table (SqliteFailure DiskFull) = Store Refused
+reading_refusal table (SqliteFailure TooBig) = Store Refused
+reading_refusal table (SqliteFailure SchemaTooBig) = Store Refused
+reading_refusal table (SqliteFailure Closed) = Store Refused
+reading_refusal table (SqliteFailure OperationInterrupted) = Store Refused
+reading_refusal table (SqliteFailure TransactionState) = Store Refused
+reading_refusal table (SqliteFailure NoSuchSavepoint) = Store Refused
+reading_refusal table _ = Damaged table
 
 -- the refusals of a load
 abbrev pub IsLoadFault : Refusal → Type 0

@@ -6,3 +6,4 @@ pub mod Reading
 pub mod Loading
 pub mod Fault
 pub mod Store
+pub mod Damage

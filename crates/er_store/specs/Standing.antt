@@ -16,7 +16,7 @@ use Rattle.sqlite_rules.specs.Edit.{have_rowids}
 use Rattle.er_event.specs.declared.refusals.TheConstants.{MAX_SERIAL}
 use Rattle.er_event.specs.Event.{EventValue}
 use Rattle.er_event.specs.Rows.{event_row, player_rows, pairing_rows, bracket_rows}
-use Rattle.er_store.specs.Tables.{event, player, pairing, bracket, find_event}
+use Rattle.er_store.specs.Tables.{event, player, pairing, bracket, find_event, read_event}
 use Rattle.er_store.specs.Rows.{event_columns, player_columns, pairing_columns, bracket_columns, shown, event_places, player_places, pairing_places, bracket_places}
 
 abbrev pub with_ours : List Table → List Table
@@ -41,6 +41,11 @@ pub record IsKeyed (rows : List Row) : Type 0 where
   pub rise : IsTable rows
   pub numbers : have_rowids rows ≡ true
 
+-- the rowids that no column shows
+pub record AreKeyed (db : Database) : Type 0 where
+  pub pairings : IsKeyed (db.trees 3)
+  pub bracket : IsKeyed (db.trees 6)
+
 -- the tables have the schema, and their rows are the event's, in any order
 pub record StandsFor (db : Database) (e : EventValue) (serial : ℕ) : Type 0 where
   pub low : serial ≤ MAX_SERIAL
@@ -63,6 +68,10 @@ pub record IsNew (e : EventValue) : Type 0 where
 abbrev pub CanRead : Schema → Type 0
 CanRead schema = IsOk (understood schema find_event)
 
+-- the statement that reads the event can be run
+abbrev pub ReadsEvent : Schema → Type 0
+ReadsEvent schema = IsOk (understood schema read_event)
+
 -- what a crash leaves stands for the event
 pub record IsStored (e : EventValue) (serial : ℕ) (trees : Trees) : Type 0 where
   pub schema : Schema
@@ -83,6 +92,7 @@ Leaves s P = HasCleanDisk s → (trees : Trees) → s.may_leave trees → P tree
 abbrev pub Either : (Trees → Type 0) → (Trees → Type 0) → Trees → Type 0
 Either P Q trees = P trees ⊎ Q trees
 
--- the rows of the other tables
-abbrev pub KeepsOthers : Database → Database → Type 0
-KeepsOthers old new = AllByRecursion (λ t. IsOther t.tree → new.trees t.tree ≡ old.trees t.tree) old.schema.tables
+-- the schema stays, and the rows of the other tables
+pub record KeepsOthers (old new : Database) : Type 0 where
+  pub schema : new.schema ≡ old.schema
+  pub rows : AllByRecursion (λ t. IsOther t.tree → new.trees t.tree ≡ old.trees t.tree) old.schema.tables

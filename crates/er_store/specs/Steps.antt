@@ -33,7 +33,6 @@ pub record Moves (old new : State) : Type 0 where
   pub shows : Shows old new new.now old.committed true
   pub sound : IsDatabase new.now
   pub keeps : KeepsOthers old.now new.now
-  pub schema : new.now.schema ≡ old.now.schema
 
 -- what a step makes of tables that stand for an event
 pub record Makes (old new : State) (e : EventValue) (serial : ℕ) : Type 0 where

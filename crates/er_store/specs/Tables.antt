@@ -1,9 +1,5 @@
 -- The four tables of an event, as the texts that make them say.
 use Rattle.std.specs.Prelude.{ℕ, pos, Bool, true, false, List, [], ◌∷◌, Some, None, codes}
-use Rattle.er_store.specs.declared.creation.TheConstants.{CREATE_EVENT, CREATE_PLAYER, CREATE_PAIRING, CREATE_BRACKET}
-use Rattle.er_store.specs.declared.statements.TheConstants.{INSERT_EVENT, INSERT_PLAYER, INSERT_PAIRING, SET_SERIAL, SET_PHASE, SET_DROPPED, SET_SCORE, INSERT_SLOT, SET_SLOT_SCORE}
-use Rattle.er_store.specs.declared.transactions.TheConstants.{FIND_EVENT}
-use Rattle.er_store.specs.declared.reading.TheConstants.{READ_EVENT, READ_PLAYERS, READ_PAIRINGS, READ_BRACKET}
 use Rattle.sqlite.specs.declared.types.Value.TheVariants.{Null, Int}
 use Rattle.sqlite.specs.Collation.TheVariants.{Binary}
 use Rattle.sqlite.specs.Kind.{Kind}
@@ -17,16 +13,16 @@ use Rattle.sqlite_schema.specs.declared.schema.Column.{Column}
 use Rattle.sqlite_schema.specs.declared.schema.Index.{Index}
 
 abbrev pub event_text : List ℕ
-event_text = CREATE_EVENT.now
+event_text = codes "CREATE TABLE event(id INTEGER PRIMARY KEY CHECK(id = 1), version INTEGER NOT NULL, serial INTEGER NOT NULL, name TEXT NOT NULL, rounds INTEGER NOT NULL, cut INTEGER NOT NULL, phase INTEGER NOT NULL)"
 
 abbrev pub player_text : List ℕ
-player_text = CREATE_PLAYER.now
+player_text = codes "CREATE TABLE player(no INTEGER PRIMARY KEY, name TEXT NOT NULL UNIQUE, dropped INTEGER NOT NULL)"
 
 abbrev pub pairing_text : List ℕ
-pairing_text = CREATE_PAIRING.now
+pairing_text = codes "CREATE TABLE pairing(round INTEGER NOT NULL, tab INTEGER NOT NULL, lo INTEGER NOT NULL, hi INTEGER NOT NULL, swapped INTEGER NOT NULL, done INTEGER NOT NULL, x INTEGER NOT NULL, y INTEGER NOT NULL, d INTEGER NOT NULL, PRIMARY KEY(round, tab), UNIQUE(lo, hi), CHECK(lo < hi))"
 
 abbrev pub bracket_text : List ℕ
-bracket_text = CREATE_BRACKET.now
+bracket_text = codes "CREATE TABLE bracket(stage INTEGER NOT NULL, slot INTEGER NOT NULL, a INTEGER NOT NULL, b INTEGER NOT NULL, done INTEGER NOT NULL, x INTEGER NOT NULL, y INTEGER NOT NULL, d INTEGER NOT NULL, PRIMARY KEY(stage, slot))"
 
 abbrev pub plain : List ℕ → Kind → Bool → Column
 plain name kind not_null = record { name = name; kind = kind; is_strict = false; not_null = not_null; default = Null; collation = Binary }
@@ -127,44 +123,44 @@ our_schema = record {
 }
 
 abbrev pub insert_event : List ℕ
-insert_event = INSERT_EVENT.now
+insert_event = codes "INSERT INTO event (id, version, serial, name, rounds, cut, phase) VALUES (1, 1, ?1, ?2, ?3, ?4, ?5)"
 
 abbrev pub insert_player : List ℕ
-insert_player = INSERT_PLAYER.now
+insert_player = codes "INSERT INTO player (no, name, dropped) VALUES (?1, ?2, ?3)"
 
 abbrev pub insert_pairing : List ℕ
-insert_pairing = INSERT_PAIRING.now
+insert_pairing = codes "INSERT INTO pairing (round, tab, lo, hi, swapped, done, x, y, d) VALUES (?1, ?2, ?3, ?4, ?5, ?6, ?7, ?8, ?9)"
 
 abbrev pub set_serial : List ℕ
-set_serial = SET_SERIAL.now
+set_serial = codes "UPDATE event SET serial = ?1"
 
 abbrev pub set_phase : List ℕ
-set_phase = SET_PHASE.now
+set_phase = codes "UPDATE event SET phase = ?1"
 
 abbrev pub set_dropped : List ℕ
-set_dropped = SET_DROPPED.now
+set_dropped = codes "UPDATE player SET dropped = 1 WHERE no = ?1"
 
 abbrev pub set_score : List ℕ
-set_score = SET_SCORE.now
+set_score = codes "UPDATE pairing SET done = 1, x = ?3, y = ?4, d = ?5 WHERE round = ?1 AND tab = ?2"
 
 abbrev pub insert_slot : List ℕ
-insert_slot = INSERT_SLOT.now
+insert_slot = codes "INSERT INTO bracket (stage, slot, a, b, done, x, y, d) VALUES (?1, ?2, ?3, ?4, ?5, ?6, ?7, ?8)"
 
 abbrev pub set_slot_score : List ℕ
-set_slot_score = SET_SLOT_SCORE.now
+set_slot_score = codes "UPDATE bracket SET done = 1, x = ?3, y = ?4, d = ?5 WHERE stage = ?1 AND slot = ?2"
 
 -- whether a table `event` can be read
 abbrev pub find_event : List ℕ
-find_event = FIND_EVENT.now
+find_event = codes "SELECT 1 FROM event"
 
 abbrev pub read_event : List ℕ
-read_event = READ_EVENT.now
+read_event = codes "SELECT id, version, serial, name, rounds, cut, phase FROM event ORDER BY id"
 
 abbrev pub read_players : List ℕ
-read_players = READ_PLAYERS.now
+read_players = codes "SELECT no, name, dropped FROM player ORDER BY no"
 
 abbrev pub read_pairings : List ℕ
-read_pairings = READ_PAIRINGS.now
+read_pairings = codes "SELECT round, tab, lo, hi, swapped, done, x, y, d FROM pairing ORDER BY round, tab"
 
 abbrev pub read_bracket : List ℕ
-read_bracket = READ_BRACKET.now
+read_bracket = codes "SELECT stage, slot, a, b, done, x, y, d FROM bracket ORDER BY stage, slot"

@@ -17,7 +17,7 @@ use faults::refusal_of;
 use loading::load_tables;
 use sqlite::{Alter, Connection};
 use std::alloc::Global;
-use transactions::{create_tables, has_event, write_tables};
+use transactions::{create_tables, has_event, reads_event, write_tables};
 
 /// The tables of one event. After a fault each call but `into_connection` is refused, and touches no table.
 #[derive(Drop)]
@@ -29,7 +29,7 @@ pub struct Store<S: Alter> {
 }
 
 impl<S: Alter> Store<S> {
-    ghost use Rattle.std.specs.Prelude.{◌≡◌, ◌≢◌, ◌⊎◌, ◌+◌, ◌<◌, ℕ, [], false, Err, IfOk, IfErr, OnOk, MatchResult, IsTrue, IsFalse};
+    ghost use Rattle.std.specs.Prelude.{◌≡◌, ◌≢◌, ◌⊎◌, ◌+◌, ◌<◌, ◌≤◌, ℕ, [], false, Err, IfOk, IfErr, OnOk, OnErr, MatchResult, IsTrue, IsFalse};
     ghost use Rattle.sqlite.specs.State.{HasCleanDisk, IsUnchanged};
     ghost use Rattle.sqlite.specs.Held.{state};
     ghost use Rattle.sqlite.specs.Tree.{Trees};
@@ -38,12 +38,13 @@ impl<S: Alter> Store<S> {
     ghost use Rattle.er_event.specs.Sound.{IsSoundButForSeeds};
     ghost use Rattle.er_event.specs.Change.{after, Fits};
     ghost use Rattle.er_store.specs.Tables.{no_schema};
-    ghost use Rattle.er_store.specs.Standing.{HasTables, StandsFor, IsNew, IsStored, Shows, Leaves, Either, KeepsOthers, CanRead};
+    ghost use Rattle.er_store.specs.Standing.{HasTables, AreKeyed, StandsFor, IsNew, IsStored, Shows, Leaves, Either, KeepsOthers, CanRead, ReadsEvent};
     ghost use Rattle.er_store.specs.Store as store;
     ghost use Rattle.er_store.specs.Store.{connection, is_stopped};
-    ghost use Rattle.er_store.specs.Fault.{IsFault, FaultOrDamage};
+    ghost use Rattle.er_store.specs.Fault.{IsFault, IsLoadFault, FaultOrDamage};
     ghost use Rattle.er_store.specs.Loading.{ShowsEvent};
     ghost use Rattle.er_store.specs.Reading.{KeepsTables};
+    ghost use Rattle.er_store.specs.Damage.{IsAtFault, IfDamaged};
 
     /// Makes the tables of a new event, with serial 0. A refusal gives the connection back.
     pub fn create(
@@ -63,6 +64,10 @@ impl<S: Alter> Store<S> {
         ensures exists { IfErr result (λ e. e.1 ≡ Refusal.EventExists → HasCleanDisk (state S.Store e.0)
             → CanRead (state S.Store conn).now.schema × ((state S.Store conn).now.schema ≢ no_schema) × IsUnchanged (state S.Store conn) (state S.Store e.0)) }
         ensures mode { IfErr result (λ e. e.0.in_transaction ≡ false) }
+
+        // A refusal changes no table, and of a file where `event` can be read a crash then leaves what it could before.
+        ensures kept { IfErr result (λ e. HasCleanDisk (state S.Store e.0) → KeepsTables (state S.Store conn) (state S.Store e.0)) }
+        ensures spares { IfErr result (λ e. CanRead (state S.Store conn).now.schema → Leaves (state S.Store e.0) (state S.Store conn).may_leave) }
         ensures crash { IfErr result (λ e. (state S.Store conn).now.schema ≡ no_schema → Leaves (state S.Store e.0) (Either (state S.Store conn).may_leave (IsStored event.now 0))) }
     {
         match has_event(&mut conn) {
@@ -79,6 +84,58 @@ impl<S: Alter> Store<S> {
         }
     }
 
+    /// A store over tables that are there, with their event and its serial. It changes no table. A refusal gives the connection back.
+    pub fn adopt(
+        alloc: Global,
+        mut conn: Connection<S>,
+    ) -> Result<(Store<S>, Event, u32), (Connection<S>, Refusal)>
+        requires mode { conn.in_transaction ≡ false }
+
+        ensures ready { IfOk result (λ it. IsFalse (is_stopped it.0)) }
+        ensures low { IfOk result (λ it. it.2 ≤ MAX_SERIAL) }
+
+        // Where the tables stand for a sound event, it is found, or memory or the store fails.
+        ensures found { (e : EventValue) (s : ℕ) → StandsFor (state S.Store conn).now e s → IsSoundButForSeeds e
+            → MatchResult result (λ it. HasCleanDisk (store.state S.Store it.0) → (it.1 ≡ e) × (it.2 ≡ s) × Shows (store.state S.Store it.0) e s) (λ r. HasCleanDisk (state S.Store r.0) → IsFault r.1) }
+        ensures leaves { IfOk result (λ it. HasCleanDisk (store.state S.Store it.0) → (e : EventValue) (s : ℕ) → StandsFor (state S.Store conn).now e s → IsSoundButForSeeds e
+            → (trees : Trees) → (store.state S.Store it.0).may_leave trees → IsStored e s trees) }
+
+        // Whatever the tables hold, what is found is what they show.
+        ensures shows { IfOk result (λ it. HasCleanDisk (store.state S.Store it.0) → HasTables (state S.Store conn).now.schema
+            → ShowsEvent (state S.Store conn).now it.1 it.2) }
+
+        // Where the tables are ours, they stand for what is found, and a change can be written to them.
+        ensures stands { IfOk result (λ it. HasCleanDisk (store.state S.Store it.0) → HasTables (state S.Store conn).now.schema → AreKeyed (state S.Store conn).now
+            → Shows (store.state S.Store it.0) it.1 it.2) }
+
+        ensures why { IfErr result (λ r. (r.1 ≡ Refusal.NoEvent) ⊎ IsLoadFault r.1) }
+        ensures no_event { IfErr result (λ r. r.1 ≡ Refusal.NoEvent → HasCleanDisk (state S.Store r.0) → ReadsEvent (state S.Store conn).now.schema → ⊥) }
+        ensures first { IfErr result (λ r. HasCleanDisk (state S.Store r.0) → IfDamaged (IsAtFault (state S.Store conn).now) r.1) }
+        ensures mode { IfErr result (λ r. r.0.in_transaction ≡ false) }
+
+        // Whatever the schema is, nothing is written.
+        ensures same { IfOk result (λ it. HasCleanDisk (store.state S.Store it.0) → IsUnchanged (state S.Store conn) (store.state S.Store it.0)) }
+        ensures kept { IfErr result (λ r. HasCleanDisk (state S.Store r.0) → KeepsTables (state S.Store conn) (state S.Store r.0)) }
+        ensures crash_ok { IfOk result (λ it. Leaves (store.state S.Store it.0) (state S.Store conn).may_leave) }
+        ensures crash { IfErr result (λ r. Leaves (state S.Store r.0) (state S.Store conn).may_leave) }
+    {
+        // Outside a transaction a connection sees the last commit, which obeys its schema: these tell the proof.
+        let _ = conn.is_autocommit();
+        let _ = conn.schema();
+        match reads_event(&mut conn) {
+            Ok(true) => {}
+            Ok(false) => return Err((conn, Refusal::NoEvent)),
+            Err(fault) => return Err((conn, refusal_of(fault))),
+        }
+        match load_tables(alloc, &mut conn) {
+            Ok((event, serial)) => {
+                let needs_reopen = false;
+                Ok((Store { conn, needs_reopen }, event, serial))
+            }
+            Err(why) => Err((conn, why)),
+        }
+    }
+
     /// Writes the change and the next serial in one transaction. The serial is the event's.
     pub fn write(&mut self, event: &Event, change: &Change, serial: u32) -> Result<(), Refusal>
         requires fits { Fits event.now change.now }
@@ -86,8 +143,18 @@ impl<S: Alter> Store<S> {
 
         ensures stopped { IsTrue (is_stopped self.old) → (result ≡ Err Refusal.NeedsReopen) × (self.new ≡ self.old) }
         ensures stops { IsFalse (is_stopped self.old) → MatchResult result (λ _. IsFalse (is_stopped self.new)) (λ why. IsFault why × IsTrue (is_stopped self.new)) }
+        ensures clean { HasCleanDisk (store.state S.Store self.new) → HasCleanDisk (store.state S.Store self.old) }
+
+        // A refusal changes no table, whatever the tables hold.
+        ensures kept { HasCleanDisk (store.state S.Store self.new) → OnErr result (KeepsTables (store.state S.Store self.old) (store.state S.Store self.new)) }
+
+        // At every exit the other tables stay, as long as the connection shows any.
+        ensures others { HasCleanDisk (store.state S.Store self.new) → Shows (store.state S.Store self.old) event.now serial
+            → IsTrue (store.state S.Store self.new).is_open → KeepsOthers (store.state S.Store self.old).now (store.state S.Store self.new).now }
+
+        // A change that is made is there with the next serial, also after a crash, and one that is cut off is there whole or not at all.
         ensures written { HasCleanDisk (store.state S.Store self.new) → Shows (store.state S.Store self.old) event.now serial
-            → OnOk result (Shows (store.state S.Store self.new) (after event.now change.now) (serial + 1) × KeepsOthers (store.state S.Store self.old).now (store.state S.Store self.new).now) }
+            → OnOk result (Shows (store.state S.Store self.new) (after event.now change.now) (serial + 1)) }
         ensures acknowledged { HasCleanDisk (store.state S.Store self.new) → Shows (store.state S.Store self.old) event.now serial
             → OnOk result ((trees : Trees) → (store.state S.Store self.new).may_leave trees → IsStored (after event.now change.now) (serial + 1) trees) }
         ensures crash { IsFalse (is_stopped self.old) → Shows (store.state S.Store self.old) event.now serial
@@ -109,6 +176,8 @@ impl<S: Alter> Store<S> {
     pub fn load(&mut self, alloc: Global) -> Result<(Event, u32), Refusal>
         ensures stopped { IsTrue (is_stopped self.old) → (result ≡ Err Refusal.NeedsReopen) × (self.new ≡ self.old) }
         ensures stops { IsFalse (is_stopped self.old) → MatchResult result (λ _. IsFalse (is_stopped self.new)) (λ why. FaultOrDamage why (is_stopped self.new)) }
+        ensures clean { HasCleanDisk (store.state S.Store self.new) → HasCleanDisk (store.state S.Store self.old) }
+        ensures low { IfOk result (λ it. it.1 ≤ MAX_SERIAL) }
 
         // Where the tables stand for a sound event, it is found, or memory or the store fails.
         ensures found { IsFalse (is_stopped self.old) → HasCleanDisk (store.state S.Store self.new) → (e : EventValue) (s : ℕ) → StandsFor (store.state S.Store self.old).now e s → IsSoundButForSeeds e
@@ -116,14 +185,27 @@ impl<S: Alter> Store<S> {
 
         // Whatever the tables hold, what is found is what they show.
         ensures shows { HasCleanDisk (store.state S.Store self.new) → HasTables (store.state S.Store self.old).now.schema
-            → IfOk result (λ it. ShowsEvent (store.state S.Store self.old).now it.0 it.1 × IsUnchanged (store.state S.Store self.old) (store.state S.Store self.new)) }
-        ensures kept { HasCleanDisk (store.state S.Store self.new) → HasTables (store.state S.Store self.old).now.schema → IfErr result (λ _. KeepsTables (store.state S.Store self.old) (store.state S.Store self.new)) }
-        ensures crash { HasTables (store.state S.Store self.old).now.schema → Leaves (store.state S.Store self.new) (store.state S.Store self.old).may_leave }
+            → IfOk result (λ it. ShowsEvent (store.state S.Store self.old).now it.0 it.1) }
+
+        // A damaged table that is named is the first at fault.
+        ensures first { HasCleanDisk (store.state S.Store self.new) → IfErr result (IfDamaged (IsAtFault (store.state S.Store self.old).now)) }
+
+        // Where the tables are ours, they stand for what is found, and a change can be written to them.
+        ensures stands { HasCleanDisk (store.state S.Store self.new) → HasTables (store.state S.Store self.old).now.schema → AreKeyed (store.state S.Store self.old).now
+            → IfOk result (λ it. Shows (store.state S.Store self.new) it.0 it.1) }
+
+        // Whatever the schema is, nothing is written.
+        ensures same { HasCleanDisk (store.state S.Store self.new) → OnOk result (IsUnchanged (store.state S.Store self.old) (store.state S.Store self.new)) }
+        ensures kept { HasCleanDisk (store.state S.Store self.new) → OnErr result (KeepsTables (store.state S.Store self.old) (store.state S.Store self.new)) }
+        ensures crash { Leaves (store.state S.Store self.new) (store.state S.Store self.old).may_leave }
     {
         if self.needs_reopen {
             return Err(Refusal::NeedsReopen);
         }
         let read = load_tables(alloc, &mut self.conn);
+        // Outside a transaction a connection sees the last commit, which obeys its schema: these tell the proof.
+        let _ = self.conn.is_autocommit();
+        let _ = self.conn.schema();
         self.needs_reopen = matches!(read, Err(Refusal::Memory | Refusal::Store { .. }));
         read
     }
@@ -140,6 +222,3 @@ impl<S: Alter> Store<S> {
         conn
     }
 }
-
-#[cfg(test)]
-mod tests;

@@ -1,5 +1,5 @@
-ghost use Rattle.std.specs.Prelude.{◌≡◌, ◌≤◌, ◌⊎◌, ℕ, Some, [], ◌∷◌, false, IfOk, IfErr, IsOkAnd, IsErrAnd, MatchResult};
-ghost use Rattle.sqlite.specs.State.{HasCleanDisk, IsUnchanged};
+ghost use Rattle.std.specs.Prelude.{◌≡◌, ◌≤◌, ◌⊎◌, ℕ, Some, [], ◌∷◌, false, IfOk, IfErr, OnOk, OnErr, IsOkAnd, IsErrAnd, MatchResult};
+ghost use Rattle.sqlite.specs.State.{HasCleanDisk, Survives, IsUnchanged};
 ghost use Rattle.sqlite.specs.Held.{state};
 ghost use Rattle.er_event.specs.declared.refusals.TheConstants.{MAX_SERIAL};
 ghost use Rattle.er_event.specs.declared.refusals.Place.{Place};
@@ -7,8 +7,9 @@ ghost use Rattle.er_event.specs.Event.{EventValue};
 ghost use Rattle.er_event.specs.Sound.{IsSoundButForSeeds};
 ghost use Rattle.er_event.specs.Rows.{event_row};
 ghost use Rattle.er_event.specs.Parts.{IsFirstFault, parts_of};
-ghost use Rattle.er_store.specs.Standing.{HasTables, StandsFor, Leaves};
+ghost use Rattle.er_store.specs.Standing.{HasTables, StandsFor};
 ghost use Rattle.er_store.specs.Loading.{ListsParts, ShowsEvent};
+ghost use Rattle.er_store.specs.Damage.{ReadsParts, IsFirstMisread, IsAtFault, IfDamaged};
 ghost use Rattle.er_store.specs.Fault.{IsFault, IsLoadFault, reading_refusal};
 ghost use Rattle.er_store.specs.Reading.{KeepsTables};
 
@@ -34,13 +35,16 @@ fn read_parts<S: Alter>(alloc: Global, conn: &mut Connection<S>) -> Result<Parts
     ensures clean { HasCleanDisk (state S.Store conn.new) → HasCleanDisk (state S.Store conn.old) }
     ensures mode { conn.old.in_transaction ≡ false → conn.new.in_transaction ≡ false }
     ensures lists { HasCleanDisk (state S.Store conn.new) → HasTables (state S.Store conn.old).now.schema
-        → IfOk result (λ parts. ListsParts (state S.Store conn.old).now parts × IsUnchanged (state S.Store conn.old) (state S.Store conn.new)) }
+        → IfOk result (λ parts. ListsParts (state S.Store conn.old).now parts) }
+    ensures reads { HasCleanDisk (state S.Store conn.new) → IfOk result (ReadsParts (state S.Store conn.old).now) }
+    ensures misread { HasCleanDisk (state S.Store conn.new) → IfErr result (IfDamaged (IsFirstMisread (state S.Store conn.old).now)) }
     ensures exact { HasCleanDisk (state S.Store conn.new) → (e : EventValue) (s : ℕ) → StandsFor (state S.Store conn.old).now e s → IsSoundButForSeeds e
         → IfOk result (λ parts. parts ≡ parts_of e s) }
     ensures refused { HasCleanDisk (state S.Store conn.new) → (e : EventValue) (s : ℕ) → StandsFor (state S.Store conn.old).now e s → IsSoundButForSeeds e → IfErr result IsFault }
     ensures fault { IfErr result IsLoadFault }
-    ensures kept { HasCleanDisk (state S.Store conn.new) → HasTables (state S.Store conn.old).now.schema → IfErr result (λ _. KeepsTables (state S.Store conn.old) (state S.Store conn.new)) }
-    ensures crash { HasTables (state S.Store conn.old).now.schema → Leaves (state S.Store conn.new) (state S.Store conn.old).may_leave }
+    ensures same { HasCleanDisk (state S.Store conn.new) → OnOk result (IsUnchanged (state S.Store conn.old) (state S.Store conn.new)) }
+    ensures kept { HasCleanDisk (state S.Store conn.new) → OnErr result (KeepsTables (state S.Store conn.old) (state S.Store conn.new)) }
+    ensures survives { Survives (state S.Store conn.old) (state S.Store conn.new) (λ _. ⊥) }
 {
     let event = rows_of(Place::EventTable, read_event(alloc, conn))?;
     let players = rows_of(Place::PlayerTable, read_players(alloc, conn))?;
@@ -87,14 +91,18 @@ pub fn load_tables<S: Alter>(
     alloc: Global,
     conn: &mut Connection<S>,
 ) -> Result<(Event, u32), Refusal>
+    ensures clean { HasCleanDisk (state S.Store conn.new) → HasCleanDisk (state S.Store conn.old) }
     ensures mode { conn.old.in_transaction ≡ false → conn.new.in_transaction ≡ false }
+    ensures low { IfOk result (λ it. it.1 ≤ MAX_SERIAL) }
     ensures shows { HasCleanDisk (state S.Store conn.new) → HasTables (state S.Store conn.old).now.schema
-        → IfOk result (λ it. ShowsEvent (state S.Store conn.old).now it.0 it.1 × IsUnchanged (state S.Store conn.old) (state S.Store conn.new)) }
+        → IfOk result (λ it. ShowsEvent (state S.Store conn.old).now it.0 it.1) }
     ensures found { HasCleanDisk (state S.Store conn.new) → (e : EventValue) (s : ℕ) → StandsFor (state S.Store conn.old).now e s → IsSoundButForSeeds e
         → MatchResult result (λ it. (it.0 ≡ e) × (it.1 ≡ s)) IsFault }
     ensures fault { IfErr result IsLoadFault }
-    ensures kept { HasCleanDisk (state S.Store conn.new) → HasTables (state S.Store conn.old).now.schema → IfErr result (λ _. KeepsTables (state S.Store conn.old) (state S.Store conn.new)) }
-    ensures crash { HasTables (state S.Store conn.old).now.schema → Leaves (state S.Store conn.new) (state S.Store conn.old).may_leave }
+    ensures first { HasCleanDisk (state S.Store conn.new) → IfErr result (IfDamaged (IsAtFault (state S.Store conn.old).now)) }
+    ensures same { HasCleanDisk (state S.Store conn.new) → OnOk result (IsUnchanged (state S.Store conn.old) (state S.Store conn.new)) }
+    ensures kept { HasCleanDisk (state S.Store conn.new) → OnErr result (KeepsTables (state S.Store conn.old) (state S.Store conn.new)) }
+    ensures survives { Survives (state S.Store conn.old) (state S.Store conn.new) (λ _. ⊥) }
 {
     let parts = read_parts(alloc, conn)?;
     event_of(alloc, parts)

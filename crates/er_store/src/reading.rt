@@ -1,4 +1,4 @@
-ghost use Rattle.std.specs.Prelude.{◌≡◌, ◌⊎◌, ℕ, false, [], ◌∷◌, IfOk, IfErr, map};
+ghost use Rattle.std.specs.Prelude.{◌≡◌, ◌⊎◌, ℕ, false, [], ◌∷◌, IfOk, IfErr, OnOk, OnErr, map};
 ghost use Rattle.sqlite.specs.State.{HasCleanDisk, Survives, IsUnchanged};
 ghost use Rattle.sqlite.specs.Held.{state};
 ghost use Rattle.er_event.specs.Event.{EventValue};
@@ -6,6 +6,9 @@ ghost use Rattle.er_event.specs.Sound.{IsSoundButForSeeds};
 ghost use Rattle.er_event.specs.Rows.{event_row, player_rows, keyed_pairing_rows, bracket_rows};
 ghost use Rattle.er_store.specs.Rows.{event_columns, player_columns, pairing_columns, bracket_columns, shown, event_places, player_places, pairing_places, bracket_places};
 ghost use Rattle.er_store.specs.Standing.{HasTables, StandsFor};
+ghost use Rattle.er_event.specs.declared.refusals.Place.{Place};
+ghost use Rattle.er_event.specs.declared.refusals.Refusal.{Refusal};
+ghost use Rattle.er_store.specs.Damage.{ReadsEvents, ReadsPlayers, ReadsPairings, ReadsBracket, IsMisread};
 ghost use Rattle.er_store.specs.Fault.{reading_refusal, IsLoadFault};
 ghost use Rattle.er_store.specs.Reading.{Lists, by_first, by_first_two, out_of_memory, IsReadRefused, KeepsTables};
 
@@ -22,13 +25,16 @@ pub fn read_event<S: Alter>(alloc: Global, conn: &mut Connection<S>) -> Result<V
     ensures clean { HasCleanDisk (state S.Store conn.new) → HasCleanDisk (state S.Store conn.old) }
     ensures mode { conn.old.in_transaction ≡ false → conn.new.in_transaction ≡ false }
     ensures lists { HasCleanDisk (state S.Store conn.new) → HasTables (state S.Store conn.old).now.schema
-        → IfOk result (λ rows. Lists by_first (shown event_places ((state S.Store conn.old).now.trees 0)) (map event_columns rows.items) × IsUnchanged (state S.Store conn.old) (state S.Store conn.new)) }
+        → IfOk result (λ rows. Lists by_first (shown event_places ((state S.Store conn.old).now.trees 0)) (map event_columns rows.items)) }
     ensures exact { HasCleanDisk (state S.Store conn.new) → (e : EventValue) (s : ℕ) → StandsFor (state S.Store conn.old).now e s → IsSoundButForSeeds e
         → IfOk result (λ rows. rows.items ≡ event_row e s ∷ []) }
     ensures refused { HasCleanDisk (state S.Store conn.new) → (e : EventValue) (s : ℕ) → StandsFor (state S.Store conn.old).now e s → IsSoundButForSeeds e
         → IfErr result (λ why. (why ≡ out_of_memory) ⊎ IsReadRefused (state S.Store conn.old) (state S.Store conn.new) why) }
-    ensures kept { HasCleanDisk (state S.Store conn.new) → HasTables (state S.Store conn.old).now.schema → IfErr result (λ _. KeepsTables (state S.Store conn.old) (state S.Store conn.new)) }
-    ensures survives { HasTables (state S.Store conn.old).now.schema → Survives (state S.Store conn.old) (state S.Store conn.new) (λ _. ⊥) }
+    ensures reads { HasCleanDisk (state S.Store conn.new) → IfOk result (λ rows. ReadsEvents (state S.Store conn.old).now rows.items) }
+    ensures misread { HasCleanDisk (state S.Store conn.new) → IfErr result (λ why. (at : Place) → reading_refusal Place.EventTable why ≡ Refusal.Damaged at → IsMisread (state S.Store conn.old).now Place.EventTable) }
+    ensures same { HasCleanDisk (state S.Store conn.new) → OnOk result (IsUnchanged (state S.Store conn.old) (state S.Store conn.new)) }
+    ensures kept { HasCleanDisk (state S.Store conn.new) → OnErr result (KeepsTables (state S.Store conn.old) (state S.Store conn.new)) }
+    ensures survives { Survives (state S.Store conn.old) (state S.Store conn.new) (λ _. ⊥) }
 {
     let rows = conn.query_all(READ_EVENT, &[])?;
     typed(alloc, &rows)
@@ -44,13 +50,16 @@ pub fn read_players<S: Alter>(
     ensures clean { HasCleanDisk (state S.Store conn.new) → HasCleanDisk (state S.Store conn.old) }
     ensures mode { conn.old.in_transaction ≡ false → conn.new.in_transaction ≡ false }
     ensures lists { HasCleanDisk (state S.Store conn.new) → HasTables (state S.Store conn.old).now.schema
-        → IfOk result (λ rows. Lists by_first (shown player_places ((state S.Store conn.old).now.trees 1)) (map player_columns rows.items) × IsUnchanged (state S.Store conn.old) (state S.Store conn.new)) }
+        → IfOk result (λ rows. Lists by_first (shown player_places ((state S.Store conn.old).now.trees 1)) (map player_columns rows.items)) }
     ensures exact { HasCleanDisk (state S.Store conn.new) → (e : EventValue) (s : ℕ) → StandsFor (state S.Store conn.old).now e s → IsSoundButForSeeds e
         → IfOk result (λ rows. rows.items ≡ player_rows e) }
     ensures refused { HasCleanDisk (state S.Store conn.new) → (e : EventValue) (s : ℕ) → StandsFor (state S.Store conn.old).now e s → IsSoundButForSeeds e
         → IfErr result (λ why. (why ≡ out_of_memory) ⊎ IsReadRefused (state S.Store conn.old) (state S.Store conn.new) why) }
-    ensures kept { HasCleanDisk (state S.Store conn.new) → HasTables (state S.Store conn.old).now.schema → IfErr result (λ _. KeepsTables (state S.Store conn.old) (state S.Store conn.new)) }
-    ensures survives { HasTables (state S.Store conn.old).now.schema → Survives (state S.Store conn.old) (state S.Store conn.new) (λ _. ⊥) }
+    ensures reads { HasCleanDisk (state S.Store conn.new) → IfOk result (λ rows. ReadsPlayers (state S.Store conn.old).now rows.items) }
+    ensures misread { HasCleanDisk (state S.Store conn.new) → IfErr result (λ why. (at : Place) → reading_refusal Place.PlayerTable why ≡ Refusal.Damaged at → IsMisread (state S.Store conn.old).now Place.PlayerTable) }
+    ensures same { HasCleanDisk (state S.Store conn.new) → OnOk result (IsUnchanged (state S.Store conn.old) (state S.Store conn.new)) }
+    ensures kept { HasCleanDisk (state S.Store conn.new) → OnErr result (KeepsTables (state S.Store conn.old) (state S.Store conn.new)) }
+    ensures survives { Survives (state S.Store conn.old) (state S.Store conn.new) (λ _. ⊥) }
 {
     let rows = conn.query_all(READ_PLAYERS, &[])?;
     typed(alloc, &rows)
@@ -67,13 +76,16 @@ pub fn read_pairings<S: Alter>(
     ensures clean { HasCleanDisk (state S.Store conn.new) → HasCleanDisk (state S.Store conn.old) }
     ensures mode { conn.old.in_transaction ≡ false → conn.new.in_transaction ≡ false }
     ensures lists { HasCleanDisk (state S.Store conn.new) → HasTables (state S.Store conn.old).now.schema
-        → IfOk result (λ rows. Lists by_first_two (shown pairing_places ((state S.Store conn.old).now.trees 3)) (map pairing_columns rows.items) × IsUnchanged (state S.Store conn.old) (state S.Store conn.new)) }
+        → IfOk result (λ rows. Lists by_first_two (shown pairing_places ((state S.Store conn.old).now.trees 3)) (map pairing_columns rows.items)) }
     ensures exact { HasCleanDisk (state S.Store conn.new) → (e : EventValue) (s : ℕ) → StandsFor (state S.Store conn.old).now e s → IsSoundButForSeeds e
         → IfOk result (λ rows. rows.items ≡ keyed_pairing_rows e) }
     ensures refused { HasCleanDisk (state S.Store conn.new) → (e : EventValue) (s : ℕ) → StandsFor (state S.Store conn.old).now e s → IsSoundButForSeeds e
         → IfErr result (λ why. (why ≡ out_of_memory) ⊎ IsReadRefused (state S.Store conn.old) (state S.Store conn.new) why) }
-    ensures kept { HasCleanDisk (state S.Store conn.new) → HasTables (state S.Store conn.old).now.schema → IfErr result (λ _. KeepsTables (state S.Store conn.old) (state S.Store conn.new)) }
-    ensures survives { HasTables (state S.Store conn.old).now.schema → Survives (state S.Store conn.old) (state S.Store conn.new) (λ _. ⊥) }
+    ensures reads { HasCleanDisk (state S.Store conn.new) → IfOk result (λ rows. ReadsPairings (state S.Store conn.old).now rows.items) }
+    ensures misread { HasCleanDisk (state S.Store conn.new) → IfErr result (λ why. (at : Place) → reading_refusal Place.PairingTable why ≡ Refusal.Damaged at → IsMisread (state S.Store conn.old).now Place.PairingTable) }
+    ensures same { HasCleanDisk (state S.Store conn.new) → OnOk result (IsUnchanged (state S.Store conn.old) (state S.Store conn.new)) }
+    ensures kept { HasCleanDisk (state S.Store conn.new) → OnErr result (KeepsTables (state S.Store conn.old) (state S.Store conn.new)) }
+    ensures survives { Survives (state S.Store conn.old) (state S.Store conn.new) (λ _. ⊥) }
 {
     let rows = conn.query_all(READ_PAIRINGS, &[])?;
     typed(alloc, &rows)
@@ -90,13 +102,16 @@ pub fn read_bracket<S: Alter>(
     ensures clean { HasCleanDisk (state S.Store conn.new) → HasCleanDisk (state S.Store conn.old) }
     ensures mode { conn.old.in_transaction ≡ false → conn.new.in_transaction ≡ false }
     ensures lists { HasCleanDisk (state S.Store conn.new) → HasTables (state S.Store conn.old).now.schema
-        → IfOk result (λ rows. Lists by_first_two (shown bracket_places ((state S.Store conn.old).now.trees 6)) (map bracket_columns rows.items) × IsUnchanged (state S.Store conn.old) (state S.Store conn.new)) }
+        → IfOk result (λ rows. Lists by_first_two (shown bracket_places ((state S.Store conn.old).now.trees 6)) (map bracket_columns rows.items)) }
     ensures exact { HasCleanDisk (state S.Store conn.new) → (e : EventValue) (s : ℕ) → StandsFor (state S.Store conn.old).now e s → IsSoundButForSeeds e
         → IfOk result (λ rows. rows.items ≡ bracket_rows e) }
     ensures refused { HasCleanDisk (state S.Store conn.new) → (e : EventValue) (s : ℕ) → StandsFor (state S.Store conn.old).now e s → IsSoundButForSeeds e
         → IfErr result (λ why. (why ≡ out_of_memory) ⊎ IsReadRefused (state S.Store conn.old) (state S.Store conn.new) why) }
-    ensures kept { HasCleanDisk (state S.Store conn.new) → HasTables (state S.Store conn.old).now.schema → IfErr result (λ _. KeepsTables (state S.Store conn.old) (state S.Store conn.new)) }
-    ensures survives { HasTables (state S.Store conn.old).now.schema → Survives (state S.Store conn.old) (state S.Store conn.new) (λ _. ⊥) }
+    ensures reads { HasCleanDisk (state S.Store conn.new) → IfOk result (λ rows. ReadsBracket (state S.Store conn.old).now rows.items) }
+    ensures misread { HasCleanDisk (state S.Store conn.new) → IfErr result (λ why. (at : Place) → reading_refusal Place.BracketTable why ≡ Refusal.Damaged at → IsMisread (state S.Store conn.old).now Place.BracketTable) }
+    ensures same { HasCleanDisk (state S.Store conn.new) → OnOk result (IsUnchanged (state S.Store conn.old) (state S.Store conn.new)) }
+    ensures kept { HasCleanDisk (state S.Store conn.new) → OnErr result (KeepsTables (state S.Store conn.old) (state S.Store conn.new)) }
+    ensures survives { Survives (state S.Store conn.old) (state S.Store conn.new) (λ _. ⊥) }
 {
     let rows = conn.query_all(READ_BRACKET, &[])?;
     typed(alloc, &rows)
@@ -109,13 +124,22 @@ pub fn reading_refusal(table: Place, error: Error) -> Refusal
 {
     match error {
         Error::SqliteFailure(ErrorCode::OutOfMemory) => Refusal::Memory,
-        Error::SqliteFailure(ErrorCode::TypeMismatch)
-        | Error::SqlInputError(_)
-        | Error::InvalidColumnType(_, _)
-        | Error::IntegralValueOutOfRange(_)
-        | Error::Utf8Error(_) => Refusal::Damaged { table },
-        _ => Refusal::Store {
+        Error::SqliteFailure(
+            ErrorCode::CannotOpen
+            | ErrorCode::DatabaseBusy
+            | ErrorCode::NotADatabase
+            | ErrorCode::DatabaseCorrupt
+            | ErrorCode::SystemIoFailure
+            | ErrorCode::DiskFull
+            | ErrorCode::TooBig
+            | ErrorCode::SchemaTooBig
+            | ErrorCode::Closed
+            | ErrorCode::OperationInterrupted
+            | ErrorCode::TransactionState
+            | ErrorCode::NoSuchSavepoint,
+        ) => Refusal::Store {
             cause: Cause::Refused,
         },
+        _ => Refusal::Damaged { table },
     }
 }

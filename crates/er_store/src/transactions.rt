@@ -1,6 +1,7 @@
-ghost use Rattle.std.specs.Prelude.{◌≡◌, ◌+◌, ◌<◌, ◌≤◌, length, false, ℕ, Some, option_map, OnOk, IfOk, IfSome, ◌↔◌, IsTrue};
-ghost use Rattle.sqlite.specs.State.{HasCleanDisk, Survives, IsUnchanged};
+ghost use Rattle.std.specs.Prelude.{◌≡◌, ◌+◌, ◌<◌, ◌≤◌, length, false, ℕ, Some, option_map, OnOk, OnErr, IfOk, IsOk, IfSome, ◌↔◌, IsTrue};
+ghost use Rattle.sqlite.specs.State.{HasCleanDisk, KeepsCommit, Survives, IsUnchanged};
 ghost use Rattle.sqlite.specs.Held.{state};
+ghost use Rattle.sqlite.specs.Listing.{understood};
 ghost use Rattle.sqlite.specs.Tree.{Trees};
 ghost use Rattle.er_event.specs.declared.refusals.TheConstants.{MAX_SERIAL};
 ghost use Rattle.er_event.specs.Event.{EventValue};
@@ -9,10 +10,12 @@ ghost use Rattle.er_event.specs.Bracket.{slot_at};
 ghost use Rattle.er_event.specs.declared.rounds.Match.{Match};
 ghost use Rattle.er_store.specs.Steps.{IsStage};
 ghost use Rattle.er_store.specs.Tables.{no_schema};
-ghost use Rattle.er_store.specs.Standing.{StandsFor, IsStored, IsNew, Shows, Leaves, Either, KeepsOthers, CanRead};
+ghost use Rattle.er_store.specs.Standing.{StandsFor, IsStored, IsNew, Shows, Leaves, Either, KeepsOthers, CanRead, ReadsEvent};
 ghost use Rattle.er_store.specs.Steps.{Makes};
+ghost use Rattle.er_store.specs.Reading.{KeepsTables};
 
 use crate::creation::create_all;
+use crate::reading::READ_EVENT;
 use crate::statements::{
     insert_event, insert_pairing, insert_player, insert_slot, set_dropped, set_phase, set_score,
     set_serial, set_slot_score,
@@ -30,6 +33,7 @@ fn insert_round<S: Alter>(
     ensures same_reference { tx.new.conn.ghost_name ≡ tx.old.conn.ghost_name }
     ensures makes { HasCleanDisk (state S.Store tx.new.conn.now) → (s : ℕ) → StandsFor (state S.Store tx.old.conn.now).now event.now s
         → OnOk result (Makes (state S.Store tx.old.conn.now) (state S.Store tx.new.conn.now) (with_round event.now matches.now) s) }
+    ensures committed { HasCleanDisk (state S.Store tx.new.conn.now) → KeepsCommit (state S.Store tx.old.conn.now) (state S.Store tx.new.conn.now) }
     ensures survives { Survives (state S.Store tx.old.conn.now) (state S.Store tx.new.conn.now) (λ _. ⊥) }
 {
     let round = event.stored().len() as u32 + 1;
@@ -49,6 +53,7 @@ fn insert_stage<S: Alter>(
     ensures same_reference { tx.new.conn.ghost_name ≡ tx.old.conn.ghost_name }
     ensures makes { HasCleanDisk (state S.Store tx.new.conn.now) → (e : EventValue) (s : ℕ) → StandsFor (state S.Store tx.old.conn.now).now e s → stage ≡ length e.bracket.stages + 1
         → OnOk result (Makes (state S.Store tx.old.conn.now) (state S.Store tx.new.conn.now) (with_stage e matches.now) s) }
+    ensures committed { HasCleanDisk (state S.Store tx.new.conn.now) → KeepsCommit (state S.Store tx.old.conn.now) (state S.Store tx.new.conn.now) }
     ensures survives { Survives (state S.Store tx.old.conn.now) (state S.Store tx.new.conn.now) (λ _. ⊥) }
 {
     for (place, played) in matches.iter().enumerate() {
@@ -74,6 +79,7 @@ fn begin_playoff<S: Alter>(
     ensures same_reference { tx.new.conn.ghost_name ≡ tx.old.conn.ghost_name }
     ensures makes { HasCleanDisk (state S.Store tx.new.conn.now) → (s : ℕ) → StandsFor (state S.Store tx.old.conn.now).now event.now s
         → OnOk result (Makes (state S.Store tx.old.conn.now) (state S.Store tx.new.conn.now) (with_bracket event.now matches.now) s) }
+    ensures committed { HasCleanDisk (state S.Store tx.new.conn.now) → KeepsCommit (state S.Store tx.old.conn.now) (state S.Store tx.new.conn.now) }
     ensures survives { Survives (state S.Store tx.old.conn.now) (state S.Store tx.new.conn.now) (λ _. ⊥) }
 {
     insert_stage(tx, next_number(event), matches)?;
@@ -94,6 +100,7 @@ fn score_stages<S: Alter>(
     ensures same_reference { tx.new.conn.ghost_name ≡ tx.old.conn.ghost_name }
     ensures makes { HasCleanDisk (state S.Store tx.new.conn.now) → (s : ℕ) → StandsFor (state S.Store tx.old.conn.now).now event.now s
         → OnOk result (Makes (state S.Store tx.old.conn.now) (state S.Store tx.new.conn.now) (with_bracket_score event.now stage slot score (option_map (λ m. m.now) next.entry) false) s) }
+    ensures committed { HasCleanDisk (state S.Store tx.new.conn.now) → KeepsCommit (state S.Store tx.old.conn.now) (state S.Store tx.new.conn.now) }
     ensures survives { Survives (state S.Store tx.old.conn.now) (state S.Store tx.new.conn.now) (λ _. ⊥) }
 {
     set_slot_score(tx, u32::from(stage), u32::from(slot), score)?;
@@ -113,6 +120,7 @@ fn change_tables<S: Alter>(
     ensures same_reference { tx.new.conn.ghost_name ≡ tx.old.conn.ghost_name }
     ensures makes { HasCleanDisk (state S.Store tx.new.conn.now) → (s : ℕ) → StandsFor (state S.Store tx.old.conn.now).now event.now s
         → OnOk result (Makes (state S.Store tx.old.conn.now) (state S.Store tx.new.conn.now) (after event.now change.now) s) }
+    ensures committed { HasCleanDisk (state S.Store tx.new.conn.now) → KeepsCommit (state S.Store tx.old.conn.now) (state S.Store tx.new.conn.now) }
     ensures survives { Survives (state S.Store tx.old.conn.now) (state S.Store tx.new.conn.now) (λ _. ⊥) }
 {
     match change {
@@ -156,6 +164,8 @@ pub fn write_tables<S: Alter>(
     requires low { serial < MAX_SERIAL }
     requires mode { conn.old.in_transaction ≡ false }
     ensures mode { conn.new.in_transaction ≡ false }
+    ensures clean { HasCleanDisk (state S.Store conn.new) → HasCleanDisk (state S.Store conn.old) }
+    ensures kept { HasCleanDisk (state S.Store conn.new) → OnErr result (KeepsTables (state S.Store conn.old) (state S.Store conn.new)) }
     ensures written { HasCleanDisk (state S.Store conn.new) → Shows (state S.Store conn.old) event.now serial
         → OnOk result (Shows (state S.Store conn.new) (after event.now change.now) (serial + 1) × KeepsOthers (state S.Store conn.old).now (state S.Store conn.new).now) }
     ensures acknowledged { HasCleanDisk (state S.Store conn.new) → Shows (state S.Store conn.old) event.now serial
@@ -175,6 +185,7 @@ pub fn create_tables<S: Alter>(conn: &mut Connection<S>, event: &Event) -> Resul
     requires fresh { IsNew event.now }
     ensures mode { conn.new.in_transaction ≡ false }
     ensures clean { HasCleanDisk (state S.Store conn.new) → HasCleanDisk (state S.Store conn.old) }
+    ensures kept { HasCleanDisk (state S.Store conn.new) → OnErr result (KeepsTables (state S.Store conn.old) (state S.Store conn.new)) }
     ensures created { HasCleanDisk (state S.Store conn.new) → (state S.Store conn.old).now.schema ≡ no_schema → OnOk result (Shows (state S.Store conn.new) event.now 0) }
     ensures acknowledged { HasCleanDisk (state S.Store conn.new) → (state S.Store conn.old).now.schema ≡ no_schema
         → OnOk result ((trees : Trees) → (state S.Store conn.new).may_leave trees → IsStored event.now 0 trees) }
@@ -186,6 +197,32 @@ pub fn create_tables<S: Alter>(conn: &mut Connection<S>, event: &Event) -> Resul
     tx.commit()
 }
 
+/// Whether a statement with no parameters can be run. It is not.
+fn can_run<S: Alter>(conn: &mut Connection<S>, sql: &str) -> Result<bool, Error>
+    ensures mode { conn.old.in_transaction ≡ false → conn.new.in_transaction ≡ false }
+    ensures found { HasCleanDisk (state S.Store conn.new)
+        → IfOk result (λ found. (IsTrue found ↔ IsOk (understood (state S.Store conn.old).now.schema sql.now)) × IsUnchanged (state S.Store conn.old) (state S.Store conn.new)) }
+    ensures kept { HasCleanDisk (state S.Store conn.new) → OnErr result (KeepsTables (state S.Store conn.old) (state S.Store conn.new)) }
+    ensures survives { Survives (state S.Store conn.old) (state S.Store conn.new) (λ _. ⊥) }
+{
+    match conn.prepare(sql) {
+        Ok(_statement) => Ok(true),
+        Err(Error::SqlInputError(_)) => Ok(false),
+        Err(error) => Err(error),
+    }
+}
+
+/// Whether the event's rows can be read.
+pub fn reads_event<S: Alter>(conn: &mut Connection<S>) -> Result<bool, Error>
+    ensures mode { conn.old.in_transaction ≡ false → conn.new.in_transaction ≡ false }
+    ensures found { HasCleanDisk (state S.Store conn.new)
+        → IfOk result (λ found. (IsTrue found ↔ ReadsEvent (state S.Store conn.old).now.schema) × IsUnchanged (state S.Store conn.old) (state S.Store conn.new)) }
+    ensures kept { HasCleanDisk (state S.Store conn.new) → OnErr result (KeepsTables (state S.Store conn.old) (state S.Store conn.new)) }
+    ensures survives { Survives (state S.Store conn.old) (state S.Store conn.new) (λ _. ⊥) }
+{
+    can_run(conn, READ_EVENT)
+}
+
 pub const FIND_EVENT: &str = "SELECT 1 FROM event";
 
 /// Whether a table or view `event` can be read. No row is.
@@ -193,11 +230,8 @@ pub fn has_event<S: Alter>(conn: &mut Connection<S>) -> Result<bool, Error>
     ensures mode { conn.old.in_transaction ≡ false → conn.new.in_transaction ≡ false }
     ensures found { HasCleanDisk (state S.Store conn.new)
         → IfOk result (λ found. (IsTrue found ↔ CanRead (state S.Store conn.old).now.schema) × IsUnchanged (state S.Store conn.old) (state S.Store conn.new)) }
+    ensures kept { HasCleanDisk (state S.Store conn.new) → OnErr result (KeepsTables (state S.Store conn.old) (state S.Store conn.new)) }
     ensures survives { Survives (state S.Store conn.old) (state S.Store conn.new) (λ _. ⊥) }
 {
-    match conn.prepare(FIND_EVENT) {
-        Ok(_statement) => Ok(true),
-        Err(Error::SqlInputError(_)) => Ok(false),
-        Err(error) => Err(error),
-    }
+    can_run(conn, FIND_EVENT)
 }

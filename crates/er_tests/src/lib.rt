@@ -1,4 +1,5 @@
-//! Tests of the crates that keep no store, for what no clause of theirs says and no script shows.
+//! Tests of the other crates, for what no clause of theirs says and no script shows. They stand here, since a crate with tests of its own is
+//! proved twice.
 #![tactic(auto)]
 
 #[cfg(test)]
@@ -6,6 +7,16 @@ mod brackets;
 #[cfg(test)]
 mod events;
 #[cfg(test)]
+mod helpers;
+#[cfg(test)]
+mod pairings;
+#[cfg(test)]
 mod rules;
 #[cfg(test)]
+mod scripts;
+#[cfg(test)]
+mod shares;
+#[cfg(test)]
 mod standings;
+#[cfg(test)]
+mod stores;

@@ -1,61 +1,46 @@
 mod seeds;
 
-use er_event::{Change, Event, Games, Items, Match, Name, Phase, PlayerNo, Score};
+use crate::helpers::{changed, drop, name, started};
+use er_event::{Change, Event, Games, Items, Match, Score};
 use er_rank::{standings, top};
 use std::alloc::Global;
 use std::test::Fail;
 
-fn changed(alloc: Global, event: Event, change: Change) -> Result<Event, Fail> {
-    if !event.fits(&change) {
-        return Err("the change does not fit")?;
-    }
-    match event.apply(alloc, &change) {
-        Ok(event) => Ok(event),
-        Err((_, error)) => Err(error)?,
-    }
-}
-
 /// As many players after the start of an event with one round and a cut to four, of whom the second has left.
-fn friday(alloc: Global, players: u16) -> Result<Event, Fail> {
-    let mut event = Event::create(alloc, Name::try_from_bytes(alloc, b"Friday")?, 1, 4)?;
-    for number in 0..players {
-        let text = format!(in alloc; "P{number}")?;
-        let name = Name::try_from_bytes(alloc, text.as_bytes())?;
-        event = changed(alloc, event, Change::AddPlayer { name })?;
-    }
-    let phase = Phase::Swiss;
-    let player = PlayerNo::try_new(2).ok_or("two")?;
-    let event = changed(alloc, event, Change::SetPhase { phase })?;
-    changed(alloc, event, Change::SetDropped { player })
+fn friday(alloc: Global, players: u16) -> Option<Event> {
+    let event = started(alloc, 1, 4, players)?;
+    changed(alloc, event, &drop(2)?)
 }
 
 /// Whether the first k active players are those of these numbers.
-fn are_first(alloc: Global, event: &Event, k: usize, numbers: &[u16]) -> Result<bool, Fail> {
-    let players = top(alloc, event, k)?;
+fn are_first(alloc: Global, event: &Event, k: usize, numbers: &[u16]) -> bool {
+    let Ok(players) = top(alloc, event, k) else {
+        return false;
+    };
     let listed = players
         .iter()
         .zip(numbers)
         .all(|(player, number)| player.get() == *number);
-    Ok(players.len() == numbers.len() && listed)
+    players.len() == numbers.len() && listed
 }
 
 /// A player who has left is listed, and not among the first.
 #[test]
 fn the_first_are_active(rt: HostRuntime) -> Result<(), Fail> {
     let alloc = rt.alloc();
-    let event = friday(alloc, 4)?;
+    let event = friday(alloc, 4).ok_or("four players")?;
     assert_eq!(rt; standings(alloc, &event)?.len(), 4);
-    assert!(rt; are_first(alloc, &event, 0, &[])?);
-    assert!(rt; are_first(alloc, &event, 2, &[1, 3])?);
-    assert!(rt; are_first(alloc, &event, 3, &[1, 3, 4])?);
-    assert!(rt; are_first(alloc, &event, 8, &[1, 3, 4])?);
+    assert!(rt; are_first(alloc, &event, 0, &[]));
+    assert!(rt; are_first(alloc, &event, 2, &[1, 3]));
+    assert!(rt; are_first(alloc, &event, 3, &[1, 3, 4]));
+    assert!(rt; are_first(alloc, &event, 8, &[1, 3, 4]));
     Ok(())
 }
 
 #[test]
 fn an_event_without_players_has_no_rows(rt: HostRuntime) -> Result<(), Fail> {
-    let name = Name::try_from_bytes(rt.alloc(), b"Friday")?;
-    let event = Event::create(rt.alloc(), name, 3, 0)?;
+    let friday = name(rt.alloc(), "Friday").ok_or("a name")?;
+    let event = Event::create(rt.alloc(), friday, 3, 0)?;
     assert!(rt; standings(rt.alloc(), &event)?.is_empty());
     assert!(rt; top(rt.alloc(), &event, 4)?.is_empty());
     Ok(())
@@ -67,17 +52,17 @@ fn won(a: u16, b: u16) -> Match {
 }
 
 /// The six of worked example 17 after its round.
-fn six(alloc: Global) -> Result<Event, Fail> {
+fn six(alloc: Global) -> Option<Event> {
     let round = [won(6, 4), won(2, 1), won(5, 3)];
-    let matches = Items::from(Vec::from_slice(alloc, &round)?);
-    changed(alloc, friday(alloc, 6)?, Change::AddRound { matches })
+    let matches = Items::from(Vec::from_slice(alloc, &round).ok()?);
+    changed(alloc, friday(alloc, 6)?, &Change::AddRound { matches })
 }
 
 /// The four who go on in worked example 17, in which player 2 has left.
 #[test]
 fn a_dropped_player_is_no_seed(rt: HostRuntime) -> Result<(), Fail> {
     let alloc = rt.alloc();
-    let event = six(alloc)?;
-    assert!(rt; are_first(alloc, &event, 4, &[5, 6, 1, 3])?);
+    let event = six(alloc).ok_or("six players")?;
+    assert!(rt; are_first(alloc, &event, 4, &[5, 6, 1, 3]));
     Ok(())
 }

@@ -1,6 +1,6 @@
-ghost use Rattle.std.specs.Prelude.{◌≡◌, ◌↔◌, ◌≤◌, ◌<◌, ◌==◌, not, find, option_map, length, map, slice_get, slice_set, Some, Contains, IsTrue, IfOk, IfErr};
+ghost use Rattle.std.specs.Prelude.{◌≡◌, ◌↔◌, ◌≤◌, ◌<◌, ◌==◌, not, find, option_map, length, map, slice_get, slice_set, Some, Contains, IsTrue, IsErr, IfOk, IfErr};
 ghost use Rattle.std.specs.List.{list_all, range_with_len};
-ghost use Rattle.er_event.specs.Change.{after, with_player, with_dropped, with_phase, with_round, with_score, dropped_at, scored, Fits, has_name};
+ghost use Rattle.er_event.specs.Change.{after, with_player, with_dropped, with_phase, with_round, with_score, dropped_at, scored, Fits, TakesMemory, has_name};
 ghost use Rattle.er_event.specs.Round.{is_bye, match_in};
 ghost use Rattle.er_event.specs.declared.rounds.Match.{Match};
 ghost use Rattle.er_event.specs.Sound.{numbers, IsSoundButForSeeds};
@@ -209,11 +209,12 @@ impl Event {
         self
     }
 
-    /// The event after the change. Where memory is wanting, the event comes back as it was.
+    /// The event after the change. Where memory is wanting, the event comes back as it was: that is only where the change takes some.
     pub fn apply(self, alloc: Global, change: &Change) -> Result<Event, (Event, AllocError)>
         requires { Fits self change.now }
         ensures ok { IfOk result (λ e. e ≡ after self change.now) }
         ensures err { IfErr result (λ e. e.0 ≡ self) }
+        ensures memory { IsErr result → TakesMemory change.now }
     {
         match change {
             Change::AddPlayer { name } => match name.copy(alloc) {

@@ -7,6 +7,7 @@ use Rattle.er_store.specs.Standing.{CanRead}
 use Rattle.er_store.proofs.Meaning.{unreadable}
 use Rattle.er_store.proofs.Effects.{can_read}
 use Rattle.er_store.proofs.Crash.{only}
+use Rattle.er_store.proofs.LoadLemmas.{unchanged_keeps, then_keeps}
 use Rattle.er_store.proofs.Store.create.Goals as goal
 
 pub returns-in-Ok-clause-created : goal.returns-in-Ok-clause-created
@@ -42,3 +43,16 @@ returns-in-Ok-true-clause-exists g c same clean =
     let found = c.in-Ok-true.ensures.found clean in
     let reads = found.0.0 c.in-Ok-true.field-0-test in
     (reads, λ none. unreadable (subst CanRead none reads), found.1)
+
+pub returns-in-Err-create_tables-clause-spares : goal.returns-in-Err-create_tables-clause-spares
+returns-in-Err-create_tables-clause-spares g c reads clean trees may =
+    let found = (c.in-Ok-false.ensures.found (c.in-Err-create_tables.ensures.clean clean)).0 in
+    absurd (true≢false (sym (found.1 reads) ∙ c.in-Ok-false.field-0-test))
+
+pub returns-in-Ok-true-clause-kept : goal.returns-in-Ok-true-clause-kept
+returns-in-Ok-true-clause-kept g c clean = unchanged_keeps (state g.S.Store c.args.conn) (state g.S.Store c.has_event.new.conn) (c.in-Ok-true.ensures.found clean).1
+
+pub returns-in-Err-create_tables-clause-kept : goal.returns-in-Err-create_tables-clause-kept
+returns-in-Err-create_tables-clause-kept g c clean =
+    let found = c.in-Ok-false.ensures.found (c.in-Err-create_tables.ensures.clean clean) in
+    then_keeps (state g.S.Store c.args.conn) (state g.S.Store c.has_event.new.conn) (state g.S.Store c.create_tables.new.conn) found.1 (c.in-Err-create_tables.ensures.kept clean)

@@ -2,6 +2,7 @@ use Rattle.sqlite.specs.Held.{state}
 use Rattle.er_store.proofs.Together.{on_ok}
 use Rattle.er_store.proofs.Crash.{was_clean}
 use Rattle.er_store.proofs.Creates.{all_made}
+use Rattle.sqlite.proofs.InsideLemmas.{keeps_then}
 use Rattle.er_store.proofs.creation.create_all.Goals as goal
 
 pub returns-clause-creates : goal.returns-clause-creates
@@ -18,3 +19,33 @@ returns-clause-creates g c clean has =
     let two = c.in_ok-create_player.ensures.creates clean_d one.schema in
     let three = c.in_ok-create_pairing.ensures.creates clean_e two.schema in
     on_ok c.create_bracket.result _ _ (λ four. all_made a b d e f one two three four) (c.create_bracket.ensures.creates clean three.schema)
+
+pub returns-in_err-create_player-clause-committed : goal.returns-in_err-create_player-clause-committed
+returns-in_err-create_player-clause-committed g c clean =
+    let s0 = state g.S.Store c.args.tx.now.conn.now in
+    let s1 = state g.S.Store c.create_event.new.tx.conn.now in
+    let s2 = state g.S.Store c.create_player.new.tx.conn.now in
+    let clean1 = was_clean s1 s2 _ c.create_player.ensures.survives clean in
+    keeps_then s0 s1 s2 (c.create_event.ensures.committed clean1) (c.create_player.ensures.committed clean)
+
+pub returns-in_err-create_pairing-clause-committed : goal.returns-in_err-create_pairing-clause-committed
+returns-in_err-create_pairing-clause-committed g c clean =
+    let s0 = state g.S.Store c.args.tx.now.conn.now in
+    let s1 = state g.S.Store c.create_event.new.tx.conn.now in
+    let s2 = state g.S.Store c.create_player.new.tx.conn.now in
+    let s3 = state g.S.Store c.create_pairing.new.tx.conn.now in
+    let clean2 = was_clean s2 s3 _ c.create_pairing.ensures.survives clean in
+    let clean1 = was_clean s1 s2 _ c.create_player.ensures.survives clean2 in
+    keeps_then s0 s1 s3 (c.create_event.ensures.committed clean1) (keeps_then s1 s2 s3 (c.create_player.ensures.committed clean2) (c.create_pairing.ensures.committed clean))
+
+pub returns-clause-committed : goal.returns-clause-committed
+returns-clause-committed g c clean =
+    let s0 = state g.S.Store c.args.tx.now.conn.now in
+    let s1 = state g.S.Store c.create_event.new.tx.conn.now in
+    let s2 = state g.S.Store c.create_player.new.tx.conn.now in
+    let s3 = state g.S.Store c.create_pairing.new.tx.conn.now in
+    let s4 = state g.S.Store c.create_bracket.new.tx.conn.now in
+    let clean3 = was_clean s3 s4 _ c.create_bracket.ensures.survives clean in
+    let clean2 = was_clean s2 s3 _ c.create_pairing.ensures.survives clean3 in
+    let clean1 = was_clean s1 s2 _ c.create_player.ensures.survives clean2 in
+    keeps_then s0 s1 s4 (c.create_event.ensures.committed clean1) (keeps_then s1 s2 s4 (c.create_player.ensures.committed clean2) (keeps_then s2 s3 s4 (c.create_pairing.ensures.committed clean3) (c.create_bracket.ensures.committed clean)))

@@ -1,7 +1,10 @@
-use Rattle.std.proofs.Common.{inl, inr, rules}
+use Rattle.std.proofs.Common.{◌≡◌, IsErrAnd, inl, inr, rules}
+use Rattle.sqlite.specs.Held.{state}
 use Rattle.er_store.specs.Fault.{IsFault}
-use Rattle.er_store.proofs.Together.{if_ok}
-use Rattle.er_store.proofs.LoadLemmas.{match_of, unchanged_keeps, on_err}
+use Rattle.er_store.specs.Damage.{IsAtFault, IfDamaged}
+use Rattle.er_store.proofs.Damaging.{first_of}
+use Rattle.er_store.proofs.Together.{if_ok, if_err}
+use Rattle.er_store.proofs.LoadLemmas.{match_of, unchanged_keeps, all_ok, all_err, told}
 use Rattle.er_store.proofs.Loaded.{no_fault, shows_event}
 use Rattle.er_store.proofs.loading.load_tables.Goals as goal
 
@@ -17,10 +20,25 @@ returns-clause-found g c clean e s stands sound =
     (λ why refused. elim refused [ inl memory ↦ inl memory | inr damaged ↦ absurd (no_fault c.in_ok-parts.parts e s stands.low sound are damaged.0 damaged.2) ])
     (c.event_of.ensures.only e s stands.low are sound) c.event_of.ensures.refused
 
+pub returns-clause-low : goal.returns-clause-low
+returns-clause-low g c = if_ok c.event_of.result _ _ (λ it read. read.1) c.event_of.ensures.value
+
+pub returns-clause-same : goal.returns-clause-same
+returns-clause-same g c clean = all_ok c.event_of.result (c.in_ok-parts.ensures.same clean)
+
 pub returns-clause-kept : goal.returns-clause-kept
-returns-clause-kept g c clean has = on_err c.event_of.result (unchanged_keeps _ _ (c.in_ok-parts.ensures.lists clean has).1)
+returns-clause-kept g c clean = all_err c.event_of.result (unchanged_keeps (state g.S.Store c.args.conn.now) (state g.S.Store c.read_parts.new.conn) (c.in_ok-parts.ensures.same clean))
 
 pub returns-clause-shows : goal.returns-clause-shows
 returns-clause-shows g c clean has =
-    let listed = c.in_ok-parts.ensures.lists clean has in
-    if_ok c.event_of.result _ _ (λ it read. (shows_event _ c.in_ok-parts.parts it.0 it.1 read.1 read.2 read.0 listed.0, listed.1)) c.event_of.ensures.value
+    if_ok c.event_of.result _ _ (λ it read. shows_event _ c.in_ok-parts.parts it.0 it.1 read.1 read.2 read.0 (c.in_ok-parts.ensures.lists clean has)) c.event_of.ensures.value
+
+pub returns-in_err-parts-clause-first : goal.returns-in_err-parts-clause-first
+returns-in_err-parts-clause-first g c clean =
+    let why : IfDamaged (IsAtFault (state g.S.Store c.args.conn.now).now) c.in_err-parts.field-0.0 = λ place h. inl (c.in_err-parts.ensures.misread clean place h) in
+    let is : IsErrAnd c.from_residual.result (λ e. e ≡ c.in_err-parts.field-0.0) = search rules in
+    told c.from_residual.result _ _ is why
+
+pub returns-clause-first : goal.returns-clause-first
+returns-clause-first g c clean =
+    if_err c.event_of.result _ _ (λ why refused place h. inr (c.in_ok-parts.parts, c.in_ok-parts.ensures.reads clean, first_of c.in_ok-parts.parts why refused place h)) c.event_of.ensures.refused

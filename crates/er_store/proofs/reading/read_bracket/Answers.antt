@@ -1,4 +1,5 @@
-use Rattle.std.proofs.Common.{◌≡◌, ◌⊎◌, inl, inr, [], ◌∷◌, map, refl, sym, ap, ◌∙◌, subst, rules}
+use Rattle.std.specs.Prelude.{⊤}
+use Rattle.std.proofs.Common.{◌≡◌, ◌⊎◌, inl, inr, [], ◌∷◌, map, IsErrAnd, refl, sym, ap, ◌∙◌, subst, rules}
 use Rattle.sqlite.specs.Held.{state}
 use Rattle.sqlite.specs.Schema.{Schema}
 use Rattle.er_event.specs.Rows.{bracket_rows}
@@ -9,10 +10,18 @@ use Rattle.er_store.specs.Reading.{by_first_two, Lists, first_columns, out_of_me
 use Rattle.er_store.proofs.Meaning.{Selects, table_query, bracket_selected}
 use Rattle.er_store.proofs.Effects.{at_ours}
 use Rattle.er_store.proofs.Together.{if_ok, if_err}
-use Rattle.er_store.proofs.ReadLemmas.{listed, listed_whole, unchanged, reads_only, sorted_by_two}
+use Rattle.er_store.proofs.ReadLemmas.{listed, listed_whole, sorted_by_two}
 use Rattle.er_store.proofs.Refusals.{read_refused}
-use Rattle.er_store.proofs.LoadLemmas.{unchanged_keeps, refused_keeps, on_err}
+use Rattle.er_store.proofs.LoadLemmas.{unchanged_keeps, all_ok, all_err, told}
+use Rattle.er_store.proofs.Selecting.{bracket_selects, select_commits_nothing, select_shows, select_fails}
 use Rattle.er_store.proofs.Exact.{is_memory, bracket_exact, bracket_typed, bracket_text}
+use Rattle.er_event.specs.declared.rows.BracketRow.{BracketRow}
+use Rattle.er_event.specs.declared.refusals.Refusal.TheVariants.{Damaged}
+use Rattle.er_event.specs.declared.refusals.Place.{Place}
+use Rattle.er_event.specs.declared.refusals.Place.TheVariants.{BracketTable}
+use Rattle.er_store.specs.Fault.{reading_refusal}
+use Rattle.er_store.specs.Damage.{IsMisread}
+use Rattle.er_store.proofs.Damaging.{refused_damage, may_read, has_wrong_kind}
 use Rattle.er_store.proofs.reading.read_bracket.Goals as goal
 
 selected : (schema : Schema) → HasTables schema → Selects sql.read_bracket (table_query 6 bracket_places (1 ∷ 2 ∷ [])) schema
@@ -25,16 +34,6 @@ returns-in_err-rows-clause-refused g c clean e s stands sound =
     let why : (c.in_err-rows.field-0.0 ≡ out_of_memory) ⊎ IsReadRefused old new c.in_err-rows.field-0.0 = inr (read_refused 6 bracket_places (1 ∷ 2 ∷ []) sql.read_bracket old new c.in_err-rows.field-0.0 (selected old.now.schema stands.tables) (c.in_err-rows.ensures.err clean)) in
     search (rules, why)
 
-pub returns-in_err-rows-clause-survives : goal.returns-in_err-rows-clause-survives
-returns-in_err-rows-clause-survives g c has =
-    let old = state g.S.Store c.args.conn.now in
-    reads_only sql.read_bracket old (state g.S.Store c.query_all.new.self) (selected old.now.schema has).plain c.query_all.ensures.survives
-
-pub returns-clause-survives : goal.returns-clause-survives
-returns-clause-survives g c has =
-    let old = state g.S.Store c.args.conn.now in
-    reads_only sql.read_bracket old (state g.S.Store c.query_all.new.self) (selected old.now.schema has).plain c.query_all.ensures.survives
-
 pub returns-clause-lists : goal.returns-clause-lists
 returns-clause-lists g c clean has =
     let old = state g.S.Store c.args.conn.now in
@@ -44,12 +43,12 @@ returns-clause-lists g c clean has =
     let shown_rows = c.in_ok-rows.ensures.ok clean in
     let lists = listed 6 bracket_places (1 ∷ 2 ∷ []) by_first_two (sorted_by_two 6 1 2 (3 ∷ 4 ∷ 5 ∷ 6 ∷ 7 ∷ 8 ∷ [])) sql.read_bracket old new rows it shown_rows in
     let whole = listed_whole by_first_two 8 bracket_places (old.now.trees 6) rows (λ r. refl) lists in
-    if_ok c.typed.result _ _ (λ typed is. (subst (Lists by_first_two (shown bracket_places (old.now.trees 6))) (sym (is ∙ (ap (map (first_columns 8)) c.deref.ensures.value ∙ whole))) lists, unchanged sql.read_bracket old new rows it.plain shown_rows)) c.typed.ensures.value
+    if_ok c.typed.result _ _ (λ typed is. subst (Lists by_first_two (shown bracket_places (old.now.trees 6))) (sym (is ∙ (ap (map (first_columns 8)) c.deref.ensures.value ∙ whole))) lists) c.typed.ensures.value
 
 pub returns-clause-exact : goal.returns-clause-exact
 returns-clause-exact g c clean e s stands sound =
     let db = (state g.S.Store c.args.conn.now).now in
-    if_ok c.typed.result _ _ (λ typed both. bracket_typed typed.items e (bracket_exact db e s (map bracket_columns typed.items) stands both.0)) (returns-clause-lists g c clean stands.tables)
+    if_ok c.typed.result _ _ (λ typed lists. bracket_typed typed.items e (bracket_exact db e s (map bracket_columns typed.items) stands lists)) (returns-clause-lists g c clean stands.tables)
 
 pub returns-clause-refused : goal.returns-clause-refused
 returns-clause-refused g c clean e s stands sound =
@@ -60,14 +59,45 @@ returns-clause-refused g c clean e s stands sound =
     let are = bracket_exact db e s rows stands lists in
     if_err c.typed.result _ _ (λ why never. inl (is_memory why (λ unless. never unless (bracket_rows e) (bracket_text e) (c.deref.ensures.value ∙ are)))) c.typed.ensures.refused
 
-pub returns-in_err-rows-clause-kept : goal.returns-in_err-rows-clause-kept
-returns-in_err-rows-clause-kept g c clean has =
+pub returns-clause-same : goal.returns-clause-same
+returns-clause-same g c clean =
     let old = state g.S.Store c.args.conn.now in
     let new = state g.S.Store c.query_all.new.self in
-    on_err c.from_residual.result (refused_keeps old new _ (read_refused 6 bracket_places (1 ∷ 2 ∷ []) sql.read_bracket old new c.in_err-rows.field-0.0 (selected old.now.schema has) (c.in_err-rows.ensures.err clean)))
+    all_ok c.typed.result (select_shows sql.read_bracket old new c.in_ok-rows.rows.items bracket_selects (c.in_ok-rows.ensures.ok clean))
+
+pub returns-in_err-rows-clause-kept : goal.returns-in_err-rows-clause-kept
+returns-in_err-rows-clause-kept g c clean =
+    all_err c.from_residual.result (select_fails sql.read_bracket (state g.S.Store c.args.conn.now) (state g.S.Store c.query_all.new.self) _ bracket_selects (c.in_err-rows.ensures.err clean))
 
 pub returns-clause-kept : goal.returns-clause-kept
-returns-clause-kept g c clean has =
+returns-clause-kept g c clean =
     let old = state g.S.Store c.args.conn.now in
     let new = state g.S.Store c.query_all.new.self in
-    on_err c.typed.result (unchanged_keeps old new (unchanged sql.read_bracket old new c.in_ok-rows.rows.items (selected old.now.schema has).plain (c.in_ok-rows.ensures.ok clean)))
+    all_err c.typed.result (unchanged_keeps old new (select_shows sql.read_bracket old new c.in_ok-rows.rows.items bracket_selects (c.in_ok-rows.ensures.ok clean)))
+
+pub returns-in_err-rows-clause-survives : goal.returns-in_err-rows-clause-survives
+returns-in_err-rows-clause-survives g c = select_commits_nothing sql.read_bracket (state g.S.Store c.args.conn.now) (state g.S.Store c.query_all.new.self) bracket_selects c.query_all.ensures.survives
+
+pub returns-clause-survives : goal.returns-clause-survives
+returns-clause-survives g c = select_commits_nothing sql.read_bracket (state g.S.Store c.args.conn.now) (state g.S.Store c.query_all.new.self) bracket_selects c.query_all.ensures.survives
+
+pub returns-clause-reads : goal.returns-clause-reads
+returns-clause-reads g c clean =
+    let old = state g.S.Store c.args.conn.now in
+    let new = state g.S.Store c.query_all.new.self in
+    if_ok c.typed.result _ _ (λ typed are. may_read bracket_columns (λ (r : BracketRow). ⊤) sql.read_bracket old new c.in_ok-rows.rows.items _ bracket_selects c.deref.ensures.value (c.in_ok-rows.ensures.ok clean) 8 typed.items are) c.typed.ensures.value
+
+pub returns-in_err-rows-clause-misread : goal.returns-in_err-rows-clause-misread
+returns-in_err-rows-clause-misread g c clean =
+    let old = state g.S.Store c.args.conn.now in
+    let new = state g.S.Store c.query_all.new.self in
+    let why : (at : Place) → reading_refusal BracketTable c.in_err-rows.field-0.0 ≡ Damaged at → IsMisread old.now BracketTable =
+    λ at h. inl (refused_damage BracketTable at sql.read_bracket old new c.in_err-rows.field-0.0 bracket_selects (c.in_err-rows.ensures.err clean) h) in
+    let is : IsErrAnd c.from_residual.result (λ e. e ≡ c.in_err-rows.field-0.0) = search rules in
+    told c.from_residual.result _ _ is why
+
+pub returns-clause-misread : goal.returns-clause-misread
+returns-clause-misread g c clean =
+    let old = state g.S.Store c.args.conn.now in
+    let new = state g.S.Store c.query_all.new.self in
+    if_err c.typed.result _ _ (λ why never at h. has_wrong_kind bracket_columns (λ (r : BracketRow). ⊤) sql.read_bracket old new c.in_ok-rows.rows.items _ bracket_selects c.deref.ensures.value (c.in_ok-rows.ensures.ok clean) BracketTable at why never h) c.typed.ensures.refused

@@ -1,4 +1,5 @@
-use Rattle.std.proofs.Common.{◌≡◌, ◌⊎◌, inl, inr, [], ◌∷◌, map, refl, sym, ap, ◌∙◌, subst, rules}
+use Rattle.std.specs.Prelude.{IsUtf8}
+use Rattle.std.proofs.Common.{◌≡◌, ◌⊎◌, inl, inr, [], ◌∷◌, map, IsErrAnd, refl, sym, ap, ◌∙◌, subst, rules}
 use Rattle.sqlite.specs.Held.{state}
 use Rattle.sqlite.specs.Schema.{Schema}
 use Rattle.er_event.specs.Rows.{player_rows}
@@ -9,10 +10,18 @@ use Rattle.er_store.specs.Reading.{by_first, Lists, first_columns, out_of_memory
 use Rattle.er_store.proofs.Meaning.{Selects, table_query, players_selected}
 use Rattle.er_store.proofs.Effects.{at_ours}
 use Rattle.er_store.proofs.Together.{if_ok, if_err}
-use Rattle.er_store.proofs.ReadLemmas.{listed, listed_whole, unchanged, reads_only, sorted_by_one}
+use Rattle.er_store.proofs.ReadLemmas.{listed, listed_whole, sorted_by_one}
 use Rattle.er_store.proofs.Refusals.{read_refused}
-use Rattle.er_store.proofs.LoadLemmas.{unchanged_keeps, refused_keeps, on_err}
+use Rattle.er_store.proofs.LoadLemmas.{unchanged_keeps, all_ok, all_err, told}
+use Rattle.er_store.proofs.Selecting.{players_select, select_commits_nothing, select_shows, select_fails}
 use Rattle.er_store.proofs.Exact.{is_memory, players_exact, players_typed, players_text}
+use Rattle.er_event.specs.declared.rows.PlayerRow.{PlayerRow}
+use Rattle.er_event.specs.declared.refusals.Refusal.TheVariants.{Damaged}
+use Rattle.er_event.specs.declared.refusals.Place.{Place}
+use Rattle.er_event.specs.declared.refusals.Place.TheVariants.{PlayerTable}
+use Rattle.er_store.specs.Fault.{reading_refusal}
+use Rattle.er_store.specs.Damage.{IsMisread}
+use Rattle.er_store.proofs.Damaging.{refused_damage, may_read, has_wrong_kind}
 use Rattle.er_store.proofs.reading.read_players.Goals as goal
 
 selected : (schema : Schema) → HasTables schema → Selects sql.read_players (table_query 1 player_places (0 ∷ [])) schema
@@ -25,16 +34,6 @@ returns-in_err-rows-clause-refused g c clean e s stands sound =
     let why : (c.in_err-rows.field-0.0 ≡ out_of_memory) ⊎ IsReadRefused old new c.in_err-rows.field-0.0 = inr (read_refused 1 player_places (0 ∷ []) sql.read_players old new c.in_err-rows.field-0.0 (selected old.now.schema stands.tables) (c.in_err-rows.ensures.err clean)) in
     search (rules, why)
 
-pub returns-in_err-rows-clause-survives : goal.returns-in_err-rows-clause-survives
-returns-in_err-rows-clause-survives g c has =
-    let old = state g.S.Store c.args.conn.now in
-    reads_only sql.read_players old (state g.S.Store c.query_all.new.self) (selected old.now.schema has).plain c.query_all.ensures.survives
-
-pub returns-clause-survives : goal.returns-clause-survives
-returns-clause-survives g c has =
-    let old = state g.S.Store c.args.conn.now in
-    reads_only sql.read_players old (state g.S.Store c.query_all.new.self) (selected old.now.schema has).plain c.query_all.ensures.survives
-
 pub returns-clause-lists : goal.returns-clause-lists
 returns-clause-lists g c clean has =
     let old = state g.S.Store c.args.conn.now in
@@ -44,12 +43,12 @@ returns-clause-lists g c clean has =
     let shown_rows = c.in_ok-rows.ensures.ok clean in
     let lists = listed 1 player_places (0 ∷ []) by_first (sorted_by_one 1 0 (2 ∷ 3 ∷ [])) sql.read_players old new rows it shown_rows in
     let whole = listed_whole by_first 3 player_places (old.now.trees 1) rows (λ r. refl) lists in
-    if_ok c.typed.result _ _ (λ typed is. (subst (Lists by_first (shown player_places (old.now.trees 1))) (sym (is ∙ (ap (map (first_columns 3)) c.deref.ensures.value ∙ whole))) lists, unchanged sql.read_players old new rows it.plain shown_rows)) c.typed.ensures.value
+    if_ok c.typed.result _ _ (λ typed is. subst (Lists by_first (shown player_places (old.now.trees 1))) (sym (is ∙ (ap (map (first_columns 3)) c.deref.ensures.value ∙ whole))) lists) c.typed.ensures.value
 
 pub returns-clause-exact : goal.returns-clause-exact
 returns-clause-exact g c clean e s stands sound =
     let db = (state g.S.Store c.args.conn.now).now in
-    if_ok c.typed.result _ _ (λ typed both. players_typed typed.items e (players_exact db e s (map player_columns typed.items) stands sound.players.numbered both.0)) (returns-clause-lists g c clean stands.tables)
+    if_ok c.typed.result _ _ (λ typed lists. players_typed typed.items e (players_exact db e s (map player_columns typed.items) stands sound.players.numbered lists)) (returns-clause-lists g c clean stands.tables)
 
 pub returns-clause-refused : goal.returns-clause-refused
 returns-clause-refused g c clean e s stands sound =
@@ -60,14 +59,45 @@ returns-clause-refused g c clean e s stands sound =
     let are = players_exact db e s rows stands sound.players.numbered lists in
     if_err c.typed.result _ _ (λ why never. inl (is_memory why (λ unless. never unless (player_rows e) (players_text e sound) (c.deref.ensures.value ∙ are)))) c.typed.ensures.refused
 
-pub returns-in_err-rows-clause-kept : goal.returns-in_err-rows-clause-kept
-returns-in_err-rows-clause-kept g c clean has =
+pub returns-clause-same : goal.returns-clause-same
+returns-clause-same g c clean =
     let old = state g.S.Store c.args.conn.now in
     let new = state g.S.Store c.query_all.new.self in
-    on_err c.from_residual.result (refused_keeps old new _ (read_refused 1 player_places (0 ∷ []) sql.read_players old new c.in_err-rows.field-0.0 (selected old.now.schema has) (c.in_err-rows.ensures.err clean)))
+    all_ok c.typed.result (select_shows sql.read_players old new c.in_ok-rows.rows.items players_select (c.in_ok-rows.ensures.ok clean))
+
+pub returns-in_err-rows-clause-kept : goal.returns-in_err-rows-clause-kept
+returns-in_err-rows-clause-kept g c clean =
+    all_err c.from_residual.result (select_fails sql.read_players (state g.S.Store c.args.conn.now) (state g.S.Store c.query_all.new.self) _ players_select (c.in_err-rows.ensures.err clean))
 
 pub returns-clause-kept : goal.returns-clause-kept
-returns-clause-kept g c clean has =
+returns-clause-kept g c clean =
     let old = state g.S.Store c.args.conn.now in
     let new = state g.S.Store c.query_all.new.self in
-    on_err c.typed.result (unchanged_keeps old new (unchanged sql.read_players old new c.in_ok-rows.rows.items (selected old.now.schema has).plain (c.in_ok-rows.ensures.ok clean)))
+    all_err c.typed.result (unchanged_keeps old new (select_shows sql.read_players old new c.in_ok-rows.rows.items players_select (c.in_ok-rows.ensures.ok clean)))
+
+pub returns-in_err-rows-clause-survives : goal.returns-in_err-rows-clause-survives
+returns-in_err-rows-clause-survives g c = select_commits_nothing sql.read_players (state g.S.Store c.args.conn.now) (state g.S.Store c.query_all.new.self) players_select c.query_all.ensures.survives
+
+pub returns-clause-survives : goal.returns-clause-survives
+returns-clause-survives g c = select_commits_nothing sql.read_players (state g.S.Store c.args.conn.now) (state g.S.Store c.query_all.new.self) players_select c.query_all.ensures.survives
+
+pub returns-clause-reads : goal.returns-clause-reads
+returns-clause-reads g c clean =
+    let old = state g.S.Store c.args.conn.now in
+    let new = state g.S.Store c.query_all.new.self in
+    if_ok c.typed.result _ _ (λ typed are. may_read player_columns (λ (r : PlayerRow). IsUtf8 r.name) sql.read_players old new c.in_ok-rows.rows.items _ players_select c.deref.ensures.value (c.in_ok-rows.ensures.ok clean) 3 typed.items are) c.typed.ensures.value
+
+pub returns-in_err-rows-clause-misread : goal.returns-in_err-rows-clause-misread
+returns-in_err-rows-clause-misread g c clean =
+    let old = state g.S.Store c.args.conn.now in
+    let new = state g.S.Store c.query_all.new.self in
+    let why : (at : Place) → reading_refusal PlayerTable c.in_err-rows.field-0.0 ≡ Damaged at → IsMisread old.now PlayerTable =
+    λ at h. inl (refused_damage PlayerTable at sql.read_players old new c.in_err-rows.field-0.0 players_select (c.in_err-rows.ensures.err clean) h) in
+    let is : IsErrAnd c.from_residual.result (λ e. e ≡ c.in_err-rows.field-0.0) = search rules in
+    told c.from_residual.result _ _ is why
+
+pub returns-clause-misread : goal.returns-clause-misread
+returns-clause-misread g c clean =
+    let old = state g.S.Store c.args.conn.now in
+    let new = state g.S.Store c.query_all.new.self in
+    if_err c.typed.result _ _ (λ why never at h. has_wrong_kind player_columns (λ (r : PlayerRow). IsUtf8 r.name) sql.read_players old new c.in_ok-rows.rows.items _ players_select c.deref.ensures.value (c.in_ok-rows.ensures.ok clean) PlayerTable at why never h) c.typed.ensures.refused

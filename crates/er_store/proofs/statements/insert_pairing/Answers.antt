@@ -4,6 +4,7 @@ use Rattle.sqlite.specs.Edit.{next_rowid}
 use Rattle.er_event.specs.Rows.{games_of}
 use Rattle.er_store.proofs.Effects.{inside_ok, puts_pairing}
 use Rattle.er_store.proofs.Pairing.{pairing_added, next_row}
+use Rattle.er_store.proofs.Committed.{step_keeps}
 use Rattle.er_store.proofs.statements.insert_pairing.Goals as goal
 
 table : (g : _) (c : goal.In_ok-execute g) → c.if-played-eq0.table ≡ (if c.args.played.now.b == 0 then 0 else c.args.place)
@@ -35,3 +36,9 @@ returns-clause-makes g c clean e before s stands round place =
     let h = (rw (c.params-to_sql.ensures, c.params-to_sql-2.ensures, c.params-to_sql-3.ensures, c.params-to_sql-4.ensures, c.params-to_sql-5.ensures, c.params-to_sql-6.ensures, c.params-to_sql-7.ensures, c.params-to_sql-8.ensures, c.params-to_sql-9.ensures, table g c, lower g c, higher g c, done g c, x g c, y g c, d g c, round, place) at (c.in_ok-execute.ensures.runs clean inside)) in
     pairing_added old new e before c.args.played.now s (next_rowid (old.now.trees 3)) stands
     (puts_pairing old new (next_row e before c.args.played.now) c.in_ok-execute.field-0 stands.tables inside h)
+
+pub returns-in_err-execute-clause-committed : goal.returns-in_err-execute-clause-committed
+returns-in_err-execute-clause-committed g c clean = step_keeps g.S.Store c.args.tx.now.conn.now c.execute.new.self.conn.now _ _ c.execute.result _ c.execute.ensures.ended (c.execute.ensures.runs clean)
+
+pub returns-clause-committed : goal.returns-clause-committed
+returns-clause-committed g c clean = step_keeps g.S.Store c.args.tx.now.conn.now c.execute.new.self.conn.now _ _ c.execute.result _ c.execute.ensures.ended (c.execute.ensures.runs clean)

@@ -4,6 +4,7 @@ use Rattle.sqlite.specs.Edit.{next_rowid}
 use Rattle.er_event.specs.Rows.{games_of}
 use Rattle.er_store.proofs.Effects.{inside_ok, puts_slot}
 use Rattle.er_store.proofs.Slots.{slot_added, next_slot}
+use Rattle.er_store.proofs.Committed.{step_keeps}
 use Rattle.er_store.proofs.statements.insert_slot.Goals as goal
 
 first : (g : _) (c : goal.In_ok-execute g) → c.from.result ≡ c.args.played.now.a
@@ -32,3 +33,9 @@ returns-clause-makes g c clean e before s stands stage slot =
     let h = (rw (c.params-to_sql.ensures, c.params-to_sql-2.ensures, c.params-to_sql-3.ensures, c.params-to_sql-4.ensures, c.params-to_sql-5.ensures, c.params-to_sql-6.ensures, c.params-to_sql-7.ensures, c.params-to_sql-8.ensures, first g c, second g c, done g c, x g c, y g c, d g c, stage, slot) at (c.in_ok-execute.ensures.runs clean inside)) in
     slot_added old new e before c.args.played.now s (next_rowid (old.now.trees 6)) stands
     (puts_slot old new (next_slot e before c.args.played.now) c.in_ok-execute.field-0 stands.tables inside h)
+
+pub returns-in_err-execute-clause-committed : goal.returns-in_err-execute-clause-committed
+returns-in_err-execute-clause-committed g c clean = step_keeps g.S.Store c.args.tx.now.conn.now c.execute.new.self.conn.now _ _ c.execute.result _ c.execute.ensures.ended (c.execute.ensures.runs clean)
+
+pub returns-clause-committed : goal.returns-clause-committed
+returns-clause-committed g c clean = step_keeps g.S.Store c.args.tx.now.conn.now c.execute.new.self.conn.now _ _ c.execute.result _ c.execute.ensures.ended (c.execute.ensures.runs clean)

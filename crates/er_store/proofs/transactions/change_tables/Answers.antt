@@ -1,5 +1,6 @@
 use Rattle.std.proofs.Common.{◌≡◌, ℕ, ◌+◌, length, true, false, List, Option, Some, None, IfSome, OnOk, Bor, option_map, sym, ap, subst, ◌∙◌, rules}
 use Rattle.sqlite.specs.Held.{state}
+use Rattle.sqlite.proofs.InsideLemmas.{keeps_then}
 use Rattle.er_event.specs.Event.{EventValue}
 use Rattle.er_event.specs.Change.{after, with_player, with_bracket_score, Fits}
 use Rattle.er_event.specs.declared.changes.Change.{Change}
@@ -78,3 +79,17 @@ returns-else-finished-clause-makes g c clean s stands =
     let one = c.in_ok-score_stages-in-SetBracketScore.ensures.makes clean s stands in
     let made = subst (λ (o : Option (List Match)). Makes old new (with_bracket_score e it.stage it.slot it.score o false) s) c.as_ref.ensures.value one in
     subst (λ (x : Change). Makes old new (after e x) s) (ap (SetBracketScore it.stage it.slot it.score it.next) (sym c.if-finished.false) ∙ sym it.is) made
+
+pub returns-in_ok-set_phase-in-SetBracketScore-clause-committed : goal.returns-in_ok-set_phase-in-SetBracketScore-clause-committed
+returns-in_ok-set_phase-in-SetBracketScore-clause-committed g c clean =
+    let old = state g.S.Store c.args.tx.now.conn.now in
+    let mid = state g.S.Store c.score_stages.new.tx.conn.now in
+    let new = state g.S.Store c.set_phase-then-finished.new.tx.conn.now in
+    keeps_then old mid new (c.score_stages.ensures.committed (was_clean mid new _ c.set_phase-then-finished.ensures.survives clean)) (c.set_phase-then-finished.ensures.committed clean)
+
+pub returns-in_err-set_phase-in-SetBracketScore-clause-committed : goal.returns-in_err-set_phase-in-SetBracketScore-clause-committed
+returns-in_err-set_phase-in-SetBracketScore-clause-committed g c clean =
+    let old = state g.S.Store c.args.tx.now.conn.now in
+    let mid = state g.S.Store c.score_stages.new.tx.conn.now in
+    let new = state g.S.Store c.set_phase-then-finished.new.tx.conn.now in
+    keeps_then old mid new (c.score_stages.ensures.committed (was_clean mid new _ c.set_phase-then-finished.ensures.survives clean)) (c.set_phase-then-finished.ensures.committed clean)

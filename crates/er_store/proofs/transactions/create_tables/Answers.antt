@@ -1,5 +1,5 @@
-use Rattle.std.proofs.Common.{◌≡◌, true, OnOk, sym, subst, rules}
-use Rattle.sqlite.specs.State.{HasCleanDisk}
+use Rattle.std.proofs.Common.{◌≡◌, true, OnOk, OnErr, sym, subst, rules}
+use Rattle.sqlite.specs.State.{State, HasCleanDisk}
 use Rattle.sqlite.specs.Held.{Held, state}
 use Rattle.er_store.specs.Tables.{no_schema}
 use Rattle.er_store.specs.Rows.{stored_event}
@@ -7,6 +7,10 @@ use Rattle.er_store.specs.Standing.{Shows}
 use Rattle.er_store.specs.Steps.{Puts, CreatesAll}
 use Rattle.er_store.proofs.Together.{on_ok, ours_has}
 use Rattle.er_store.proofs.Crash.{was_clean, made, leaves_none_or_new, shows_leaves}
+use Rattle.sqlite.proofs.InsideLemmas.{keeps_then}
+use Rattle.er_store.specs.Reading.{KeepsTables}
+use Rattle.er_store.proofs.LoadLemmas.{all_err, each_err}
+use Rattle.er_store.proofs.Committed.{undone_keeps, uncommitted_keeps}
 use Rattle.er_store.proofs.transactions.create_tables.Given as given
 use Rattle.er_store.proofs.transactions.create_tables.Goals as goal
 
@@ -46,3 +50,43 @@ returns-clause-crash g c none clean trees may =
     leaves_none_or_new old _ _ (state g.S.Store end) c.args.event.now c.requires.fresh both.0 both.1
     (rw c.transaction-tx.ensures.begun at c.create_all.ensures.survives) c.insert_event.ensures.survives c.commit.ensures.survives
     late trees (subst (λ (h : Held g.row.S.Denot). (state g.S.Store h).may_leave trees) (sym same) may)
+
+-- a refusal leaves the tables as they were
+pub returns-in_err-create_all-clause-kept : goal.returns-in_err-create_all-clause-kept
+returns-in_err-create_all-clause-kept g c clean =
+    let old = state g.S.Store c.args.conn.now in
+    let mid = state g.S.Store c.create_all.new.tx.conn.now in
+    let end = c.drop-tx.new.self.0 in
+    let same : end ≡ c.conn-1.given.0 = search rules in
+    let late : HasCleanDisk (state g.S.Store end) = search rules in
+    let kept = rw c.transaction-tx.ensures.begun at (c.create_all.ensures.committed (was_clean mid (state g.S.Store end) _ c.drop-tx.ensures.survives late)) in
+    all_err c.from_residual.result (subst (λ (h : Held g.row.S.Denot). KeepsTables old (state g.S.Store h)) same (undone_keeps old mid (state g.S.Store end) kept (c.drop-tx.ensures.undone late)))
+
+pub returns-in_err-insert_event-clause-kept : goal.returns-in_err-insert_event-clause-kept
+returns-in_err-insert_event-clause-kept g c clean =
+    let old = state g.S.Store c.args.conn.now in
+    let start : State = record old { in_transaction = true } in
+    let mid = state g.S.Store c.create_all.new.tx.conn.now in
+    let last = state g.S.Store c.insert_event.new.tx.conn.now in
+    let end = c.drop-tx-in_err-insert_event.new.self.0 in
+    let same : end ≡ c.conn-in_err-insert_event-1.given.0 = search rules in
+    let late : HasCleanDisk (state g.S.Store end) = search rules in
+    let clean_last = was_clean last (state g.S.Store end) _ c.drop-tx-in_err-insert_event.ensures.survives late in
+    let first = rw c.transaction-tx.ensures.begun at (c.create_all.ensures.committed (was_clean mid last _ c.insert_event.ensures.survives clean_last)) in
+    let kept = keeps_then start mid last first (c.insert_event.ensures.committed clean_last) in
+    all_err c.from_residual-in_err-insert_event.result (subst (λ (h : Held g.row.S.Denot). KeepsTables old (state g.S.Store h)) same (undone_keeps old last (state g.S.Store end) kept (c.drop-tx-in_err-insert_event.ensures.undone late)))
+
+pub returns-clause-kept : goal.returns-clause-kept
+returns-clause-kept g c clean =
+    let old = state g.S.Store c.args.conn.now in
+    let start : State = record old { in_transaction = true } in
+    let mid = state g.S.Store c.create_all.new.tx.conn.now in
+    let last = state g.S.Store c.insert_event.new.tx.conn.now in
+    let end = c.commit.new.self.0 in
+    let same : end ≡ c.conn-2-1.given.0 = search rules in
+    let late : HasCleanDisk (state g.S.Store end) = search rules in
+    let clean_last = was_clean last (state g.S.Store end) _ c.commit.ensures.survives late in
+    let first = rw c.transaction-tx.ensures.begun at (c.create_all.ensures.committed (was_clean mid last _ c.insert_event.ensures.survives clean_last)) in
+    let kept = keeps_then start mid last first (c.insert_event.ensures.committed clean_last) in
+    subst (λ (h : Held g.row.S.Denot). OnErr c.commit.result (KeepsTables old (state g.S.Store h))) same
+    (each_err c.commit.result _ _ (λ e failed. uncommitted_keeps old last (state g.S.Store end) e (c.in_ok-insert_event.ensures.inside clean_last) kept failed) (c.commit.ensures.err late))

@@ -1,11 +1,13 @@
 use Rattle.std.proofs.Common.{◌≡◌, ◌++◌, ◌∷◌, [], ◌+◌, List, length, take, refl, sym, ap, subst, ◌∙◌, arith}
 use Rattle.std.proofs.lemmas.List.{take_all, take_more, length-take-le}
 use Rattle.sqlite.specs.Held.{state}
+use Rattle.sqlite.proofs.InsideLemmas.{keeps_then}
 use Rattle.sqlite.proofs.StateLemmas.{survives_then}
 use Rattle.er_event.specs.declared.rounds.Match.{Match}
 use Rattle.er_event.specs.Change.{with_round}
 use Rattle.er_store.specs.Standing.{StandsFor}
 use Rattle.er_store.specs.Steps.{Makes}
+use Rattle.er_store.proofs.Committed.{commit_stays}
 use Rattle.er_store.proofs.Crash.{was_clean, survives_self}
 use Rattle.er_store.proofs.Pairing.{adds_none, adds_one}
 use Rattle.er_store.proofs.Rounds.{few_matches, some_matches}
@@ -14,7 +16,7 @@ use Rattle.er_store.proofs.transactions.insert_round.Goals as goal
 pub loop-place-init : goal.loop-place-init
 loop-place-init g c =
     let old = state g.S.Store c.args.tx.now.conn.now in
-    (refl, survives_self old, λ clean s stands. adds_none old c.args.event.now s stands)
+    (refl, survives_self old, λ clean s stands. adds_none old c.args.event.now s stands, λ _. commit_stays old)
 
 pub overflow_cast-place : goal.overflow_cast-place
 overflow_cast-place g c =
@@ -46,6 +48,7 @@ loop-place-preserved g c =
           let was = kept.2 (was_clean mid new _ c.insert_pairing.ensures.survives clean) s stands in
           let made = c.in_ok-insert_pairing.ensures.makes clean e (take at matches) s was.stands (ap (λ rounds. length rounds + 1) c.stored.ensures.value) (sym (ap (λ n. n + 1) stored)) in
           adds_one old mid new e at (take at matches) (take (at + 1) matches) s was (subst (λ (ms : List Match). Makes mid new (with_round e ms) s) (sym more) made),
+      λ clean. keeps_then old mid new (kept.3 (was_clean mid new _ c.insert_pairing.ensures.survives clean)) (c.insert_pairing.ensures.committed clean),
     )
 
 pub returns-clause-makes : goal.returns-clause-makes
@@ -57,3 +60,13 @@ returns-clause-makes g c clean s stands =
     let past = c.loop-place-test.false in
     let whole = take_all c.loop-place.place c.args.matches.now past in
     record { moves = adds.some (omega arith); stands = subst (λ (ms : List Match). StandsFor new.now (with_round e ms) s) whole adds.stands }
+
+pub returns-clause-committed : goal.returns-clause-committed
+returns-clause-committed g c clean = c.loop-place.invariant.3 clean
+
+pub returns-in_err-insert_pairing-clause-committed : goal.returns-in_err-insert_pairing-clause-committed
+returns-in_err-insert_pairing-clause-committed g c clean =
+    let old = state g.S.Store c.args.tx.now.conn.now in
+    let mid = state g.S.Store c.loop-place.tx.conn.now in
+    let new = state g.S.Store c.insert_pairing.new.tx.conn.now in
+    keeps_then old mid new (c.loop-place.invariant.3 (was_clean mid new _ c.insert_pairing.ensures.survives clean)) (c.insert_pairing.ensures.committed clean)

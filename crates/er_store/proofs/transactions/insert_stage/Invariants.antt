@@ -1,5 +1,5 @@
 use Rattle.std.proofs.Common.{◌≡◌, ◌+◌, ℕ, take, length}
-use Rattle.sqlite.specs.State.{HasCleanDisk, Survives}
+use Rattle.sqlite.specs.State.{HasCleanDisk, KeepsCommit, Survives}
 use Rattle.sqlite.specs.Held.{state}
 use Rattle.er_event.specs.Event.{EventValue}
 use Rattle.er_store.specs.Standing.{StandsFor}
@@ -11,4 +11,4 @@ invariant-loop-place g l =
     let old = state g.S.Store l.fn.tx.conn.now in
     let now = state g.S.Store l.tx.conn.now in
     (l.tx.conn.ghost_name ≡ l.fn.tx.conn.ghost_name) × Survives old now (λ _. ⊥)
-    × (HasCleanDisk now → (e : EventValue) (s : ℕ) → StandsFor old.now e s → l.stage ≡ length e.bracket.stages + 1 → AddsSlots e l.place (take l.place l.matches) s old now)
+    × (HasCleanDisk now → (e : EventValue) (s : ℕ) → StandsFor old.now e s → l.stage ≡ length e.bracket.stages + 1 → AddsSlots e l.place (take l.place l.matches) s old now) × (HasCleanDisk now → KeepsCommit old now)

@@ -1,6 +1,7 @@
 use Rattle.std.proofs.Common.{◌≡◌, false, ◌+◌, ◌-◌, List, Option, Some, None, OnOk, Bor, option_map, sym, ap, subst, ◌∙◌, append-nil}
 use Rattle.std.proofs.lemmas.List.{length-set}
 use Rattle.sqlite.specs.Held.{state}
+use Rattle.sqlite.proofs.InsideLemmas.{keeps_then}
 use Rattle.er_event.specs.declared.rounds.Match.{Match}
 use Rattle.er_event.specs.Event.{EventValue}
 use Rattle.er_event.specs.Change.{with_slot_score, with_bracket_score}
@@ -35,3 +36,10 @@ returns-in-None-clause-makes g c clean s stands =
     let At : List (List Match) → EventValue = λ stages. (let f : EventValue = record e { bracket = record { stages = stages } } in f) in
     subst (λ (o : Option (List Match)). Makes old mid (with_bracket_score e c.args.stage c.args.slot c.args.score o false) s) is
     (subst (λ (stages : List (List Match)). Makes old mid (At stages) s) (sym (append-nil scored.bracket.stages)) one)
+
+pub returns-in-Some-clause-committed : goal.returns-in-Some-clause-committed
+returns-in-Some-clause-committed g c clean =
+    let old = state g.S.Store c.args.tx.now.conn.now in
+    let mid = state g.S.Store c.set_slot_score.new.tx.conn.now in
+    let new = state g.S.Store c.insert_stage.new.tx.conn.now in
+    keeps_then old mid new (c.set_slot_score.ensures.committed (was_clean mid new _ c.insert_stage.ensures.survives clean)) (c.insert_stage.ensures.committed clean)

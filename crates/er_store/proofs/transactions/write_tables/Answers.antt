@@ -1,10 +1,14 @@
-use Rattle.std.proofs.Common.{OnOk, inl, rules, subst, sym, true, ◌+◌, ◌≡◌}
+use Rattle.std.proofs.Common.{OnOk, OnErr, inl, rules, subst, sym, true, ◌+◌, ◌≡◌}
 use Rattle.sqlite.specs.State.{State, HasCleanDisk}
 use Rattle.sqlite.specs.Held.{Held, state}
 use Rattle.er_event.specs.Change.{after}
+use Rattle.sqlite.proofs.InsideLemmas.{keeps_then}
 use Rattle.er_store.specs.Standing.{Shows, KeepsOthers}
+use Rattle.er_store.specs.Reading.{KeepsTables}
 use Rattle.er_store.specs.Steps.{Makes}
 use Rattle.er_store.proofs.Together.{on_ok}
+use Rattle.er_store.proofs.LoadLemmas.{all_err, each_err}
+use Rattle.er_store.proofs.Committed.{undone_keeps, uncommitted_keeps}
 use Rattle.er_store.proofs.Crash.{was_clean, survives_both, leaves_old, written, leaves_either, shows_leaves}
 use Rattle.er_store.proofs.transactions.write_tables.Given as given
 use Rattle.er_store.proofs.transactions.write_tables.Goals as goal
@@ -71,3 +75,43 @@ returns-in_err-set_serial-clause-crash g c was clean trees may =
     let quiet = survives_both start mid (state g.S.Store end) (rw c.transaction-tx.ensures.begun at c.change_tables.ensures.survives)
     (survives_both mid last (state g.S.Store end) c.set_serial.ensures.survives c.drop-tx-in_err-set_serial.ensures.survives) in
     inl (leaves_old old (state g.S.Store end) _ _ (λ db is_open left. g.met.S.Store.settled c.args.conn.now.store db is_open left) was quiet late trees (subst (λ (h : Held g.row.S.Denot). (state g.S.Store h).may_leave trees) (sym same) may))
+
+-- a refusal leaves the tables as they were
+pub returns-in_err-change_tables-clause-kept : goal.returns-in_err-change_tables-clause-kept
+returns-in_err-change_tables-clause-kept g c clean =
+    let old = state g.S.Store c.args.conn.now in
+    let mid = state g.S.Store c.change_tables.new.tx.conn.now in
+    let end = c.drop-tx.new.self.0 in
+    let same : end ≡ c.conn-1.given.0 = search rules in
+    let late : HasCleanDisk (state g.S.Store end) = search rules in
+    let kept = rw c.transaction-tx.ensures.begun at (c.change_tables.ensures.committed (was_clean mid (state g.S.Store end) _ c.drop-tx.ensures.survives late)) in
+    all_err c.from_residual.result (subst (λ (h : Held g.row.S.Denot). KeepsTables old (state g.S.Store h)) same (undone_keeps old mid (state g.S.Store end) kept (c.drop-tx.ensures.undone late)))
+
+pub returns-in_err-set_serial-clause-kept : goal.returns-in_err-set_serial-clause-kept
+returns-in_err-set_serial-clause-kept g c clean =
+    let old = state g.S.Store c.args.conn.now in
+    let start : State = record old { in_transaction = true } in
+    let mid = state g.S.Store c.change_tables.new.tx.conn.now in
+    let last = state g.S.Store c.set_serial.new.tx.conn.now in
+    let end = c.drop-tx-in_err-set_serial.new.self.0 in
+    let same : end ≡ c.conn-in_err-set_serial-1.given.0 = search rules in
+    let late : HasCleanDisk (state g.S.Store end) = search rules in
+    let clean_last = was_clean last (state g.S.Store end) _ c.drop-tx-in_err-set_serial.ensures.survives late in
+    let first = rw c.transaction-tx.ensures.begun at (c.change_tables.ensures.committed (was_clean mid last _ c.set_serial.ensures.survives clean_last)) in
+    let kept = keeps_then start mid last first (c.set_serial.ensures.committed clean_last) in
+    all_err c.from_residual-in_err-set_serial.result (subst (λ (h : Held g.row.S.Denot). KeepsTables old (state g.S.Store h)) same (undone_keeps old last (state g.S.Store end) kept (c.drop-tx-in_err-set_serial.ensures.undone late)))
+
+pub returns-clause-kept : goal.returns-clause-kept
+returns-clause-kept g c clean =
+    let old = state g.S.Store c.args.conn.now in
+    let start : State = record old { in_transaction = true } in
+    let mid = state g.S.Store c.change_tables.new.tx.conn.now in
+    let last = state g.S.Store c.set_serial.new.tx.conn.now in
+    let end = c.commit.new.self.0 in
+    let same : end ≡ c.conn-2-1.given.0 = search rules in
+    let late : HasCleanDisk (state g.S.Store end) = search rules in
+    let clean_last = was_clean last (state g.S.Store end) _ c.commit.ensures.survives late in
+    let first = rw c.transaction-tx.ensures.begun at (c.change_tables.ensures.committed (was_clean mid last _ c.set_serial.ensures.survives clean_last)) in
+    let kept = keeps_then start mid last first (c.set_serial.ensures.committed clean_last) in
+    subst (λ (h : Held g.row.S.Denot). OnErr c.commit.result (KeepsTables old (state g.S.Store h))) same
+    (each_err c.commit.result _ _ (λ e failed. uncommitted_keeps old last (state g.S.Store end) e (c.in_ok-set_serial.ensures.inside clean_last) kept failed) (c.commit.ensures.err late))

@@ -1,0 +1,174 @@
+-- Examples of the definitions, which compute, and the limits as the rules have them.
+use Rattle.std.specs.Prelude.{◌≡◌, ℕ, pos, Bool, true, false, List, [], ◌∷◌, ◌++◌, map, replicate, codes, Some, None, refl}
+use Rattle.std.specs.Str.{is_utf8, chars}
+use Rattle.er_event.specs.declared.events.TheConstants.{MAX_ROUNDS}
+use Rattle.er_event.specs.declared.events.playoff.TheConstants.{MAX_SLOTS}
+use Rattle.er_event.specs.declared.names.TheConstants.{MAX_NAME_BYTES}
+use Rattle.er_event.specs.declared.players.TheConstants.{MAX_PLAYERS}
+use Rattle.er_event.specs.declared.refusals.TheConstants.{MAX_SERIAL}
+use Rattle.er_event.specs.declared.stages.TheConstants.{MAX_STAGES}
+use Rattle.er_event.specs.declared.events.Phase.TheVariants.{Swiss}
+use Rattle.er_event.specs.declared.players.Player.{Player}
+use Rattle.er_event.specs.declared.rounds.Match.{Match}
+use Rattle.er_event.specs.declared.rows.PairingRow.{PairingRow}
+use Rattle.er_event.specs.declared.rows.BracketRow.{BracketRow}
+use Rattle.er_event.specs.declared.scores.Games.{Games}
+use Rattle.er_event.specs.Bracket.{open_match}
+use Rattle.er_event.specs.Change.{with_player, with_dropped, with_score}
+use Rattle.er_event.specs.Event.{EventValue}
+use Rattle.er_event.specs.Name.{is_lawful_name}
+use Rattle.er_event.specs.Round.{is_counted, match_at}
+use Rattle.er_event.specs.Rows.{event_row, player_rows, pairing_rows, keyed_pairing_rows, bracket_rows}
+use Rattle.er_event.specs.Score.{is_swiss_score, is_playoff_score}
+
+-- ---- each limit as the rules have it, so that the code's constant can't move from it
+
+pub nine_rounds : MAX_ROUNDS ≡ 9
+nine_rounds = refl
+
+pub players_of_an_event : MAX_PLAYERS ≡ 512
+players_of_an_event = refl
+
+pub bytes_of_a_name : MAX_NAME_BYTES ≡ 60
+bytes_of_a_name = refl
+
+pub commands_of_an_event : MAX_SERIAL ≡ 999999
+commands_of_an_event = refl
+
+-- of at most 8 players: two stages, and the final
+pub stages_of_a_playoff : MAX_STAGES ≡ 3
+stages_of_a_playoff = refl
+
+pub slots_of_a_stage : MAX_SLOTS ≡ 4
+slots_of_a_stage = refl
+
+-- ---- names
+
+-- a name with a letter of two bytes
+abbrev zoë : List ℕ
+zoë = 90 ∷ 111 ∷ 195 ∷ 171 ∷ []
+
+pub lawful_names : map is_lawful_name (codes "Ana" ∷ codes "A" ∷ codes "Lee, Jo" ∷ zoë ∷ replicate 60 97 ∷ []) ≡ true ∷ true ∷ true ∷ true ∷ true ∷ []
+unfolding is_utf8 chars lib.Utf8.encode
+lawful_names = refl
+
+-- too long, empty, with a space at an end, no UTF-8, with a control character
+pub unlawful_names : map is_lawful_name (replicate 61 97 ∷ [] ∷ codes "Ana " ∷ codes " Ana" ∷ (255 ∷ []) ∷ (65 ∷ 9 ∷ 66 ∷ []) ∷ (65 ∷ 127 ∷ []) ∷ []) ≡ false ∷ false ∷ false ∷ false ∷ false ∷ false ∷ false ∷ []
+unfolding is_utf8 chars lib.Utf8.encode
+unlawful_names = refl
+
+-- ---- scores
+
+abbrev games : ℕ → ℕ → ℕ → Games
+games x y d = record { x = x; y = y; d = d }
+
+pub lawful_in_a_round : map is_swiss_score (games 0 0 0 ∷ games 0 0 3 ∷ games 2 1 3 ∷ games 1 2 0 ∷ []) ≡ true ∷ true ∷ true ∷ true ∷ []
+lawful_in_a_round = refl
+
+pub unlawful_in_a_round : map is_swiss_score (games 2 2 0 ∷ games 3 0 0 ∷ games 0 3 0 ∷ games 0 0 4 ∷ []) ≡ false ∷ false ∷ false ∷ false ∷ []
+unlawful_in_a_round = refl
+
+pub lawful_in_the_playoff : map is_playoff_score (games 3 2 0 ∷ games 0 1 3 ∷ []) ≡ true ∷ true ∷ []
+lawful_in_the_playoff = refl
+
+pub unlawful_in_the_playoff : map is_playoff_score (games 1 1 0 ∷ games 4 0 0 ∷ games 0 4 0 ∷ games 1 0 4 ∷ []) ≡ false ∷ false ∷ false ∷ false ∷ []
+unlawful_in_the_playoff = refl
+
+-- ---- an event of three players, whose first round is paired
+
+abbrev played : ℕ → ℕ → ℕ → ℕ → ℕ → Match
+played a b x y d = record { a = a; b = b; score = Some (games x y d) }
+
+abbrev player : ℕ → List ℕ → Bool → Player
+player number name dropped = record { no = number; name = name; dropped = dropped }
+
+abbrev event_of : List Player → List (List Match) → List (List Match) → EventValue
+event_of players rounds stages = record {
+  name = codes "Friday";
+  rounds = 3;
+  cut = 0;
+  phase = Swiss;
+  players = players;
+  stored = map (λ (matches : List Match). record { matches = matches }) rounds;
+  bracket = record { stages = stages };
+}
+
+abbrev three : List Player
+three = player 1 (codes "Ana") false ∷ player 2 (codes "Bo") true ∷ player 3 (codes "Cy") false ∷ []
+
+abbrev first_round : List Match
+first_round = open_match 2 1 ∷ played 3 0 2 0 0 ∷ []
+
+abbrev paired : EventValue
+paired = event_of three (first_round ∷ []) []
+
+pub row_of_the_event : event_row paired 5 ≡ record { id = pos 1; version = pos 1; serial = pos 5; name = codes "Friday"; rounds = pos 3; cut = pos 0; phase = pos 1 }
+row_of_the_event = refl
+
+pub rows_of_players : player_rows paired ≡
+    record { no = pos 1; name = codes "Ana"; dropped = pos 0 }
+    ∷ record { no = pos 2; name = codes "Bo"; dropped = pos 1 }
+    ∷ record { no = pos 3; name = codes "Cy"; dropped = pos 0 } ∷ []
+rows_of_players = refl
+
+-- the first-named player has the higher number, and the match is open
+abbrev row_of_two : PairingRow
+row_of_two = record { round = pos 1; tab = pos 1; lo = pos 1; hi = pos 2; swapped = pos 1; done = pos 0; x = pos 0; y = pos 0; d = pos 0 }
+
+abbrev row_of_the_bye : PairingRow
+row_of_the_bye = record { round = pos 1; tab = pos 0; lo = pos 0; hi = pos 3; swapped = pos 1; done = pos 1; x = pos 2; y = pos 0; d = pos 0 }
+
+pub rows_of_a_round : pairing_rows paired ≡ row_of_two ∷ row_of_the_bye ∷ []
+rows_of_a_round = refl
+
+pub rows_by_key : keyed_pairing_rows paired ≡ row_of_the_bye ∷ row_of_two ∷ []
+rows_by_key = refl
+
+-- the first-named player has the lower number, and won
+pub rows_of_a_played_round : pairing_rows (event_of three ([] ∷ (played 1 3 2 1 0 ∷ []) ∷ []) []) ≡ record { round = pos 2; tab = pos 1; lo = pos 1; hi = pos 3; swapped = pos 0; done = pos 1; x = pos 2; y = pos 1; d = pos 0 } ∷ []
+rows_of_a_played_round = refl
+
+abbrev slot : ℕ → ℕ → ℕ → ℕ → ℕ → Games → BracketRow
+slot stage number a b done score = record { stage = pos stage; slot = pos number; a = pos a; b = pos b; done = pos done; x = pos score.x; y = pos score.y; d = pos score.d }
+
+pub rows_of_a_playoff : bracket_rows (event_of three [] ((played 5 3 2 0 0 ∷ played 6 1 1 2 0 ∷ []) ∷ (open_match 5 1 ∷ []) ∷ [])) ≡
+    slot 1 1 5 3 1 (games 2 0 0)
+    ∷ slot 1 2 6 1 1 (games 1 2 0)
+    ∷ slot 2 1 5 1 0 (games 0 0 0) ∷ []
+rows_of_a_playoff = refl
+
+-- ---- the match of a table
+
+pub match_of_a_table : match_at paired 1 1 ≡ Some (open_match 2 1)
+match_of_a_table = refl
+
+-- the bye has table 0, wherever it stands
+pub match_of_the_bye : match_at paired 1 0 ≡ Some (played 3 0 2 0 0)
+match_of_the_bye = refl
+
+pub no_such_match : match_at paired 1 2 ∷ match_at paired 1 3 ∷ match_at paired 0 1 ∷ match_at paired 2 1 ∷ [] ≡ None ∷ None ∷ None ∷ None ∷ []
+no_such_match = refl
+
+-- ---- changes
+
+pub with_the_score : with_score paired 1 1 (games 2 0 0) ≡ event_of three ((played 2 1 2 0 0 ∷ played 3 0 2 0 0 ∷ []) ∷ []) []
+with_the_score = refl
+
+-- the score of a round that is over is set anew, and the round after it stays
+pub with_another_score : with_score (event_of three ((played 2 1 2 0 0 ∷ played 3 0 2 0 0 ∷ []) ∷ (open_match 2 3 ∷ played 1 0 2 0 0 ∷ []) ∷ []) []) 1 1 (games 0 2 1)
+    ≡ event_of three ((played 2 1 0 2 1 ∷ played 3 0 2 0 0 ∷ []) ∷ (open_match 2 3 ∷ played 1 0 2 0 0 ∷ []) ∷ []) []
+with_another_score = refl
+
+-- a bye that is scored as it is leaves the event as it is
+pub the_bye_again : with_score paired 1 0 (games 2 0 0) ≡ paired
+the_bye_again = refl
+
+pub complete : is_counted first_round ∷ is_counted (played 2 1 2 0 0 ∷ played 3 0 2 0 0 ∷ []) ∷ [] ≡ false ∷ true ∷ []
+complete = refl
+
+pub one_more_player : with_player paired (codes "Di") ≡ event_of (three ++ player 4 (codes "Di") false ∷ []) (first_round ∷ []) []
+one_more_player = refl
+
+-- a dropped player stays listed
+pub one_player_dropped : with_dropped paired 3 ≡ event_of (player 1 (codes "Ana") false ∷ player 2 (codes "Bo") true ∷ player 3 (codes "Cy") true ∷ []) (first_round ∷ []) []
+one_player_dropped = refl

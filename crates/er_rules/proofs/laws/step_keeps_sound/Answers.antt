@@ -1,0 +1,5 @@
+use Rattle.er_rules.proofs.Sound.{keeps_sound}
+use Rattle.er_rules.proofs.laws.step_keeps_sound.Goals as goal
+
+pub returns : goal.returns
+returns c = keeps_sound

@@ -1,0 +1,25 @@
+-- Which refusals a command may meet.
+use Rattle.er_event.specs.declared.refusals.Command.{Command}
+use Rattle.er_event.specs.declared.refusals.Command.TheVariants.{Start, Result as Report, Correct, Drop}
+use Rattle.er_event.specs.declared.refusals.Refusal.{Refusal}
+use Rattle.er_event.specs.declared.refusals.Refusal.TheVariants.{SerialFull, Memory, Store, NeedsReopen, NoEvent, EventExists, Damaged, BadSetup}
+
+-- a refusal of the rules: it speaks neither of memory, nor of an event's file, nor of how many commands an event takes
+abbrev pub IsOfRules : Refusal → Type 0
+IsOfRules SerialFull = ⊥
+IsOfRules Memory = ⊥
+IsOfRules (Store cause) = ⊥
+IsOfRules NeedsReopen = ⊥
+IsOfRules NoEvent = ⊥
+IsOfRules EventExists = ⊥
+IsOfRules (Damaged table) = ⊥
+IsOfRules BadSetup = ⊥
+IsOfRules _ = Unit {0}
+
+-- the command asks for memory: a name, a pairing or a stage of the playoff has to be made
+abbrev pub TakesMemory : Command → Type 0
+TakesMemory Start = ⊥
+TakesMemory (Report round table score) = ⊥
+TakesMemory (Correct round table score) = ⊥
+TakesMemory (Drop player) = ⊥
+TakesMemory _ = Unit {0}

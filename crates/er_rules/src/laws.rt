@@ -1,0 +1,19 @@
+//! Laws of the step, over the definitions alone. A law is a function with no code, whose contract is the law.
+
+ghost use Rattle.std.specs.Prelude.{◌≡◌, Result, Ok};
+ghost use Rattle.er_event.specs.declared.refusals.Command.{Command};
+ghost use Rattle.er_event.specs.declared.refusals.Refusal.{Refusal};
+ghost use Rattle.er_event.specs.Event.{EventValue};
+ghost use Rattle.er_event.specs.Sound.{IsSoundButForSeeds};
+ghost use Rattle.er_rules.specs.Sound.{IsSound};
+ghost use Rattle.er_rules.specs.Step.{Steps};
+
+/// A command does one thing to a sound event: it is taken with one event after it, or refused in one way.
+pub fn one_step()
+    ensures { (event : EventValue) (command : Command) (one other : Result EventValue Refusal) → IsSoundButForSeeds event → Steps event command one → Steps event command other → one ≡ other }
+{}
+
+/// The step keeps an event sound, its seeds too.
+pub fn step_keeps_sound()
+    ensures { (event next : EventValue) (command : Command) → IsSound event → Steps event command (Ok next) → IsSound next }
+{}

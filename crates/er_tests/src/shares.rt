@@ -1,0 +1,103 @@
+ghost use Rattle.std.specs.Prelude.{IfOk};
+ghost use Rattle.er_share.specs.Share.{IsBase};
+
+use er_share::{GameRecord, MatchRecord, Share, average, gwp, hundredths, mwp};
+use std::alloc::Global;
+use std::test::Fail;
+
+/// Worked example 11.
+#[test]
+fn match_win_percentages(rt: HostRuntime) -> Result<(), Fail> {
+    for (points, rounds, printed) in [
+        (16, 8, 6667),
+        (7, 8, 3300),
+        (10, 7, 4762),
+        (9, 5, 6000),
+        (0, 0, 3300),
+    ] {
+        let counts = MatchRecord::try_new(points, rounds).ok_or("beyond the limits")?;
+        let share = mwp(counts);
+        assert_eq!(rt;
+            hundredths(share),
+            printed,
+            "{points} points in {rounds} rounds"
+        );
+        assert!(rt; share.is_base(), "{points} points in {rounds} rounds");
+    }
+    assert_eq!(rt; MatchRecord::try_new(28, 9), None);
+    Ok(())
+}
+
+/// Worked examples 11 and 34.
+#[test]
+fn game_win_percentages(rt: HostRuntime) -> Result<(), Fail> {
+    for (points, games, printed) in [
+        (21, 10, 7000),
+        (9, 11, 3300),
+        (3, 3, 3333),
+        (0, 0, 3300),
+        (162, 54, 10_000),
+        (63, 32, 6563),
+    ] {
+        let counts = GameRecord::try_new(points, games).ok_or("beyond the limits")?;
+        let share = gwp(counts);
+        assert_eq!(rt;
+            hundredths(share),
+            printed,
+            "{points} points in {games} games"
+        );
+        assert!(rt; share.is_base(), "{points} points in {games} games");
+    }
+    assert_eq!(rt; GameRecord::try_new(0, 55), None);
+    Ok(())
+}
+
+fn match_win(points: u8, rounds: u8) -> Result<Share, Fail>
+    ensures { IfOk result IsBase }
+{
+    Ok(mwp(MatchRecord::try_new(points, rounds).ok_or("beyond the limits")?))
+}
+
+fn game_win(points: u16, games: u8) -> Result<Share, Fail> {
+    Ok(gwp(GameRecord::try_new(points, games).ok_or("beyond the limits")?))
+}
+
+/// Whether the share has so many parts, in decimal.
+fn has_parts(alloc: Global, share: Share, parts: &str) -> Result<bool, Fail> {
+    let shown = format!(in alloc; "{share:?}")?;
+    let want = format!(in alloc; "Share {{ parts: {parts} }}")?;
+    Ok(shown.as_str() == want.as_str())
+}
+
+/// Worked example 11.
+#[test]
+fn a_third_is_above_the_minimum(rt: HostRuntime) -> Result<(), Fail> {
+    let (third, minimum) = (game_win(3, 3)?, game_win(0, 0)?);
+    assert!(rt; has_parts(rt.alloc(), third, "413908383987095320106784000")?);
+    assert!(rt; has_parts(rt.alloc(), minimum, "409769300147224366905716160")?);
+    assert!(rt; third > minimum && third == third);
+    Ok(())
+}
+
+/// Worked example 12: 7165 and 7164 of 13,608 parts of the whole.
+#[test]
+fn averages_that_print_alike_differ(rt: HostRuntime) -> Result<(), Fail> {
+    let usual = match_win(3, 2)?;
+    let (a, b, c) = (match_win(16, 7)?, match_win(14, 9)?, match_win(11, 8)?);
+    let first = average(&[a, b, c, usual, usual, usual, usual, usual, usual]);
+    let (a, b) = (match_win(12, 7)?, match_win(18, 9)?);
+    let second = average(&[a, b, usual, usual, usual, usual, usual, usual, usual]);
+    assert_eq!(rt; (hundredths(first), hundredths(second)), (5265, 5265));
+    assert!(rt; has_parts(rt.alloc(), first, "653803697369386677373260000")?);
+    assert!(rt; has_parts(rt.alloc(), second, "653712447725650545248016000")?);
+    // 7165 of 13,608 parts is no multiple of 2520 parts of the whole, and can't be averaged again.
+    assert!(rt; first > second && !first.is_base());
+    Ok(())
+}
+
+/// Worked example 12.
+#[test]
+fn an_average_of_none_is_the_minimum(rt: HostRuntime) -> Result<(), Fail> {
+    assert_eq!(rt; hundredths(average(&[])), 3300);
+    Ok(())
+}

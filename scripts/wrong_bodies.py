@@ -1,0 +1,306 @@
+"""Tries the wrong bodies of crates/NAME/wrong-bodies: each has to be refused by the proof of the function that it changes, at a goal about
+its contract.
+
+A wrong body is an edit in the form of must-fail edits: a line `file: src/NAME.rt`, and then pairs of lines `old:` and `new:`. A line
+`in: MODULE::FUNCTION` names the function that must be refused, where that is not the one around the change. As many as don't touch the same
+function are put into one copy of the crate, and one check says of each function whether it is still proved. What that check could not
+judge, as a function that calls another one that is refused, is tried again with fewer beside it, and at last alone.
+"""
+import argparse
+import concurrent.futures
+import dataclasses
+import importlib.machinery
+import importlib.util
+import os
+import re
+import shutil
+import subprocess
+import sys
+import tempfile
+import threading
+
+
+def toolchain():
+    """The toolchain's own command as a module, whose edits these are."""
+    path = os.path.realpath(shutil.which("rt") or sys.exit("rt is not on the path"))
+    sys.path.insert(0, os.path.dirname(path))
+    loader = importlib.machinery.SourceFileLoader("rt", path)
+    module = importlib.util.module_from_spec(importlib.util.spec_from_loader("rt", loader))
+    sys.modules["rt"] = module
+    loader.exec_module(module)
+    return module
+
+
+rt = toolchain()
+printing = threading.Lock()
+# What a proof file says of a name that it lost, and not of the contract.
+LOST_NAME = re.compile(r"has no field|is not in scope|has no `|was not admitted|was rejected|was not checked|were not checked|which is not proved")
+# What says that the text was not read, so that nothing was tried.
+UNREAD = re.compile(r"^(?:\./)?(src|specs)/\S+:\d+:\d+: error", re.M)
+
+# Where the wrong value of a constant shows.
+EXAMPLES = "Examples"
+CONSTANT = re.compile(r"\bconst [A-Z_0-9]+:")
+
+
+@dataclasses.dataclass
+class WrongBody:
+    name: str
+    pairs: list
+    functions: set
+
+    def applied(self, texts, crate):
+        """The texts of the crate with this edit too, or None where it does not fit beside the others."""
+        made = dict(texts)
+        for file, old, new in self.pairs:
+            text = made.get(file) or open(f"{crate.folder}/{file}", encoding="utf-8").read()
+            if text.count(old) != 1:
+                return None
+            made[file] = text.replace(old, new)
+        return made
+
+
+def module_of(file):
+    inner = re.sub(r"^src/|\.rt$", "", file)
+    return "" if inner in ("lib", "main") else inner.replace("/", "::")
+
+
+HEAD = re.compile(r"^ *(?:pub(?:\([^)]*\))? )?(?:const )?fn (\w+)", re.M)
+IMPL = re.compile(r"^impl(?:<[^{]*?>)? (?:([\w:]+)(?:<[^{]*?>)? for )?(\w+)", re.M)
+
+
+def path_of(crate, text, head, file):
+    """A pattern for the path of a function, without its crate: `module::Type::name`."""
+    impls = [*IMPL.finditer(text[: head.start()])]
+    if not impls or re.search(r"^}", text[impls[-1].end() : head.start()], re.M):
+        return "::".join([*filter(None, [module_of(file)]), head[1]])
+    trait, owner = impls[-1][1], impls[-1][2]
+    if trait:
+        # the parts are written one behind the other, as `ShareOrd` and `RefusalFromPairFault`
+        return "::".join([*filter(None, [module_of(file)]), owner + trait.split("::")[-1] + r"\w*", head[1]])
+    # a method goes by the module of its type, wherever it stands
+    return "::".join([*filter(None, [module_with(crate, owner)]), owner, head[1]])
+
+
+def sources_of(crate):
+    for folder, _, names in os.walk(f"{crate.folder}/src"):
+        for name in sorted(names):
+            if name.endswith(".rt"):
+                file = os.path.relpath(f"{folder}/{name}", crate.folder)
+                yield file, open(f"{folder}/{name}", encoding="utf-8").read()
+
+
+def module_with(crate, owner):
+    """The module that has this type."""
+    return next((module_of(file) for file, text in sources_of(crate) if re.search(rf"^pub(?:\([^)]*\))? (?:struct|enum) {owner}\b|^(?:struct|enum) {owner}\b", text, re.M)), "")
+
+
+def function_at(crate, text, end, file):
+    """The function that a text before this place is in."""
+    heads = [*HEAD.finditer(text[:end])]
+    return path_of(crate, text, heads[-1], file) if heads else None
+
+
+def is_asked(text, head):
+    """Whether a trait asks for the function, which then has no proof of its own."""
+    traits = [*re.finditer(r"^(?:pub(?:\([^)]*\))? )?trait \w", text[: head.start()], re.M)]
+    return traits and not re.search(r"^}", text[traits[-1].end() : head.start()], re.M)
+
+
+def functions_of(crate):
+    """The functions of the crate that a hole can stand for: those that are no method of a trait, and in no cycle of calls."""
+    found = {path_of(crate, text, it, file) for file, text in sources_of(crate) for it in HEAD.finditer(text) if not is_asked(text, it)}
+    return {it for it in found if "\\" not in it and not os.path.isdir(proof_of(crate.folder, it, "+"))}
+
+
+def proof_of(folder, function, mark=""):
+    *modules, name = function.split("::")
+    return "/".join([folder, "proofs", *modules, mark + name])
+
+
+def read(path, crate):
+    file, old, pairs, functions, named = "", None, [], set(), False
+    for line in open(path, encoding="utf-8").read().split("\n"):
+        if line.startswith("file: "):
+            file = line[6:].strip()
+        elif line.startswith("in: "):
+            functions, named = {line[4:].strip()}, True
+        elif line.startswith("old: "):
+            old = line[5:]
+        elif line.startswith("new:"):
+            text = open(f"{crate.folder}/{file}", encoding="utf-8").read()
+            if old is None or text.count(old) != 1:
+                sys.exit(f"{path}: an `old:` text stands {text.count(old or '')} times in {file}, and not once")
+            pairs.append((file, old, line[4:].removeprefix(" ")))
+            if not named:
+                functions.add(EXAMPLES if CONSTANT.search(old) else function_at(crate, text, text.index(old) + len(old), file))
+            old = None
+    if not pairs or None in functions:
+        sys.exit(f"{path}: no function is around the change: name one by a line `in: MODULE::FUNCTION`")
+    return WrongBody(os.path.basename(path).removesuffix(".edit"), pairs, functions)
+
+
+def said_of(crate, function, output, constants):
+    """What the check said of a function: `proved`, `refused` at a goal of its contract, or `unclear`."""
+    if function == EXAMPLES:
+        told = re.findall(r"^(?:\./)?proofs/Examples\.antt:\d+:\d+: error: (.*)$", output, re.M)
+        if sum(not LOST_NAME.search(it) for it in told) >= constants:
+            return "refused"
+        return "unclear" if told else "proved"
+    line = re.search(rf"^fn {crate.name}::{function}: (.*)$", output, re.M)
+    if not line:
+        return "unclear"
+    if line[1].startswith(("proved", "no holes", "depends on a hole")):
+        return "proved"
+    if "did not prove" in line[1]:
+        return "refused"
+    *folders, name = function.split("::")
+    folder = "/".join(["proofs", *folders, rf"\+?{name}"])
+    told = re.findall(rf"^(?:\./)?{folder}/\S+?:\d+:\d+: error: (.*)$", output, re.M)
+    return "refused" if any(not LOST_NAME.search(it) for it in told) else "unclear"
+
+
+def verdict(crate, body, output, constants):
+    said = {said_of(crate, it, output, constants) for it in body.functions}
+    return "refused" if "refused" in said else "passed" if said == {"proved"} else "unclear"
+
+
+def together(crate, bodies):
+    """The first of these that go into one copy, and its texts."""
+    taken, texts, touched = [], {}, set()
+    of_functions = [it for it in bodies if EXAMPLES not in it.functions]
+    for body in of_functions or bodies:
+        made = None if body.functions & touched - {EXAMPLES} else body.applied(texts, crate)
+        if made is not None:
+            taken, texts, touched = [*taken, body], made, touched | body.functions
+    return taken, texts
+
+
+def only(bodies, holes):
+    """Has a check go through these functions and what they call, and leave the rest."""
+    functions = {it for body in bodies for it in body.functions}
+    if EXAMPLES in functions:
+        # the facts of a constant are of no function: a hole brings them in
+        return ["--only", min(holes)] if holes else []
+    # a method of a trait goes by its module
+    paths = sorted({it.split("::")[0] if "\\" in it else it for it in functions})
+    return [word for path in paths for word in ("--only", path)]
+
+
+def leave_hole(crate, room, function, fact=None):
+    """Puts a hole in place of the proof of a function, which reads this fact of the examples too."""
+    folder = proof_of(room, function)
+    shutil.rmtree(folder, ignore_errors=True)
+    os.makedirs(folder)
+    name = function.split("::")[-1]
+    with open(f"{folder}/Proof.antt", "w", encoding="utf-8") as it:
+        it.write(f"use Rattle.{crate.name}.proofs.{function.replace('::', '.')}.Statement.{{statement}}\n")
+        if fact:
+            it.write(f"use Rattle.{crate.name}.proofs.{EXAMPLES}.{{{fact}}}\n")
+        it.write("\n")
+        it.write(f"pub {name}_spec : {{M : Type 1}} → statement M\n{name}_spec = ?\n")
+
+
+def fact_of(crate):
+    """A fact of the examples that a proof can name."""
+    file = f"{crate.folder}/proofs/{EXAMPLES}.antt"
+    found = os.path.isfile(file) and re.search(r"^pub (\w+) :", open(file, encoding="utf-8").read(), re.M)
+    return found[1] if found else None
+
+
+def checked(crate, texts, holes, flags, kept):
+    """What a check says of a copy of the crate with these texts, and a hole for each of these functions."""
+    with tempfile.TemporaryDirectory(prefix="rt-edit-") as room:
+        for part in ("src", "specs", "proofs"):
+            if os.path.isdir(f"{crate.folder}/{part}"):
+                shutil.copytree(f"{crate.folder}/{part}", f"{room}/{part}")
+        for path, text in texts.items():
+            with open(f"{room}/{path}", "w", encoding="utf-8") as it:
+                it.write(text)
+        for function in holes:
+            leave_hole(crate, room, function, fact_of(crate) if function == min(holes) else None)
+        flags = ["--jobs", "1", *flags, *(["--allow-holes"] if holes else [])]
+        words = [rt.rtlib.RATTLE, "check", *crate.words(flags, keeps=False), "--incremental", kept]
+        how = {"cwd": room, "stdin": subprocess.DEVNULL, "stdout": subprocess.PIPE, "stderr": subprocess.STDOUT, "errors": "replace"}
+        return subprocess.run([*rt.rtlib.guarded(), *words], **how).stdout
+
+
+def tried(crate, bodies, kept, has_holes=True):
+    """Tries these in one check, and returns what it said of each."""
+    taken, texts = together(crate, bodies)
+    touched = {it for body in taken for it in body.functions}
+    holes = functions_of(crate) - touched if has_holes else set()
+    output = checked(crate, texts, holes, only(taken, holes), kept)
+    if re.search(UNREAD, output) or not re.search(r"^(logic|only|holes)=", output, re.M):
+        said = {it.name: "unclear" for it in taken}
+        if len(taken) == 1 and not has_holes:
+            said = {taken[0].name: "unread"}
+    else:
+        constants = sum(EXAMPLES in it.functions for it in taken)
+        said = {it.name: verdict(crate, it, output, constants) for it in taken}
+    return said, output
+
+
+def try_all(crate, bodies, shows):
+    """What was found of each wrong body of a crate, by name."""
+    found, unclear = {}, []
+    with tempfile.TemporaryDirectory(prefix="wrong-bodies-") as kept:
+        left = bodies
+        while left:
+            said, output = tried(crate, left, kept)
+            if shows:
+                print(output)
+            found.update({name: what for name, what in said.items() if what == "refused"})
+            unclear += [it for it in left if it.name in said and it.name not in found]
+            left = [it for it in left if it.name not in said]
+        # what was not refused so is tried alone, over the proofs of the whole crate
+        for body in unclear:
+            said, output = tried(crate, [body], kept, has_holes=False)
+            if shows:
+                print(output)
+            found.update(said)
+    with printing:
+        for name, what in sorted(found.items()):
+            if what != "refused":
+                print(f"{crate.name}/{name}: {what.upper()}", flush=True)
+        refused = sum(it == "refused" for it in found.values())
+        print(f"{crate.name}: {refused} refused, {len(found) - refused} passed", flush=True)
+    return found
+
+
+def is_ready(crate, after_gate):
+    """Whether the libraries below the crate are there: left by the gate, which proved them just now, or built over the session's own work."""
+    below = crate.below()
+    if after_gate and all(os.path.isdir(it.rlib) for it in below):
+        return True
+    return not any(it.build_rlib(["--jobs", "1"], anew=False) for it in below)
+
+
+def main():
+    words = argparse.ArgumentParser(description="Tries the wrong bodies of each crate, or of those that are named.")
+    words.add_argument("names", nargs="*", metavar="NAME")
+    words.add_argument("--after-gate", action="store_true", help="take the libraries that rt ci has just proved")
+    words.add_argument("--only", metavar="EDIT", help="try this one alone")
+    words.add_argument("--show", action="store_true", help="print what each check said")
+    given = words.parse_args()
+    os.environ.pop(rt.rtlib.ALLOW_C, None)
+    rt.rtlib.guarded()
+    work = []
+    for crate in rt.rtlib.crates_below(os.getcwd()):
+        folder = f"{crate.folder}/wrong-bodies"
+        if os.path.isdir(folder) and (not given.names or crate.name in given.names):
+            bodies = [read(f"{folder}/{it}", crate) for it in sorted(os.listdir(folder)) if it.endswith(".edit")]
+            work.append((crate, [it for it in bodies if given.only in (None, it.name)]))
+    if not all(is_ready(crate, given.after_gate) for crate, bodies in work if bodies):
+        sys.exit("a library below could not be built")
+    work.sort(key=lambda it: -it[0].count(rb"\n"))
+    with concurrent.futures.ThreadPoolExecutor(rt.processors()) as pool:
+        found = list(pool.map(lambda it: try_all(*it, given.show), work))
+    refused = sum(it == "refused" for said in found for it in said.values())
+    passed = sum(map(len, found)) - refused
+    print(f"{refused} wrong bodies refused, {passed} passed")
+    return 1 if passed or not refused else 0
+
+
+if __name__ == "__main__":
+    sys.exit(main())
