@@ -1,13 +1,8 @@
 """Runs the program as it is built: each transcript of a folder, each script beside that folder that has its answers, and then the
 program's edges: sizes, words and devices.
-
-A transcript is lines that are sent, each behind `>` and a space, and beneath them what they are answered. In a line that is sent \\t, \\r
-and \\xNN stand for one byte, `\\c` at its end says that it has no line feed, and ZERO is the seed of 64 digits 0. An empty line begins
-the next run, with an empty program. A line that begins with `#` says what is shown.
 """
 import glob
 import os
-import re
 import resource
 import signal
 import socket
@@ -18,18 +13,9 @@ import tempfile
 import time
 
 from chacha20 import words_of
+from transcripts import parts_of
 
 program, folder = sys.argv[1:]
-
-ESCAPES = {b"t": b"\t", b"r": b"\r", b"c": b""}
-
-
-def sent(line):
-    """The bytes of a line that is sent."""
-    end = b"" if line.endswith(b"\\c") else b"\n"
-    text = line[2:].replace(b"ZERO", b"0" * 64)
-    return re.sub(rb"\\(?:x([0-9a-f]{2})|([trc]))", lambda it: bytes([int(it[1], 16)]) if it[1] else ESCAPES[it[2]], text) + end
-
 
 def run(script, words=(), out=subprocess.PIPE):
     ran = subprocess.run([program, *words], input=script, stdout=out, stderr=subprocess.PIPE, timeout=60)
@@ -50,13 +36,10 @@ def check(name, got, want):
 
 def run_transcripts():
     for file in sorted(glob.glob(f"{folder}/*.txt")):
-        at = 1
-        for part in open(file, "rb").read().split(b"\n\n"):
-            lines = part.strip(b"\n").split(b"\n")
-            script = b"".join(sent(line) for line in lines if line.startswith(b">"))
-            answers = b"".join(line + b"\n" for line in lines if not line.startswith((b">", b"#")))
+        for at, lines in parts_of(file):
+            script = b"".join(line for line, _ in lines)
+            answers = "".join(it + "\n" for _, answer in lines for it in answer).encode()
             check(f"{os.path.basename(file)}, line {at}", run(script), (0, answers, b""))
-            at += part.count(b"\n") + 2
 
 
 def run_scripts():
@@ -102,16 +85,46 @@ def run_seeds():
             check(f"seed {word}", run(script + b"pair\t1\t%s\nslips\t1\n" % word.encode()), (0, answers, b""))
 
 
+SUBCOMMANDS = "init enrol start pair result correct drop cut playoff standings players slips bracket".split()
+
+
 def run_words():
-    """A text that is asked for goes to the output, and the help to the errors where none is."""
-    _, help_text, _ = run(b"", ["--help"])
-    check("--help", help_text.startswith(b"usage: event_reporter < SCRIPT\n"), True)
+    """A text that is asked for goes to the output. Words that are no command line are named on the errors, above what is to be written."""
+    status, help_text, errors = run(b"", ["--help"])
+    check("--help", (status, help_text.startswith(b"usage: event_reporter SUBCOMMAND FILE WORDS\n"), errors), (0, True, b""))
     check("-h", run(b"", ["-h"]), (0, help_text, b""))
     for word in ("--version", "-V"):
         check(word, run(b"", [word]), (0, b"event_reporter 0.1.0\n", b""))
-    for words in (["help"], ["--help", "--help"], ["players", "friday.db"], [""]):
-        check(f"words {words}", run(b"players\n", words), (2, b"", help_text))
+    for name in SUBCOMMANDS:
+        status, text, errors = run(b"", [name, "--help"])
+        check(f"{name} --help", (status, text.startswith(b"usage: event_reporter %s FILE" % name.encode()), b"\nExample: event_reporter " in text, errors), (0, True, True, b""))
+        check(f"{name} -h", run(b"", [name, "-h"]), (0, text, b""))
+        check(f"{name} in the help", b"\n  %s FILE" % name.encode() in help_text, True)
+        missing = b"event_reporter: a word is missing at the end\n" + text
+        check(f"{name} alone", run(b"", [name]), (2, b"", missing))
+    for number, name in enumerate(NAMES, 1):
+        check(f"{name} in the help", b"\n  %2d %s " % (number, name.encode()) in help_text, True)
+    pair = run(b"", ["pair", "--help"])[1]
+    for words, told in (
+        (["pair", "f", "1", "x"], b"`x` is not 64 hexadecimal digits\n" + pair),
+        (["pair", "f", "+1", "0" * 64], b"`+1` is no whole number from 0 to 255\n" + pair),
+        (["pair", "f", "256", "0" * 64], b"`256` is no whole number from 0 to 255\n" + pair),
+        (["pair", "f", "1", "0" * 64, "2"], b"`2` is a word too many\n" + pair),
+        (["pair", "f", "-1", "0" * 64], b"`-1` begins with `-`, which no word may\n" + pair),
+        (["drop", "f", "65536"], b"`65536` is no whole number from 0 to 65535\n" + run(b"", ["drop", "-h"])[1]),
+        (["help"], b"`help` is no subcommand\nusage: event_reporter SUBCOMMAND FILE WORDS\nTry: event_reporter --help\n"),
+        ([""], b"`` is no subcommand\nusage: event_reporter SUBCOMMAND FILE WORDS\nTry: event_reporter --help\n"),
+        (["--help", "--help"], b"`--help` begins with `-`, which no word may\nusage: event_reporter SUBCOMMAND FILE WORDS\nTry: event_reporter --help\n"),
+        ([b"\xff"], b"the words are no UTF-8 text\nTry: event_reporter --help\n"),
+    ):
+        check(f"words {words}", run(b"players\n", words), (2, b"", b"event_reporter: " + told))
 
+
+NAMES = (
+    "BadName NameTaken PlayersFull NotEnrolling TooFewPlayers NotSwiss WrongRound RoundOpen AllRoundsPaired NoPairing Budget NoSuchMatch BadScore "
+    "AlreadyReported NotReported IsBye NoSuchPlayer AlreadyDropped RoundsNotDone NoCut TooFewForCut NotPlayoff SerialFull Memory Store NeedsReopen "
+    "NoEvent EventExists Damaged BadSetup"
+).split()
 
 FRIDAY = b"init\tFriday\t3\t0\nenrol\tAna\nenrol\tBo\nenrol\tCy\nenrol\tDi\nplayers\n"
 

@@ -1,15 +1,11 @@
 -- A flush keeps what was written, and where it fails what was written is a beginning of what is due.
-use Rattle.std.proofs.Common.{◌≡◌, ◌⊎◌, inl, inr, ℕ, ◌≤◌, List, [], ◌++◌, take, length, Option, Some, None, refl, sym, subst, arith}
+use Rattle.std.proofs.Common.{◌≡◌, ◌⊎◌, inl, inr, ℕ, List, length, Option, None, refl, sym, subst, arith}
 use Rattle.std.proofs.lemmas.List.{take_all}
-use Rattle.std.specs.List.{flat_map}
-use Rattle.std.specs.Io.KnownBytes.{Appends, Keeps}
+use Rattle.std.specs.Io.KnownBytes.{Keeps}
 use Rattle.std.proofs.KnownBytes.{Appends-kept, Keeps-trans}
-use Rattle.er_cli.specs.declared.texts.Answer.{Answer}
-use Rattle.er_cli.specs.declared.texts.Answer.TheVariants.{Refused}
 use Rattle.er_cli.specs.declared.TheConstants.{DONE, USAGE, DEVICE, MEMORY}
-use Rattle.er_cli.specs.Texts.{answer_text, AppendsPart}
-use Rattle.er_cli.specs.Script.{Kept, Runs, Prints, PrintsPart}
-use Rattle.er_cli.specs.Status.{Ends, Serves, ServesPart, Breaks}
+use Rattle.er_cli.specs.Script.{Runs, Prints, PrintsPart}
+use Rattle.er_cli.specs.Status.{Ends, Serves, Breaks}
 use Rattle.er_cli.proofs.Sending.{whole_part, part_kept}
 
 prints_whole : (lines : List (List ℕ)) (before after : Option (List ℕ)) → Prints lines before after → PrintsPart lines before after

@@ -1,10 +1,11 @@
 pub mod Bytes
 pub mod Ending
-pub mod Leaving
-pub mod Replies
+pub mod Leaves
+pub mod Refusals
 pub mod Runs
 pub mod Seeds
 pub mod Turns
+pub mod Walks
 pub mod WordLemmas
 pub mod Sending
 pub mod Examples

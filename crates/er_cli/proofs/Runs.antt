@@ -4,13 +4,14 @@ use Rattle.std.specs.List.{flat_map}
 use Rattle.std.proofs.lemmas.List.{map-append, take_more}
 use Rattle.std.proofs.lemmas.List.Concat.{flat_map-append}
 use Rattle.er_cli.specs.declared.texts.Answer.{Answer}
-use Rattle.er_cli.specs.Line.{line_of}
+use Rattle.er_cli.specs.Fields.{script_action}
 use Rattle.er_cli.specs.Texts.{answer_text}
-use Rattle.er_cli.specs.Script.{Kept, Answers, Runs}
+use Rattle.er_desk.specs.Desk.{Standing}
+use Rattle.er_cli.specs.Script.{LineAnswers, Runs}
 
-pub Runs-push : (lines : List (List ℕ)) (answers : List Answer) (old mid new : Option Kept) (line : List ℕ) (answer : Answer)
-    → Runs old lines answers mid → Answers mid (line_of line) answer new → Runs old (lines ++ line ∷ []) (answers ++ answer ∷ []) new
-Runs-push [] [] old mid new line answer runs last = (new, subst (λ k. Answers k (line_of line) answer new) runs last, refl)
+pub Runs-push : (lines : List (List ℕ)) (answers : List Answer) (old mid new : Option Standing) (line : List ℕ) (answer : Answer)
+    → Runs old lines answers mid → LineAnswers mid (script_action line) answer new → Runs old (lines ++ line ∷ []) (answers ++ answer ∷ []) new
+Runs-push [] [] old mid new line answer runs last = (new, subst (λ k. LineAnswers k (script_action line) answer new) runs last, refl)
 Runs-push (l ∷ lines) (a ∷ answers) old mid new line answer runs last = (runs.0, runs.1, Runs-push lines answers runs.0 mid new line answer runs.2 last)
 Runs-push [] (a ∷ answers) old mid new line answer runs last = absurd runs
 Runs-push (l ∷ lines) [] old mid new line answer runs last = absurd runs

@@ -9,7 +9,7 @@ use Rattle.hex.specs.Hex.{decode_pairs, decode_sized, hex_digit_value, digit_or_
 use Rattle.hex.specs.declared.error.FromHexError.{FromHexError}
 use Rattle.hex.proofs.Pairs.{decode_sized-pairs}
 use Rattle.hex.proofs.HexLemmas.{decode_sized-odd, decode_sized-other}
-use Rattle.er_cli.specs.Line.{hex_bytes, seed_of}
+use Rattle.er_cli.specs.Values.{hex_bytes, seed_of}
 
 -- a digit has its value in either reading
 hex_digit_value-is : (c : ℕ) → hex_digit_value c ≡ cond (is_ascii_hexdigit c) (Some (digit_value c)) None

@@ -1,32 +1,84 @@
 -- What the words of a command line are answered.
-use Rattle.std.specs.Prelude.{◌≡◌, ℕ, if◌then◌else◌, List, [], ◌∷◌, Option, Some, None, MatchOption, codes}
+use Rattle.std.specs.Prelude.{◌≡◌, ◌⊎◌, ℕ, ◌==◌, ◌||◌, Bool, if◌then◌else◌, List, [], ◌∷◌, Option, Some, None, codes}
 use Rattle.std.specs.Str.{bytes_eq}
 use Rattle.std.specs.Io.KnownBytes.{Appends}
-use Rattle.er_cli.specs.Texts.{AppendsPart}
-use Rattle.er_cli.specs.declared.TheConstants.{DONE, USAGE, DEVICE}
-use Rattle.er_cli.specs.declared.help.TheConstants.{VERSION, HELP}
+use Rattle.er_event.specs.declared.refusals.Refusal.{Refusal}
+use Rattle.er_event.specs.Refusal.{entry_of}
+use Rattle.er_cli.specs.Texts.{answer_text, AppendsPart}
+use Rattle.er_cli.specs.declared.texts.Answer.{Answer}
+use Rattle.er_cli.specs.declared.texts.Answer.TheVariants.{Accepted, Text, Refused, Usage}
+use Rattle.er_cli.specs.declared.TheConstants.{DONE, REFUSED, USAGE, DEVICE, MEMORY}
+use Rattle.er_cli.specs.declared.help.TheConstants.{VERSION, HELP, INIT, ENROL, START, PAIR, RESULT, CORRECT, DROP, CUT, PLAYOFF, STANDINGS, PLAYERS, SLIPS, BRACKET}
 
--- the text that a word asks for
-abbrev pub text_of : List ℕ → Option (List ℕ)
-text_of word =
-    if bytes_eq word (codes "--help") then Some HELP.now
-    else (if bytes_eq word (codes "-h") then Some HELP.now
-    else (if bytes_eq word (codes "--version") then Some VERSION.now
-    else (if bytes_eq word (codes "-V") then Some VERSION.now
-    else None)))
+abbrev pub is_help : List ℕ → Bool
+is_help word = bytes_eq word (codes "--help") || bytes_eq word (codes "-h")
 
--- it stands alone
+abbrev pub is_version : List ℕ → Bool
+is_version word = bytes_eq word (codes "--version") || bytes_eq word (codes "-V")
+
+abbrev pub option_text : List ℕ → Option (List ℕ)
+option_text word = if is_help word then Some HELP.now else (if is_version word then Some VERSION.now else None)
+
+-- the text of the subcommand that has this name
+abbrev pub text_in : List (List ℕ × List ℕ) → List ℕ → Option (List ℕ)
+text_in [] name = None
+text_in (named ∷ more) name = if bytes_eq name named.0 then Some named.1 else text_in more name
+
+abbrev pub subcommand_text : List ℕ → Option (List ℕ)
+subcommand_text = text_in (
+    (codes "init", INIT.now)
+    ∷ (codes "enrol", ENROL.now)
+    ∷ (codes "start", START.now)
+    ∷ (codes "pair", PAIR.now)
+    ∷ (codes "result", RESULT.now)
+    ∷ (codes "correct", CORRECT.now)
+    ∷ (codes "drop", DROP.now)
+    ∷ (codes "cut", CUT.now)
+    ∷ (codes "playoff", PLAYOFF.now)
+    ∷ (codes "standings", STANDINGS.now)
+    ∷ (codes "players", PLAYERS.now)
+    ∷ (codes "slips", SLIPS.now)
+    ∷ (codes "bracket", BRACKET.now)
+    ∷ [])
+
+abbrev pub text_behind : List ℕ → List ℕ → Option (List ℕ)
+text_behind name word = if is_help word then subcommand_text name else None
+
+-- the text that the words ask for: an option alone, or `--help` behind a subcommand
 abbrev pub text_for : List (List ℕ) → Option (List ℕ)
-text_for (word ∷ []) = text_of word
+text_for (word ∷ []) = option_text word
+text_for (name ∷ word ∷ []) = text_behind name word
 text_for _ = None
 
--- a text that is asked for goes to the output, else the help to the errors
-abbrev pub Says : (words : List (List ℕ)) → (out out_then err err_then : Option (List ℕ)) → ℕ → Type 0
-Says words out out_then err err_then status =
-    MatchOption (text_for words)
-    ((status ≡ USAGE) × Appends err err_then HELP.now)
-    (λ text. (status ≡ DONE) × Appends out out_then text)
+-- ---- where an answer goes, and the status that comes with it
 
--- a write failed: the stream that is meant got a beginning of its text
-abbrev pub SaysPart : (words : List (List ℕ)) → (out out_then err err_then : Option (List ℕ)) → ℕ → Type 0
-SaysPart words out out_then err err_then status = (status ≡ DEVICE) × MatchOption (text_for words) (AppendsPart err err_then HELP.now) (λ text. AppendsPart out out_then text)
+-- by the refusal's number
+abbrev pub status_at : ℕ → ℕ
+status_at number = if number == 24 then MEMORY else (if number == 25 then DEVICE else (if number == 26 then DEVICE else REFUSED))
+
+abbrev pub refusal_status : Refusal → ℕ
+refusal_status why = status_at (entry_of why).0
+
+abbrev pub status_of : Answer → ℕ
+status_of (Accepted receipt) = DONE
+status_of (Text text) = DONE
+status_of (Refused why) = refusal_status why
+status_of Usage = USAGE
+
+-- the stream that is meant, and the other one
+pub record Streams : Type 0 where
+  pub meant : Option (List ℕ)
+  pub other : Option (List ℕ)
+
+-- a refusal goes to the errors, anything else to the output
+abbrev pub streams : Answer → (out err : Option (List ℕ)) → Streams
+streams (Refused why) out err = record { meant = err; other = out }
+streams Usage out err = record { meant = err; other = out }
+streams answer out err = record { meant = out; other = err }
+
+-- The text goes to the one stream, and the other stays. Where a write fails, a beginning of the text is there, and the status is the device's.
+abbrev pub Says : List ℕ → ℕ → (old new : Streams) → ℕ → Type 0
+Says text due old new status = (((status ≡ due) × Appends old.meant new.meant text) ⊎ ((status ≡ DEVICE) × AppendsPart old.meant new.meant text)) × (new.other ≡ old.other)
+
+abbrev pub Tells : Answer → (out out_then err err_then : Option (List ℕ)) → ℕ → Type 0
+Tells answer out out_then err err_then status = Says (answer_text answer) (status_of answer) (streams answer out err) (streams answer out_then err_then) status

@@ -1,9 +1,13 @@
 pub mod Setup
+pub mod Values
 pub mod Line
+pub mod Words
+pub mod Action
+pub mod Fields
+pub mod Usage
 pub mod Texts
 pub mod Input
-pub mod Reply
-pub mod Session
+pub mod Answers
 pub mod Script
 pub mod Status
 pub mod Help

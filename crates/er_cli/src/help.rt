@@ -1,47 +1,235 @@
-ghost use Rattle.std.specs.Prelude.{◌≡◌, ◌⊎◌, MatchOption, OnOk, OnErr, map, option_map, string_bytes};
+ghost use Rattle.std.specs.Prelude.{◌≡◌, OnOk, OnErr, map, option_map, string_bytes};
 ghost use Rattle.std.specs.Io.KnownBytes.{Appends};
-ghost use Rattle.er_cli.specs.Help.{text_of, text_for, Says, SaysPart};
+ghost use Rattle.er_cli.specs.Help.{option_text, subcommand_text, text_behind, text_for};
 ghost use Rattle.er_cli.specs.Texts.{AppendsPart};
 
 use crate::texts::{WriteFault, flush, send};
-use crate::{DEVICE, DONE, USAGE};
 use std::io::Write;
 
 /// What `--version` prints.
 pub const VERSION: &str = "event_reporter 0.1.0\n";
 
-/// What `--help` prints, and what standard error gets where the words are none that the program knows.
+/// What `--help` prints, and what standard error gets where the first word is no subcommand.
 pub const HELP: &str = "\
-usage: event_reporter < SCRIPT
+usage: event_reporter SUBCOMMAND FILE WORDS
+       event_reporter < SCRIPT
 
-Keeps one event of a Magic Swiss tournament in memory, and answers a script of commands on standard input.
-Each line is one command; its words are separated by one TAB. So far there are:
+Keeps one event of a Magic Swiss tournament in FILE. What is answered `ok` is in the file, wherever the program is stopped.
 
-  init NAME ROUNDS CUT       creates the event: 1 to 9 rounds, and a cut to 0, 2, 4 or 8 players
-  enrol NAME                 enrols a player, who gets the next number
-  start                      ends enrolling, with two players or more
-  pair ROUND SEED            pairs the next round; SEED, 64 hexadecimal digits, draws the order of players with equal points
-  result ROUND TABLE X Y D   enters a score: games won by the first-named player, by the second, and drawn
-  correct ROUND TABLE X Y D  replaces a score that was entered, as often as it must be
-  drop PLAYER                drops the player of this number, who stays listed
-  cut                        once all rounds are complete, seeds the playoff by the standings, dropped players left out
-  playoff STAGE SLOT X Y D   enters a score of the playoff, with its games as for result; one of the two must have won more
-  players                    lists the players by number, with a D at those who were dropped
-  standings                  lists the players by rank, with their points and percentages
-  slips ROUND                lists the matches of a round that was paired, table by table
-  bracket                    lists the matches of the playoff, stage by stage, and then its champion
+  init FILE NAME ROUNDS CUT       creates the event: 1 to 9 rounds, and a cut to 0, 2, 4 or 8 players
+  enrol FILE NAME                 enrols a player, who gets the next number
+  start FILE                      ends enrolling, with two players or more
+  pair FILE ROUND SEED            pairs the next round; SEED, 64 hexadecimal digits, draws the order of players with equal points
+  result FILE ROUND TABLE X Y D   enters a score: games won by the first-named player, by the second, and drawn
+  correct FILE ROUND TABLE X Y D  replaces a score that was entered, as often as it must be
+  drop FILE PLAYER                drops the player of this number, who stays listed
+  cut FILE                        once all rounds are complete, seeds the playoff by the standings, dropped players left out
+  playoff FILE STAGE SLOT X Y D   enters a score of the playoff, with its games as for result; one of the two must have won more
+  players FILE                    lists the players by number, with a D at those who were dropped
+  standings FILE                  lists the players by rank, with their points and percentages
+  slips FILE ROUND                lists the matches of a round that was paired, table by table
+  bracket FILE                    lists the matches of the playoff, stage by stage, and then its champion
 
-Begin with init, then enrol each player, and start. Then pair 1 SEED pairs the first round, slips 1 lists its matches,
-and result 1 1 2 0 0 enters 2-0-0 at its first table. Once each match has its score, pair 2 SEED pairs the next round.
-After the last round, cut seeds the playoff, bracket lists it, and playoff 1 1 2 0 0 enters 2-0-0 in its first slot.
-A command that is taken is answered `ok` and how many were taken so far; another `refused`, a number and a name.
-Try it: ./event_reporter < examples/friday.txt
+  SUBCOMMAND --help               says more of one of them
+  -h, --help                      prints this text
+  -V, --version                   prints the version
 
-  -h, --help                 prints this text
-  -V, --version              prints the version
+An evening: init, enrol each player, start. Then for each round pair, slips, and a result for each table; then the next pair.
+After the last round, standings, or cut and a playoff for each match. Try it:
+
+  event_reporter init friday.event 'Friday Night' 3 0
+  event_reporter enrol friday.event Ana
+  event_reporter players friday.event
+
+With no words the same commands are read as a script from standard input, without FILE, a line each, their words separated by
+one TAB. A script keeps its event in memory alone. Try it: ./event_reporter < examples/friday.txt
+
+A command that is taken is answered `ok` and how many were taken so far. Another is answered `refused`, a number and a name, and
+has changed nothing:
+
+   1 BadName          1 to 60 bytes, no control character, no space at either end: write the name anew
+   2 NameTaken        a player has this name: add something that tells the two apart
+   3 PlayersFull      512 players are enrolled, and there is no room for more
+   4 NotEnrolling     the event has started: nobody enrols any more
+   5 TooFewPlayers    two players who have not dropped are wanted: enrol them first
+   6 NotSwiss         the Swiss rounds have not begun, or the playoff has: start, or playoff
+   7 WrongRound       another round is the next one: slips of the last one shows where the event is
+   8 RoundOpen        a match of the last round has no score: slips shows it with a -
+   9 AllRoundsPaired  all rounds are paired: enter what is missing, then cut
+  10 NoPairing        whoever is left has met: no further round can be paired, and the standings stand
+  11 Budget           no pairing was found in a million steps: take another SEED
+  12 NoSuchMatch      no such match is stored: slips and bracket list those that are
+  13 BadScore         0 to 2 wins each and not both 2, in the playoff 0 to 3 and not equal, and 0 to 3 draws
+  14 AlreadyReported  the match has a score: correct replaces it
+  15 NotReported      the match has no score to replace: result enters it
+  16 IsBye            table 0 is the bye, whose score stays 2-0-0
+  17 NoSuchPlayer     no player has this number: players lists them
+  18 AlreadyDropped   the player has dropped already
+  19 RoundsNotDone    a round is not paired yet, or has a match with no score
+  20 NoCut            the event was created with no cut: the standings stand
+  21 TooFewForCut     fewer players are left than the cut takes: the standings stand
+  22 NotPlayoff       the playoff has not begun, or has its champion: cut, or bracket
+  23 SerialFull       the event has taken 999,999 commands, and takes no more
+  24 Memory           the machine had no memory left: close something and try again
+  25 Store            the file was not read or written: look at its rights, the disk, and who else has it open
+  26 NeedsReopen      a write failed before: run the command anew
+  27 NoEvent          there is no such file, or no event in it: look at the path, or init
+  28 EventExists      the file has an event already: take another FILE
+  29 Damaged          the file holds what no event can be: go back to a copy of it
+  30 BadSetup         NAME is as a player's, ROUNDS 1 to 9, CUT 0, 2, 4 or 8
+
+The status is 0 where it was done, 1 refused, 2 not understood, 3 Store, NeedsReopen or a failed read or write, 4 Memory.
 ";
 
-fn say<W: Write>(writer: &mut W, text: &str) -> Result<(), WriteFault>
+pub const INIT: &str = "\
+usage: event_reporter init FILE NAME ROUNDS CUT
+
+Creates an event in FILE, and the file where it is not there yet. Other tables of the file stay.
+
+  NAME    1 to 60 bytes of text, in quotes where it has spaces
+  ROUNDS  the Swiss rounds: 1 to 9
+  CUT     the players who go on to the playoff: 0 for none, 2, 4 or 8
+
+Example: event_reporter init friday.event 'Friday Night' 3 4
+Answers `ok 0`, or refuses: 24 Memory, 25 Store, 28 EventExists, 30 BadSetup.
+";
+
+pub const ENROL: &str = "\
+usage: event_reporter enrol FILE NAME
+
+Enrols a player, who gets the next number. The event must not have started.
+
+  NAME    1 to 60 bytes of text, in quotes where it has spaces; nobody else's
+
+Example: event_reporter enrol friday.event 'Ana Lima'
+Refuses: 1 BadName, 2 NameTaken, 3 PlayersFull, 4 NotEnrolling, 23 SerialFull, 24 Memory, 25 Store, 27 NoEvent, 29 Damaged.
+";
+
+pub const START: &str = "\
+usage: event_reporter start FILE
+
+Ends enrolling. Two players or more must have enrolled.
+
+Example: event_reporter start friday.event
+Refuses: 4 NotEnrolling, 5 TooFewPlayers, 23 SerialFull, 24 Memory, 25 Store, 27 NoEvent, 29 Damaged.
+";
+
+pub const PAIR: &str = "\
+usage: event_reporter pair FILE ROUND SEED
+
+Pairs the next round. The round before must have all its scores.
+
+  ROUND   the number of the round, from 1
+  SEED    64 hexadecimal digits, which draw the order of players with equal points: a new one for each round
+
+Example: event_reporter pair friday.event 1 $(openssl rand -hex 32)
+Refuses: 5 TooFewPlayers, 6 NotSwiss, 7 WrongRound, 8 RoundOpen, 9 AllRoundsPaired, 10 NoPairing, 11 Budget, 23 SerialFull,
+24 Memory, 25 Store, 27 NoEvent, 29 Damaged.
+";
+
+pub const RESULT: &str = "\
+usage: event_reporter result FILE ROUND TABLE X Y D
+
+Enters the score of a match that has none.
+
+  ROUND TABLE  as slips lists them
+  X Y          the games that the first-named player has won, and the second: 0 to 2, not both 2
+  D            the games that were drawn: 0 to 3
+
+Example: event_reporter result friday.event 1 2 2 1 0
+Refuses: 6 NotSwiss, 12 NoSuchMatch, 13 BadScore, 14 AlreadyReported, 16 IsBye, 23 SerialFull, 24 Memory, 25 Store, 27 NoEvent,
+29 Damaged.
+";
+
+pub const CORRECT: &str = "\
+usage: event_reporter correct FILE ROUND TABLE X Y D
+
+Replaces the score of a match. Rounds that were paired since stay as they are.
+
+  ROUND TABLE  as slips lists them
+  X Y          the games that the first-named player has won, and the second: 0 to 2, not both 2
+  D            the games that were drawn: 0 to 3
+
+Example: event_reporter correct friday.event 1 2 0 2 0
+Refuses: 6 NotSwiss, 12 NoSuchMatch, 13 BadScore, 15 NotReported, 16 IsBye, 23 SerialFull, 24 Memory, 25 Store, 27 NoEvent,
+29 Damaged.
+";
+
+pub const DROP: &str = "\
+usage: event_reporter drop FILE PLAYER
+
+Drops a player, who stays in the standings and is paired no more. An open match must still get its score.
+
+  PLAYER  the player's number, as players lists it
+
+Example: event_reporter drop friday.event 3
+Refuses: 6 NotSwiss, 17 NoSuchPlayer, 18 AlreadyDropped, 23 SerialFull, 24 Memory, 25 Store, 27 NoEvent, 29 Damaged.
+";
+
+pub const CUT: &str = "\
+usage: event_reporter cut FILE
+
+Seeds the playoff with the first of the standings, dropped players left out. All rounds must be complete.
+
+Example: event_reporter cut friday.event
+Refuses: 6 NotSwiss, 19 RoundsNotDone, 20 NoCut, 21 TooFewForCut, 23 SerialFull, 24 Memory, 25 Store, 27 NoEvent, 29 Damaged.
+";
+
+pub const PLAYOFF: &str = "\
+usage: event_reporter playoff FILE STAGE SLOT X Y D
+
+Enters the score of a playoff match. It is not corrected later: look twice.
+
+  STAGE SLOT  as bracket lists them
+  X Y         the games that the first-named player has won, and the second: 0 to 3, not equal
+  D           the games that were drawn: 0 to 3
+
+Example: event_reporter playoff friday.event 1 1 2 0 0
+Refuses: 12 NoSuchMatch, 13 BadScore, 14 AlreadyReported, 22 NotPlayoff, 23 SerialFull, 24 Memory, 25 Store, 27 NoEvent,
+29 Damaged.
+";
+
+pub const STANDINGS: &str = "\
+usage: event_reporter standings FILE
+
+Lists the players by rank, with match points, the opponents' match-win percentage, the player's own game-win percentage and the
+opponents'. Only complete rounds count.
+
+Example: event_reporter standings friday.event
+Refuses: 24 Memory, 25 Store, 27 NoEvent, 29 Damaged.
+";
+
+pub const PLAYERS: &str = "\
+usage: event_reporter players FILE
+
+Lists the players by number, with a D at those who were dropped.
+
+Example: event_reporter players friday.event
+Refuses: 24 Memory, 25 Store, 27 NoEvent, 29 Damaged.
+";
+
+pub const SLIPS: &str = "\
+usage: event_reporter slips FILE ROUND
+
+Lists the matches of a round that was paired: table, the two players' numbers, the score or a -, and their names. A bye comes last.
+
+  ROUND   the number of the round, from 1
+
+Example: event_reporter slips friday.event 1
+Refuses: 12 NoSuchMatch, 24 Memory, 25 Store, 27 NoEvent, 29 Damaged.
+";
+
+pub const BRACKET: &str = "\
+usage: event_reporter bracket FILE
+
+Lists the matches of the playoff, stage by stage, and then its champion.
+
+Example: event_reporter bracket friday.event
+Refuses: 24 Memory, 25 Store, 27 NoEvent, 29 Damaged.
+";
+
+/// Writes a text, and has the writer pass it on.
+pub fn say<W: Write>(writer: &mut W, text: &str) -> Result<(), WriteFault>
     ensures sent { OnOk result (Appends (W.contents writer.old) (W.contents writer.new) text.now) }
     ensures part { OnErr result (AppendsPart (W.contents writer.old) (W.contents writer.new) text.now) }
 {
@@ -49,9 +237,9 @@ fn say<W: Write>(writer: &mut W, text: &str) -> Result<(), WriteFault>
     flush(writer)
 }
 
-/// The text that a word asks for.
-fn text_of(word: &str) -> Option<&'static str>
-    ensures { option_map (λ text. text.now) result ≡ text_of word.now }
+/// The text that an option asks for.
+fn option_text(word: &str) -> Option<&'static str>
+    ensures { option_map (λ text. text.now) result ≡ option_text word.now }
 {
     match word {
         "--help" | "-h" => Some(HELP),
@@ -60,30 +248,45 @@ fn text_of(word: &str) -> Option<&'static str>
     }
 }
 
-/// The text that the words ask for, if they are one.
-fn text_for(words: &[String]) -> Option<&'static str>
-    ensures { option_map (λ text. text.now) result ≡ text_for (map string_bytes words.now) }
+/// The text that an option behind a subcommand asks for.
+fn text_behind(name: &str, word: &str) -> Option<&'static str>
+    ensures { option_map (λ text. text.now) result ≡ text_behind name.now word.now }
 {
-    let [word] = words else {
-        return None;
-    };
-    text_of(word.as_str())
+    match word {
+        "--help" | "-h" => subcommand_text(name),
+        _ => None,
+    }
 }
 
-/// Answers the words of a command line, and gives the status to end with.
-pub fn run<O: Write, E: Write>(words: &[String], out: &mut O, err: &mut E) -> u8
-    ensures says { Says (map string_bytes words.now) (O.contents out.old) (O.contents out.new) (E.contents err.old) (E.contents err.new) result
-        ⊎ SaysPart (map string_bytes words.now) (O.contents out.old) (O.contents out.new) (E.contents err.old) (E.contents err.new) result }
-
-    // The stream that is not meant stays as it is, also where the other fails.
-    ensures silent { MatchOption (text_for (map string_bytes words.now)) (O.contents out.new ≡ O.contents out.old) (λ _. E.contents err.new ≡ E.contents err.old) }
+/// What there is to know of a subcommand.
+pub fn subcommand_text(name: &str) -> Option<&'static str>
+    ensures { option_map (λ text. text.now) result ≡ subcommand_text name.now }
 {
-    let (said, status) = match text_for(words) {
-        Some(text) => (say(out, text), DONE),
-        None => (say(err, HELP), USAGE),
-    };
-    match said {
-        Ok(()) => status,
-        Err(WriteFault) => DEVICE,
+    match name {
+        "init" => Some(INIT),
+        "enrol" => Some(ENROL),
+        "start" => Some(START),
+        "pair" => Some(PAIR),
+        "result" => Some(RESULT),
+        "correct" => Some(CORRECT),
+        "drop" => Some(DROP),
+        "cut" => Some(CUT),
+        "playoff" => Some(PLAYOFF),
+        "standings" => Some(STANDINGS),
+        "players" => Some(PLAYERS),
+        "slips" => Some(SLIPS),
+        "bracket" => Some(BRACKET),
+        _ => None,
+    }
+}
+
+/// The text that the words ask for: an option alone, or `--help` behind a subcommand.
+pub fn text_for(words: &[String]) -> Option<&'static str>
+    ensures { option_map (λ text. text.now) result ≡ text_for (map string_bytes words.now) }
+{
+    match words {
+        [word] => option_text(word.as_str()),
+        [name, word] => text_behind(name.as_str(), word.as_str()),
+        _ => None,
     }
 }

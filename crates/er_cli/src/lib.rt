@@ -1,34 +1,52 @@
-//! Scripts over one event: reads their lines, runs them and prints the answers.
+//! Command lines over the file of an event, and scripts over one in memory: reads their words, does what they ask and prints the answers.
 #![tactic(auto)]
 
-ghost use Rattle.std.specs.Prelude.{◌≡◌, ◌⊎◌, IfOk, OnErr};
+ghost use Rattle.std.specs.Prelude.{◌≡◌, ◌⊎◌, IfOk, IfSome, OnOk, OnErr, None, map, string_bytes};
 ghost use Rattle.std.specs.Io.KnownBytes.{Appends};
 ghost use Rattle.er_cli.specs.Texts.{answer_text, AppendsPart};
+ghost use Rattle.er_cli.specs.Help.{Says, Tells, refusal_status, text_for};
+ghost use Rattle.er_cli.specs.Line.{line_of};
 ghost use Rattle.er_cli.specs.Status.{Ends, EndsUnread, UnreadPart, Breaks};
 
+mod action;
+mod answers;
+mod complaints;
+mod fields;
+mod files;
 mod help;
 mod input;
+mod line;
+mod paths;
 mod script;
-mod session;
 mod setup;
 mod texts;
+mod usage;
+mod values;
 mod words;
 
+pub use action::{Action, Request};
+use complaints::complain;
 use er_event::Refusal;
-pub use help::run;
+use files::answer_line;
+use help::{say, text_for};
 use input::{InputFault, lines_of, read_script};
+pub use line::{Line, LineFault, read_words};
+pub use paths::FilePath;
 use script::run_lines;
 use std::alloc::Global;
 use std::io::{Read, Write};
 use texts::{Answer, WriteFault, flush, print_answer};
+pub use usage::{UsageFault, usage_of};
 
-/// The script was run to its end, whatever its lines were answered.
+/// It was done; of a script, to its end, whatever its lines were answered.
 const DONE: u8 = 0;
-/// The script is too long, and nothing of it was run.
+/// The command was refused.
+const REFUSED: u8 = 1;
+/// The words are no command line, or the script is too long. Nothing was run.
 const USAGE: u8 = 2;
-/// A read or a write failed.
+/// A read or a write failed, or the store of the event.
 const DEVICE: u8 = 3;
-/// There was no memory to read the script.
+/// There was no memory.
 const MEMORY: u8 = 4;
 
 /// Prints why a script is not run, and gives the status to end with.
@@ -79,6 +97,83 @@ pub fn run_script<R: Read, W: Write>(rt: &HostRuntime, reader: &mut R, writer: &
     match flush(writer) {
         Ok(()) => status,
         Err(WriteFault) => DEVICE,
+    }
+}
+
+/// The status that comes with a refusal.
+fn refusal_status(why: &Refusal) -> u8
+    ensures { result ≡ refusal_status why.now }
+{
+    match why.number() {
+        24 => MEMORY,
+        25 | 26 => DEVICE,
+        _ => REFUSED,
+    }
+}
+
+/// Prints the only answer of a command line, and has the writer pass it on.
+fn print_last<W: Write>(writer: &mut W, answer: &Answer) -> Result<(), WriteFault>
+    ensures sent { OnOk result (Appends (W.contents writer.old) (W.contents writer.new) (answer_text answer.now)) }
+    ensures part { OnErr result (AppendsPart (W.contents writer.old) (W.contents writer.new) (answer_text answer.now)) }
+{
+    print_answer(writer, answer)?;
+    flush(writer)
+}
+
+/// Prints an answer to the stream that it goes to: a refusal to the errors. Gives the status that comes with it.
+fn tell<O: Write, E: Write>(out: &mut O, err: &mut E, answer: &Answer) -> u8
+    ensures { Tells answer.now (O.contents out.old) (O.contents out.new) (E.contents err.old) (E.contents err.new) result }
+{
+    let (told, status) = match answer {
+        Answer::Accepted(_) | Answer::Text(_) => (print_last(out, answer), DONE),
+        Answer::Refused(why) => (print_last(err, answer), refusal_status(why)),
+        Answer::Usage => (print_last(err, answer), USAGE),
+    };
+    match told {
+        Ok(()) => status,
+        Err(WriteFault) => DEVICE,
+    }
+}
+
+/// Says a text on the one stream, and gives the status that comes with it.
+fn say_all<W: Write>(writer: &mut W, text: &str, due: u8) -> u8
+    ensures { ((result ≡ due) × Appends (W.contents writer.old) (W.contents writer.new) text.now)
+        ⊎ ((result ≡ DEVICE) × AppendsPart (W.contents writer.old) (W.contents writer.new) text.now) }
+{
+    match say(writer, text) {
+        Ok(()) => due,
+        Err(WriteFault) => DEVICE,
+    }
+}
+
+/// Says which of the words was not understood, and gives the status that comes with it.
+fn say_usage<E: Write>(err: &mut E, words: &[String]) -> u8
+    ensures { (result ≡ USAGE) ⊎ (result ≡ DEVICE) }
+{
+    match complain(err, words) {
+        Ok(()) => USAGE,
+        Err(WriteFault) => DEVICE,
+    }
+}
+
+/// Does what the words of a command line ask, and gives the status to end with. The event's file is opened, asked and closed again.
+pub fn run<O: Write, E: Write>(rt: &HostRuntime, words: &[String], out: &mut O, err: &mut E) -> u8
+    // A text that the words ask for goes to the output.
+    ensures asked { IfSome (text_for (map string_bytes words.now)) (λ text. Says text DONE (record { meant = O.contents out.old; other = E.contents err.old }) (record { meant = O.contents out.new; other = E.contents err.new }) result) }
+    // What is no command line leaves the output as it is.
+    ensures unread { text_for (map string_bytes words.now) ≡ None → line_of (map string_bytes words.now) ≡ None
+        → (O.contents out.new ≡ O.contents out.old) × ((result ≡ USAGE) ⊎ (result ≡ DEVICE) ⊎ (result ≡ MEMORY)) }
+    // What is one is answered, with the status of that answer.
+    ensures answered { text_for (map string_bytes words.now) ≡ None → IfSome (line_of (map string_bytes words.now))
+        (λ line. (answer : Answer) × Tells answer (O.contents out.old) (O.contents out.new) (E.contents err.old) (E.contents err.new) result) }
+{
+    if let Some(text) = text_for(words) {
+        return say_all(out, text, DONE);
+    }
+    match read_words(rt.alloc(), words) {
+        Ok(line) => tell(out, err, &answer_line(rt, line)),
+        Err(LineFault::Usage) => say_usage(err, words),
+        Err(LineFault::Memory) => tell(out, err, &Answer::Refused(Refusal::Memory)),
     }
 }
 

@@ -1,6 +1,6 @@
 ghost use Rattle.std.specs.Prelude.{◌≡◌, ◌⊎◌, IfOk, IfErr, IsTrue, IsFalse};
 ghost use Rattle.er_event.specs.Name.{is_lawful_name};
-ghost use Rattle.er_event.specs.Change.{created};
+ghost use Rattle.er_desk.specs.Desk.{AreLimits};
 ghost use Rattle.er_cli.specs.Setup.{is_setup};
 
 use er_event::{Event, Name, NameFault, Refusal};
@@ -17,11 +17,13 @@ fn read_name(alloc: Global, name: &[u8]) -> Result<Name, Refusal>
     }
 }
 
-/// An event as it is set up.
-pub fn set_up(alloc: Global, name: &[u8], rounds: u8, cut: u8) -> Result<Event, Refusal>
-    ensures ok { IfOk result (λ event. (event ≡ created name.now rounds cut) × IsTrue (is_setup name.now rounds cut)) }
+/// The name of an event, where it may be set up so. This is checked before any file is touched.
+pub fn set_up(alloc: Global, name: &[u8], rounds: u8, cut: u8) -> Result<Name, Refusal>
+    ensures ok { IfOk result (λ read. (read ≡ name.now) × IsTrue (is_setup name.now rounds cut)) }
+    ensures within { IfOk result (λ _. AreLimits rounds cut) }
     ensures refused { IfErr result (λ why. (why ≡ Refusal.Memory) ⊎ ((why ≡ Refusal.BadSetup) × IsFalse (is_setup name.now rounds cut))) }
 {
-    let name = read_name(alloc, name)?;
-    Event::create(alloc, name, rounds, cut)
+    // The limits are the event's own.
+    Event::create(alloc, read_name(alloc, name)?, rounds, cut)?;
+    read_name(alloc, name)
 }

@@ -9,3 +9,4 @@ pub mod Differing
 pub mod Sound
 pub mod Once
 pub mod Examples
+pub mod Searching

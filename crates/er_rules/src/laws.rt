@@ -1,12 +1,13 @@
 //! Laws of the step, over the definitions alone. A law is a function with no code, whose contract is the law.
 
-ghost use Rattle.std.specs.Prelude.{◌≡◌, Result, Ok};
+ghost use Rattle.std.specs.Prelude.{◌≡◌, ℕ, Result, Ok, Err};
 ghost use Rattle.er_event.specs.declared.refusals.Command.{Command};
 ghost use Rattle.er_event.specs.declared.refusals.Refusal.{Refusal};
+ghost use Rattle.er_event.specs.declared.refusals.Refusal.TheVariants.{Budget};
 ghost use Rattle.er_event.specs.Event.{EventValue};
 ghost use Rattle.er_event.specs.Sound.{IsSoundButForSeeds};
 ghost use Rattle.er_rules.specs.Sound.{IsSound};
-ghost use Rattle.er_rules.specs.Step.{Steps};
+ghost use Rattle.er_rules.specs.Step.{Steps, Answers, NeedsMoreSteps};
 
 /// A command does one thing to a sound event: it is taken with one event after it, or refused in one way.
 pub fn one_step()
@@ -16,4 +17,9 @@ pub fn one_step()
 /// The step keeps an event sound, its seeds too.
 pub fn step_keeps_sound()
     ensures { (event next : EventValue) (command : Command) → IsSound event → Steps event command (Ok next) → IsSound next }
+{}
+
+/// `Budget` is answered only where the search for a round needs more than its steps.
+pub fn budget_searches()
+    ensures { (event : EventValue) (command : Command) (steps : ℕ) → Answers event command (Err (Budget steps)) → NeedsMoreSteps event command }
 {}

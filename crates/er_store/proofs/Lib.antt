@@ -27,3 +27,4 @@ pub mod Loaded
 pub mod Selecting
 pub mod Committed
 pub mod Damaging
+pub mod Reopening

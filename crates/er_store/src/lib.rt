@@ -5,6 +5,7 @@ ghost use Rattle.std.specs.Prelude.{◌≡◌, false};
 
 mod creation;
 mod faults;
+pub mod laws;
 mod loading;
 mod reading;
 mod rows;
@@ -37,6 +38,7 @@ impl<S: Alter> Store<S> {
     ghost use Rattle.er_event.specs.Event.{EventValue};
     ghost use Rattle.er_event.specs.Sound.{IsSoundButForSeeds};
     ghost use Rattle.er_event.specs.Change.{after, Fits};
+    ghost use Rattle.er_event.specs.Parts.{parts_of};
     ghost use Rattle.er_store.specs.Tables.{no_schema};
     ghost use Rattle.er_store.specs.Standing.{HasTables, AreKeyed, StandsFor, IsNew, IsStored, Shows, Leaves, Either, KeepsOthers, CanRead, ReadsEvent};
     ghost use Rattle.er_store.specs.Store as store;
@@ -44,7 +46,7 @@ impl<S: Alter> Store<S> {
     ghost use Rattle.er_store.specs.Fault.{IsFault, IsLoadFault, FaultOrDamage};
     ghost use Rattle.er_store.specs.Loading.{ShowsEvent};
     ghost use Rattle.er_store.specs.Reading.{KeepsTables};
-    ghost use Rattle.er_store.specs.Damage.{IsAtFault, IfDamaged};
+    ghost use Rattle.er_store.specs.Damage.{ReadsParts, IsAtFault, IfDamaged};
 
     /// Makes the tables of a new event, with serial 0. A refusal gives the connection back.
     pub fn create(
@@ -93,6 +95,7 @@ impl<S: Alter> Store<S> {
 
         ensures ready { IfOk result (λ it. IsFalse (is_stopped it.0)) }
         ensures low { IfOk result (λ it. it.2 ≤ MAX_SERIAL) }
+        ensures clean { MatchResult result (λ it. HasCleanDisk (store.state S.Store it.0) → HasCleanDisk (state S.Store conn)) (λ r. HasCleanDisk (state S.Store r.0) → HasCleanDisk (state S.Store conn)) }
 
         // Where the tables stand for a sound event, it is found, or memory or the store fails.
         ensures found { (e : EventValue) (s : ℕ) → StandsFor (state S.Store conn).now e s → IsSoundButForSeeds e
@@ -103,6 +106,7 @@ impl<S: Alter> Store<S> {
         // Whatever the tables hold, what is found is what they show.
         ensures shows { IfOk result (λ it. HasCleanDisk (store.state S.Store it.0) → HasTables (state S.Store conn).now.schema
             → ShowsEvent (state S.Store conn).now it.1 it.2) }
+        ensures reads { IfOk result (λ it. HasCleanDisk (store.state S.Store it.0) → ReadsParts (state S.Store conn).now (parts_of it.1 it.2)) }
 
         // Where the tables are ours, they stand for what is found, and a change can be written to them.
         ensures stands { IfOk result (λ it. HasCleanDisk (store.state S.Store it.0) → HasTables (state S.Store conn).now.schema → AreKeyed (state S.Store conn).now
@@ -111,6 +115,8 @@ impl<S: Alter> Store<S> {
         ensures why { IfErr result (λ r. (r.1 ≡ Refusal.NoEvent) ⊎ IsLoadFault r.1) }
         ensures no_event { IfErr result (λ r. r.1 ≡ Refusal.NoEvent → HasCleanDisk (state S.Store r.0) → ReadsEvent (state S.Store conn).now.schema → ⊥) }
         ensures first { IfErr result (λ r. HasCleanDisk (state S.Store r.0) → IfDamaged (IsAtFault (state S.Store conn).now) r.1) }
+        // A damaged table is named only where the event's rows can be read.
+        ensures readable { IfErr result (λ r. HasCleanDisk (state S.Store r.0) → IfDamaged (λ _. ReadsEvent (state S.Store conn).now.schema) r.1) }
         ensures mode { IfErr result (λ r. r.0.in_transaction ≡ false) }
 
         // Whatever the schema is, nothing is written.
@@ -186,8 +192,9 @@ impl<S: Alter> Store<S> {
         // Whatever the tables hold, what is found is what they show.
         ensures shows { HasCleanDisk (store.state S.Store self.new) → HasTables (store.state S.Store self.old).now.schema
             → IfOk result (λ it. ShowsEvent (store.state S.Store self.old).now it.0 it.1) }
+        ensures reads { HasCleanDisk (store.state S.Store self.new) → IfOk result (λ it. ReadsParts (store.state S.Store self.old).now (parts_of it.0 it.1)) }
 
-        // A damaged table that is named is the first at fault.
+        // A damaged table that is named is the first at fault. So it is the event's where the event's rows can't be read, which `adopt` answers by `NoEvent`.
         ensures first { HasCleanDisk (store.state S.Store self.new) → IfErr result (IfDamaged (IsAtFault (store.state S.Store self.old).now)) }
 
         // Where the tables are ours, they stand for what is found, and a change can be written to them.

@@ -99,6 +99,7 @@ pub fn load_tables<S: Alter>(
     ensures found { HasCleanDisk (state S.Store conn.new) → (e : EventValue) (s : ℕ) → StandsFor (state S.Store conn.old).now e s → IsSoundButForSeeds e
         → MatchResult result (λ it. (it.0 ≡ e) × (it.1 ≡ s)) IsFault }
     ensures fault { IfErr result IsLoadFault }
+    ensures reads { HasCleanDisk (state S.Store conn.new) → IfOk result (λ it. ReadsParts (state S.Store conn.old).now (parts_of it.0 it.1)) }
     ensures first { HasCleanDisk (state S.Store conn.new) → IfErr result (IfDamaged (IsAtFault (state S.Store conn.old).now)) }
     ensures same { HasCleanDisk (state S.Store conn.new) → OnOk result (IsUnchanged (state S.Store conn.old) (state S.Store conn.new)) }
     ensures kept { HasCleanDisk (state S.Store conn.new) → OnErr result (KeepsTables (state S.Store conn.old) (state S.Store conn.new)) }

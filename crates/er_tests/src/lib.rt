@@ -5,6 +5,8 @@
 #[cfg(test)]
 mod brackets;
 #[cfg(test)]
+mod desks;
+#[cfg(test)]
 mod events;
 #[cfg(test)]
 mod helpers;

@@ -20,7 +20,7 @@ fn a_text_is_flushed(rt: HostRuntime) -> Result<(), Fail> {
     let words = vec![in rt.alloc(); String::from_str(rt.alloc(), "--version")?]?;
     let mut out = BufWriter::new(rt.alloc(), Vec::new(rt.alloc()))?;
     let mut err = Vec::new(rt.alloc());
-    assert_eq!(rt; er_cli::run(words.as_slice(), &mut out, &mut err), 0);
+    assert_eq!(rt; er_cli::run(&rt, words.as_slice(), &mut out, &mut err), 0);
     assert_eq!(rt;
         out.get_ref().as_slice(),
         b"event_reporter 0.1.0\n".as_slice()

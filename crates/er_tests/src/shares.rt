@@ -24,7 +24,9 @@ fn match_win_percentages(rt: HostRuntime) -> Result<(), Fail> {
         );
         assert!(rt; share.is_base(), "{points} points in {rounds} rounds");
     }
+    assert!(rt; MatchRecord::try_new(27, 9).is_some());
     assert_eq!(rt; MatchRecord::try_new(28, 9), None);
+    assert_eq!(rt; MatchRecord::try_new(0, 10), None);
     Ok(())
 }
 

@@ -1,22 +1,65 @@
-ghost use Rattle.std.specs.Prelude.{◌≡◌, ◌<◌, false, IfSome};
-ghost use Rattle.er_event.specs.Change.{Fits};
-ghost use Rattle.er_store.specs.Standing.{IsNew};
+//! What a desk leaves in the tables, and what it makes of tables that another program has changed. Each event is a text of commands, and each
+//! expectation a text of statements with what they show.
+ghost use Rattle.std.specs.Prelude.{◌≡◌, false, IfSome};
 
-mod rounds;
-mod stages;
-
-use crate::helpers::{drop, name, player, start};
-use er_event::{Cause, Change, Event, Place, Refusal};
+use crate::helpers::desk_after;
+use er_desk::Desk;
+use er_event::{Event, Place, Refusal};
 use er_store::Store;
 use sqlite::{Connection, MemStore};
 use std::alloc::Global;
 use std::test::Fail;
 
-fn open(alloc: Global) -> Option<Connection<MemStore>>
-    ensures { IfSome result (λ conn. conn.in_transaction ≡ false) }
-{
-    Connection::open_in_memory(alloc).ok()
-}
+/// Ana, Bo, Cy and Di; the first round is (4,2), (1,3).
+const FOUR: &str = "\
+enrol Ana
+enrol Bo
+enrol Cy
+enrol Di
+start
+pair 1
+";
+
+/// Both tables have won, and the second round is (4,1), (2,3).
+const TWO_ROUNDS: &str = "\
+enrol Ana
+enrol Bo
+enrol Cy
+enrol Di
+start
+pair 1
+result 1 1 2 0 0
+result 1 2 2 1 0
+pair 2
+";
+
+/// Ana, Bo and Cy: the first round is (2,1) and a bye for 3, the second (2,3) and a bye for 1.
+const THREE: &str = "\
+enrol Ana
+enrol Bo
+enrol Cy
+start
+pair 1
+result 1 1 2 0 0
+pair 2
+";
+
+/// The only round of six is (6,4), (2,1), (5,3). Player 2 drops, and the seeds are 5, 6, 1, 3.
+const CUT: &str = "\
+enrol P1
+enrol P2
+enrol P3
+enrol P4
+enrol P5
+enrol P6
+start
+pair 1
+result 1 1 2 0 0
+result 1 2 2 0 0
+result 1 3 2 0 0
+drop 2
+cut
+";
 
 fn text(conn: &mut Connection<MemStore>, sql: &str) -> Option<String> {
     conn.query_row(sql, &[]).ok()?.get(0).ok()
@@ -35,158 +78,14 @@ fn are_shown(conn: &mut Connection<MemStore>, rows: &str) -> bool {
     true
 }
 
-/// Whether this text is shown.
 fn shows(conn: &mut Connection<MemStore>, sql: &str, want: &str) -> bool {
     text(conn, sql).is_some_and(|text| text.as_str() == want)
 }
 
-/// Runs a statement of another program.
-fn run(conn: &mut Connection<MemStore>, sql: &str) -> bool {
-    conn.execute(sql, &[]).is_ok()
-}
-
-/// A new event named Friday.
-fn new_event(alloc: Global, rounds: u8, cut: u8) -> Option<Event>
-    ensures { IfSome result IsNew }
-{
-    Event::create(alloc, name(alloc, "Friday")?, rounds, cut).ok()
-}
-
-/// A new event of three rounds and no cut.
-fn friday(alloc: Global) -> Option<Event>
-    ensures { IfSome result IsNew }
-{
-    new_event(alloc, 3, 0)
-}
-
-type Made = Result<Store<MemStore>, (Connection<MemStore>, Refusal)>;
-
-fn create(conn: Connection<MemStore>, event: &Event) -> Made
-    requires mode { conn.in_transaction ≡ false }
-    requires fresh { IsNew event.now }
-{
-    Store::create(conn, event)
-}
-
-fn create_again(store: Store<MemStore>, event: &Event) -> Made
-    requires { IsNew event.now }
-{
-    create(store.into_connection(), event)
-}
-
-fn in_memory(alloc: Global, event: &Event) -> Option<Store<MemStore>>
-    requires { IsNew event.now }
-{
-    create(open(alloc)?, event).ok()
-}
-
-fn write(
-    store: &mut Store<MemStore>,
-    event: &Event,
-    change: &Change,
-    serial: u32,
-) -> Result<(), Refusal>
-    requires fits { Fits event.now change.now }
-    requires low { serial < 999999 }
-{
-    store.write(event, change, serial)
-}
-
-/// The answer to a change, if it fits.
-fn answer(
-    store: &mut Store<MemStore>,
-    event: &Event,
-    change: &Change,
-    serial: u32,
-) -> Option<Result<(), Refusal>>
-    requires { serial < 999999 }
-{
-    if event.fits(change) {
-        Some(write(store, event, change, serial))
-    } else {
-        None
-    }
-}
-
-/// Writes the change, and gives the event after it.
-fn advance(
-    alloc: Global,
-    store: &mut Store<MemStore>,
-    event: Event,
-    change: Change,
-    serial: u32,
-) -> Option<Event>
-    requires { serial < 999999 }
-{
-    if !event.fits(&change) {
-        return None;
-    }
-    if write(store, &event, &change, serial).is_err() {
-        return None;
-    }
-    event.apply(alloc, &change).ok()
-}
-
-fn enter(
-    alloc: Global,
-    store: &mut Store<MemStore>,
-    event: Event,
-    text: &str,
-    serial: u32,
-) -> Option<Event>
-    requires { serial < 999999 }
-{
-    let change = player(alloc, text)?;
-    advance(alloc, store, event, change, serial)
-}
-
-/// Ana is enrolled: one command.
-fn with_ana(alloc: Global) -> Option<(Store<MemStore>, Event)> {
-    let event = friday(alloc)?;
-    let mut store = in_memory(alloc, &event)?;
-    let event = enter(alloc, &mut store, event, "Ana", 0)?;
-    Some((store, event))
-}
-
-/// Ana and Bo play, and Bo has dropped: four commands.
-fn started(alloc: Global) -> Option<(Store<MemStore>, Event)> {
-    let (mut store, event) = with_ana(alloc)?;
-    let event = enter(alloc, &mut store, event, "Bo", 1)?;
-    let event = advance(alloc, &mut store, event, start(), 2)?;
-    let event = advance(alloc, &mut store, event, drop(2)?, 3)?;
-    Some((store, event))
-}
-
-type Adopted = Result<(Store<MemStore>, Event, u32), (Connection<MemStore>, Refusal)>;
-
-fn adopt(alloc: Global, conn: Connection<MemStore>) -> Adopted
-    requires { conn.in_transaction ≡ false }
-{
-    Store::adopt(alloc, conn)
-}
-
-fn damaged(table: Place) -> Option<Refusal> {
-    Some(Refusal::Damaged { table })
-}
-
-/// The refusal of the tables after these statements of another program, a line each.
-fn refusal_after(alloc: Global, store: Store<MemStore>, statements: &str) -> Option<Refusal> {
-    let mut conn = store.into_connection();
-    for sql in statements.lines() {
-        if !run(&mut conn, sql) {
-            return None;
-        }
-    }
-    if !conn.is_autocommit() {
-        return None;
-    }
-    Some(adopt(alloc, conn).err()?.1)
-}
-
-/// Whether a store was made whose tables show these texts.
-fn holds(made: Option<(Store<MemStore>, Event)>, rows: &str) -> bool {
-    match made {
-        Some((store, _)) => are_shown(&mut store.into_connection(), rows),
+/// Whether the tables show these texts.
+fn holds(desk: Option<Desk<MemStore>>, rows: &str) -> bool {
+    match desk {
+        Some(desk) => are_shown(&mut desk.close(), rows),
         None => false,
     }
 }
@@ -197,12 +96,6 @@ SELECT no || ' ' || name || ' ' || dropped FROM player -> 1 Ana 0
 SELECT (SELECT count(*) FROM event) || ' ' || (SELECT count(*) FROM player) || ' ' || (SELECT count(*) FROM pairing) || ' ' || (SELECT count(*) FROM bracket) -> 1 1 0 0
 ";
 
-#[test]
-fn a_player_is_written_with_the_serial(rt: HostRuntime) -> Result<(), Fail> {
-    assert!(rt; holds(with_ana(rt.alloc()), ANA));
-    Ok(())
-}
-
 const STARTED: &str = "\
 SELECT serial || ' ' || phase FROM event -> 4 1
 SELECT no || ' ' || name || ' ' || dropped FROM player WHERE no = 1 -> 1 Ana 0
@@ -210,8 +103,11 @@ SELECT no || ' ' || name || ' ' || dropped FROM player WHERE no = 2 -> 2 Bo 1
 ";
 
 #[test]
-fn a_phase_and_a_drop_are_written(rt: HostRuntime) -> Result<(), Fail> {
-    assert!(rt; holds(started(rt.alloc()), STARTED));
+fn players_phase_and_drops_are_written(rt: HostRuntime) -> Result<(), Fail> {
+    let alloc = rt.alloc();
+    assert!(rt; holds(desk_after(alloc, 3, 0, "enrol Ana"), ANA));
+    let started = desk_after(alloc, 3, 0, "enrol Ana\nenrol Bo\nstart\ndrop 2");
+    assert!(rt; holds(started, STARTED));
     Ok(())
 }
 
@@ -226,83 +122,76 @@ SELECT '' || (SELECT count(*) FROM sqlite_schema WHERE type = 'table') -> 4
 
 #[test]
 fn the_schema_is_that_of_the_format(rt: HostRuntime) -> Result<(), Fail> {
-    assert!(rt; holds(with_ana(rt.alloc()), SCHEMA));
+    assert!(rt; holds(desk_after(rt.alloc(), 3, 0, ""), SCHEMA));
     Ok(())
 }
 
-/// The refusal to make another event in these tables, if they still show these texts.
-fn refused_again(alloc: Global, store: Store<MemStore>, rows: &str) -> Option<Refusal> {
-    let (mut conn, why) = create_again(store, &friday(alloc)?).err()?;
-    are_shown(&mut conn, rows).then_some(why)
-}
-
-fn refused_over_ana(alloc: Global) -> Option<Refusal> {
-    let (store, _) = with_ana(alloc)?;
-    refused_again(alloc, store, ANA)
-}
-
-#[test]
-fn a_file_with_an_event_is_left_as_it_is(rt: HostRuntime) -> Result<(), Fail> {
-    assert_eq!(rt; refused_over_ana(rt.alloc()), Some(Refusal::EventExists));
-    Ok(())
-}
-
-const REFUSED: Refusal = Refusal::Store {
-    cause: Cause::Refused,
-};
-
-/// The answers to Ana, to Ana again and to Bo, of an event that takes no heed of the first. A name that is there breaks a rule of the table:
-/// the event and the tables disagree.
-fn answers_to_ana_twice(alloc: Global) -> Option<[Result<(), Refusal>; 3]> {
-    let event = friday(alloc)?;
-    let mut store = in_memory(alloc, &event)?;
-    let (ana, bo) = (player(alloc, "Ana")?, player(alloc, "Bo")?);
-    let first = answer(&mut store, &event, &ana, 0)?;
-    let again = answer(&mut store, &event, &ana, 1)?;
-    let after = answer(&mut store, &event, &bo, 1)?;
-    are_shown(&mut store.into_connection(), ANA).then_some([first, again, after])
-}
-
-/// After a fault each call is refused, and nothing of the change at fault is written.
-#[test]
-fn a_fault_stops_the_store(rt: HostRuntime) -> Result<(), Fail> {
-    let answers = Some([Ok(()), Err(REFUSED), Err(Refusal::NeedsReopen)]);
-    assert_eq!(rt; answers_to_ana_twice(rt.alloc()), answers);
-    Ok(())
-}
-
-fn with_note(alloc: Global) -> Option<Connection<MemStore>>
-    ensures { IfSome result (λ conn. conn.in_transaction ≡ false) }
-{
-    let mut conn = open(alloc)?;
-    let is_made = run(
-        &mut conn,
-        "CREATE TABLE note(id INTEGER PRIMARY KEY, body TEXT)",
-    ) && run(&mut conn, "INSERT INTO note VALUES (7, 'chairs')");
-    if is_made && conn.is_autocommit() {
-        Some(conn)
-    } else {
-        None
-    }
-}
-
-/// Ana is enrolled in a file that has a table of another program in front.
-fn beside_note(alloc: Global) -> Option<(Store<MemStore>, Event)> {
-    let event = friday(alloc)?;
-    let mut store = create(with_note(alloc)?, &event).ok()?;
-    let event = enter(alloc, &mut store, event, "Ana", 0)?;
-    Some((store, event))
-}
-
-const NOTE: &str = "\
-SELECT id || body FROM note -> 7chairs
-SELECT name FROM player -> Ana
+/// The first-named player of table 1 has the greater number, and of table 2 the smaller.
+const PAIRED: &str = "\
+SELECT serial || ' ' || (SELECT count(*) FROM pairing) FROM event -> 6 2
+SELECT round || ' ' || tab || ' ' || lo || ' ' || hi || ' ' || swapped || ' ' || done || ' ' || x || y || d FROM pairing WHERE tab = 1 -> 1 1 2 4 1 0 000
+SELECT round || ' ' || tab || ' ' || lo || ' ' || hi || ' ' || swapped || ' ' || done || ' ' || x || y || d FROM pairing WHERE tab = 2 -> 1 2 1 3 0 0 000
 ";
 
-/// Tables of others stay.
+const CORRECTED: &str = "\
+SELECT serial || ' ' || (SELECT count(*) FROM pairing) FROM event -> 9 2
+SELECT round || ' ' || tab || ' ' || lo || ' ' || hi || ' ' || swapped || ' ' || done || ' ' || x || y || d FROM pairing WHERE tab = 1 -> 1 1 2 4 1 1 120
+SELECT round || ' ' || tab || ' ' || lo || ' ' || hi || ' ' || swapped || ' ' || done || ' ' || x || y || d FROM pairing WHERE tab = 2 -> 1 2 1 3 0 1 021
+";
+
+const BYE: &str = "\
+SELECT round || ' ' || tab || ' ' || lo || ' ' || hi || ' ' || swapped || ' ' || done || ' ' || x || y || d FROM pairing WHERE lo = 0 AND round = 1 -> 1 0 0 3 1 1 200
+SELECT round || ' ' || tab || ' ' || lo || ' ' || hi || ' ' || swapped || ' ' || done || ' ' || x || y || d FROM pairing WHERE lo = 0 AND round = 2 -> 2 0 0 1 1 1 200
+SELECT round || ' ' || tab || ' ' || lo || ' ' || hi || ' ' || swapped || ' ' || done || ' ' || x || y || d FROM pairing WHERE round = 1 AND tab = 1 -> 1 1 1 2 1 1 200
+";
+
 #[test]
-fn other_tables_stay(rt: HostRuntime) -> Result<(), Fail> {
-    assert!(rt; holds(beside_note(rt.alloc()), NOTE));
+fn rounds_and_scores_are_written(rt: HostRuntime) -> Result<(), Fail> {
+    let alloc = rt.alloc();
+    assert!(rt; holds(desk_after(alloc, 3, 0, FOUR), PAIRED));
+    let corrected = format!(in alloc;
+        "{FOUR}result 1 1 1 2 0\nresult 1 2 2 1 0\ncorrect 1 2 0 2 1"
+    );
+    assert!(rt; holds(desk_after(alloc, 3, 0, corrected?.as_str()), CORRECTED));
+    assert!(rt; holds(desk_after(alloc, 4, 0, THREE), BYE));
+    Ok(())
+}
+
+const BEGUN: &str = "\
+SELECT serial || ' ' || phase || ' ' || (SELECT count(*) FROM bracket) FROM event -> 13 2 2
+SELECT stage || ' ' || slot || ' ' || a || ' ' || b || ' ' || done || ' ' || x || y || d FROM bracket WHERE slot = 1 -> 1 1 5 3 0 000
+SELECT stage || ' ' || slot || ' ' || a || ' ' || b || ' ' || done || ' ' || x || y || d FROM bracket WHERE slot = 2 -> 1 2 6 1 0 000
+";
+
+const BEFORE_FINAL: &str = "\
+SELECT serial || ' ' || phase || ' ' || (SELECT count(*) FROM bracket) FROM event -> 15 2 3
+SELECT stage || ' ' || slot || ' ' || a || ' ' || b || ' ' || done || ' ' || x || y || d FROM bracket WHERE stage = 1 AND slot = 1 -> 1 1 5 3 1 200
+SELECT stage || ' ' || slot || ' ' || a || ' ' || b || ' ' || done || ' ' || x || y || d FROM bracket WHERE stage = 1 AND slot = 2 -> 1 2 6 1 1 120
+SELECT stage || ' ' || slot || ' ' || a || ' ' || b || ' ' || done || ' ' || x || y || d FROM bracket WHERE stage = 2 -> 2 1 5 1 0 000
+";
+
+const FINISHED: &str = "\
+SELECT serial || ' ' || phase || ' ' || (SELECT count(*) FROM bracket) FROM event -> 16 3 3
+SELECT stage || ' ' || slot || ' ' || a || ' ' || b || ' ' || done || ' ' || x || y || d FROM bracket WHERE stage = 2 -> 2 1 5 1 1 020
+";
+
+/// The event of the cut, with more commands.
+fn playoff(alloc: Global, more: &str) -> Option<Desk<MemStore>> {
+    let commands = format!(in alloc; "{CUT}{more}").ok()?;
+    desk_after(alloc, 1, 4, commands.as_str())
+}
+
+const SEMIFINALS: &str = "playoff 1 1 2 0 0\nplayoff 1 2 1 2 0\n";
+
+const ALL_OF_IT: &str = "playoff 1 1 2 0 0\nplayoff 1 2 1 2 0\nplayoff 2 1 0 2 0\n";
+
+/// The cut, the stage with the score before it, and the last phase with the final.
+#[test]
+fn stages_are_written(rt: HostRuntime) -> Result<(), Fail> {
+    let alloc = rt.alloc();
+    assert!(rt; holds(playoff(alloc, ""), BEGUN));
+    assert!(rt; holds(playoff(alloc, SEMIFINALS), BEFORE_FINAL));
+    assert!(rt; holds(playoff(alloc, ALL_OF_IT), FINISHED));
     Ok(())
 }
 
@@ -342,26 +231,93 @@ fn are_same(one: &Event, other: &Event) -> bool {
         && have_same_stages(one, other)
 }
 
-/// The serial that a load finds with just this event, and a store over the same tables too.
-fn serial_read(alloc: Global, made: Option<(Store<MemStore>, Event)>) -> Option<u32> {
-    let (mut store, event) = made?;
+type Adopted = Result<(Store<MemStore>, Event, u32), (Connection<MemStore>, Refusal)>;
+
+fn adopt(alloc: Global, conn: Connection<MemStore>) -> Adopted
+    requires { conn.in_transaction ≡ false }
+{
+    Store::adopt(alloc, conn)
+}
+
+/// The serial that a store and a load of it find with just the desk's event.
+fn serial_read(alloc: Global, desk: Option<Desk<MemStore>>) -> Option<u32> {
+    let desk = desk?;
+    let event = desk.event().ok()?.copy(alloc).ok()?;
+    let (mut store, found, at) = adopt(alloc, desk.close()).ok()?;
     let (read, serial) = store.load(alloc).ok()?;
-    let (_, found, at) = adopt(alloc, store.into_connection()).ok()?;
     let is_same = are_same(&read, &event) && are_same(&found, &event) && serial == at;
     is_same.then_some(serial)
 }
 
 #[test]
 fn the_event_is_read_back(rt: HostRuntime) -> Result<(), Fail> {
-    assert_eq!(rt; serial_read(rt.alloc(), with_ana(rt.alloc())), Some(1));
-    assert_eq!(rt; serial_read(rt.alloc(), started(rt.alloc())), Some(4));
+    let alloc = rt.alloc();
+    let serials = [
+        serial_read(alloc, desk_after(alloc, 3, 0, "")),
+        serial_read(
+            alloc,
+            desk_after(alloc, 3, 0, "enrol Ana\nenrol Bo\nstart\ndrop 2"),
+        ),
+        serial_read(alloc, desk_after(alloc, 3, 0, TWO_ROUNDS)),
+        serial_read(alloc, desk_after(alloc, 4, 0, THREE)),
+        serial_read(alloc, playoff(alloc, "")),
+        serial_read(alloc, playoff(alloc, SEMIFINALS)),
+        serial_read(alloc, playoff(alloc, ALL_OF_IT)),
+    ];
+    let wanted = [0, 4, 9, 7, 13, 15, 16];
+    assert_eq!(rt; serials, wanted.map(Some));
     Ok(())
 }
 
-/// The refusal of Ana's and Bo's tables after these statements of another program.
-fn refused_after(alloc: Global, statements: &str) -> Option<Refusal> {
-    let (store, _) = started(alloc)?;
-    refusal_after(alloc, store, statements)
+/// The tables after these statements of another program, a line each.
+fn tables_after(desk: Option<Desk<MemStore>>, statements: &str) -> Option<Connection<MemStore>>
+    ensures { IfSome result (λ conn. conn.in_transaction ≡ false) }
+{
+    let mut conn = desk?.close();
+    let are_run = statements.lines().all(|sql| conn.execute(sql, &[]).is_ok());
+    if are_run && conn.is_autocommit() {
+        Some(conn)
+    } else {
+        None
+    }
+}
+
+/// The refusal to adopt the tables.
+fn refused(alloc: Global, conn: Option<Connection<MemStore>>) -> Option<Refusal>
+    requires { IfSome conn (λ conn. conn.in_transaction ≡ false) }
+{
+    Some(adopt(alloc, conn?).err()?.1)
+}
+
+/// The refusal after these statements of another program.
+fn refused_after(
+    alloc: Global,
+    rounds: u8,
+    cut: u8,
+    commands: &str,
+    statements: &str,
+) -> Option<Refusal> {
+    refused(
+        alloc,
+        tables_after(desk_after(alloc, rounds, cut, commands), statements),
+    )
+}
+
+/// Whether the tables are refused as damage of this table after each of these statements alone.
+fn are_damage(
+    alloc: Global,
+    rounds: u8,
+    cut: u8,
+    commands: &str,
+    statements: &str,
+    table: Place,
+) -> bool {
+    for sql in statements.lines() {
+        if refused_after(alloc, rounds, cut, commands, sql) != Some(Refusal::Damaged { table }) {
+            return false;
+        }
+    }
+    true
 }
 
 const BROKEN_EVENTS: &str = "\
@@ -402,29 +358,175 @@ UPDATE event SET phase = 0
 DROP TABLE player
 ";
 
+const DROPPED: &str = "enrol Ana\nenrol Bo\nstart\ndrop 2";
+
 /// The first table whose rows no event has is named. Without the table of the event there is none.
 #[test]
-fn broken_tables_are_damage(rt: HostRuntime) -> Result<(), Fail> {
+fn broken_events_and_players_are_damage(rt: HostRuntime) -> Result<(), Fail> {
     let alloc = rt.alloc();
-    for sql in BROKEN_EVENTS.lines() {
-        assert_eq!(rt;
-            refused_after(alloc, sql),
-            damaged(Place::EventTable),
-            "{sql}"
-        );
-    }
-    for sql in BROKEN_PLAYERS.lines() {
-        assert_eq!(rt;
-            refused_after(alloc, sql),
-            damaged(Place::PlayerTable),
-            "{sql}"
-        );
-    }
-    let no_pairings = refused_after(alloc, "DROP TABLE pairing");
-    assert_eq!(rt; no_pairings, damaged(Place::PairingTable));
-    let no_bracket = refused_after(alloc, "DROP TABLE bracket");
-    assert_eq!(rt; no_bracket, damaged(Place::BracketTable));
-    let no_event = refused_after(alloc, "DROP TABLE event");
+    assert!(rt; are_damage(alloc, 3, 0, DROPPED, BROKEN_EVENTS, Place::EventTable));
+    assert!(rt; are_damage(alloc, 3, 0, DROPPED, BROKEN_PLAYERS, Place::PlayerTable));
+    assert!(rt;
+        are_damage(
+            alloc,
+            3,
+            0,
+            DROPPED,
+            "DROP TABLE pairing",
+            Place::PairingTable
+        )
+    );
+    assert!(rt;
+        are_damage(
+            alloc,
+            3,
+            0,
+            DROPPED,
+            "DROP TABLE bracket",
+            Place::BracketTable
+        )
+    );
+    let no_event = refused_after(alloc, 3, 0, DROPPED, "DROP TABLE event");
     assert_eq!(rt; no_event, Some(Refusal::NoEvent));
+    Ok(())
+}
+
+const ROWS_OF_NO_MATCH: &str = "\
+UPDATE pairing SET swapped = 2 WHERE round = 2 AND tab = 1
+UPDATE pairing SET done = 2 WHERE round = 1 AND tab = 1
+UPDATE pairing SET x = 1 WHERE round = 2 AND tab = 1
+UPDATE pairing SET x = 3 WHERE round = 1 AND tab = 1
+UPDATE pairing SET y = 2 WHERE round = 1 AND tab = 2
+UPDATE pairing SET y = -1 WHERE round = 1 AND tab = 1
+UPDATE pairing SET d = 257 WHERE round = 1 AND tab = 1
+UPDATE pairing SET d = x'00' WHERE round = 2 AND tab = 1
+UPDATE pairing SET hi = 65540 WHERE round = 2 AND tab = 1
+";
+
+const ROWS_OUT_OF_PLACE: &str = "\
+DELETE FROM pairing WHERE round = 1 AND tab = 1
+DELETE FROM pairing WHERE round = 1
+UPDATE pairing SET round = 3 WHERE round = 2
+UPDATE pairing SET round = 0 WHERE round = 2
+UPDATE pairing SET tab = 3 WHERE round = 2 AND tab = 2
+UPDATE pairing SET tab = -1 WHERE round = 2 AND tab = 1
+UPDATE pairing SET tab = 0 WHERE round = 2 AND tab = 1
+";
+
+const UNLAWFUL_ROUNDS: &str = "\
+UPDATE pairing SET hi = 5 WHERE round = 2 AND tab = 1
+UPDATE pairing SET lo = 1, hi = 2 WHERE round = 2 AND tab = 2
+UPDATE pairing SET done = 0, x = 0, y = 0, d = 0 WHERE round = 1 AND tab = 1
+UPDATE event SET rounds = 1
+UPDATE event SET phase = 0
+UPDATE event SET phase = 2
+";
+
+const UNLAWFUL_BYES: &str = "\
+UPDATE pairing SET tab = 3 WHERE round = 1 AND tab = 0
+UPDATE pairing SET swapped = 0 WHERE round = 2 AND tab = 0
+UPDATE pairing SET y = 1 WHERE tab = 0
+UPDATE pairing SET done = 0, x = 0 WHERE tab = 0
+";
+
+/// No match has such a row, or it is out of its place, or no lawful round has it.
+#[test]
+fn broken_rounds_are_damage(rt: HostRuntime) -> Result<(), Fail> {
+    let alloc = rt.alloc();
+    assert!(rt;
+        are_damage(
+            alloc,
+            3,
+            0,
+            TWO_ROUNDS,
+            ROWS_OF_NO_MATCH,
+            Place::PairingTable
+        )
+    );
+    assert!(rt;
+        are_damage(
+            alloc,
+            3,
+            0,
+            TWO_ROUNDS,
+            ROWS_OUT_OF_PLACE,
+            Place::PairingTable
+        )
+    );
+    assert!(rt;
+        are_damage(
+            alloc,
+            3,
+            0,
+            TWO_ROUNDS,
+            UNLAWFUL_ROUNDS,
+            Place::PairingTable
+        )
+    );
+    assert!(rt; are_damage(alloc, 4, 0, THREE, UNLAWFUL_BYES, Place::PairingTable));
+    Ok(())
+}
+
+const MET_AGAIN: &str = "\
+DROP TABLE pairing
+CREATE TABLE pairing(round INTEGER, tab INTEGER, lo INTEGER, hi INTEGER, swapped INTEGER, done INTEGER, x INTEGER, y INTEGER, d INTEGER)
+INSERT INTO pairing VALUES (1, 1, 2, 4, 0, 1, 2, 0, 0)
+INSERT INTO pairing VALUES (2, 1, 2, 4, 1, 0, 0, 0, 0)
+";
+
+const BYE_AGAIN: &str = "\
+DROP TABLE pairing
+CREATE TABLE pairing(round INTEGER, tab INTEGER, lo INTEGER, hi INTEGER, swapped INTEGER, done INTEGER, x INTEGER, y INTEGER, d INTEGER)
+INSERT INTO pairing VALUES (1, 0, 0, 1, 1, 1, 2, 0, 0)
+INSERT INTO pairing VALUES (2, 0, 0, 1, 1, 1, 2, 0, 0)
+";
+
+/// An opponent met again, and a second bye. The table's own rule forbids them, but another program may have made the table without it.
+#[test]
+fn a_pairing_again_is_damage(rt: HostRuntime) -> Result<(), Fail> {
+    let alloc = rt.alloc();
+    let damaged = Some(Refusal::Damaged {
+        table: Place::PairingTable,
+    });
+    assert_eq!(rt; refused_after(alloc, 3, 0, TWO_ROUNDS, MET_AGAIN), damaged);
+    assert_eq!(rt; refused_after(alloc, 3, 0, TWO_ROUNDS, BYE_AGAIN), damaged);
+    Ok(())
+}
+
+const BROKEN_BRACKETS: &str = "\
+DELETE FROM bracket
+DELETE FROM bracket WHERE stage = 2
+DELETE FROM bracket WHERE stage = 1 AND slot = 2
+UPDATE bracket SET stage = 3 WHERE stage = 2
+UPDATE bracket SET slot = 3 WHERE stage = 1 AND slot = 2
+UPDATE bracket SET a = 9 WHERE stage = 1 AND slot = 2
+UPDATE bracket SET b = 3 WHERE stage = 2
+UPDATE bracket SET done = 2 WHERE stage = 1 AND slot = 1
+UPDATE bracket SET x = 4 WHERE stage = 1 AND slot = 1
+UPDATE bracket SET y = 2 WHERE stage = 1 AND slot = 1
+UPDATE bracket SET d = 257 WHERE stage = 1 AND slot = 1
+UPDATE bracket SET d = x'00' WHERE stage = 2
+UPDATE bracket SET x = 1 WHERE stage = 2
+UPDATE event SET phase = 1
+UPDATE event SET phase = 3
+UPDATE event SET cut = 0
+UPDATE event SET cut = 2
+";
+
+/// No playoff has such a bracket.
+#[test]
+fn broken_brackets_are_damage(rt: HostRuntime) -> Result<(), Fail> {
+    let alloc = rt.alloc();
+    let before_final = format!(in alloc; "{CUT}{SEMIFINALS}")?;
+    assert!(rt;
+        are_damage(
+            alloc,
+            1,
+            4,
+            before_final.as_str(),
+            BROKEN_BRACKETS,
+            Place::BracketTable
+        )
+    );
     Ok(())
 }

@@ -1,4 +1,4 @@
-//! The scorekeeper's program: with no words it runs the script on standard input.
+//! The scorekeeper's program: it does what its words ask, and with no words runs the script on standard input.
 #![tactic(auto)]
 
 use std::process::ExitCode;
@@ -13,9 +13,9 @@ fn main(rt: HostRuntime) -> ExitCode {
     let (mut input, mut out, mut err) = (rt.stdin(), rt.stdout(), rt.stderr());
     let status = match words(&rt) {
         Ok(words) if words.is_empty() => er_cli::run_script(&rt, &mut input, &mut out),
-        Ok(words) => er_cli::run(&words, &mut out, &mut err),
+        Ok(words) => er_cli::run(&rt, &words, &mut out, &mut err),
         Err(error) if error.kind() == io::ErrorKind::OutOfMemory => er_cli::refuse_memory(&mut out),
-        Err(_not_text) => er_cli::run(&[], &mut out, &mut err),
+        Err(_not_text) => er_cli::run(&rt, &[], &mut out, &mut err),
     };
     ExitCode::from(status)
 }

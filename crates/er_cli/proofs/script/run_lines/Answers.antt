@@ -1,7 +1,7 @@
 use Rattle.std.proofs.Common.{map, List, [], ◌∷◌, ◌++◌, ℕ, ◌+◌, Bor}
 use Rattle.std.proofs.KnownBytes.{Appends-trans}
 use Rattle.std.proofs.lemmas.List.{take_all, take-map}
-use Rattle.er_cli.specs.Script.{PrintsPart, kept_of}
+use Rattle.er_cli.specs.Script.{PrintsPart, standing_of}
 use Rattle.er_cli.proofs.Sending.{part_after, err_is}
 use Rattle.er_cli.proofs.Runs.{Runs-push, printed-push, lines-push}
 use Rattle.er_cli.proofs.script.run_lines.Goals as goal
@@ -22,11 +22,11 @@ returns-in_err-print_answer-clause-part g c =
     let none : Bor (List ℕ) = record { ref_ptr = (0, 0); now = [] } in
     let runs = Runs-push _ so_far.0 _ _ _ _ answer so_far.1 c.answer-answer.ensures.answers in
     let printed = part_after _ _ _ _ _ so_far.2 c.in_err-print_answer.ensures.part in
-    let part : PrintsPart (map (λ (line : Bor (List ℕ)). line.now) c.args.lines.now) (g.W.Write.contents c.args.writer.now) (g.W.Write.contents c.print_answer.new.writer) = record { count = c.loop-line.line-index + 1; answers = so_far.0 ++ answer ∷ []; last = kept_of c.answer-answer.new.self.session; runs = rw (take-map (λ (line : Bor (List ℕ)). line.now) (c.loop-line.line-index + 1) c.args.lines.now, lines-push c.args.lines.now c.loop-line.line-index none c.loop-line-test.true) runs; printed = rw (printed-push so_far.0 answer) printed } in
+    let part : PrintsPart (map (λ (line : Bor (List ℕ)). line.now) c.args.lines.now) (g.W.Write.contents c.args.writer.now) (g.W.Write.contents c.print_answer.new.writer) = record { count = c.loop-line.line-index + 1; answers = so_far.0 ++ answer ∷ []; last = standing_of c.answer-answer.new.self.desk; runs = rw (take-map (λ (line : Bor (List ℕ)). line.now) (c.loop-line.line-index + 1) c.args.lines.now, lines-push c.args.lines.now c.loop-line.line-index none c.loop-line-test.true) runs; printed = rw (printed-push so_far.0 answer) printed } in
     err_is c.from_residual.result part
 
 pub returns-clause-whole : goal.returns-clause-whole
 returns-clause-whole g c =
     let so_far = c.loop-line.invariant in
     let all = take_all c.loop-line.line-index c.args.lines.now c.loop-line-test.false in
-    record { answers = so_far.0; last = kept_of c.loop-line.runner.session; runs = rw all at so_far.1; printed = so_far.2 }
+    record { answers = so_far.0; last = standing_of c.loop-line.runner.desk; runs = rw all at so_far.1; printed = so_far.2 }

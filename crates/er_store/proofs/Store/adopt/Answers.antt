@@ -12,7 +12,8 @@ use Rattle.er_store.proofs.Meaning.{Takes, event_selected}
 use Rattle.er_store.proofs.Effects.{at_ours}
 use Rattle.er_store.proofs.Crash.{shows_leaves}
 use Rattle.er_store.proofs.LoadLemmas.{kept_stands}
-use Rattle.er_store.specs.Damage.{IsAtFault}
+use Rattle.er_store.specs.Damage.{ReadsParts, IsAtFault}
+use Rattle.er_event.specs.Parts.{parts_of}
 use Rattle.er_store.proofs.Store.adopt.Goals as goal
 
 takes_ok : (n : ℕ) (sql : List ℕ) (r : Result Compiled CompileError) → Takes n sql r → IsOk r
@@ -62,3 +63,11 @@ pub returns-in-Err-load_tables-clause-first : goal.returns-in-Err-load_tables-cl
 returns-in-Err-load_tables-clause-first g c clean place is =
     let same = (c.in-Ok-true.ensures.found (c.in-Err-load_tables.ensures.clean clean)).1 in
     subst (λ (d : Database). IsAtFault d place) same.0.now_is (c.in-Err-load_tables.ensures.first clean place is)
+
+pub returns-in-Err-load_tables-clause-readable : goal.returns-in-Err-load_tables-clause-readable
+returns-in-Err-load_tables-clause-readable g c clean place is = (c.in-Ok-true.ensures.found (c.in-Err-load_tables.ensures.clean clean)).0.0 c.in-Ok-true.field-0-test
+
+pub returns-in-Ok-clause-reads : goal.returns-in-Ok-clause-reads
+returns-in-Ok-clause-reads g c clean =
+    let same = (c.in-Ok-true.ensures.found (c.in-Ok.ensures.clean clean)).1 in
+    subst (λ (d : Database). ReadsParts d (parts_of c.in-Ok.event c.in-Ok.serial)) same.0.now_is (c.in-Ok.ensures.reads clean)

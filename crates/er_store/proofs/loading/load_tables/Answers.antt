@@ -1,7 +1,7 @@
-use Rattle.std.proofs.Common.{◌≡◌, IsErrAnd, inl, inr, rules}
+use Rattle.std.proofs.Common.{◌≡◌, IsErrAnd, inl, inr, rules, subst}
 use Rattle.sqlite.specs.Held.{state}
 use Rattle.er_store.specs.Fault.{IsFault}
-use Rattle.er_store.specs.Damage.{IsAtFault, IfDamaged}
+use Rattle.er_store.specs.Damage.{ReadsParts, IsAtFault, IfDamaged}
 use Rattle.er_store.proofs.Damaging.{first_of}
 use Rattle.er_store.proofs.Together.{if_ok, if_err}
 use Rattle.er_store.proofs.LoadLemmas.{match_of, unchanged_keeps, all_ok, all_err, told}
@@ -42,3 +42,7 @@ returns-in_err-parts-clause-first g c clean =
 pub returns-clause-first : goal.returns-clause-first
 returns-clause-first g c clean =
     if_err c.event_of.result _ _ (λ why refused place h. inr (c.in_ok-parts.parts, c.in_ok-parts.ensures.reads clean, first_of c.in_ok-parts.parts why refused place h)) c.event_of.ensures.refused
+
+pub returns-clause-reads : goal.returns-clause-reads
+returns-clause-reads g c clean =
+    if_ok c.event_of.result _ _ (λ it read. subst (ReadsParts (state g.S.Store c.args.conn.now).now) read.0 (c.in_ok-parts.ensures.reads clean)) c.event_of.ensures.value

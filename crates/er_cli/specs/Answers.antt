@@ -1,0 +1,44 @@
+-- What a desk answers to a request.
+use Rattle.std.specs.Prelude.{◌≡◌, ◌⊎◌, ℕ, IsTrue, IsFalse, List, Option, Some, None, Ok, Err}
+use Rattle.er_event.specs.declared.refusals.Refusal.TheVariants.{Memory, NeedsReopen, NoSuchMatch}
+use Rattle.er_event.specs.Event.{EventValue}
+use Rattle.er_paper.specs.Texts.{players_text, IsStandingsText, pairings_text, bracket_text}
+use Rattle.er_desk.specs.Desk.{Standing, Turn}
+use Rattle.er_desk.specs.Reply.{Reply}
+use Rattle.er_cli.specs.declared.action.Request.{Request}
+use Rattle.er_cli.specs.declared.action.Request.TheVariants.{Submit, Players, Standings, Slips, Bracket}
+use Rattle.er_cli.specs.declared.texts.Answer.{Answer}
+use Rattle.er_cli.specs.declared.texts.Answer.TheVariants.{Accepted, Text, Refused}
+
+abbrev pub reply_answer : Reply → Answer
+reply_answer (Ok receipt) = Accepted receipt
+reply_answer (Err why) = Refused why
+
+-- a round that isn't stored has no slips
+abbrev pub slips_answer : Option (List ℕ) → Answer
+slips_answer None = Refused NoSuchMatch
+slips_answer (Some text) = Text text
+
+abbrev pub ShowsPlayers : EventValue → Answer → Type 0
+ShowsPlayers event answer = answer ≡ Text (players_text event)
+
+abbrev pub ShowsStandings : EventValue → Answer → Type 0
+ShowsStandings event answer = (text : List ℕ) × IsStandingsText event text × (answer ≡ Text text)
+
+abbrev pub ShowsSlips : ℕ → EventValue → Answer → Type 0
+ShowsSlips round event answer = answer ≡ slips_answer (pairings_text event round)
+
+abbrev pub ShowsBracket : EventValue → Answer → Type 0
+ShowsBracket event answer = answer ≡ Text (bracket_text event)
+
+-- the event is shown, where memory serves and no fault of the store is behind
+abbrev pub IsShown : Standing → (EventValue → Answer → Type 0) → Answer → Type 0
+IsShown desk Shows answer = (IsFalse desk.stopped × (Shows desk.event answer ⊎ (answer ≡ Refused Memory))) ⊎ (IsTrue desk.stopped × (answer ≡ Refused NeedsReopen))
+
+-- what a desk answers, and where it stands then. A text leaves it as it is.
+abbrev pub Answers : Standing → Request → Answer → Standing → Type 0
+Answers old (Submit command) answer new = (reply : Reply) × Turn old command reply new × (answer ≡ reply_answer reply)
+Answers old Players answer new = IsShown old ShowsPlayers answer × (new ≡ old)
+Answers old Standings answer new = IsShown old ShowsStandings answer × (new ≡ old)
+Answers old (Slips round) answer new = IsShown old (ShowsSlips round) answer × (new ≡ old)
+Answers old Bracket answer new = IsShown old ShowsBracket answer × (new ≡ old)

@@ -1,0 +1,93 @@
+ghost use Rattle.std.specs.Prelude.{◌≡◌, IsFalse, MatchResult, option_map};
+ghost use Rattle.sqlite.specs.State.{HasCleanDisk};
+ghost use Rattle.er_desk.specs.Desk.{ShowsOwn, standing, state};
+ghost use Rattle.er_cli.specs.Answers.{Answers, reply_answer, slips_answer};
+ghost use Rattle.er_cli.specs.declared.action.Request.TheVariants.{Players, Standings, Slips, Bracket};
+
+use crate::action::Request;
+use crate::texts::Answer;
+use er_desk::{Desk, Reply};
+use er_event::{Event, Items, Refusal};
+use er_paper::{bracket_text, pairings_text, players_text, standings_text};
+use sqlite::Alter;
+use std::alloc::{AllocError, Global};
+
+/// A receipt, or why there is none.
+pub fn reply_answer(reply: Reply) -> Answer
+    ensures { result ≡ reply_answer reply }
+{
+    match reply {
+        Ok(receipt) => Answer::Accepted(receipt),
+        Err(why) => Answer::Refused(why),
+    }
+}
+
+fn text_answer(text: Result<Vec<u8>, AllocError>) -> Answer
+    ensures { MatchResult text (λ text. result ≡ Answer.Text text.items) (λ _. result ≡ Answer.Refused Refusal.Memory) }
+{
+    match text {
+        Ok(text) => Answer::Text(Items::from(text)),
+        Err(_error) => Answer::Refused(Refusal::Memory),
+    }
+}
+
+/// A round that isn't stored has no slips.
+fn slips_answer(text: Result<Option<Vec<u8>>, AllocError>) -> Answer
+    ensures { MatchResult text (λ text. result ≡ slips_answer (option_map (λ t. t.items) text)) (λ _. result ≡ Answer.Refused Refusal.Memory) }
+{
+    match text {
+        Ok(Some(text)) => Answer::Text(Items::from(text)),
+        Ok(None) => Answer::Refused(Refusal::NoSuchMatch),
+        Err(_error) => Answer::Refused(Refusal::Memory),
+    }
+}
+
+fn players<S: Alter>(alloc: Global, desk: &Desk<S>) -> Answer
+    ensures { Answers (standing desk.now) Players result (standing desk.now) }
+{
+    match desk.event() {
+        Ok(event) => text_answer(players_text(alloc, event)),
+        Err(why) => Answer::Refused(why),
+    }
+}
+
+fn standings<S: Alter>(alloc: Global, desk: &Desk<S>) -> Answer
+    ensures { Answers (standing desk.now) Standings result (standing desk.now) }
+{
+    match desk.event() {
+        Ok(event) => text_answer(standings_text(alloc, event)),
+        Err(why) => Answer::Refused(why),
+    }
+}
+
+fn slips<S: Alter>(alloc: Global, desk: &Desk<S>, round: u8) -> Answer
+    ensures { Answers (standing desk.now) (Slips round) result (standing desk.now) }
+{
+    match desk.event() {
+        Ok(event) => slips_answer(pairings_text(alloc, event, round)),
+        Err(why) => Answer::Refused(why),
+    }
+}
+
+fn bracket<S: Alter>(alloc: Global, desk: &Desk<S>) -> Answer
+    ensures { Answers (standing desk.now) Bracket result (standing desk.now) }
+{
+    match desk.event() {
+        Ok(event) => text_answer(bracket_text(alloc, event)),
+        Err(why) => Answer::Refused(why),
+    }
+}
+
+/// What a desk answers. A text leaves it as it is.
+pub fn answer<S: Alter>(alloc: Global, desk: &mut Desk<S>, request: Request) -> Answer
+    ensures answers { Answers (standing desk.old) request result (standing desk.new) }
+    ensures stands { HasCleanDisk (state S.Store desk.new) → ShowsOwn S.Store desk.old → IsFalse (standing desk.new).stopped → ShowsOwn S.Store desk.new }
+{
+    match request {
+        Request::Submit { command } => reply_answer(desk.submit(alloc, command)),
+        Request::Standings => standings(alloc, desk),
+        Request::Players => players(alloc, desk),
+        Request::Slips { round } => slips(alloc, desk, round),
+        Request::Bracket => bracket(alloc, desk),
+    }
+}

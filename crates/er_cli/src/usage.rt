@@ -1,0 +1,133 @@
+ghost use Rattle.std.specs.Prelude.{◌<◌, [], ◌∷◌, IfSome, IsFalse, IsNone, length, map, string_bytes};
+ghost use Rattle.er_cli.specs.Line.{names_one};
+ghost use Rattle.er_cli.specs.Usage.{HasFault, IsOf};
+
+use crate::values::{number_of, seed_of, small_number_of};
+use crate::words::is_option;
+
+/// Which word keeps words from being a line. Places count from 0, the place of the subcommand's name.
+#[derive(Clone, Copy, Debug, PartialEq, Eq)]
+pub enum UsageFault {
+    /// There is no word, or the first one names no subcommand.
+    UnknownSubcommand,
+    /// The word at this place begins with `-`.
+    LeadingDash { place: usize },
+    /// There is no word at this place, and the subcommand wants one.
+    TooFew { place: usize },
+    /// The word at this place is more than the subcommand takes.
+    TooMany { place: usize },
+    /// The word at this place is no number from 0 to `most`.
+    BadNumber { place: usize, most: u16 },
+    /// The word at this place isn't 64 hexadecimal digits.
+    BadSeed { place: usize },
+}
+
+/// What a word has to be.
+#[derive(Clone, Copy, Debug, PartialEq, Eq)]
+enum Kind {
+    Text,
+    SmallNumber,
+    Number,
+    Seed,
+}
+
+/// What the words after a subcommand's name have to be.
+fn kinds_of(name: &str) -> Option<&'static [Kind]>
+    ensures { IsNone result → IsFalse (names_one (name.now ∷ [])) }
+{
+    match name {
+        "init" => Some(&[Kind::Text, Kind::Text, Kind::SmallNumber, Kind::SmallNumber]),
+        "enrol" => Some(&[Kind::Text, Kind::Text]),
+        "pair" => Some(&[Kind::Text, Kind::SmallNumber, Kind::Seed]),
+        "result" | "correct" => Some(&[
+            Kind::Text,
+            Kind::SmallNumber,
+            Kind::Number,
+            Kind::SmallNumber,
+            Kind::SmallNumber,
+            Kind::SmallNumber,
+        ]),
+        "drop" => Some(&[Kind::Text, Kind::Number]),
+        "playoff" => Some(&[
+            Kind::Text,
+            Kind::SmallNumber,
+            Kind::SmallNumber,
+            Kind::SmallNumber,
+            Kind::SmallNumber,
+            Kind::SmallNumber,
+        ]),
+        "slips" => Some(&[Kind::Text, Kind::SmallNumber]),
+        "start" | "cut" | "standings" | "players" | "bracket" => Some(&[Kind::Text]),
+        _ => None,
+    }
+}
+
+/// What is wrong with the word at a place, that has to be of this kind.
+fn word_fault(kind: Kind, word: &str, place: usize) -> Option<UsageFault>
+    ensures { IfSome result (IsOf word.now place) }
+{
+    match kind {
+        Kind::SmallNumber if small_number_of(word).is_none() => Some(UsageFault::BadNumber {
+            place,
+            most: u16::from(u8::MAX),
+        }),
+        Kind::Number if number_of(word).is_none() => Some(UsageFault::BadNumber {
+            place,
+            most: u16::MAX,
+        }),
+        Kind::Seed if seed_of(word).is_none() => Some(UsageFault::BadSeed { place }),
+        _ => None,
+    }
+}
+
+fn values_fault(kinds: &[Kind], words: &[String]) -> Option<UsageFault>
+    requires { 0 < length words.now }
+    ensures { IfSome result (HasFault (map string_bytes words.now)) }
+{
+    let mut place = 1;
+    for kind in kinds {
+        let Some(word) = words.get(place) else {
+            return Some(UsageFault::TooFew { place });
+        };
+        if let Some(fault) = word_fault(*kind, word.as_str(), place) {
+            return Some(fault);
+        }
+        place += 1;
+    }
+    if place < words.len() {
+        Some(UsageFault::TooMany { place })
+    } else {
+        None
+    }
+}
+
+/// The place of the first word that begins with `-`.
+fn dash_at(words: &[String]) -> Option<usize>
+    ensures { IfSome result (λ place. HasFault (map string_bytes words.now) (UsageFault.LeadingDash place)) }
+{
+    let mut place = 0;
+    for word in words {
+        if is_option(word.as_str()) {
+            return Some(place);
+        }
+        place += 1;
+    }
+    None
+}
+
+/// The first fault of words that `read_words` doesn't read, and None for those that it does: a word that begins with `-`, and then from the
+/// first word on.
+pub fn usage_of(words: &[String]) -> Option<UsageFault>
+    ensures { IfSome result (HasFault (map string_bytes words.now)) }
+{
+    if let Some(place) = dash_at(words) {
+        return Some(UsageFault::LeadingDash { place });
+    }
+    let [name, ..] = words else {
+        return Some(UsageFault::UnknownSubcommand);
+    };
+    match kinds_of(name.as_str()) {
+        Some(kinds) => values_fault(kinds, words),
+        None => Some(UsageFault::UnknownSubcommand),
+    }
+}

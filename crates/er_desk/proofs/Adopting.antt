@@ -1,0 +1,63 @@
+-- What an opening makes of the tables that it finds.
+use Rattle.std.proofs.Common.{Option, Some, None, IfSome, ◌≡◌, ℕ, is_ok, IsTrue, sym, ap, ap₂, subst, ◌∙◌}
+use Rattle.sqlite_trees.specs.declared.store.Store.{Ghosts}
+use Rattle.sqlite.specs.Tree.{Trees}
+use Rattle.sqlite.specs.Effect.{Database, IsDatabase}
+use Rattle.sqlite.specs.State.{State, Opens, IsLive, HasCleanDisk, IsUnchanged}
+use Rattle.sqlite.specs.Start.{FindsIn}
+use Rattle.sqlite.specs.Files.{HoldsDatabase}
+use Rattle.sqlite_wal.specs.Recovery.{Image}
+use Rattle.sqlite.specs.Held.{Held, state}
+use Rattle.er_event.specs.Event.{EventValue}
+use Rattle.er_event.specs.declared.parts.Parts.{Parts}
+use Rattle.er_store.specs.Damage.{ReadsParts}
+use Rattle.er_store.specs.Reading.{KeepsTables}
+use Rattle.er_store.specs.Standing.{StandsFor, IsStored, Shows, Leaves, ReadsEvent}
+use Rattle.er_store.specs.Store as tables
+use Rattle.er_store.specs.declared.Store.{Store}
+use Rattle.er_desk.specs.Desk.{Point}
+use Rattle.er_desk.specs.Headline.{WasLeft}
+use Rattle.er_desk.proofs.Turns.{unchanged_keeps}
+
+pub point_is : (point : Point) (e : EventValue) (n : ℕ) → e ≡ point.event → n ≡ point.serial → ◌≡◌ {A = Point} (record { event = e; serial = n }) point
+point_is point e n event serial = ap₂ (λ (x : EventValue) (k : ℕ). (let p : Point = record { event = x; serial = k } in p)) event serial
+
+pub shows_as : (s : State) (e f : EventValue) (m n : ℕ) → f ≡ e → n ≡ m → Shows s e m → Shows s f n
+shows_as s e f m n event serial shows = subst (λ (k : ℕ). Shows s f k) (sym serial) (subst (λ (x : EventValue). Shows s x m) (sym event) shows)
+
+-- the event's rows are read where the four tables are
+pub read_whole : (db : Database) (parts : Parts) → ReadsParts db parts → ReadsEvent db.schema
+read_whole db parts reads = ap is_ok reads.event.1.is
+
+-- a connection that a store gives back
+module _ {S : Type 0} (g : Ghosts S) (old : State) (back : Held S) (store : Store S g) (is : back ≡ tables.connection store) where
+  pub back_clean : HasCleanDisk (state g back) → HasCleanDisk (tables.state g store)
+  back_clean clean = subst (λ (h : Held S). HasCleanDisk (state g h)) is clean
+
+  pub back_keeps : IsUnchanged old (tables.state g store) → KeepsTables old (state g back)
+  back_keeps same = subst (λ (h : Held S). KeepsTables old (state g h)) (sym is) (unchanged_keeps old (tables.state g store) same)
+
+  pub back_leaves : (P : Trees → Type 0) → Leaves (tables.state g store) P → Leaves (state g back) P
+  back_leaves P left = subst (λ (h : Held S). Leaves (state g h) P) (sym is) left
+
+-- ---- files
+
+-- the connection of files that were opened
+module _ (s : State) (image : Image) (opened : Opens s × IsLive s) (found : FindsIn image s) where
+  sees : (db : Trees) → HoldsDatabase image db → s.now.trees ≡ db
+  sees db holds = ap (λ (d : Database). d.trees) opened.0.clean ∙ found.holds db holds
+
+  -- what a crash left stands for its event again
+  pub opened_stands : (point : Point) → ((db : Database) (e : EventValue) (n : ℕ) → IsDatabase db → IsStored e n db.trees → StandsFor db e n) → WasLeft image point → StandsFor s.now point.event point.serial
+  opened_stands point law (db, holds, stored) = law s.now point.event point.serial (opened.1 opened.0.is_open).0 (subst (IsStored point.event point.serial) (sym (sees db holds)) stored)
+
+  pub sees_unchanged : (new : State) (db : Trees) → HoldsDatabase image db → IsUnchanged s new → (new.now.trees ≡ db) × (new.now ≡ new.committed)
+  sees_unchanged new db holds same = (ap (λ (d : Database). d.trees) same.0.now_is ∙ sees db holds, same.0.now_is ∙ (opened.0.clean ∙ sym same.0.committed_is))
+
+  pub sees_kept : (new : State) (db : Trees) → HoldsDatabase image db → KeepsTables s new → IsTrue new.is_open → (new.now.trees ≡ db) × (new.now ≡ new.committed)
+  sees_kept new db holds keeps is_open = let kept = keeps opened.0.clean is_open in (ap (λ (d : Database). d.trees) kept.0 ∙ sees db holds, kept.0 ∙ sym kept.1)
+
+-- less is told of what is left
+pub if_left : {A : Type 0} (o : Option A) (P Q : A → Type 0) → ((a : A) → P a → Q a) → IfSome o P → IfSome o Q
+if_left None P Q more h = tt
+if_left (Some a) P Q more h = more a h

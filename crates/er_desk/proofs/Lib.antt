@@ -1,0 +1,6 @@
+pub mod Folding
+pub mod Histories
+pub mod Turns
+pub mod Running
+pub mod Plain
+pub mod Adopting

@@ -1,0 +1,51 @@
+use Rattle.std.proofs.Common.{sym, subst, ◌∙◌}
+use Rattle.sqlite.specs.Effect.{Database}
+use Rattle.sqlite.specs.Files.{over_files, file_state}
+use Rattle.er_store.specs.Standing.{HasTables, AreKeyed}
+use Rattle.er_desk.specs.Desk.{state}
+use Rattle.er_desk.specs.Opening.{NamesFirstFault}
+use Rattle.er_desk.proofs.Adopting.{if_left, opened_stands, sees_unchanged, sees_kept}
+use Rattle.er_desk.proofs.opening.open.Goals as goal
+
+pub returns-in-Ok-adopt-clause-found : goal.returns-in-Ok-adopt-clause-found
+returns-in-Ok-adopt-clause-found g c point was sound clean =
+    let early = c.in-Ok-adopt.ensures.clean clean in
+    c.in-Ok-adopt.ensures.found point (opened_stands (file_state c.in-Ok.conn) _ (c.in-Ok.ensures.opened early) (c.in-Ok.ensures.found early) point c.stored_stands.ensures was) sound clean
+
+pub returns-in-Ok-adopt-clause-left : goal.returns-in-Ok-adopt-clause-left
+returns-in-Ok-adopt-clause-left g c db holds clean trees may =
+    let early = c.in-Ok-adopt.ensures.clean clean in
+    c.in-Ok-adopt.ensures.left (c.in-Ok.ensures.opened early).0.is_open clean trees may ∙ (c.in-Ok.ensures.found early).holds db holds
+
+pub returns-in-Ok-adopt-clause-kept : goal.returns-in-Ok-adopt-clause-kept
+returns-in-Ok-adopt-clause-kept g c db holds clean is_open =
+    let early = c.in-Ok-adopt.ensures.clean clean in
+    sees_unchanged (file_state c.in-Ok.conn) _ (c.in-Ok.ensures.opened early) (c.in-Ok.ensures.found early) (state over_files c.in-Ok-adopt.desk) db holds (c.in-Ok-adopt.ensures.same clean)
+
+pub returns-in-Ok-adopt-clause-stands : goal.returns-in-Ok-adopt-clause-stands
+returns-in-Ok-adopt-clause-stands g c clean has keyed =
+    let same = c.in-Ok-adopt.ensures.same clean in
+    c.in-Ok-adopt.ensures.stands clean (subst (λ (d : Database). HasTables d.schema) same.0.now_is has) (subst AreKeyed same.0.now_is keyed)
+
+pub returns-in-Err-adopt-clause-found : goal.returns-in-Err-adopt-clause-found
+returns-in-Err-adopt-clause-found g c point was sound clean =
+    let early = c.in-Err-adopt.ensures.clean clean in
+    c.in-Err-adopt.ensures.found point (opened_stands (file_state c.in-Ok.conn) _ (c.in-Ok.ensures.opened early) (c.in-Ok.ensures.found early) point c.stored_stands.ensures was) sound clean
+
+pub returns-in-Err-adopt-clause-left : goal.returns-in-Err-adopt-clause-left
+returns-in-Err-adopt-clause-left g c db holds clean trees may =
+    let early = c.in-Err-adopt.ensures.clean clean in
+    c.in-Err-adopt.ensures.left (c.in-Ok.ensures.opened early).0.is_open clean trees may ∙ (c.in-Ok.ensures.found early).holds db holds
+
+pub returns-in-Err-adopt-clause-kept : goal.returns-in-Err-adopt-clause-kept
+returns-in-Err-adopt-clause-kept g c db holds clean is_open =
+    let early = c.in-Err-adopt.ensures.clean clean in
+    sees_kept (file_state c.in-Ok.conn) _ (c.in-Ok.ensures.opened early) (c.in-Ok.ensures.found early) (file_state c.in-Err-adopt.conn) db holds (c.in-Err-adopt.ensures.kept clean) is_open
+
+pub returns-in-Err-adopt-clause-first : goal.returns-in-Err-adopt-clause-first
+returns-in-Err-adopt-clause-first g c clean is_open =
+    let opened = c.in-Ok.ensures.opened (c.in-Err-adopt.ensures.clean clean) in
+    subst (λ (d : Database). NamesFirstFault d c.in-Err-adopt.refusal) (sym (c.in-Err-adopt.ensures.kept clean opened.0.clean is_open).0) (c.in-Err-adopt.ensures.first clean)
+
+pub returns-in-Err-clause-spared : goal.returns-in-Err-clause-spared
+returns-in-Err-clause-spared g c = if_left c.in-Err.left _ _ (λ left told. (told.0, told.1, told.2, λ clean. (told.3 clean).1)) c.in-Err.ensures.cause

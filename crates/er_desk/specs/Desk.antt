@@ -1,0 +1,96 @@
+-- What a desk shows, and what a command does to it.
+use Rattle.std.specs.Prelude.{◌≡◌, ◌⊎◌, ℕ, ◌+◌, ◌<◌, ◌≤◌, ◌==◌, ◌||◌, Bool, true, IsTrue, IsFalse, Ok, Err}
+use Rattle.sqlite_trees.specs.declared.store.Store.{Ghosts}
+use Rattle.sqlite.specs.State.{State}
+use Rattle.sqlite.specs.Tree.{Trees}
+use Rattle.er_event.specs.declared.refusals.Command.{Command}
+use Rattle.er_event.specs.declared.refusals.Refusal.{Refusal}
+use Rattle.er_event.specs.declared.refusals.Refusal.TheVariants.{Memory, SerialFull, NeedsReopen}
+use Rattle.er_event.specs.declared.refusals.TheConstants.{MAX_SERIAL}
+use Rattle.er_event.specs.declared.events.TheConstants.{MAX_ROUNDS}
+use Rattle.er_event.specs.Event.{EventValue}
+use Rattle.er_rules.specs.Refusing.{IsOfRules}
+use Rattle.er_rules.specs.Step.{Answers}
+use Rattle.er_store.specs.Fault.{IsFault}
+use Rattle.er_store.specs.Standing as tables
+use Rattle.er_store.specs.Store as store
+use Rattle.er_desk.specs.Reply.{Reply, receipt, IsDue}
+use Rattle.er_desk.specs.declared.desk.Desk.{Desk}
+
+-- an event, and how many commands made it
+pub record Point : Type 0 where
+  pub event : EventValue
+  pub serial : ℕ
+
+-- where a desk stands
+pub record Standing : Type 0 where
+  pub event : EventValue
+  -- how many commands were accepted
+  pub serial : ℕ
+  -- a fault of the store has ended it
+  pub stopped : Bool
+
+abbrev pub point_of : Standing → Point
+point_of s = record { event = s.event; serial = s.serial }
+
+-- what an event may be set up with
+abbrev pub AreLimits : ℕ → ℕ → Type 0
+AreLimits rounds cut = (1 ≤ rounds) × (rounds ≤ MAX_ROUNDS) × IsTrue (cut == 0 || cut == 2 || cut == 4 || cut == 8)
+
+-- what its store shows
+abbrev pub state : {S : Type 0} (g : Ghosts S) → Desk S g → State
+state g desk = store.state g desk.store
+
+abbrev pub standing : {S : Type 0} {g : Ghosts S} → Desk S g → Standing
+standing desk = record { event = desk.event; serial = desk.serial; stopped = store.is_stopped desk.store }
+
+-- a crash leaves the event after the command, whole
+abbrev pub IsStoredAfter : EventValue → ℕ → Command → Trees → Type 0
+IsStoredAfter event serial command trees = (next : EventValue) × Answers event command (Ok next) × tables.IsStored next (serial + 1) trees
+
+-- the store has no part in the refusal
+abbrev pub IsOwn : Refusal → Type 0
+IsOwn why = (why ≡ Memory) ⊎ (why ≡ SerialFull) ⊎ IsOfRules why
+
+-- its tables stand for its event and its serial, with nothing pending
+abbrev pub ShowsOwn : {S : Type 0} (g : Ghosts S) → Desk S g → Type 0
+ShowsOwn g desk = tables.Shows (state g desk) desk.event desk.serial
+
+module _ (old : Standing) (command : Command) (reply : Reply) (new : Standing) where
+  -- the command is accepted
+  pub record Accepts : Type 0 where
+    pub was_running : IsFalse old.stopped
+    pub taken : Answers old.event command (Ok new.event)
+    pub room : old.serial < MAX_SERIAL
+    pub serial_is : new.serial ≡ old.serial + 1
+    pub runs : IsFalse new.stopped
+    pub answered : reply ≡ Ok (receipt new.serial)
+
+  -- it is not, and all stays as it is
+  pub record Declines : Type 0 where
+    pub was_running : IsFalse old.stopped
+    pub same : new ≡ old
+    pub why : Refusal
+    pub answered : reply ≡ Err why
+    pub cause : (why ≡ Memory) ⊎ IsDue old.event old.serial command (Err why)
+    pub own : IsOwn why
+
+  -- the store is asked in place of a receipt, and has a fault
+  pub record Stops : Type 0 where
+    pub was_running : IsFalse old.stopped
+    pub next : EventValue
+    pub taken : Answers old.event command (Ok next)
+    pub room : old.serial < MAX_SERIAL
+    pub stopped : new ≡ record old { stopped = true }
+    pub why : Refusal
+    pub fault : IsFault why
+    pub answered : reply ≡ Err why
+
+  -- a fault is behind, and nothing is done
+  pub record Waits : Type 0 where
+    pub was_stopped : IsTrue old.stopped
+    pub same : new ≡ old
+    pub answered : reply ≡ Err NeedsReopen
+
+  abbrev pub Turn : Type 0
+  Turn = Accepts ⊎ Declines ⊎ Stops ⊎ Waits

@@ -1,0 +1,56 @@
+-- The headline. If the program is stopped before or within any write, an opening of the file finds the event that a prefix of the accepted
+-- commands makes, one that holds every acknowledged command. The standings are those that the rules define on it, and no stored round of it
+-- repeats an opponent or a bye.
+--
+-- What it supposes: the creation of the event, in an empty file, was acknowledged; nobody else writes the file, and the device returns what was
+-- written and keeps the storage crate's model of crashes (`HasCleanDisk`, in each `Leaves`); an opening begins on what a crash may leave.
+use Rattle.std.specs.Prelude.{◌≡◌, List, AllPairs, IsFalse}
+use Rattle.sqlite_trees.specs.declared.store.Store.{Ghosts}
+use Rattle.sqlite.specs.Tree.{Trees}
+use Rattle.sqlite.specs.State.{State}
+use Rattle.sqlite.specs.Files.{HoldsDatabase}
+use Rattle.sqlite_wal.specs.Recovery.{Image}
+use Rattle.er_event.specs.declared.refusals.Command.{Command}
+use Rattle.er_event.specs.Event.{EventValue}
+use Rattle.er_event.specs.Round.{is_same_pairing, matches_of}
+use Rattle.er_rank.specs.declared.rows.Row.{Row}
+use Rattle.er_rank.specs.Standings.{AreStandings, OneStandings}
+use Rattle.er_store.specs.Standing.{IsStored, Leaves, Either}
+use Rattle.er_store.specs.Tables.{no_schema}
+use Rattle.er_desk.specs.Desk.{Point, ShowsOwn, IsStoredAfter, point_of, state, standing}
+use Rattle.er_desk.specs.declared.desk.Desk.{Desk}
+use Rattle.er_desk.specs.Run.{Session, IsStoredEnd}
+
+-- each thing that a crash may leave stands for this event and this serial, whole
+abbrev pub LeavesJust : State → Point → Type 0
+LeavesJust s point = Leaves s (IsStored point.event point.serial)
+
+-- for the event before the command or for the one after it, whole
+abbrev pub LeavesEither : State → Point → Command → Type 0
+LeavesEither s point command = Leaves s (Either (IsStored point.event point.serial) (IsStoredAfter point.event point.serial command))
+
+-- for the fold of the acknowledged commands, or for that with the one in doubt
+abbrev pub LeavesEnd : State → Point → Session → Type 0
+LeavesEnd s first session = Leaves s (IsStoredEnd first session)
+
+-- nothing stands in the file before the event is created in it
+abbrev pub IsEmptyFile : State → Type 0
+IsEmptyFile s = s.now.schema ≡ no_schema
+
+-- what the file holds is a thing that a crash left of this event
+abbrev pub WasLeft : Image → Point → Type 0
+WasLeft image point = (db : Trees) × HoldsDatabase image db × IsStored point.event point.serial db
+
+-- an opening finds just this event and this serial: its tables stand for them, and a crash leaves them again
+pub record FindsAgain {S : Type 0} (g : Ghosts S) (desk : Desk S g) (point : Point) : Type 0 where
+  pub found : point_of (standing desk) ≡ point
+  pub shows : ShowsOwn g desk
+  pub leaves : LeavesJust (state g desk) point
+
+-- no stored round repeats an opponent or a bye: no two stored matches have the same two players, where the second of a bye is 0
+abbrev pub RepeatsNobody : EventValue → Type 0
+RepeatsNobody event = AllPairs (λ m n. IsFalse (is_same_pairing m n)) (matches_of event.stored)
+
+-- the rows are the standings that the rules define, and no other list is
+abbrev pub AreTheStandings : EventValue → List Row → Type 0
+AreTheStandings event rows = AreStandings event rows × OneStandings event rows

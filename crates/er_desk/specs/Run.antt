@@ -1,0 +1,92 @@
+-- A list of commands, and the session that it makes.
+use Rattle.std.specs.Prelude.{◌≡◌, ◌⊎◌, ℕ, ◌+◌, ◌<◌, Bool, if◌then◌else◌, IsTrue, List, [], ◌∷◌, length, take, slice_get, Option, Some, None, Ok, Err, IfSome, MatchOption}
+use Rattle.sqlite.specs.Tree.{Trees}
+use Rattle.er_event.specs.declared.refusals.Command.{Command}
+use Rattle.er_event.specs.declared.refusals.Cause.{Cause}
+use Rattle.er_event.specs.declared.refusals.Refusal.{Refusal}
+use Rattle.er_event.specs.declared.refusals.Refusal.TheVariants.{Store, NeedsReopen}
+use Rattle.er_event.specs.Event.{EventValue}
+use Rattle.er_rules.specs.Step.{Steps}
+use Rattle.er_store.specs.Fault.{IsFault}
+use Rattle.er_store.specs.Standing.{IsStored}
+use Rattle.er_desk.specs.Fold.{Folds}
+use Rattle.er_desk.specs.Reply.{Reply, IsLawful}
+use Rattle.er_desk.specs.Desk.{Point, Standing, Turn}
+
+-- the replies to commands one after the other
+abbrev pub Runs : Standing → List Command → List Reply → Standing → Type 0
+Runs old [] [] new = new ≡ old
+Runs old (command ∷ commands) (reply ∷ replies) new = (mid : Standing) × Turn old command reply mid × Runs mid commands replies new
+Runs old [] (reply ∷ replies) new = ⊥
+Runs old (command ∷ commands) [] new = ⊥
+
+-- the commands that got a receipt
+abbrev pub acknowledged : List Command → List Reply → List Command
+acknowledged (command ∷ commands) (Ok receipt ∷ replies) = command ∷ acknowledged commands replies
+acknowledged (command ∷ commands) (Err why ∷ replies) = acknowledged commands replies
+acknowledged [] replies = []
+acknowledged (command ∷ commands) [] = []
+
+-- the store had a fault in the command of this place, and the later ones were answered that the file wants to be opened anew
+abbrev pub FailsAt : List Reply → ℕ → Type 0
+FailsAt replies k =
+    ((why : Refusal) × IsFault why × (slice_get replies k ≡ Some (Err why)))
+    × ((later : ℕ) (reply : Reply) → k < later → slice_get replies later ≡ Some reply → reply ≡ Err NeedsReopen)
+
+-- The run in plain words. Each reply is lawful at the fold of the commands that were acknowledged before it, or says that the file wants to be opened anew.
+pub record IsRun (old : Standing) (commands : List Command) (replies : List Reply) (new : Standing) : Type 0 where
+  pub all : length replies ≡ length commands
+  pub each : (k : ℕ) (command : Command) (reply : Reply) → slice_get commands k ≡ Some command → slice_get replies k ≡ Some reply
+      → (mid : EventValue) × Folds old.event (acknowledged (take k commands) (take k replies)) mid
+      × (IsLawful mid (old.serial + length (acknowledged (take k commands) (take k replies))) command reply ⊎ ((reply ≡ Err NeedsReopen) × IsTrue new.stopped))
+  pub event_is : Folds old.event (acknowledged commands replies) new.event
+  pub serial_is : new.serial ≡ old.serial + length (acknowledged commands replies)
+  -- the desk is stopped where it was before, or by a fault of the store in one of the commands
+  pub stopped_by : IsTrue new.stopped → IsTrue old.stopped ⊎ ((k : ℕ) × FailsAt replies k)
+  pub was_stopped : IsTrue old.stopped → IsTrue new.stopped × ((k : ℕ) (reply : Reply) → slice_get replies k ≡ Some reply → reply ≡ Err NeedsReopen)
+  pub stops : (k : ℕ) (cause : Cause) → slice_get replies k ≡ Some (Err (Store cause)) → IsTrue new.stopped
+
+-- ---- sessions
+
+-- what one desk was asked
+pub record Session : Type 0 where
+  -- the commands that were acknowledged
+  pub kept : List Command
+  -- the one that the store failed in, or the program was stopped in
+  pub doubt : Option Command
+
+-- the last command that was tried
+abbrev pub tried_or : Option Command → Command → Reply → Option Command
+tried_or (Some later) command reply = Some later
+tried_or None command (Err NeedsReopen) = None
+tried_or None command reply = Some command
+
+abbrev pub last_tried : List Command → List Reply → Option Command
+last_tried (command ∷ commands) (reply ∷ replies) = tried_or (last_tried commands replies) command reply
+last_tried [] replies = None
+last_tried (command ∷ commands) [] = None
+
+-- the session of a run: where the store has failed, it failed in the last command that was tried
+abbrev pub session_of : List Command → List Reply → Bool → Session
+session_of commands replies stopped = record { kept = acknowledged commands replies; doubt = if stopped then last_tried commands replies else None }
+
+-- the session ends after what was acknowledged
+pub record EndsAfterKept (first : Point) (session : Session) (last : Point) : Type 0 where
+  pub event : Folds first.event session.kept last.event
+  pub serial : last.serial ≡ first.serial + length session.kept
+  -- only a command that the step takes is in doubt, since only then is the file written
+  pub taken : IfSome session.doubt (λ doubt. (next : EventValue) × Steps last.event doubt (Ok next))
+
+-- or with its doubt too
+pub record EndsWithDoubt (first : Point) (session : Session) (last : Point) (doubt : Command) : Type 0 where
+  pub mid : Point
+  pub kept : EndsAfterKept first session mid
+  pub event : Steps mid.event doubt (Ok last.event)
+  pub serial : last.serial ≡ mid.serial + 1
+
+abbrev pub MayEnd : Point → Session → Point → Type 0
+MayEnd first session last = EndsAfterKept first session last ⊎ MatchOption session.doubt ⊥ (EndsWithDoubt first session last)
+
+-- what a crash leaves stands for one of the session's ends, whole
+abbrev pub IsStoredEnd : Point → Session → Trees → Type 0
+IsStoredEnd first session trees = (last : Point) × MayEnd first session last × IsStored last.event last.serial trees

@@ -1,0 +1,359 @@
+ghost use Rattle.std.specs.Prelude.{◌≡◌, IfOk, IfErr};
+ghost use Rattle.std.specs.Prelude.{◌≤◌};
+ghost use Rattle.er_event.specs.Change.{after, Fits};
+ghost use Rattle.er_event.specs.declared.refusals.TheConstants.{MAX_SERIAL};
+ghost use Rattle.er_rules.specs.Sound.{IsSound};
+ghost use Rattle.er_store.specs.Store as tables;
+
+use er_event::{Change, Command, Event, MAX_SERIAL, Name, Place, Receipt, Refusal};
+use er_rank::{Row, standings};
+use er_rules::laws::budget_searches;
+use er_rules::{decide, seeds_agree};
+use er_store::Store;
+use er_store::laws::shown_is_stored;
+use sqlite::{Alter, Connection};
+use std::alloc::{AllocError, Global};
+
+/// A receipt, or why there is none.
+pub type Reply = Result<Receipt, Refusal>;
+
+/// The event after a change. The event itself stays.
+fn event_after(alloc: Global, event: &Event, change: &Change) -> Result<Event, Refusal>
+    requires { Fits event.now change.now }
+    ensures ok { IfOk result (λ next. next ≡ after event.now change.now) }
+    ensures refused { IfErr result (λ why. why ≡ Refusal.Memory) }
+{
+    let Ok(copy) = event.copy(alloc) else {
+        return Err(Refusal::Memory);
+    };
+    match copy.apply(alloc, change) {
+        Ok(next) => Ok(next),
+        Err((_event, _error)) => Err(Refusal::Memory),
+    }
+}
+
+/// An event, the store that keeps it, and how many commands it has taken. After a fault of the store it takes no command: the file is opened anew.
+#[derive(Drop)]
+pub struct Desk<S: Alter> {
+    store: Store<S>,
+    event: Event,
+    serial: u32,
+    needs_reopen: bool,
+
+    ghost low: { serial ≤ MAX_SERIAL },
+    ghost told: { needs_reopen ≡ tables.is_stopped store },
+    ghost sound: { ∥ IsSound event ∥₁ },
+}
+
+impl<S: Alter> Desk<S> {
+    ghost use Rattle.std.specs.Prelude.{◌≡◌, ◌⊎◌, ◌+◌, ◌<◌, ◌≤◌, ◌↔◌, ℕ, true, false, Err, IfOk, IfErr, OnOk, OnErr, IsErrAnd, MatchResult, IsTrue, IsFalse};
+    ghost use Rattle.sqlite.specs.State.{HasCleanDisk, IsUnchanged};
+    ghost use Rattle.sqlite.specs.Held as sqlite;
+    ghost use Rattle.er_event.specs.declared.refusals.Cause.{Cause};
+    ghost use Rattle.er_event.specs.Change.{created, after, Fits};
+    ghost use Rattle.er_event.specs.Sound.{IsSoundButForSeeds};
+    ghost use Rattle.er_event.specs.declared.refusals.TheConstants.{MAX_SERIAL};
+    ghost use Rattle.er_rules.specs.Sound.{IsSound, HasSeeds};
+    ghost use Rattle.er_rules.specs.Step.{NeedsMoreSteps};
+    ghost use Rattle.er_store.specs.Fault.{IsFault, IsLoadFault};
+    ghost use Rattle.er_store.specs.Store as tables;
+    ghost use Rattle.er_store.specs.Standing.{HasTables, AreKeyed, StandsFor, CanRead, IsStored, Leaves, Either, KeepsOthers};
+    ghost use Rattle.er_store.specs.Loading.{ShowsEvent};
+    ghost use Rattle.er_store.specs.Reading.{KeepsTables};
+    ghost use Rattle.er_desk.specs.Desk.{Point, Turn, Stops, ShowsOwn, AreLimits, point_of, state, standing};
+    ghost use Rattle.er_desk.specs.Run.{Runs, IsRun, session_of};
+    ghost use Rattle.er_desk.specs.Headline.{IsEmptyFile, LeavesJust, LeavesEither, LeavesEnd, FindsAgain, RepeatsNobody, AreTheStandings};
+    ghost use Rattle.er_desk.specs.History.{new_point};
+    ghost use Rattle.er_desk.specs.Opening.{NamesFirstFault};
+
+    /// Makes the tables of a new event. Its limits are checked before the file is touched. A refusal gives the connection back.
+    pub fn create(
+        alloc: Global,
+        conn: Connection<S>,
+        name: Name,
+        rounds: u8,
+        cut: u8,
+    ) -> Result<Desk<S>, (Connection<S>, Refusal)>
+        requires mode { conn.in_transaction ≡ false }
+
+        ensures made { IfOk result (λ made. standing made ≡ record { event = created name rounds cut; serial = 0; stopped = false }) }
+        ensures sound { IfOk result (λ made. IsSound made.event) }
+
+        // `BadSetup` comes exactly where the limits are not met, and then the file was not touched.
+        ensures within { IfOk result (λ _. AreLimits rounds cut) }
+        ensures beyond { IfErr result (λ e. e.1 ≡ Refusal.BadSetup → (e.0 ≡ conn) × (AreLimits rounds cut → ⊥)) }
+        ensures checked { (AreLimits rounds cut → ⊥) → IsErrAnd result (λ e. e.1 ≡ Refusal.BadSetup) }
+        ensures why { IfErr result (λ e. (e.1 ≡ Refusal.BadSetup) ⊎ (e.1 ≡ Refusal.EventExists) ⊎ IsFault e.1) }
+
+        // `EventExists` comes only where something called `event` can be read, and nothing is made there.
+        ensures exists { IfErr result (λ e. e.1 ≡ Refusal.EventExists → HasCleanDisk (sqlite.state S.Store e.0) → CanRead (sqlite.state S.Store conn).now.schema × (IsEmptyFile (sqlite.state S.Store conn) → ⊥) × IsUnchanged (sqlite.state S.Store conn) (sqlite.state S.Store e.0)) }
+        ensures absent { IfOk result (λ made. HasCleanDisk (state S.Store made) → CanRead (sqlite.state S.Store conn).now.schema → ⊥) }
+
+        // In an empty file the tables then stand for the new event, and so does each thing that a crash may leave.
+        ensures created { IfOk result (λ made. HasCleanDisk (state S.Store made) → IsEmptyFile (sqlite.state S.Store conn) → ShowsOwn S.Store made) }
+        ensures acknowledged { IfOk result (λ made. IsEmptyFile (sqlite.state S.Store conn) → LeavesJust (state S.Store made) (new_point name rounds cut)) }
+
+        // A refusal changes no table. A crash in it leaves what it could before, or the new event whole.
+        ensures mode { IfErr result (λ e. e.0.in_transaction ≡ false) }
+        ensures kept { IfErr result (λ e. HasCleanDisk (sqlite.state S.Store e.0) → KeepsTables (sqlite.state S.Store conn) (sqlite.state S.Store e.0)) }
+        ensures spares { IfErr result (λ e. CanRead (sqlite.state S.Store conn).now.schema → Leaves (sqlite.state S.Store e.0) (sqlite.state S.Store conn).may_leave) }
+        ensures crash { IfErr result (λ e. IsEmptyFile (sqlite.state S.Store conn)
+            → Leaves (sqlite.state S.Store e.0) (Either (sqlite.state S.Store conn).may_leave (IsStored (created name rounds cut) 0))) }
+    {
+        let event = match Event::create(alloc, name, rounds, cut) {
+            Ok(event) => event,
+            Err(why) => return Err((conn, why)),
+        };
+        // An event is always sound, as this tells the proof.
+        let _ = event.phase();
+        let store = Store::create(conn, &event)?;
+        Ok(Desk {
+            store,
+            event,
+            serial: 0,
+            needs_reopen: false,
+        })
+    }
+
+    /// Takes over the tables of an event. It changes no table. A refusal gives the connection back.
+    pub fn adopt(alloc: Global, conn: Connection<S>) -> Result<Desk<S>, (Connection<S>, Refusal)>
+        requires mode { conn.in_transaction ≡ false }
+
+        // Whatever the tables hold, the event that is found is sound, and the desk is not stopped.
+        ensures ready { IfOk result (λ it. IsFalse (standing it).stopped) }
+        ensures sound { IfOk result (λ it. IsSound it.event × (it.serial ≤ MAX_SERIAL)) }
+        ensures repeats { IfOk result (λ it. RepeatsNobody it.event) }
+        ensures clean { MatchResult result (λ it. HasCleanDisk (state S.Store it) → HasCleanDisk (sqlite.state S.Store conn)) (λ e. HasCleanDisk (sqlite.state S.Store e.0) → HasCleanDisk (sqlite.state S.Store conn)) }
+
+        // Of tables that stand for a sound event just that is found, or memory or the store fails.
+        ensures found { (point : Point) → StandsFor (sqlite.state S.Store conn).now point.event point.serial → IsSound point.event
+            → MatchResult result (λ it. HasCleanDisk (state S.Store it) → FindsAgain S.Store it point) (λ e. HasCleanDisk (sqlite.state S.Store e.0) → IsFault e.1) }
+        // Whatever the tables hold, what is found is what they show. Where they have the schema, they stand for it.
+        ensures shows { IfOk result (λ it. HasCleanDisk (state S.Store it) → HasTables (sqlite.state S.Store conn).now.schema → ShowsEvent (sqlite.state S.Store conn).now it.event it.serial) }
+        ensures stands { IfOk result (λ it. HasCleanDisk (state S.Store it) → HasTables (sqlite.state S.Store conn).now.schema → AreKeyed (sqlite.state S.Store conn).now → ShowsOwn S.Store it) }
+
+        // `NoEvent` and a damaged table come only for the first fault. The bracket's comes too where the seeds of the playoff are not those of the standings.
+        ensures why { IfErr result (λ e. (e.1 ≡ Refusal.NoEvent) ⊎ IsLoadFault e.1) }
+        ensures first { IfErr result (λ e. HasCleanDisk (sqlite.state S.Store e.0) → NamesFirstFault (sqlite.state S.Store conn).now e.1) }
+        ensures other_seeds { (point : Point) → StandsFor (sqlite.state S.Store conn).now point.event point.serial → IsSoundButForSeeds point.event → (HasSeeds point.event → ⊥)
+            → MatchResult result (λ it. HasCleanDisk (state S.Store it) → ⊥) (λ e. HasCleanDisk (sqlite.state S.Store e.0) → IsFault e.1 ⊎ (e.1 ≡ Refusal.Damaged Place.BracketTable)) }
+
+        // Whatever the schema is, no table changes, and a crash leaves what it could before: the last commit, while the connection was open.
+        ensures mode { IfErr result (λ e. e.0.in_transaction ≡ false) }
+        ensures same { IfOk result (λ it. HasCleanDisk (state S.Store it) → IsUnchanged (sqlite.state S.Store conn) (state S.Store it)) }
+        ensures kept { IfErr result (λ e. HasCleanDisk (sqlite.state S.Store e.0) → KeepsTables (sqlite.state S.Store conn) (sqlite.state S.Store e.0)) }
+        ensures crash { MatchResult result (λ it. Leaves (state S.Store it) (sqlite.state S.Store conn).may_leave) (λ e. Leaves (sqlite.state S.Store e.0) (sqlite.state S.Store conn).may_leave) }
+        ensures left { IsTrue (sqlite.state S.Store conn).is_open
+            → MatchResult result (λ it. Leaves (state S.Store it) (λ db. db ≡ (sqlite.state S.Store conn).committed.trees)) (λ e. Leaves (sqlite.state S.Store e.0) (λ db. db ≡ (sqlite.state S.Store conn).committed.trees)) }
+    {
+        let (store, event, serial) = Store::adopt(alloc, conn)?;
+        // An event is always sound, as this tells the proof.
+        let _ = event.phase();
+        match seeds_agree(alloc, &event) {
+            Ok(true) => Ok(Desk {
+                store,
+                event,
+                serial,
+                needs_reopen: false,
+            }),
+            Ok(false) => Err((
+                store.into_connection(),
+                Refusal::Damaged {
+                    table: Place::BracketTable,
+                },
+            )),
+            Err(_error) => Err((store.into_connection(), Refusal::Memory)),
+        }
+    }
+
+    /// The event, where no fault of the store is behind.
+    pub fn event(&self) -> Result<&Event, Refusal>
+        ensures value { IfOk result (λ event. event.now ≡ self.now.event) }
+        ensures repeats { IfOk result (λ event. RepeatsNobody event.now) }
+        ensures stopped { MatchResult result (λ _. IsFalse (standing self.now).stopped) (λ why. IsTrue (standing self.now).stopped × (why ≡ Refusal.NeedsReopen)) }
+    {
+        if self.needs_reopen {
+            return Err(Refusal::NeedsReopen);
+        }
+        // An event is always sound, as this tells the proof.
+        let _ = self.event.phase();
+        Ok(&self.event)
+    }
+
+    /// How many commands were accepted, where no fault of the store is behind.
+    pub fn serial(&self) -> Result<u32, Refusal>
+        ensures value { IfOk result (λ serial. (serial ≡ self.now.serial) × (serial ≤ MAX_SERIAL)) }
+        ensures stopped { MatchResult result (λ _. IsFalse (standing self.now).stopped) (λ why. IsTrue (standing self.now).stopped × (why ≡ Refusal.NeedsReopen)) }
+    {
+        if self.needs_reopen {
+            return Err(Refusal::NeedsReopen);
+        }
+        Ok(self.serial)
+    }
+
+    /// The standings of the event.
+    pub fn standings(&self, alloc: Global) -> Result<Vec<Row>, Refusal>
+        ensures value { IfOk result (λ rows. AreTheStandings self.now.event rows.items) }
+        ensures stopped { MatchResult result (λ _. IsFalse (standing self.now).stopped)
+            (λ why. (IsTrue (standing self.now).stopped × (why ≡ Refusal.NeedsReopen)) ⊎ (IsFalse (standing self.now).stopped × (why ≡ Refusal.Memory))) }
+    {
+        let event = self.event()?;
+        match standings(alloc, event) {
+            Ok(rows) => Ok(rows),
+            Err(_error) => Err(Refusal::Memory),
+        }
+    }
+
+    /// Whether a fault of the store is behind, so that the file is to be opened anew.
+    pub fn needs_reopen(&self) -> bool
+        ensures { result ≡ (standing self.now).stopped }
+    {
+        // The store has stopped with it, as the type tells the proof.
+        self.needs_reopen
+    }
+
+    /// Gives the connection back as it is.
+    pub fn close(self) -> Connection<S>
+        ensures same { result ≡ tables.connection self.store }
+        ensures mode { result.in_transaction ≡ false }
+    {
+        let Desk {
+            store: tables,
+            event: _,
+            serial: _,
+            needs_reopen: _,
+        } = self;
+        tables.into_connection()
+    }
+
+    /// Writes a change, and keeps the event after it. What needs memory is made before the first write.
+    fn write(&mut self, alloc: Global, change: &Change) -> Reply
+        requires runs { IsFalse (standing self.old).stopped }
+        requires fits { Fits self.old.event change.now }
+        requires low { self.old.serial < MAX_SERIAL }
+        requires sound { IsSound self.old.event → IsSound (after self.old.event change.now) }
+
+        ensures taken { IfOk result (λ receipt. (standing self.new ≡ record { event = after self.old.event change.now; serial = self.old.serial + 1; stopped = false }) × (receipt.serial ≡ self.old.serial + 1)) }
+        ensures refused { IfErr result (λ why. ((self.new ≡ self.old) × (why ≡ Refusal.Memory)) ⊎ ((standing self.new ≡ record (standing self.old) { stopped = true }) × IsFault why)) }
+        ensures clean { HasCleanDisk (state S.Store self.new) → HasCleanDisk (state S.Store self.old) }
+        ensures written { HasCleanDisk (state S.Store self.new) → ShowsOwn S.Store self.old → OnOk result (ShowsOwn S.Store self.new) }
+        ensures kept { HasCleanDisk (state S.Store self.new) → OnErr result (KeepsTables (state S.Store self.old) (state S.Store self.new)) }
+        ensures others { HasCleanDisk (state S.Store self.new) → ShowsOwn S.Store self.old → IsTrue (state S.Store self.new).is_open
+            → KeepsOthers (state S.Store self.old).now (state S.Store self.new).now }
+        ensures acknowledged { ShowsOwn S.Store self.old → OnOk result (LeavesJust (state S.Store self.new) (point_of (standing self.new))) }
+        ensures crash { ShowsOwn S.Store self.old
+            → Leaves (state S.Store self.new) (Either (IsStored self.old.event self.old.serial) (IsStored (after self.old.event change.now) (self.old.serial + 1))) }
+    {
+        // What the tables stand for, a crash leaves: this tells the proof.
+        shown_is_stored(&self.store);
+        let next = event_after(alloc, &self.event, change)?;
+        match self.store.write(&self.event, change, self.serial) {
+            Ok(()) => {
+                self.event = next;
+                self.serial += 1;
+                Ok(Receipt {
+                    serial: self.serial,
+                })
+            }
+            Err(why) => {
+                self.needs_reopen = true;
+                Err(why)
+            }
+        }
+    }
+
+    /// Takes a command that is lent.
+    fn take(&mut self, alloc: Global, command: &Command) -> Reply
+        ensures turn { Turn (standing self.old) command.now result (standing self.new) }
+        // A fault of the store stops the desk, and nothing else does. `NeedsReopen` comes exactly where it was stopped.
+        ensures stops { IsTrue (standing self.new).stopped ↔ (IsTrue (standing self.old).stopped ⊎ Stops (standing self.old) command.now result (standing self.new)) }
+        ensures fault { (cause : Cause) → result ≡ Err (Refusal.Store cause) → IsTrue (standing self.new).stopped }
+        ensures asks { (result ≡ Err Refusal.NeedsReopen) ↔ IsTrue (standing self.old).stopped }
+        ensures waits { IsTrue (standing self.old).stopped → self.new ≡ self.old }
+        ensures same { IfErr result (λ _. IsFalse (standing self.new).stopped → self.new ≡ self.old) }
+
+        // The tables stand for the event, and those of others stay. No refusal changes a table.
+        ensures clean { HasCleanDisk (state S.Store self.new) → HasCleanDisk (state S.Store self.old) }
+        ensures stands { HasCleanDisk (state S.Store self.new) → ShowsOwn S.Store self.old → IsFalse (standing self.new).stopped → ShowsOwn S.Store self.new }
+        ensures kept { HasCleanDisk (state S.Store self.new) → OnErr result (KeepsTables (state S.Store self.old) (state S.Store self.new)) }
+        ensures others { HasCleanDisk (state S.Store self.new) → ShowsOwn S.Store self.old → IsTrue (state S.Store self.new).is_open
+            → KeepsOthers (state S.Store self.old).now (state S.Store self.new).now }
+
+        // With a receipt a crash leaves the event after the command, after a fault of the store the event before or after it, and else the event before it.
+        ensures acknowledged { ShowsOwn S.Store self.old → OnOk result (LeavesJust (state S.Store self.new) (point_of (standing self.new))) }
+        ensures undecided { IsFalse (standing self.old).stopped → ShowsOwn S.Store self.old → LeavesEither (state S.Store self.new) (point_of (standing self.old)) command.now }
+        ensures refused { ShowsOwn S.Store self.old → IfErr result (λ _. IsFalse (standing self.new).stopped → LeavesJust (state S.Store self.new) (point_of (standing self.old))) }
+    {
+        if self.needs_reopen {
+            return Err(Refusal::NeedsReopen);
+        }
+        // What the tables stand for, a crash leaves: this tells the proof.
+        shown_is_stored(&self.store);
+        let change = decide(alloc, &self.event, command)?;
+        if self.serial == MAX_SERIAL {
+            return Err(Refusal::SerialFull);
+        }
+        self.write(alloc, &change)
+    }
+
+    /// Takes a command. Where it is refused, and the store has no fault, all stays as it was.
+    pub fn submit(&mut self, alloc: Global, command: Command) -> Reply
+        ensures turn { Turn (standing self.old) command result (standing self.new) }
+        // A fault of the store stops the desk, and nothing else does. `NeedsReopen` comes exactly where it was stopped.
+        ensures stops { IsTrue (standing self.new).stopped ↔ (IsTrue (standing self.old).stopped ⊎ Stops (standing self.old) command result (standing self.new)) }
+        ensures fault { (cause : Cause) → result ≡ Err (Refusal.Store cause) → IsTrue (standing self.new).stopped }
+        ensures asks { (result ≡ Err Refusal.NeedsReopen) ↔ IsTrue (standing self.old).stopped }
+        ensures waits { IsTrue (standing self.old).stopped → self.new ≡ self.old }
+        ensures same { IfErr result (λ _. IsFalse (standing self.new).stopped → self.new ≡ self.old) }
+
+        // `Budget` comes exactly where the search for a round needs more than its steps, but for memory.
+        ensures budget { (steps : ℕ) → result ≡ Err (Refusal.Budget steps) → NeedsMoreSteps self.old.event command }
+        ensures searched { IsFalse (standing self.old).stopped → NeedsMoreSteps self.old.event command → (result ≡ Err Refusal.Memory) ⊎ ((steps : ℕ) × (result ≡ Err (Refusal.Budget steps))) }
+
+        // The tables stand for the event, and those of others stay. No refusal changes a table.
+        ensures clean { HasCleanDisk (state S.Store self.new) → HasCleanDisk (state S.Store self.old) }
+        ensures stands { HasCleanDisk (state S.Store self.new) → ShowsOwn S.Store self.old → IsFalse (standing self.new).stopped → ShowsOwn S.Store self.new }
+        ensures kept { HasCleanDisk (state S.Store self.new) → OnErr result (KeepsTables (state S.Store self.old) (state S.Store self.new)) }
+        ensures others { HasCleanDisk (state S.Store self.new) → ShowsOwn S.Store self.old → IsTrue (state S.Store self.new).is_open
+            → KeepsOthers (state S.Store self.old).now (state S.Store self.new).now }
+
+        // With a receipt a crash leaves the event after the command, after a fault of the store the event before or after it, and else the event before it.
+        ensures acknowledged { ShowsOwn S.Store self.old → OnOk result (LeavesJust (state S.Store self.new) (point_of (standing self.new))) }
+        ensures undecided { IsFalse (standing self.old).stopped → ShowsOwn S.Store self.old → LeavesEither (state S.Store self.new) (point_of (standing self.old)) command }
+        ensures refused { ShowsOwn S.Store self.old → IfErr result (λ _. IsFalse (standing self.new).stopped → LeavesJust (state S.Store self.new) (point_of (standing self.old))) }
+    {
+        // What `Budget` says tells the proof this.
+        budget_searches();
+        self.take(alloc, &command)
+    }
+
+    /// Takes commands one after the other. The replies are reserved first, so that want of memory for them leaves all as it was.
+    pub fn run(&mut self, alloc: Global, commands: Vec<Command>) -> Result<Vec<Reply>, AllocError>
+        ensures ran { IfOk result (λ replies. Runs (standing self.old) commands.items replies.items (standing self.new)) }
+        // Each reply is lawful at the fold of the commands that were acknowledged before it, and after a fault of the store the rest ask for reopening.
+        ensures lawful { IfOk result (λ replies. IsRun (standing self.old) commands.items replies.items (standing self.new)) }
+        ensures untouched { IfErr result (λ _. self.new ≡ self.old) }
+        ensures waits { IsTrue (standing self.old).stopped → self.new ≡ self.old }
+
+        // The tables stand for the fold of the acknowledged commands, and those of others stay.
+        ensures clean { HasCleanDisk (state S.Store self.new) → HasCleanDisk (state S.Store self.old) }
+        ensures stands { HasCleanDisk (state S.Store self.new) → ShowsOwn S.Store self.old → IsFalse (standing self.new).stopped → ShowsOwn S.Store self.new }
+        ensures others { HasCleanDisk (state S.Store self.new) → ShowsOwn S.Store self.old → IsTrue (state S.Store self.new).is_open
+            → KeepsOthers (state S.Store self.old).now (state S.Store self.new).now }
+
+        // A crash leaves the fold of the acknowledged commands, or that with the one in doubt.
+        ensures crash { IsFalse (standing self.old).stopped → ShowsOwn S.Store self.old
+            → IfOk result (λ replies. LeavesEnd (state S.Store self.new) (point_of (standing self.old)) (session_of commands.items replies.items (standing self.new).stopped)) }
+    {
+        let mut replies = Vec::with_capacity(alloc, commands.len())?;
+        for command in &commands {
+            let reply = self.take(alloc, command);
+            let Ok(()) = replies.push(reply) else {
+                unreachable!()
+            };
+        }
+        // What the tables stand for, a crash leaves: this tells the proof.
+        shown_is_stored(&self.store);
+        Ok(replies)
+    }
+}

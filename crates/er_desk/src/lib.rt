@@ -1,0 +1,10 @@
+//! One desk over one event: it takes commands in turn, and each accepted command is one transaction of the event's file.
+//! `specs/Headline.antt` says in a few lines what the public calls promise together.
+#![tactic(auto)]
+
+mod desk;
+pub mod laws;
+mod opening;
+
+pub use desk::{Desk, Reply};
+pub use opening::{OpenFault, open};

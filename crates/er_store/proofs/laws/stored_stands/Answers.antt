@@ -1,0 +1,5 @@
+use Rattle.er_store.proofs.Reopening.{stands_again}
+use Rattle.er_store.proofs.laws.stored_stands.Goals as goal
+
+pub returns : goal.returns
+returns c = stands_again

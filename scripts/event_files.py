@@ -1,0 +1,70 @@
+"""The file of an event as command lines keep it, and as C SQLite reads it."""
+import os
+import shutil
+import sqlite3
+import subprocess
+import tempfile
+
+STATUSES = {24: 4, 25: 3, 26: 3}
+
+
+def words_of(line, file):
+    """The words of a command line: those of a line of a script, with FILE behind the first."""
+    name, *rest = line.split("\t")
+    return [name, file, *rest]
+
+
+def due(answer):
+    """The status, the output and the errors of a command line that is answered so."""
+    text = "".join(line + "\n" for line in answer).encode()
+    if not answer[0].startswith("refused "):
+        return 0, text, b""
+    return STATUSES.get(int(answer[0].split()[1]), 1), b"", text
+
+
+def run(program, words):
+    ran = subprocess.run([program, *words], stdin=subprocess.DEVNULL, capture_output=True, timeout=60)
+    return ran.returncode, ran.stdout, ran.stderr
+
+
+def pairing_rows(event):
+    for number, matches in enumerate(event.stored, 1):
+        for place, (a, b, score) in enumerate(matches, 1):
+            yield (number, place if b else 0, min(a, b), max(a, b), int(a > b), int(score is not None), *(score or (0, 0, 0)))
+
+
+def bracket_rows(event):
+    for stage, matches in enumerate(event.stages, 1):
+        for slot, (a, b, score) in enumerate(matches, 1):
+            yield stage, slot, a, b, int(score is not None), *(score or (0, 0, 0))
+
+
+def rows_of(event):
+    """The rows of the four tables that stand for an event named E."""
+    players = [(it, event.names[it - 1], int(it in event.dropped)) for it in event.numbers()]
+    first = (1, 1, event.serial, "E", event.rounds, event.cut, event.phase)
+    return [first], players, sorted(pairing_rows(event)), sorted(bracket_rows(event))
+
+
+def rows_read(file):
+    """The rows of the four tables, or None where there is no event. The database has to be whole."""
+    base = sqlite3.connect(file)
+    try:
+        whole = base.execute("PRAGMA integrity_check").fetchall()
+        if whole != [("ok",)]:
+            raise ValueError(f"{file}: {whole}")
+        if not base.execute("SELECT 1 FROM sqlite_schema WHERE name = 'event'").fetchall():
+            return None
+        return tuple(sorted(base.execute(f"SELECT * FROM {table}").fetchall()) for table in ("event", "player", "pairing", "bracket"))
+    finally:
+        base.close()
+
+
+def rows_of_copy(file):
+    """The same of a copy with its log, so that the file itself stays as it is."""
+    with tempfile.TemporaryDirectory() as folder:
+        for name in (file, f"{file}-wal"):
+            if os.path.exists(name):
+                shutil.copy(name, folder)
+        copied = f"{folder}/{os.path.basename(file)}"
+        return rows_read(copied) if os.path.exists(copied) else None

@@ -1,0 +1,139 @@
+"""Random events: small ones, of 2 to 11 players, in which pairings, results, corrections, drops and cuts come in any order, and whole
+ones, of 8 to 32 players, which are played from the first round to the champion, where they have a cut and enough players for it.
+"""
+from plain_event import PLAYOFF, SWISS, Event
+
+def random_score(dice):
+    if dice.random() < 0.8:
+        return dice.choice([(2, 0, 0), (2, 1, 0), (1, 2, 0), (0, 2, 0), (1, 1, 1), (1, 1, 0), (0, 0, 0), (0, 0, 3), (1, 0, 0), (2, 0, 3), (0, 1, 2)])
+    return dice.randrange(4), dice.randrange(4), dice.randrange(5)
+
+
+def random_playoff_score(dice):
+    if dice.random() < 0.7:
+        return dice.choice([(2, 0, 0), (2, 1, 0), (1, 2, 0), (0, 2, 0), (1, 0, 3), (0, 1, 0), (3, 2, 0), (2, 3, 1), (3, 0, 3)])
+    return dice.randrange(5), dice.randrange(5), dice.randrange(5)
+
+
+class Play:
+    """An event, and `sends`: what becomes of each line and of the answer that is due to it."""
+
+    def __init__(self, sends, dice, players, rounds, cut):
+        self.sends, self.dice, self.event, self.players = sends, dice, Event(rounds, cut), players
+        self.send(f"init\tE\t{rounds}\t{cut}", ["ok 0"])
+        for number in range(1, players + 1):
+            self.send(f"enrol\tP{number}", self.event.enrol(f"P{number}"))
+        if dice.random() < 0.1:
+            self.cut()
+        self.send("start", self.event.start())
+
+    def send(self, line, answer):
+        self.sends(line, answer, self.event)
+
+    def standings(self):
+        self.send("standings", self.event.standings())
+
+    def pair(self, number):
+        seed = self.dice.randbytes(32)
+        self.send(f"pair\t{number}\t{seed.hex()}", self.event.pair(number, seed))
+        self.send(f"slips\t{number}", self.event.slips(number))
+
+    def report(self, is_new, number, table, score):
+        verb = "result" if is_new else "correct"
+        self.send(f"{verb}\t{number}\t{table}\t{score[0]}\t{score[1]}\t{score[2]}", self.event.report(number, table, score, is_new))
+
+    def drop(self):
+        player = self.dice.randint(0, self.players + 1)
+        self.send(f"drop\t{player}", self.event.drop(player))
+
+    def cut(self):
+        self.send("cut", self.event.end_rounds())
+        self.send("bracket", self.event.bracket())
+
+    def playoff(self):
+        """A score of a match that is open, or of any, or of none."""
+        stages, dice = self.event.stages, self.dice
+        is_open = [(stage, slot) for stage, matches in enumerate(stages, 1) for slot, match in enumerate(matches, 1) if not match[2]]
+        any_at = dice.randint(0, len(stages) + 1), dice.randint(0, self.event.cut // 2 + 1)
+        stage, slot = dice.choice(is_open) if is_open and dice.random() < 0.7 else any_at
+        score = random_playoff_score(dice)
+        self.send(f"playoff\t{stage}\t{slot}\t{score[0]}\t{score[1]}\t{score[2]}", self.event.play(stage, slot, score))
+        self.send("bracket", self.event.bracket())
+
+    def late(self):
+        """A command for which it is too late once the rounds are over."""
+        number, what = len(self.event.stored), self.dice.randrange(7)
+        if what == 0:
+            self.pair(number + self.dice.randrange(2))
+        elif what in (1, 2):
+            self.report(what == 1, number, 1, random_score(self.dice))
+        elif what == 3:
+            self.drop()
+        elif what == 4:
+            self.cut()
+        elif what == 5:
+            self.send("start", self.event.start())
+        else:
+            self.send("enrol\tLate", self.event.enrol("Late"))
+
+
+def this_and_that(sends, dice):
+    """A small event, to which one thing after another is done, in order or not."""
+    play = Play(sends, dice, dice.randint(2, 11), dice.randint(1, 9), dice.choice((0, 0, 2, 4, 8)))
+    for _ in range(dice.randint(1, 60)):
+        what, number, is_open = dice.random(), len(play.event.stored), play.event.is_open()
+        if play.event.phase != SWISS and what < 0.8:
+            play.playoff()
+        elif what < (0.1 if is_open else 0.6):
+            play.pair(number + 1 if dice.random() < 0.95 else dice.randrange(11))
+        elif what < 0.9:
+            is_new = dice.random() < (0.85 if is_open else 0.2)
+            number = number if is_new or dice.random() < 0.3 else dice.randint(0, number + 1)
+            play.report(is_new, number, dice.randint(0, play.players // 2 + 1), random_score(dice))
+        elif what < 0.95:
+            play.drop()
+        elif what < 0.99:
+            play.cut()
+        else:
+            play.playoff()
+        if dice.random() < 0.7:
+            play.standings()
+    return play
+
+
+def to_the_champion(sends, dice):
+    """An event that is played from its first round to its end."""
+    play = Play(sends, dice, dice.randint(8, 32), dice.randint(1, 5), dice.choice((0, 2, 4, 8, 8)))
+    event = play.event
+    for number in range(1, event.rounds + 1):
+        play.pair(number)
+        while play.event.is_open():
+            tables = [table for table, (_, _, score) in enumerate(event.stored[-1], 1) if not score]
+            table = dice.choice(tables) if dice.random() < 0.95 else dice.randint(0, play.players // 2 + 1)
+            play.report(dice.random() < 0.95, number, table, random_score(dice))
+        if dice.random() < 0.3:
+            play.drop()
+        if dice.random() < 0.2:
+            play.cut()
+    while event.phase == SWISS and dice.random() < 0.5:
+        play.drop()
+    play.standings()
+    play.cut()
+    before = event.standings()
+    while event.phase == PLAYOFF:
+        if dice.random() < 0.9:
+            play.playoff()
+        else:
+            play.late()
+    play.send("standings", before)
+    for _ in range(dice.randrange(3)):
+        if dice.random() < 0.5:
+            play.late()
+        else:
+            play.playoff()
+    return play
+
+
+def random_event(sends, dice, number):
+    """Every second event is a whole one. The event at its end is given."""
+    return (this_and_that, to_the_champion)[number % 2](sends, dice).event
