@@ -13,25 +13,15 @@ import tempfile
 import time
 
 from chacha20 import words_of
+from tally import check, end
 from transcripts import parts_of
 
 program, folder = sys.argv[1:]
 
+
 def run(script, words=(), out=subprocess.PIPE):
     ran = subprocess.run([program, *words], input=script, stdout=out, stderr=subprocess.PIPE, timeout=60)
     return ran.returncode, ran.stdout, ran.stderr
-
-
-wrong = right = 0
-
-
-def check(name, got, want):
-    global wrong, right
-    if got == want:
-        right += 1
-    else:
-        wrong += 1
-        print(f"{name}: {got!r}, and not {want!r}", file=sys.stderr)
 
 
 def run_transcripts():
@@ -184,6 +174,4 @@ def run_devices():
 
 for part in (run_transcripts, run_scripts, run_sizes, run_full_event, run_seeds, run_words, run_in_writes, run_slowly, run_devices):
     part()
-print("the examples, as the program is built")
-print(f"{right} passed, {wrong} failed")
-sys.exit(1 if wrong else 0)
+end("the examples, as the program is built")

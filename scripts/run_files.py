@@ -14,19 +14,10 @@ import sys
 import tempfile
 
 from event_files import due
+from tally import check, end
 from transcripts import parts_of
 
 program, folder = sys.argv[1:]
-wrong = right = 0
-
-
-def check(name, got, want):
-    global wrong, right
-    if got == want:
-        right += 1
-    else:
-        wrong += 1
-        print(f"{name}: {got!r}, and not {want!r}", file=sys.stderr)
 
 
 def run(*words, **how):
@@ -196,6 +187,4 @@ run_transcripts()
 for part in (run_paths, run_contents, run_after_sqlite, run_locked, run_full_disk, run_rights):
     with tempfile.TemporaryDirectory() as room:
         part(room)
-print("files, as the program is built")
-print(f"{right} passed, {wrong} failed")
-sys.exit(1 if wrong else 0)
+end("files, as the program is built")

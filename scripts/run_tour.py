@@ -9,6 +9,8 @@ import subprocess
 import sys
 import tempfile
 
+from tally import check, end
+
 program, *documents = sys.argv[1:]
 top = os.path.dirname(os.path.dirname(os.path.abspath(__file__)))
 
@@ -21,18 +23,11 @@ def steps_of(document):
             yield typed, shown
 
 
-wrong = right = 0
 for document in documents:
     with tempfile.TemporaryDirectory() as room:
         os.symlink(os.path.abspath(program), f"{room}/event_reporter")
         shutil.copytree(f"{top}/examples", f"{room}/examples")
         for typed, shown in steps_of(document):
             ran = subprocess.run(typed, shell=True, cwd=room, stdout=subprocess.PIPE, stderr=subprocess.STDOUT, stdin=subprocess.DEVNULL, timeout=60)
-            if ran.stdout.decode() == shown:
-                right += 1
-            else:
-                wrong += 1
-                print(f"{document}: {typed}: {ran.stdout.decode()!r}, and not {shown!r}", file=sys.stderr)
-print("what the documents show")
-print(f"{right} passed, {wrong} failed")
-sys.exit(1 if wrong or not right else 0)
+            check(f"{document}: {typed}", ran.stdout.decode(), shown)
+end("what the documents show")
