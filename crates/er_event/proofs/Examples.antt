@@ -20,6 +20,7 @@ use Rattle.er_event.specs.Name.{is_lawful_name}
 use Rattle.er_event.specs.Round.{is_counted, match_at}
 use Rattle.er_event.specs.Rows.{event_row, player_rows, pairing_rows, keyed_pairing_rows, bracket_rows}
 use Rattle.er_event.specs.Score.{is_swiss_score, is_playoff_score}
+use Rattle.er_event.specs.Slip.{slip_of}
 
 -- ---- each limit as the rules have it, so that the code's constant can't move from it
 
@@ -148,6 +149,17 @@ match_of_the_bye = refl
 
 pub no_such_match : match_at paired 1 2 ∷ match_at paired 1 3 ∷ match_at paired 0 1 ∷ match_at paired 2 1 ∷ [] ≡ None ∷ None ∷ None ∷ None ∷ []
 no_such_match = refl
+
+-- ---- slips
+
+pub slip_of_a_table : slip_of paired 1 1 ≡ Some (record { round = 1; table = 1; first = (2, codes "Bo"); second = Some (1, codes "Ana"); score = None })
+slip_of_a_table = refl
+
+pub slip_of_the_bye : slip_of paired 1 0 ≡ Some (record { round = 1; table = 0; first = (3, codes "Cy"); second = None; score = Some (games 2 0 0) })
+slip_of_the_bye = refl
+
+pub slip_of_nothing : slip_of paired 1 2 ∷ slip_of paired 2 1 ∷ slip_of paired 0 1 ∷ [] ≡ None ∷ None ∷ None ∷ []
+slip_of_nothing = refl
 
 -- ---- changes
 

@@ -15,3 +15,4 @@ pub mod Stages
 pub mod Reading
 pub mod Lines
 pub mod Totals
+pub mod Slip

@@ -15,6 +15,7 @@ mod refusals;
 mod rounds;
 mod rows;
 mod scores;
+mod slips;
 mod stages;
 
 pub use changes::Change;
@@ -28,3 +29,4 @@ pub use refusals::{Cause, Command, MAX_SERIAL, Place, Receipt, Refusal};
 pub use rounds::{Bracket, Match, Round};
 pub use rows::{BracketRow, EventRow, PairingRow, PlayerRow};
 pub use scores::{Games, Score};
+pub use slips::SlipRow;

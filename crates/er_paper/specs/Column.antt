@@ -1,11 +1,11 @@
 -- What stands in the columns of a line. Each text is nested to the right, as a format writes its parts.
-use Rattle.std.specs.Prelude.{ℕ, ◌-◌, ◌/◌, ◌%◌, ◌==◌, List, [], ◌∷◌, ◌++◌, length, replicate, find, Bool, if◌then◌else◌, Option, Some, None, codes}
+use Rattle.std.specs.Prelude.{ℕ, ◌-◌, ◌/◌, ◌%◌, ◌==◌, List, ◌∷◌, ◌++◌, length, replicate, Bool, if◌then◌else◌, Option, Some, None, codes}
 use Rattle.std.specs.Fmt.{decimal}
 use Rattle.er_share.specs.Fraction.{hundredths}
 use Rattle.er_share.specs.Share.{fraction_of}
-use Rattle.er_event.specs.declared.players.Player.{Player}
 use Rattle.er_event.specs.declared.scores.Games.{Games}
 use Rattle.er_event.specs.Event.{EventValue}
+use Rattle.er_event.specs.Slip.{name_of}
 
 -- a number in decimal, with spaces before it up to the width
 abbrev pub right : ℕ → ℕ → List ℕ
@@ -29,14 +29,6 @@ percent share = 32 ∷ percent_of (hundredths (fraction_of share))
 
 abbrev pub mark : Bool → List ℕ
 mark dropped = if dropped then codes "D" else codes " "
-
-abbrev pub name_in : Option Player → List ℕ
-name_in None = []
-name_in (Some p) = p.name
-
--- the name of the player with this number
-abbrev pub name_of : EventValue → ℕ → List ℕ
-name_of event number = name_in (find (λ (p : Player). p.no == number) event.players)
 
 -- `bye` stands for the missing opponent
 abbrev pub opponent_name : EventValue → ℕ → List ℕ

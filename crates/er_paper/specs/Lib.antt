@@ -1,2 +1,3 @@
 pub mod Column
 pub mod Texts
+pub mod Slip

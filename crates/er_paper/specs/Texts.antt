@@ -9,7 +9,8 @@ use Rattle.er_event.specs.Round.{numbered_from, table_of}
 use Rattle.er_event.specs.Bracket.{champion}
 use Rattle.er_rank.specs.declared.rows.Row.{Row}
 use Rattle.er_rank.specs.Standings.{AreStandings}
-use Rattle.er_paper.specs.Column.{right, percent, mark, name_of, opponent_name, left, score_text}
+use Rattle.er_event.specs.Slip.{name_of}
+use Rattle.er_paper.specs.Column.{right, percent, mark, opponent_name, left, score_text}
 
 abbrev pub player_line : Player → List ℕ
 player_line p = right 4 p.no ++ (32 ∷ (mark p.dropped ++ (32 ∷ (p.name ++ (10 ∷ [])))))

@@ -1,5 +1,6 @@
 ghost use Rattle.std.specs.Prelude.{◌≡◌, ◌++◌, OnOk, string_bytes};
-ghost use Rattle.er_paper.specs.Column.{left, mark, name_of};
+ghost use Rattle.er_event.specs.Slip.{name_of};
+ghost use Rattle.er_paper.specs.Column.{left, mark};
 
 use er_event::Event;
 use std::alloc::AllocError;

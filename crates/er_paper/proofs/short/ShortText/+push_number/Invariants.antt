@@ -1,4 +1,3 @@
-use Rattle.std.proofs.Common.{ℕ}
 use Rattle.er_paper.proofs.short.ShortText.+push_number.Given as goal
 
 abbrev pub decreases-push_number : goal.decreases-push_number

@@ -1,0 +1,35 @@
+-- Bytes that are text, or not, and the games of their JSON.
+use Rattle.std.proofs.Common.{◌≡◌, ℕ, List, Bool, true, false, Option, Some, None, Result, Ok, Err, IfOk, refl, sym, ◌∙◌}
+use Rattle.std.specs.Option.{ok_or}
+use Rattle.er_event.specs.declared.scores.Games.{Games}
+use Rattle.er_paper.specs.declared.slips.SlipFault.{SlipFault}
+use Rattle.er_paper.specs.declared.slips.SlipFault.TheVariants.{Bad}
+use Rattle.std.specs.Str.{IsUtf8, is_utf8}
+use Rattle.std.proofs.lemmas.Str.{is_utf8-from_IsUtf8, IsUtf8-from_is_utf8}
+use Rattle.serde_json.specs.Data.{Data}
+use Rattle.serde_json.specs.Read.{read}
+use Rattle.er_paper.specs.Slip.{games_of, slip_games}
+
+pub games-read : (text : List ℕ) (d : Data) → IsUtf8 text → read text ≡ Some d → slip_games text ≡ games_of d
+unfolding slip_games
+games-read text d is e = rw (is_utf8-from_IsUtf8 text is, e) refl
+
+pub games-unread : (text : List ℕ) → (IsUtf8 text → read text ≡ None) → slip_games text ≡ None
+unfolding slip_games
+games-unread text none = by (is_utf8 text) refl
+  where
+    by : (b : Bool) → is_utf8 text ≡ b → slip_games text ≡ None
+    by true e = let n = none (IsUtf8-from_is_utf8 text e) in rw (e, n) refl
+    by false e = rw e refl
+
+-- what `ok_or` makes of the games
+pub games-ok : (slip o : Option Games) (r : Result Games SlipFault) → slip ≡ o → r ≡ ok_or o Bad → IfOk r (λ games. slip ≡ Some games)
+games-ok slip o r same e = rw e (by o same)
+  where
+    by : (o : Option Games) → slip ≡ o → IfOk (ok_or o Bad) (λ games. slip ≡ Some games)
+    by None s = tt
+    by (Some games) s = s
+
+pub games-bad : (slip o : Option Games) (r : Result Games SlipFault) → slip ≡ o → r ≡ ok_or o Bad → r ≡ Err Bad → slip ≡ None
+games-bad slip None r same e bad = same
+games-bad slip (Some games) r same e bad = let apart : Ok games ≡ Err Bad = sym e ∙ bad in absurd (cc)

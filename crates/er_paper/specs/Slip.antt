@@ -1,0 +1,66 @@
+-- The slip of a match as JSON, and the games that a filled-in slip hands in.
+use Rattle.std.specs.Prelude.{ℕ, nat_lt, ◌&&◌, if◌then◌else◌, List, Option, Some, None, option_and_then, codes}
+use Rattle.std.specs.Str.{bytes_eq, is_utf8}
+use Rattle.serde_json.specs.Data.{Data, Members, null, number, unsigned, string, object, member, no_members}
+use Rattle.serde_json.specs.Find.{as_number, as_u64, as_object}
+use Rattle.serde_json.specs.Read.{read}
+use Rattle.serde_json.specs.Written.{compact_text}
+use Rattle.er_event.specs.declared.scores.Games.{Games}
+use Rattle.er_event.specs.declared.slips.SlipRow.{SlipRow}
+
+-- ---- the slip, whose keys stand in the order of their names
+
+abbrev pub games_data : Games → Data
+games_data g = object (member (codes "a") (number (unsigned g.x)) (member (codes "b") (number (unsigned g.y)) (member (codes "d") (number (unsigned g.d)) no_members)))
+
+abbrev pub score_data : Option Games → Data
+score_data None = null
+score_data (Some g) = games_data g
+
+abbrev pub side_data : ℕ × List ℕ → Data
+side_data side = object (member (codes "name") (string side.1) (member (codes "no") (number (unsigned side.0)) no_members))
+
+-- null for a bye
+abbrev pub second_data : Option (ℕ × List ℕ) → Data
+second_data None = null
+second_data (Some side) = side_data side
+
+abbrev pub slip_with : ℕ → Data → Data → Data → ℕ → Data
+slip_with round first score second table =
+    object (member (codes "first") first
+    (member (codes "round") (number (unsigned round))
+    (member (codes "score") score
+    (member (codes "second") second
+    (member (codes "table") (number (unsigned table)) no_members)))))
+
+abbrev pub slip_data : SlipRow → Data
+slip_data row = slip_with row.round (side_data row.first) (score_data row.score) (second_data row.second) row.table
+
+abbrev pub slip_text : SlipRow → List ℕ
+slip_text row = compact_text (slip_data row)
+
+-- ---- a slip that is handed in
+
+-- a number from 0 to 255
+abbrev pub byte_below : ℕ → Option ℕ
+byte_below n = if nat_lt n 256 then Some n else None
+
+abbrev pub entry_of : Data → Option ℕ
+entry_of d = option_and_then byte_below (option_and_then as_u64 (as_number d))
+
+abbrev pub games_with : Option ℕ → Option ℕ → Option ℕ → Option Games
+games_with (Some x) (Some y) (Some d) = Some (record { x = x; y = y; d = d })
+games_with _ _ _ = None
+
+-- exactly the keys a, b and d: each once, in the order of their names
+abbrev pub games_in_members : Members → Option Games
+games_in_members (member a x (member b y (member d z no_members))) =
+    if bytes_eq a (codes "a") && (bytes_eq b (codes "b") && bytes_eq d (codes "d")) then games_with (entry_of x) (entry_of y) (entry_of z) else None
+games_in_members _ = None
+
+abbrev pub games_of : Data → Option Games
+games_of d = option_and_then games_in_members (as_object d)
+
+-- The games of a text. Of a repeated key the last value stands.
+unfoldable pub slip_games : List ℕ → Option Games
+slip_games text = if is_utf8 text then option_and_then games_of (read text) else None
