@@ -23,6 +23,8 @@ COMMANDS = [
     (["start"], False),
     (["pair", "1", ZERO], True),
     (["standings"], True),
+    # a fault of usage, which is told in words
+    (["pair", "1", "no key"], True),
 ]
 # where the words themselves could not be kept, they don't tell a script from a command line
 MEMORY = (4, b"", b"refused 24 Memory\n"), (4, b"refused 24 Memory\n", b"")
@@ -48,7 +50,7 @@ def tries(file, words):
         due = run(after_file, words)
         after = rows_of_copy(after_file)
     with tempfile.TemporaryDirectory() as room:
-        count = int(run(copied(file, room), words, 0)[2])
+        count = int(run(copied(file, room), words, 0)[2].split()[-1])
     before, wrong = rows_of_copy(file), []
     tried = sorted({*range(1, count + 1, stride), *range(max(1, count - LAST + 1), count + 1)})
     for nth in tried:

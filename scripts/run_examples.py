@@ -89,6 +89,8 @@ def run_words():
         status, text, errors = run(b"", [name, "--help"])
         check(f"{name} --help", (status, text.startswith(b"usage: event_reporter %s FILE" % name.encode()), b"\nExample: event_reporter " in text, errors), (0, True, True, b""))
         check(f"{name} -h", run(b"", [name, "-h"]), (0, text, b""))
+        for word in ("--version", "-V"):
+            check(f"{name} {word}", run(b"", [name, word]), (0, b"event_reporter 0.1.0\n", b""))
         check(f"{name} in the help", b"\n  %s FILE" % name.encode() in help_text, True)
         missing = b"event_reporter: a word is missing at the end\n" + text
         check(f"{name} alone", run(b"", [name]), (2, b"", missing))
@@ -104,6 +106,7 @@ def run_words():
         (["drop", "f", "65536"], b"`65536` is no whole number from 0 to 65535\n" + run(b"", ["drop", "-h"])[1]),
         (["help"], b"`help` is no subcommand\nusage: event_reporter SUBCOMMAND FILE WORDS\nTry: event_reporter --help\n"),
         ([""], b"`` is no subcommand\nusage: event_reporter SUBCOMMAND FILE WORDS\nTry: event_reporter --help\n"),
+        (["help", "--version"], b"`--version` begins with `-`, which no word may\nusage: event_reporter SUBCOMMAND FILE WORDS\nTry: event_reporter --help\n"),
         (["--help", "--help"], b"`--help` begins with `-`, which no word may\nusage: event_reporter SUBCOMMAND FILE WORDS\nTry: event_reporter --help\n"),
         ([b"\xff"], b"the words are no UTF-8 text\nTry: event_reporter --help\n"),
     ):

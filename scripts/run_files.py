@@ -5,6 +5,7 @@ An empty line of a transcript begins the next file. What a script is answered `u
 """
 import glob
 import os
+import pty
 import resource
 import shutil
 import signal
@@ -162,6 +163,20 @@ def run_full_disk(room):
     check("after a full disk", run("players", file), SERVED)
 
 
+def run_terminal(_room):
+    """With no words a terminal is told that a script is awaited, and anything else is not."""
+    ours, its = pty.openpty()
+    at_terminal = subprocess.Popen([program], stdin=its, stdout=subprocess.PIPE, stderr=subprocess.PIPE)
+    os.write(ours, b"init\tFriday\t3\t0\nplayers\n\x04")
+    out, err = at_terminal.communicate(timeout=60)
+    os.close(ours)
+    os.close(its)
+    check("a script on a terminal", (at_terminal.returncode, out), (0, b"ok 0\n  No D Name\n"))
+    check("a terminal is told", (err.startswith(b"event_reporter: "), b"--help" in err), (True, True))
+    ran = subprocess.run([program], input=b"players\n", capture_output=True, timeout=60)
+    check("a pipe is not", (ran.returncode, ran.stdout, ran.stderr), (0, b"refused 27 NoEvent\n", b""))
+
+
 def run_rights(room):
     """A file that this user may not read, or not write."""
     if os.geteuid():
@@ -184,7 +199,7 @@ def run_rights(room):
 
 
 run_transcripts()
-for part in (run_paths, run_contents, run_after_sqlite, run_locked, run_full_disk, run_rights):
+for part in (run_paths, run_contents, run_after_sqlite, run_locked, run_full_disk, run_rights, run_terminal):
     with tempfile.TemporaryDirectory() as room:
         part(room)
 end("files, as the program is built")

@@ -1,5 +1,6 @@
 pub mod Bytes
 pub mod Ending
+pub mod WordKinds
 pub mod Leaves
 pub mod Refusals
 pub mod Runs

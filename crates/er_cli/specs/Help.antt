@@ -1,5 +1,5 @@
 -- What the words of a command line are answered.
-use Rattle.std.specs.Prelude.{◌≡◌, ◌⊎◌, ℕ, ◌==◌, ◌||◌, Bool, if◌then◌else◌, List, [], ◌∷◌, Option, Some, None, codes}
+use Rattle.std.specs.Prelude.{◌≡◌, ◌⊎◌, ℕ, ◌==◌, ◌||◌, Bool, if◌then◌else◌, List, [], ◌∷◌, Option, Some, None, option_and_then, codes}
 use Rattle.std.specs.Str.{bytes_eq}
 use Rattle.std.specs.Io.KnownBytes.{Appends}
 use Rattle.er_event.specs.declared.refusals.Refusal.{Refusal}
@@ -41,10 +41,11 @@ subcommand_text = text_in (
     ∷ (codes "bracket", BRACKET.now)
     ∷ [])
 
+-- the text of the subcommand, or the version, behind the name of one
 abbrev pub text_behind : List ℕ → List ℕ → Option (List ℕ)
-text_behind name word = if is_help word then subcommand_text name else None
+text_behind name word = option_and_then (λ text. if is_help word then Some text else (if is_version word then Some VERSION.now else None)) (subcommand_text name)
 
--- the text that the words ask for: an option alone, or `--help` behind a subcommand
+-- the text that the words ask for: an option alone, or behind a subcommand
 abbrev pub text_for : List (List ℕ) → Option (List ℕ)
 text_for (word ∷ []) = option_text word
 text_for (name ∷ word ∷ []) = text_behind name word

@@ -9,5 +9,7 @@ pub mod Texts
 pub mod Input
 pub mod Answers
 pub mod Script
+pub mod Files
 pub mod Status
 pub mod Help
+pub mod Complaints

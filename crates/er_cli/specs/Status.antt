@@ -29,7 +29,7 @@ pub record ServesPart (input before after : Option (List ℕ)) : Type 0 where
 -- the status of a script that is not run, and what is printed of it
 abbrev pub EndsUnread : InputFault → Option (List ℕ) → Option (List ℕ) → ℕ → Type 0
 EndsUnread TooLong before after status = (status ≡ USAGE) × Appends before after (answer_text Usage)
-EndsUnread Read before after status = (status ≡ DEVICE) × Keeps before after
+EndsUnread Read before after status = (status ≡ DEVICE) × (after ≡ before)
 EndsUnread fault.Memory before after status = (status ≡ MEMORY) × Appends before after (answer_text (Refused Memory))
 
 -- what is printed of it where a write failed

@@ -1,21 +1,26 @@
-use crate::help::{say, subcommand_text};
-use crate::texts::{WriteFault, send};
+ghost use Rattle.std.specs.Prelude.{◌≡◌, IfOk, None, map, string_bytes};
+ghost use Rattle.er_cli.specs.Complaints.{Complains, advice, complaint_with, place_of, what_is_wrong};
+ghost use Rattle.er_cli.specs.Line.{line_of};
+
+use crate::help::subcommand_text;
 use crate::usage::{UsageFault, usage_of};
-use std::io::Write;
+use std::alloc::{AllocError, Global};
 
 /// Where to look where the first word is no subcommand.
-const TRY_HELP: &str = "\
+pub const TRY_HELP: &str = "\
 usage: event_reporter SUBCOMMAND FILE WORDS
 Try: event_reporter --help
 ";
 
 /// Words that are no text come here as none.
-const NO_TEXT: &str = "\
+pub const NO_TEXT: &str = "\
 event_reporter: the words are no UTF-8 text
 Try: event_reporter --help
 ";
 
-fn what_is_wrong(fault: UsageFault) -> &'static str {
+fn what_is_wrong(fault: UsageFault) -> &'static str
+    ensures { result.now ≡ what_is_wrong fault }
+{
     match fault {
         UsageFault::UnknownSubcommand => "is no subcommand\n",
         UsageFault::LeadingDash { place: _ } => "begins with `-`, which no word may\n",
@@ -30,7 +35,9 @@ fn what_is_wrong(fault: UsageFault) -> &'static str {
     }
 }
 
-fn place_of(fault: UsageFault) -> usize {
+fn place_of(fault: UsageFault) -> usize
+    ensures { result ≡ place_of fault }
+{
     match fault {
         UsageFault::UnknownSubcommand => 0,
         UsageFault::LeadingDash { place }
@@ -41,24 +48,46 @@ fn place_of(fault: UsageFault) -> usize {
     }
 }
 
-/// Names the word that was not understood, where there is one, and says what is wrong.
-fn say_fault<E: Write>(err: &mut E, words: &[String], fault: UsageFault) -> Result<(), WriteFault> {
-    send(err, b"event_reporter: ")?;
-    if let Some(word) = words.get(place_of(fault)) {
-        send(err, b"`")?;
-        send(err, word.as_bytes())?;
-        send(err, b"` ")?;
+/// How the subcommand of this name is called, or where to look.
+fn advice(name: &str) -> &'static str
+    ensures { result.now ≡ advice name.now }
+{
+    match subcommand_text(name) {
+        Some(text) => text,
+        None => TRY_HELP,
     }
-    send(err, what_is_wrong(fault).as_bytes())
 }
 
-/// Says which of the words was not understood, and how the subcommand is called.
-pub fn complain<E: Write>(err: &mut E, words: &[String]) -> Result<(), WriteFault> {
-    let [name, ..] = words else {
-        return say(err, NO_TEXT);
-    };
-    if let Some(fault) = usage_of(words) {
-        say_fault(err, words, fault)?;
+/// Names the word at fault, where there is one, and says what is wrong and how to go on.
+fn complaint_with(
+    alloc: Global,
+    words: &[String],
+    fault: UsageFault,
+    advice: &str,
+) -> Result<String, AllocError>
+    ensures { IfOk result (λ text. string_bytes text ≡ complaint_with (map string_bytes words.now) fault advice.now) }
+{
+    let mut text = String::from_str(alloc, "event_reporter: ")?;
+    if let Some(word) = words.get(place_of(fault)) {
+        text.push_str("`")?;
+        text.push_str(word.as_str())?;
+        text.push_str("` ")?;
     }
-    say(err, subcommand_text(name.as_str()).unwrap_or(TRY_HELP))
+    text.push_str(what_is_wrong(fault))?;
+    text.push_str(advice)?;
+    Ok(text)
+}
+
+/// What a person is told of words that are no command line.
+pub fn complaint(alloc: Global, words: &[String]) -> Result<String, AllocError>
+    ensures { line_of (map string_bytes words.now) ≡ None → IfOk result (λ text. Complains (map string_bytes words.now) (string_bytes text)) }
+{
+    let [name, ..] = words else {
+        return String::from_str(alloc, NO_TEXT);
+    };
+    let advice = advice(name.as_str());
+    match usage_of(words) {
+        Some(fault) => complaint_with(alloc, words, fault, advice),
+        None => String::from_str(alloc, advice),
+    }
 }

@@ -1,73 +1,94 @@
+ghost use Rattle.std.specs.Prelude.{◌≡◌, ◌⊎◌, ◌≤◌, false, IsFalse, IfOk, IfErr, MatchResult};
+ghost use Rattle.er_event.specs.declared.refusals.TheConstants.{MAX_SERIAL};
+ghost use Rattle.er_rules.specs.Sound.{IsSound};
+ghost use Rattle.er_desk.specs.Desk.{AreLimits, standing};
+ghost use Rattle.er_desk.specs.Reply.{Reply, receipt};
+ghost use Rattle.er_cli.specs.declared.action.Action.TheVariants.{Init, Ask};
+ghost use Rattle.er_cli.specs.Action.{action_of};
+ghost use Rattle.er_cli.specs.Answers.{reply_answer};
+ghost use Rattle.er_cli.specs.Files.{FileAnswers, IsMade, OpenedAnswers};
+
 use crate::action::{Action, Request};
 use crate::answers::{answer, reply_answer};
 use crate::line::Line;
 use crate::setup::set_up;
 use crate::texts::Answer;
-use er_desk::{Desk, OpenFault, Reply};
+use er_desk::{Desk, Reply, opening_refusal};
 use er_event::{Cause, Name, Receipt, Refusal};
-use sqlite::{Connection, Error, ErrorCode, FileFrom, FileStore, Wary};
+use sqlite::{Alter, Connection, Wary};
 use std::alloc::Global;
 use std::fs;
 
-const REFUSED: Refusal = Refusal::Store {
-    cause: Cause::Refused,
-};
-
-/// Why the event of a file can't be served.
-fn refusal_of(fault: OpenFault<FileFrom<Wary>>) -> Refusal {
-    match fault {
-        OpenFault::Unopened {
-            refusal,
-            left: _left,
-        } => refusal,
-        OpenFault::Refused {
-            conn: _conn,
-            refusal,
-        } => refusal,
-    }
+/// Asks a desk that was just opened. It is closed then.
+fn answer_once<S: Alter + Drop>(alloc: Global, mut desk: Desk<S>, request: Request) -> Answer
+    requires sound { IsSound desk.event }
+    requires low { desk.serial ≤ MAX_SERIAL }
+    requires ready { IsFalse (standing desk).stopped }
+    ensures { OpenedAnswers request result }
+{
+    answer(alloc, &mut desk, request)
 }
 
 /// Asks the event in a file. A file that isn't there has none, and isn't made.
-fn ask(rt: &HostRuntime, path: &str, request: Request) -> Answer {
+fn ask(rt: &HostRuntime, path: &str, request: Request) -> Answer
+    ensures { FileAnswers (Ask request) result }
+{
     match fs::exists(rt, path) {
         Ok(true) => {}
         Ok(false) => return Answer::Refused(Refusal::NoEvent),
-        Err(_error) => return Answer::Refused(REFUSED),
+        Err(_error) => {
+            return Answer::Refused(Refusal::Store {
+                cause: Cause::Refused,
+            });
+        }
     }
     match er_desk::open(rt, path, Wary) {
-        Ok(mut desk) => answer(rt.alloc(), &mut desk, request),
-        Err(fault) => Answer::Refused(refusal_of(fault)),
+        Ok(desk) => answer_once(rt.alloc(), desk, request),
+        Err(fault) => Answer::Refused(fault.into_refusal()),
     }
 }
 
-/// What a file that isn't opened is refused.
-fn opening_refusal(error: Error) -> Refusal {
-    match error {
-        Error::SqliteFailure(ErrorCode::OutOfMemory) => Refusal::Memory,
-        _ => REFUSED,
-    }
-}
-
-/// Makes an event in a file, which is made where it isn't there.
-fn create(rt: &HostRuntime, path: &str, name: Name, rounds: u8, cut: u8) -> Reply {
-    let conn = match Connection::open_from(rt, path, false, Wary) {
-        Ok(conn) => conn,
-        Err((error, _left)) => return Err(opening_refusal(error)),
-    };
-    match Desk::create(rt.alloc(), conn, name, rounds, cut) {
+/// Makes an event over a connection, which is closed then.
+fn create_once<S: Alter + Drop>(
+    alloc: Global,
+    conn: Connection<S>,
+    name: Name,
+    rounds: u8,
+    cut: u8,
+) -> Reply
+    requires limits { AreLimits rounds cut }
+    requires mode { conn.in_transaction ≡ false }
+    ensures { IsMade result }
+{
+    match Desk::create(alloc, conn, name, rounds, cut) {
         Ok(_desk) => Ok(Receipt { serial: 0 }),
         Err((_conn, why)) => Err(why),
     }
 }
 
+/// Makes an event in a file, which is made where it isn't there.
+fn create(rt: &HostRuntime, path: &str, name: Name, rounds: u8, cut: u8) -> Reply
+    requires limits { AreLimits rounds cut }
+    ensures { IsMade result }
+{
+    match Connection::open_from(rt, path, false, Wary) {
+        Ok(conn) => create_once(rt.alloc(), conn, name, rounds, cut),
+        Err((error, _left)) => Err(opening_refusal(error)),
+    }
+}
+
 /// Makes an event in a file, once it is sure that it may be set up so.
-fn init(rt: &HostRuntime, path: &str, name: &[u8], rounds: u8, cut: u8) -> Reply {
+fn init(rt: &HostRuntime, path: &str, name: &[u8], rounds: u8, cut: u8) -> Reply
+    ensures { FileAnswers (Init name.now rounds cut) (reply_answer result) }
+{
     let name = set_up(rt.alloc(), name, rounds, cut)?;
     create(rt, path, name, rounds, cut)
 }
 
 /// The answer to a command line.
-pub fn answer_line(rt: &HostRuntime, line: Line) -> Answer {
+pub fn answer_line(rt: &HostRuntime, line: Line) -> Answer
+    ensures { FileAnswers (action_of line) result }
+{
     let (file, action) = line.into_parts();
     match action {
         Action::Init { name, rounds, cut } => {

@@ -228,6 +228,12 @@ Example: event_reporter bracket friday.event
 Refuses: 24 Memory, 25 Store, 27 NoEvent, 29 Damaged.
 ";
 
+/// What a terminal is told where there are no words, since a prompt that says nothing looks as if it hung.
+pub const AWAITING: &str = "\
+event_reporter: no words were given, so a script is read from this terminal: a line each, its words separated by one TAB.
+Ctrl-D ends it, Ctrl-C leaves it. For an event in a file, try: event_reporter --help
+";
+
 /// Writes a text, and has the writer pass it on.
 pub fn say<W: Write>(writer: &mut W, text: &str) -> Result<(), WriteFault>
     ensures sent { OnOk result (Appends (W.contents writer.old) (W.contents writer.new) text.now) }
@@ -252,8 +258,10 @@ fn option_text(word: &str) -> Option<&'static str>
 fn text_behind(name: &str, word: &str) -> Option<&'static str>
     ensures { option_map (λ text. text.now) result ≡ text_behind name.now word.now }
 {
+    let text = subcommand_text(name)?;
     match word {
-        "--help" | "-h" => subcommand_text(name),
+        "--help" | "-h" => Some(text),
+        "--version" | "-V" => Some(VERSION),
         _ => None,
     }
 }
@@ -280,7 +288,7 @@ pub fn subcommand_text(name: &str) -> Option<&'static str>
     }
 }
 
-/// The text that the words ask for: an option alone, or `--help` behind a subcommand.
+/// The text that the words ask for: an option alone, or behind a subcommand.
 pub fn text_for(words: &[String]) -> Option<&'static str>
     ensures { option_map (λ text. text.now) result ≡ text_for (map string_bytes words.now) }
 {

@@ -4,6 +4,10 @@
 ghost use Rattle.std.specs.Prelude.{◌≡◌, ◌⊎◌, IfOk, IfSome, OnOk, OnErr, None, map, string_bytes};
 ghost use Rattle.std.specs.Io.KnownBytes.{Appends};
 ghost use Rattle.er_cli.specs.Texts.{answer_text, AppendsPart};
+ghost use Rattle.er_cli.specs.Action.{action_of};
+ghost use Rattle.er_cli.specs.Complaints.{EndsAsUsage};
+ghost use Rattle.er_cli.specs.Files.{FileAnswers};
+ghost use Rattle.er_cli.specs.declared.help.TheConstants.{AWAITING};
 ghost use Rattle.er_cli.specs.Help.{Says, Tells, refusal_status, text_for};
 ghost use Rattle.er_cli.specs.Line.{line_of};
 ghost use Rattle.er_cli.specs.Status.{Ends, EndsUnread, UnreadPart, Breaks};
@@ -25,10 +29,10 @@ mod values;
 mod words;
 
 pub use action::{Action, Request};
-use complaints::complain;
+use complaints::complaint;
 use er_event::Refusal;
 use files::answer_line;
-use help::{say, text_for};
+use help::{AWAITING, say, text_for};
 use input::{InputFault, lines_of, read_script};
 pub use line::{Line, LineFault, read_words};
 pub use paths::FilePath;
@@ -146,13 +150,14 @@ fn say_all<W: Write>(writer: &mut W, text: &str, due: u8) -> u8
     }
 }
 
-/// Says which of the words was not understood, and gives the status that comes with it.
-fn say_usage<E: Write>(err: &mut E, words: &[String]) -> u8
-    ensures { (result ≡ USAGE) ⊎ (result ≡ DEVICE) }
+/// Says which of the words was not understood and how to go on, and gives the status that comes with it.
+fn say_usage<O: Write, E: Write>(alloc: Global, words: &[String], out: &mut O, err: &mut E) -> u8
+    ensures { line_of (map string_bytes words.now) ≡ None
+        → EndsAsUsage (map string_bytes words.now) (O.contents out.old) (O.contents out.new) (E.contents err.old) (E.contents err.new) result }
 {
-    match complain(err, words) {
-        Ok(()) => USAGE,
-        Err(WriteFault) => DEVICE,
+    match complaint(alloc, words) {
+        Ok(text) => say_all(err, text.as_str(), USAGE),
+        Err(_error) => tell(out, err, &Answer::Refused(Refusal::Memory)),
     }
 }
 
@@ -160,21 +165,29 @@ fn say_usage<E: Write>(err: &mut E, words: &[String]) -> u8
 pub fn run<O: Write, E: Write>(rt: &HostRuntime, words: &[String], out: &mut O, err: &mut E) -> u8
     // A text that the words ask for goes to the output.
     ensures asked { IfSome (text_for (map string_bytes words.now)) (λ text. Says text DONE (record { meant = O.contents out.old; other = E.contents err.old }) (record { meant = O.contents out.new; other = E.contents err.new }) result) }
-    // What is no command line leaves the output as it is.
+    // Of what is no command line, the errors get what is wrong with it, and the output stays as it is.
     ensures unread { text_for (map string_bytes words.now) ≡ None → line_of (map string_bytes words.now) ≡ None
-        → (O.contents out.new ≡ O.contents out.old) × ((result ≡ USAGE) ⊎ (result ≡ DEVICE) ⊎ (result ≡ MEMORY)) }
-    // What is one is answered, with the status of that answer.
+        → EndsAsUsage (map string_bytes words.now) (O.contents out.old) (O.contents out.new) (E.contents err.old) (E.contents err.new) result }
+    // What is one is answered as the event of the file has it, with the status of that answer. Memory may be wanting to read it.
     ensures answered { text_for (map string_bytes words.now) ≡ None → IfSome (line_of (map string_bytes words.now))
-        (λ line. (answer : Answer) × Tells answer (O.contents out.old) (O.contents out.new) (E.contents err.old) (E.contents err.new) result) }
+        (λ line. (answer : Answer) × (FileAnswers (action_of line) answer ⊎ (answer ≡ Answer.Refused Refusal.Memory))
+        × Tells answer (O.contents out.old) (O.contents out.new) (E.contents err.old) (E.contents err.new) result) }
 {
     if let Some(text) = text_for(words) {
         return say_all(out, text, DONE);
     }
     match read_words(rt.alloc(), words) {
         Ok(line) => tell(out, err, &answer_line(rt, line)),
-        Err(LineFault::Usage) => say_usage(err, words),
+        Err(LineFault::Usage) => say_usage(rt.alloc(), words, out, err),
         Err(LineFault::Memory) => tell(out, err, &Answer::Refused(Refusal::Memory)),
     }
+}
+
+/// Tells a terminal that a script is awaited. Where that can't be said, the script is awaited all the same.
+pub fn say_awaiting<E: Write>(err: &mut E)
+    ensures { Appends (E.contents err.old) (E.contents err.new) AWAITING.now ⊎ AppendsPart (E.contents err.old) (E.contents err.new) AWAITING.now }
+{
+    let _ = say(err, AWAITING);
 }
 
 /// Answers where there was no memory to read the words of the command line, and gives the status to end with.

@@ -1,6 +1,7 @@
-ghost use Rattle.std.specs.Prelude.{◌<◌, [], ◌∷◌, IfSome, IsFalse, IsNone, length, map, string_bytes};
-ghost use Rattle.er_cli.specs.Line.{names_one};
-ghost use Rattle.er_cli.specs.Usage.{HasFault, IsOf};
+ghost use Rattle.std.specs.Prelude.{◌≡◌, ◌<◌, [], ◌∷◌, IfSome, IsFalse, MatchOption, drop, is_none, is_some, length, map, string_bytes};
+ghost use Rattle.std.specs.List.{list_any};
+ghost use Rattle.er_cli.specs.Line.{is_option, line_by, line_of, names_one, subcommands};
+ghost use Rattle.er_cli.specs.Usage.{HasFault, IsOf, Takes, are_of_kinds, is_of_kind};
 
 use crate::values::{number_of, seed_of, small_number_of};
 use crate::words::is_option;
@@ -33,7 +34,7 @@ enum Kind {
 
 /// What the words after a subcommand's name have to be.
 fn kinds_of(name: &str) -> Option<&'static [Kind]>
-    ensures { IsNone result → IsFalse (names_one (name.now ∷ [])) }
+    ensures { MatchOption result (IsFalse (names_one (name.now ∷ []))) (λ kinds. Takes kinds.now (line_by subcommands name.now)) }
 {
     match name {
         "init" => Some(&[Kind::Text, Kind::Text, Kind::SmallNumber, Kind::SmallNumber]),
@@ -64,7 +65,8 @@ fn kinds_of(name: &str) -> Option<&'static [Kind]>
 
 /// What is wrong with the word at a place, that has to be of this kind.
 fn word_fault(kind: Kind, word: &str, place: usize) -> Option<UsageFault>
-    ensures { IfSome result (IsOf word.now place) }
+    ensures fault { IfSome result (IsOf word.now place) }
+    ensures exact { is_none result ≡ is_of_kind kind word.now }
 {
     match kind {
         Kind::SmallNumber if small_number_of(word).is_none() => Some(UsageFault::BadNumber {
@@ -82,7 +84,8 @@ fn word_fault(kind: Kind, word: &str, place: usize) -> Option<UsageFault>
 
 fn values_fault(kinds: &[Kind], words: &[String]) -> Option<UsageFault>
     requires { 0 < length words.now }
-    ensures { IfSome result (HasFault (map string_bytes words.now)) }
+    ensures fault { IfSome result (HasFault (map string_bytes words.now)) }
+    ensures exact { is_none result ≡ are_of_kinds kinds.now (drop 1 (map string_bytes words.now)) }
 {
     let mut place = 1;
     for kind in kinds {
@@ -103,7 +106,8 @@ fn values_fault(kinds: &[Kind], words: &[String]) -> Option<UsageFault>
 
 /// The place of the first word that begins with `-`.
 fn dash_at(words: &[String]) -> Option<usize>
-    ensures { IfSome result (λ place. HasFault (map string_bytes words.now) (UsageFault.LeadingDash place)) }
+    ensures fault { IfSome result (λ place. HasFault (map string_bytes words.now) (UsageFault.LeadingDash place)) }
+    ensures exact { is_some result ≡ list_any is_option (map string_bytes words.now) }
 {
     let mut place = 0;
     for word in words {
@@ -118,7 +122,8 @@ fn dash_at(words: &[String]) -> Option<usize>
 /// The first fault of words that `read_words` doesn't read, and None for those that it does: a word that begins with `-`, and then from the
 /// first word on.
 pub fn usage_of(words: &[String]) -> Option<UsageFault>
-    ensures { IfSome result (HasFault (map string_bytes words.now)) }
+    ensures fault { IfSome result (HasFault (map string_bytes words.now)) }
+    ensures exact { is_none result ≡ is_some (line_of (map string_bytes words.now)) }
 {
     if let Some(place) = dash_at(words) {
         return Some(UsageFault::LeadingDash { place });

@@ -7,4 +7,4 @@ pub mod laws;
 mod opening;
 
 pub use desk::{Desk, Reply};
-pub use opening::{OpenFault, open};
+pub use opening::{OpenFault, open, opening_refusal};

@@ -15,7 +15,7 @@ ghost use Rattle.er_desk.specs.Opening.{NamesFirstFault, SeesStill, why_of, OnRe
 use crate::desk::Desk;
 use er_event::{Cause, Refusal};
 use er_store::laws::stored_stands;
-use sqlite::{Connection, Error, ErrorCode, FileFrom, FileStore, Leftover, Start};
+use sqlite::{Alter, Connection, Error, ErrorCode, FileFrom, FileStore, Leftover, Start};
 use sqlite_disk::Disk;
 
 /// Why a file was not opened as a desk.
@@ -33,8 +33,33 @@ pub enum OpenFault<D: Disk + Drop> {
     },
 }
 
-/// What a refusal to open a file means to a caller.
-fn opening_refusal(error: Error) -> Refusal
+/// The refusal alone. The connection is closed.
+fn refused<S: Alter + Drop>(_conn: Connection<S>, refusal: Refusal) -> Refusal
+    ensures { result ≡ refusal }
+{
+    refusal
+}
+
+impl<D: Disk + Drop> OpenFault<D> {
+    ghost use Rattle.std.specs.Prelude.{◌≡◌};
+    ghost use Rattle.er_desk.specs.Opening.{why_of};
+
+    /// Why the file was not opened. What is left of it is closed.
+    pub fn into_refusal(self) -> Refusal
+        ensures { result ≡ why_of self }
+    {
+        match self {
+            OpenFault::Unopened {
+                refusal,
+                left: _left,
+            } => refusal,
+            OpenFault::Refused { conn, refusal } => refused(conn, refusal),
+        }
+    }
+}
+
+/// What it means to a caller that a file was not opened: want of memory, or a fault of the store.
+pub fn opening_refusal(error: Error) -> Refusal
     ensures value { result ≡ refusal_of error }
     ensures fault { IsFault result }
 {

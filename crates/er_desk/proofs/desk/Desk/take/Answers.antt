@@ -1,4 +1,4 @@
-use Rattle.std.proofs.Common.{◌≡◌, ◌<◌, ◌∙◌, inl, inr, sym, ap, arith}
+use Rattle.std.proofs.Common.{◌≡◌, ◌<◌, ◌∙◌, inl, inr, refl, sym, ap, arith}
 use Rattle.er_desk.specs.Desk.{state, standing}
 use Rattle.er_desk.proofs.Turns.{declined, full, written, turn_fault, turn_asks, waits_of, stops_of, stopped_of, keeps_self, on_error, same_unless, stands_after, leaves_refused}
 use Rattle.er_desk.proofs.desk.Desk.take.Goals as goal
@@ -83,3 +83,46 @@ returns-clause-undecided g c runs shows clean trees may =
 
 pub returns-clause-refused : goal.returns-clause-refused
 returns-clause-refused g c shows = leaves_refused g.S.Store c.args.self.now c.write.new.self c.write.result (c.shown_is_stored.ensures _ _ shows) c.write.ensures.refused
+
+-- ---- the rest of what `write` says
+
+pub returns-clause-clean : goal.returns-clause-clean
+returns-clause-clean g c = c.write.ensures.clean
+
+pub returns-clause-kept : goal.returns-clause-kept
+returns-clause-kept g c = c.write.ensures.kept
+
+pub returns-clause-others : goal.returns-clause-others
+returns-clause-others g c = c.write.ensures.others
+
+pub returns-clause-acknowledged : goal.returns-clause-acknowledged
+returns-clause-acknowledged g c = c.write.ensures.acknowledged
+
+-- ---- nothing has changed
+
+pub returns-then-self-clause-clean : goal.returns-then-self-clause-clean
+returns-then-self-clause-clean g c = λ clean. clean
+
+pub returns-then-self-clause-stands : goal.returns-then-self-clause-stands
+returns-then-self-clause-stands g c = λ clean shows runs. shows
+
+pub returns-then-self-clause-waits : goal.returns-then-self-clause-waits
+returns-then-self-clause-waits g c = λ stopped. refl
+
+pub returns-in_err-change-clause-clean : goal.returns-in_err-change-clause-clean
+returns-in_err-change-clause-clean g c = λ clean. clean
+
+pub returns-in_err-change-clause-stands : goal.returns-in_err-change-clause-stands
+returns-in_err-change-clause-stands g c = λ clean shows runs. shows
+
+pub returns-in_err-change-clause-waits : goal.returns-in_err-change-clause-waits
+returns-in_err-change-clause-waits g c = λ stopped. refl
+
+pub returns-then-self-eq-MAX_SERIAL-clause-clean : goal.returns-then-self-eq-MAX_SERIAL-clause-clean
+returns-then-self-eq-MAX_SERIAL-clause-clean g c = λ clean. clean
+
+pub returns-then-self-eq-MAX_SERIAL-clause-stands : goal.returns-then-self-eq-MAX_SERIAL-clause-stands
+returns-then-self-eq-MAX_SERIAL-clause-stands g c = λ clean shows runs. shows
+
+pub returns-then-self-eq-MAX_SERIAL-clause-waits : goal.returns-then-self-eq-MAX_SERIAL-clause-waits
+returns-then-self-eq-MAX_SERIAL-clause-waits g c = λ stopped. refl

@@ -1,0 +1,49 @@
+-- What a person is told of words that are no command line. Each text is nested to the left, as it is written part by part.
+use Rattle.std.specs.Prelude.{◌≡◌, ◌⊎◌, ℕ, ◌==◌, if◌then◌else◌, List, [], ◌∷◌, ◌++◌, Option, Some, None, unwrap_or, slice_get, codes}
+use Rattle.er_event.specs.declared.refusals.Refusal.TheVariants.{Memory}
+use Rattle.er_cli.specs.declared.TheConstants.{USAGE}
+use Rattle.er_cli.specs.declared.complaints.TheConstants.{TRY_HELP, NO_TEXT}
+use Rattle.er_cli.specs.declared.texts.Answer.TheVariants.{Refused}
+use Rattle.er_cli.specs.declared.usage.UsageFault.{UsageFault}
+use Rattle.er_cli.specs.declared.usage.UsageFault.TheVariants.{UnknownSubcommand, LeadingDash, TooFew, TooMany, BadNumber, BadSeed}
+use Rattle.er_cli.specs.Help.{Says, Tells, subcommand_text}
+use Rattle.er_cli.specs.Usage.{HasFault}
+
+abbrev pub what_is_wrong : UsageFault → List ℕ
+what_is_wrong UnknownSubcommand = codes "is no subcommand\n"
+what_is_wrong (LeadingDash place) = codes "begins with `-`, which no word may\n"
+what_is_wrong (TooFew place) = codes "a word is missing at the end\n"
+what_is_wrong (TooMany place) = codes "is a word too many\n"
+what_is_wrong (BadNumber place most) = if most == 255 then codes "is no whole number from 0 to 255\n" else codes "is no whole number from 0 to 65535\n"
+what_is_wrong (BadSeed place) = codes "is not 64 hexadecimal digits\n"
+
+abbrev pub place_of : UsageFault → ℕ
+place_of UnknownSubcommand = 0
+place_of (LeadingDash place) = place
+place_of (TooFew place) = place
+place_of (TooMany place) = place
+place_of (BadNumber place most) = place
+place_of (BadSeed place) = place
+
+-- how the subcommand of this name is called, or where to look
+abbrev pub advice : List ℕ → List ℕ
+advice name = unwrap_or (subcommand_text name) TRY_HELP.now
+
+-- the word at fault, where there is one
+abbrev pub opened : Option (List ℕ) → List ℕ
+opened None = codes "event_reporter: "
+opened (Some word) = ((codes "event_reporter: " ++ codes "`") ++ word) ++ codes "` "
+
+abbrev pub complaint_with : List (List ℕ) → UsageFault → List ℕ → List ℕ
+complaint_with words fault advice = (opened (slice_get words (place_of fault)) ++ what_is_wrong fault) ++ advice
+
+-- a fault that is there is named, and how to go on; words that are no text come as none
+abbrev pub Complains : List (List ℕ) → List ℕ → Type 0
+Complains [] text = text ≡ NO_TEXT.now
+Complains (name ∷ words) text = (fault : UsageFault) × HasFault (name ∷ words) fault × (text ≡ complaint_with (name ∷ words) fault (advice name))
+
+-- What is wrong goes to the errors, or that memory is wanting. The output stays as it is.
+abbrev pub EndsAsUsage : List (List ℕ) → (out out_then err err_then : Option (List ℕ)) → ℕ → Type 0
+EndsAsUsage words out out_then err err_then status =
+    ((text : List ℕ) × Complains words text × Says text USAGE (record { meant = err; other = out }) (record { meant = err_then; other = out_then }) status)
+    ⊎ Tells (Refused Memory) out out_then err err_then status

@@ -1,0 +1,42 @@
+-- What a command line over the file of an event may be answered.
+use Rattle.std.specs.Prelude.{◌≡◌, ◌⊎◌, ◌≤◌, false, IsFalse, MatchOption, Ok, Err}
+use Rattle.er_event.specs.declared.refusals.Refusal.{Refusal}
+use Rattle.er_event.specs.declared.refusals.Refusal.TheVariants.{Memory, NoEvent, EventExists}
+use Rattle.er_event.specs.declared.refusals.TheConstants.{MAX_SERIAL}
+use Rattle.er_rules.specs.Commands.{first_refusal}
+use Rattle.er_rules.specs.Sound.{IsSound}
+use Rattle.er_store.specs.Fault.{IsFault, IsLoadFault}
+use Rattle.er_desk.specs.Desk.{Standing}
+use Rattle.er_desk.specs.Reply.{Reply, receipt}
+use Rattle.er_cli.specs.declared.action.Action.{Action}
+use Rattle.er_cli.specs.declared.action.Action.TheVariants.{Init, Ask}
+use Rattle.er_cli.specs.declared.action.Request.{Request}
+use Rattle.er_cli.specs.declared.texts.Answer.{Answer}
+use Rattle.er_cli.specs.declared.texts.Answer.TheVariants.{Refused}
+use Rattle.er_cli.specs.Setup.{init_checks}
+use Rattle.er_cli.specs.Answers.{Answers, reply_answer}
+
+-- there is no event in the file, or it is damaged, or memory or the device fails
+abbrev pub IsNotOpened : Answer → Type 0
+IsNotOpened answer = (why : Refusal) × ((why ≡ NoEvent) ⊎ IsLoadFault why) × (answer ≡ Refused why)
+
+-- What a desk answers that was just opened: its event is sound, and no fault of the store is behind.
+pub record OpenedAnswers (request : Request) (answer : Answer) : Type 0 where
+  pub found : Standing
+  pub sound : IsSound found.event
+  pub low : found.serial ≤ MAX_SERIAL
+  pub ready : IsFalse found.stopped
+  pub last : Standing
+  pub answers : Answers found request answer last
+
+-- the event is made, or the file has one, or memory or the store fails
+abbrev pub IsMade : Reply → Type 0
+IsMade reply = (reply ≡ Ok (receipt 0)) ⊎ (reply ≡ Err EventExists) ⊎ ((why : Refusal) × IsFault why × (reply ≡ Err why))
+
+abbrev pub MakesInFile : Answer → Type 0
+MakesInFile answer = (reply : Reply) × IsMade reply × (answer ≡ reply_answer reply)
+
+-- What is checked of an event that is to be made comes before any file is touched.
+abbrev pub FileAnswers : Action → Answer → Type 0
+FileAnswers (Init name rounds cut) answer = MatchOption (first_refusal (init_checks false name rounds cut)) (MakesInFile answer ⊎ (answer ≡ Refused Memory)) (λ why. (answer ≡ Refused why) ⊎ (answer ≡ Refused Memory))
+FileAnswers (Ask request) answer = IsNotOpened answer ⊎ OpenedAnswers request answer
