@@ -1,77 +1,57 @@
 ghost use Rattle.std.specs.Prelude.{◌≡◌, false, IfSome};
 
-use crate::helpers::name;
+use crate::helpers::{commands, desk_after, new_desk, submit};
 use er_desk::{Desk, Reply};
-use er_event::{Cause, Command, Items, Receipt, Refusal};
+use er_event::{Cause, Receipt, Refusal};
 use sqlite::{Alter, Connection, FileStore, Files, MemStore, Options};
 use sqlite_disk::{Fuse, Memory};
 use std::alloc::Global;
 use std::test::Fail;
 
-fn enrol(alloc: Global, name: &str) -> Option<Command> {
-    let name = Vec::from_slice(alloc, name.as_bytes()).ok()?;
-    Some(Command::Enrol {
-        name: Items::from(name),
-    })
-}
-
-/// A desk over a new event named Friday, of three rounds and no cut.
-fn friday<S: Alter + Drop>(alloc: Global, conn: Connection<S>) -> Option<Desk<S>>
-    requires { conn.in_transaction ≡ false }
-{
-    let name = name(alloc, "Friday")?;
-    Desk::create(alloc, conn, name, 3, 0).ok()
-}
-
-fn in_memory(alloc: Global) -> Option<Desk<MemStore>> {
-    let conn = Connection::open_in_memory(alloc).ok()?;
-    friday(alloc, conn)
-}
-
-fn submit<S: Alter>(alloc: Global, desk: &mut Desk<S>, name: &str) -> Option<Reply> {
-    let command = enrol(alloc, name)?;
-    Some(desk.submit(alloc, command))
-}
-
-/// Bo twice, and then the start.
-fn bo_and_the_start(alloc: Global) -> Option<Vec<Command>> {
-    let (bo, again) = (enrol(alloc, "Bo")?, enrol(alloc, "Bo")?);
-    let mut commands = Vec::with_capacity(alloc, 3).ok()?;
-    commands.push(bo).ok()?;
-    commands.push(again).ok()?;
-    commands.push(Command::Start).ok()?;
-    Some(commands)
-}
-
 const fn receipt(serial: u32) -> Reply {
     Ok(Receipt { serial })
 }
 
-/// Whether Ana is enrolled, and then what is asked for Bo is answered in turn.
+/// Whether Bo is enrolled, not taken twice, and the start is taken, in one run.
 fn is_answered(alloc: Global, desk: &mut Desk<MemStore>) -> Option<bool> {
-    let first = submit(alloc, desk, "Ana")?;
-    let replies = desk.run(alloc, bo_and_the_start(alloc)?).ok()?;
+    let replies = desk
+        .run(alloc, commands(alloc, "enrol Bo\nenrol Bo\nstart")?)
+        .ok()?;
     let due = [receipt(2), Err(Refusal::NameTaken), receipt(3)];
-    Some(first == receipt(1) && replies.as_slice() == due.as_slice())
+    Some(replies.as_slice() == due.as_slice())
+}
+
+fn standings_len(alloc: Global, desk: &Desk<MemStore>) -> Option<usize> {
+    Some(desk.standings(alloc).ok()?.len())
+}
+
+fn players_len(desk: &Desk<MemStore>) -> Option<usize> {
+    Some(desk.event().ok()?.players().len())
 }
 
 /// Whether the desk shows two players after three commands.
-fn shows_two_players(alloc: Global, desk: &Desk<MemStore>) -> Option<bool> {
-    let rows = desk.standings(alloc).ok()?;
-    let players = desk.event().ok()?.players();
-    Some(rows.len() == 2 && players.len() == 2 && desk.serial() == Ok(3) && !desk.needs_reopen())
+fn shows_two_players(alloc: Global, desk: &Desk<MemStore>) -> bool {
+    standings_len(alloc, desk) == Some(2)
+        && players_len(desk) == Some(2)
+        && desk.serial() == Ok(3)
+        && !desk.needs_reopen()
 }
 
-/// A desk over the same tables.
-fn again(alloc: Global, desk: Desk<MemStore>) -> Option<Desk<MemStore>> {
-    Desk::adopt(alloc, desk.close()).ok()
+/// Whether a desk over the same tables shows two players.
+fn is_adopted(alloc: Global, desk: Desk<MemStore>) -> bool {
+    match Desk::adopt(alloc, desk.close()) {
+        Ok(desk) => shows_two_players(alloc, &desk),
+        Err(_) => false,
+    }
 }
 
+/// Whether a new desk answers as is due, Ana's command alone, and then stands in its tables.
 fn plays(alloc: Global) -> Option<bool> {
-    let mut desk = in_memory(alloc)?;
-    let answered = is_answered(alloc, &mut desk)?;
-    let desk = again(alloc, desk)?;
-    Some(answered && shows_two_players(alloc, &desk)?)
+    let mut desk = desk_after(alloc, 3, 0, "")?;
+    let first = submit(alloc, &mut desk, "enrol Ana");
+    let answered = is_answered(alloc, &mut desk);
+    let adopted = is_adopted(alloc, desk);
+    Some(first == Some(receipt(1)) && answered == Some(true) && adopted)
 }
 
 /// Each call of a desk, and a second desk over its tables.
@@ -90,11 +70,16 @@ fn failing(alloc: Global, calls: u64) -> Option<Connection<FileStore<Fuse<Memory
     Connection::open_files(alloc, Files { log, db }, Options::new(7)).ok()
 }
 
+/// What the desk answers to the player of this number.
+fn enrol<S: Alter>(alloc: Global, desk: &mut Desk<S>, number: u16) -> Option<Reply> {
+    let line = format!(in alloc; "enrol P{number}").ok()?;
+    submit(alloc, desk, line.as_str())
+}
+
 /// The first refusal of the players P1, P2, .. that are enrolled in turn.
 fn first_refusal<S: Alter>(alloc: Global, desk: &mut Desk<S>) -> Option<Refusal> {
     for number in 1..=512 {
-        let name = format!(in alloc; "P{number}").ok()?;
-        if let Err(why) = submit(alloc, desk, name.as_str())? {
+        if let Err(why) = enrol(alloc, desk, number)? {
             return Some(why);
         }
     }
@@ -102,17 +87,19 @@ fn first_refusal<S: Alter>(alloc: Global, desk: &mut Desk<S>) -> Option<Refusal>
 }
 
 /// The first refusal, what the desk then says of itself, and what it answers next.
-fn stopped<S: Alter + Drop>(alloc: Global, conn: Connection<S>) -> Option<(Refusal, bool, Reply)>
+type Stop = (Option<Refusal>, bool, Option<Reply>);
+
+fn stopped<S: Alter + Drop>(alloc: Global, conn: Connection<S>) -> Option<Stop>
     requires { conn.in_transaction ≡ false }
 {
-    let mut desk = friday(alloc, conn)?;
-    let why = first_refusal(alloc, &mut desk)?;
+    let mut desk = new_desk(alloc, conn, 3, 0)?;
+    let why = first_refusal(alloc, &mut desk);
     let needs_reopen = desk.needs_reopen();
-    let next = submit(alloc, &mut desk, "Ana")?;
+    let next = submit(alloc, &mut desk, "enrol Ana");
     Some((why, needs_reopen, next))
 }
 
-fn stopped_by_the_device(alloc: Global) -> Option<(Refusal, bool, Reply)> {
+fn stopped_by_the_device(alloc: Global) -> Option<Stop> {
     let conn = failing(alloc, 100)?;
     stopped(alloc, conn)
 }
@@ -124,7 +111,7 @@ const REFUSED: Refusal = Refusal::Store {
 /// After a fault of the device the desk takes no command.
 #[test]
 fn a_fault_of_the_device_stops_the_desk(rt: HostRuntime) -> Result<(), Fail> {
-    let answers = Some((REFUSED, true, Err(Refusal::NeedsReopen)));
-    assert_eq!(rt; stopped_by_the_device(rt.alloc()), answers);
+    let answers = (Some(REFUSED), true, Some(Err(Refusal::NeedsReopen)));
+    assert_eq!(rt; stopped_by_the_device(rt.alloc()), Some(answers));
     Ok(())
 }

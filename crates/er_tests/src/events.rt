@@ -1,7 +1,16 @@
-use crate::helpers::{changed, name, player};
+use crate::helpers::{name, new_event, with_player};
 use er_event::{Event, Games, Items, Name, NameFault, PlayerNo, Refusal, Score};
 use std::alloc::Global;
 use std::test::Fail;
+
+/// Whether these bytes are taken as a name, just as they are.
+fn is_taken(alloc: Global, bytes: &[u8]) -> Option<bool> {
+    match Name::try_from_bytes(alloc, bytes) {
+        Ok(name) => (name.as_str().as_bytes() == bytes).then_some(true),
+        Err(NameFault::Bad) => Some(false),
+        Err(NameFault::Memory) => None,
+    }
+}
 
 /// Worked example 3, and the bytes next to what it takes.
 #[test]
@@ -25,46 +34,30 @@ fn names_are_taken_where_the_rule_says(rt: HostRuntime) -> Result<(), Fail> {
         (b"~", true),
     ];
     for (bytes, lawful) in cases {
-        match Name::try_from_bytes(rt.alloc(), bytes) {
-            Ok(name) => {
-                assert!(rt; lawful, "{bytes:?}");
-                assert_eq!(rt; name.as_str().as_bytes(), bytes);
-            }
-            Err(fault) => {
-                assert_eq!(rt; fault, NameFault::Bad);
-                assert!(rt; !lawful, "{bytes:?}");
-            }
-        }
+        assert_eq!(rt; is_taken(rt.alloc(), bytes), Some(lawful), "{bytes:?}");
     }
     Ok(())
+}
+
+fn swiss(x: u8, y: u8, d: u8) -> Option<Games> {
+    Score::swiss(Games { x, y, d }).map(Score::games)
+}
+
+fn is_playoff(x: u8, y: u8, d: u8) -> bool {
+    Score::playoff(Games { x, y, d }).is_some()
 }
 
 /// Worked example 13.
 #[test]
 fn scores_are_taken_where_the_rule_says(rt: HostRuntime) -> Result<(), Fail> {
-    let swiss = [
-        ((0, 0, 0), true),
-        ((0, 0, 3), true),
-        ((2, 1, 3), true),
-        ((2, 2, 0), false),
-        ((3, 0, 0), false),
-        ((0, 0, 4), false),
-    ];
-    for ((x, y, d), lawful) in swiss {
-        let games = Games { x, y, d };
-        assert_eq!(rt;
-            Score::swiss(games).map(Score::games).is_some(),
-            lawful,
-            "{games:?}"
-        );
+    for (x, y, d) in [(0, 0, 0), (0, 0, 3), (2, 1, 3), (2, 1, 0)] {
+        assert_eq!(rt; swiss(x, y, d), Some(Games { x, y, d }));
     }
-    let playoff = [((3, 2, 0), true), ((1, 1, 0), false), ((4, 0, 0), false)];
-    for ((x, y, d), lawful) in playoff {
-        let games = Games { x, y, d };
-        assert_eq!(rt; Score::playoff(games).is_some(), lawful, "{games:?}");
+    for (x, y, d) in [(2, 2, 0), (3, 0, 0), (0, 0, 4)] {
+        assert_eq!(rt; swiss(x, y, d), None, "{x} {y} {d}");
     }
-    let won = Score::swiss(Games { x: 2, y: 1, d: 0 }).ok_or("2-1-0")?;
-    assert_eq!(rt; won.games(), Games { x: 2, y: 1, d: 0 });
+    assert!(rt; is_playoff(3, 2, 0));
+    assert!(rt; !is_playoff(1, 1, 0) && !is_playoff(4, 0, 0));
     Ok(())
 }
 
@@ -101,9 +94,8 @@ fn events_are_set_up_within_the_limits(rt: HostRuntime) -> Result<(), Fail> {
 
 /// Ana and Bo, before the start.
 fn two_players(alloc: Global) -> Option<Event> {
-    let event = Event::create(alloc, name(alloc, "Friday")?, 3, 0).ok()?;
-    let event = changed(alloc, event, &player(alloc, "Ana")?)?;
-    changed(alloc, event, &player(alloc, "Bo")?)
+    let event = with_player(alloc, new_event(alloc, 3, 0)?, "Ana")?;
+    with_player(alloc, event, "Bo")
 }
 
 /// Whether Ana and Bo are the players of Friday, nobody has dropped, and nothing is paired.
@@ -118,24 +110,32 @@ fn is_of_two(event: &Event) -> bool {
         && (bo.no.get(), bo.name.as_str(), bo.dropped) == (2, "Bo", false)
 }
 
+fn numbers_are_next(alloc: Global) -> Option<bool> {
+    let event = two_players(alloc)?;
+    let copy = event.copy(alloc).ok()?;
+    Some(is_of_two(&event) && is_of_two(&copy))
+}
+
 #[test]
 fn players_get_the_next_numbers(rt: HostRuntime) -> Result<(), Fail> {
-    let event = two_players(rt.alloc()).ok_or("two players")?;
-    assert!(rt; is_of_two(&event));
-    let copy = event.copy(rt.alloc())?;
-    assert!(rt; is_of_two(&copy));
+    assert_eq!(rt; numbers_are_next(rt.alloc()), Some(true));
     Ok(())
+}
+
+fn read_back(alloc: Global, list: Items<u8>) -> Option<Vec<u8>> {
+    Some(list.copy(alloc).ok()?.into_vec())
+}
+
+fn reads_back(alloc: Global, bytes: &[u8]) -> Option<bool> {
+    let list = Items::from(Vec::from_slice(alloc, bytes).ok()?);
+    Some(read_back(alloc, list)?.as_slice() == bytes)
 }
 
 #[test]
 fn numbers_lists_and_refusals_read_back(rt: HostRuntime) -> Result<(), Fail> {
     assert_eq!(rt; PlayerNo::try_new(512).map(PlayerNo::get), Some(512));
     assert!(rt; PlayerNo::try_new(0).is_none() && PlayerNo::try_new(513).is_none());
-    let list = Items::from(Vec::from_slice(rt.alloc(), b"Ana")?);
-    assert_eq!(rt;
-        list.copy(rt.alloc())?.into_vec().as_slice(),
-        b"Ana".as_slice()
-    );
+    assert_eq!(rt; reads_back(rt.alloc(), b"Ana"), Some(true));
     assert_eq!(rt;
         (Refusal::BadName.number(), Refusal::BadName.name()),
         (1, "BadName")

@@ -1,7 +1,9 @@
 //! What several tests need. These have no clause and answer an `Option`, so that the proof of a test carries little.
-use er_desk::Desk;
+ghost use Rattle.std.specs.Prelude.{◌≡◌, false};
+
+use er_desk::{Desk, Reply};
 use er_event::{Change, Command, Event, Games, Items, Name, Phase, PlayerNo};
-use sqlite::{Connection, MemStore};
+use sqlite::{Alter, Connection, MemStore};
 use std::alloc::Global;
 
 pub fn name(alloc: Global, text: &str) -> Option<Name> {
@@ -35,12 +37,33 @@ pub fn drop(number: u16) -> Option<Change> {
     Some(Change::SetDropped { player })
 }
 
+/// The event after the enrolment of a player, if it fits.
+pub fn with_player(alloc: Global, event: Event, text: &str) -> Option<Event> {
+    match player(alloc, text) {
+        Some(change) => changed(alloc, event, &change),
+        None => None,
+    }
+}
+
+/// The event with a player P1, P2, .. of this number.
+fn with_number(alloc: Global, event: Event, number: u16) -> Option<Event> {
+    match format!(in alloc; "P{number}") {
+        Ok(text) => with_player(alloc, event, text.as_str()),
+        Err(_) => None,
+    }
+}
+
+/// An event named Friday that nobody has entered.
+pub fn new_event(alloc: Global, rounds: u8, cut: u8) -> Option<Event> {
+    let friday = name(alloc, "Friday")?;
+    Event::create(alloc, friday, rounds, cut).ok()
+}
+
 /// An event named Friday, with as many players P1, P2, .., that has started.
 pub fn started(alloc: Global, rounds: u8, cut: u8, players: u16) -> Option<Event> {
-    let mut event = Event::create(alloc, name(alloc, "Friday")?, rounds, cut).ok()?;
+    let mut event = new_event(alloc, rounds, cut)?;
     for number in 1..=players {
-        let text = format!(in alloc; "P{number}").ok()?;
-        event = changed(alloc, event, &player(alloc, text.as_str())?)?;
+        event = with_number(alloc, event, number)?;
     }
     changed(alloc, event, &start())
 }
@@ -61,29 +84,36 @@ fn games(words: &[&str]) -> Option<Games> {
     }
 }
 
-/// The command that words are. A round is paired under the key of zeros.
-fn command_of(alloc: Global, words: &[&str]) -> Option<Command> {
+/// The round, the table and the games that words are.
+fn score_of(words: &[&str]) -> Option<(u8, u16, Games)> {
     match words {
-        ["enrol", name] => enrol(alloc, name),
-        ["start"] => Some(Command::Start),
-        ["pair", round] => Some(Command::Pair {
-            round: round.parse().ok()?,
-            seed: [0; 32],
-        }),
-        ["result", round, table, score @ ..] => Some(Command::Result {
-            round: round.parse().ok()?,
-            table: table.parse().ok()?,
-            score: games(score)?,
-        }),
-        ["correct", round, table, score @ ..] => Some(Command::Correct {
-            round: round.parse().ok()?,
-            table: table.parse().ok()?,
-            score: games(score)?,
-        }),
-        ["drop", player] => Some(Command::Drop {
-            player: player.parse().ok()?,
-        }),
-        ["cut"] => Some(Command::Cut),
+        [round, table, score @ ..] => {
+            let score = games(score)?;
+            Some((round.parse().ok()?, table.parse().ok()?, score))
+        }
+        _ => None,
+    }
+}
+
+/// The command on a match that words are.
+fn score_command(words: &[&str]) -> Option<Command> {
+    match words {
+        ["result", words @ ..] => {
+            let (round, table, score) = score_of(words)?;
+            Some(Command::Result {
+                round,
+                table,
+                score,
+            })
+        }
+        ["correct", words @ ..] => {
+            let (round, table, score) = score_of(words)?;
+            Some(Command::Correct {
+                round,
+                table,
+                score,
+            })
+        }
         ["playoff", stage, slot, score @ ..] => Some(Command::Playoff {
             stage: stage.parse().ok()?,
             slot: slot.parse().ok()?,
@@ -93,34 +123,74 @@ fn command_of(alloc: Global, words: &[&str]) -> Option<Command> {
     }
 }
 
+/// The command that words are. A round is paired under the key of zeros.
+fn command_of(alloc: Global, words: &[&str]) -> Option<Command> {
+    match words {
+        ["enrol", name] => enrol(alloc, name),
+        ["start"] => Some(Command::Start),
+        ["pair", round] => Some(Command::Pair {
+            round: round.parse().ok()?,
+            seed: [0; 32],
+        }),
+        ["drop", player] => Some(Command::Drop {
+            player: player.parse().ok()?,
+        }),
+        ["cut"] => Some(Command::Cut),
+        _ => score_command(words),
+    }
+}
+
 /// The command of a line, whose words are separated by spaces.
 pub fn command(alloc: Global, line: &str) -> Option<Command> {
     let words: Vec<&str> = line.split(' ').collect(alloc).ok()?;
     command_of(alloc, &words)
 }
 
-/// A desk on a new event named Friday, in memory.
-pub fn new_desk(alloc: Global, rounds: u8, cut: u8) -> Option<Desk<MemStore>> {
+/// The commands of a text, a line each.
+pub fn commands(alloc: Global, lines: &str) -> Option<Vec<Command>> {
+    let mut commands = Vec::new(alloc);
+    for line in lines.lines() {
+        commands.push(command(alloc, line)?).ok()?;
+    }
+    Some(commands)
+}
+
+/// A desk over a new event named Friday.
+pub fn new_desk<S: Alter + Drop>(
+    alloc: Global,
+    conn: Connection<S>,
+    rounds: u8,
+    cut: u8,
+) -> Option<Desk<S>>
+    requires { conn.in_transaction ≡ false }
+{
+    let name = Name::try_from_bytes(alloc, b"Friday");
+    match name {
+        Ok(name) => Desk::create(alloc, conn, name, rounds, cut).ok(),
+        Err(_) => None,
+    }
+}
+
+/// What a desk answers to the command of a line.
+pub fn submit<S: Alter>(alloc: Global, desk: &mut Desk<S>, line: &str) -> Option<Reply> {
+    let command = command(alloc, line)?;
+    Some(desk.submit(alloc, command))
+}
+
+/// Whether a desk takes these commands, a line each.
+fn takes(alloc: Global, desk: &mut Desk<MemStore>, lines: &str) -> bool {
+    lines
+        .lines()
+        .all(|line| matches!(submit(alloc, desk, line), Some(Ok(_))))
+}
+
+/// A desk in memory that took these commands, a line each.
+pub fn desk_after(alloc: Global, rounds: u8, cut: u8, lines: &str) -> Option<Desk<MemStore>> {
     let conn = Connection::open_in_memory(alloc).ok()?;
-    let name = name(alloc, "Friday")?;
-    Desk::create(alloc, conn, name, rounds, cut).ok()
-}
-
-/// Whether the command of a line is taken.
-fn takes(alloc: Global, desk: &mut Desk<MemStore>, line: &str) -> bool {
-    match command(alloc, line) {
-        Some(command) => desk.submit(alloc, command).is_ok(),
-        None => false,
+    let mut desk = new_desk(alloc, conn, rounds, cut)?;
+    if takes(alloc, &mut desk, lines) {
+        Some(desk)
+    } else {
+        None
     }
-}
-
-/// A desk that took these commands, a line each.
-pub fn desk_after(alloc: Global, rounds: u8, cut: u8, commands: &str) -> Option<Desk<MemStore>> {
-    let mut desk = new_desk(alloc, rounds, cut)?;
-    for line in commands.lines() {
-        if !takes(alloc, &mut desk, line) {
-            return None;
-        }
-    }
-    Some(desk)
 }

@@ -19,6 +19,8 @@ mod scripts;
 #[cfg(test)]
 mod shares;
 #[cfg(test)]
+mod slips;
+#[cfg(test)]
 mod standings;
 #[cfg(test)]
 mod stores;

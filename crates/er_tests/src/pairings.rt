@@ -109,21 +109,27 @@ fn are_in_order(alloc: Global, event: &Event, expected: &[u16]) -> bool {
     zero_key_order(alloc, event).is_ok_and(|found| found.as_slice() == expected)
 }
 
+/// Whether the players of an event are in this order, and the first two of them have not met.
+fn are_new_in_order(alloc: Global, event: &Event, expected: &[u16]) -> bool {
+    are_in_order(alloc, event, expected) && Met::of(alloc, event).is_ok_and(|met| !met.has(1, 2))
+}
+
+/// Whether the zero key puts so many players in this order.
+fn are_put_in_order(alloc: Global, count: u16, expected: &[u16]) -> Option<bool> {
+    let event = started(alloc, 3, 0, count)?;
+    Some(are_new_in_order(alloc, &event, expected))
+}
+
 /// The first rounds of worked examples 4, 5, 16 and 17.
 #[test]
 fn first_rounds_go_by_key(rt: HostRuntime) -> Result<(), Fail> {
     let alloc = rt.alloc();
-    let cases: [(u16, &[u16]); 4] = [
-        (4, &[4, 2, 1, 3]),
-        (3, &[2, 1, 3, 0]),
-        (8, &[6, 4, 2, 1, 5, 8, 7, 3]),
-        (6, &[6, 4, 2, 1, 5, 3]),
-    ];
-    for (count, expected) in cases {
-        let event = started(alloc, 3, 0, count).ok_or("started")?;
-        assert!(rt; are_in_order(alloc, &event, expected), "{count}");
-        assert!(rt; !Met::of(alloc, &event)?.has(1, 2));
-    }
+    assert_eq!(rt; are_put_in_order(alloc, 4, &[4, 2, 1, 3]), Some(true));
+    assert_eq!(rt; are_put_in_order(alloc, 3, &[2, 1, 3, 0]), Some(true));
+    let eight = [6, 4, 2, 1, 5, 8, 7, 3];
+    assert_eq!(rt; are_put_in_order(alloc, 8, &eight), Some(true));
+    let six = [6, 4, 2, 1, 5, 3];
+    assert_eq!(rt; are_put_in_order(alloc, 6, &six), Some(true));
     Ok(())
 }
 
@@ -132,11 +138,15 @@ fn three_of_four(alloc: Global) -> Option<Event> {
     changed(alloc, started(alloc, 3, 0, 4)?, &drop(3)?)
 }
 
+fn three_are_in_order(alloc: Global) -> Option<bool> {
+    let event = three_of_four(alloc)?;
+    Some(are_in_order(alloc, &event, &[2, 1, 4, 0]))
+}
+
 /// The key of a place goes to the player who is active there.
 #[test]
 fn dropped_players_have_no_key(rt: HostRuntime) -> Result<(), Fail> {
-    let event = three_of_four(rt.alloc()).ok_or("three players")?;
-    assert!(rt; are_in_order(rt.alloc(), &event, &[2, 1, 4, 0]));
+    assert_eq!(rt; three_are_in_order(rt.alloc()), Some(true));
     Ok(())
 }
 

@@ -1,80 +1,81 @@
-use er_event::{Command, Event, Games, Items, Name, Refusal, Score};
+use crate::helpers::{changed, command, new_event};
+use er_event::{Change, Event, Games, Refusal, Score};
 use er_rules::decide;
 use std::alloc::Global;
 use std::test::Fail;
 
-/// The event after a command that is taken.
-fn after(alloc: Global, event: Event, command: &Command) -> Result<Event, Fail> {
-    let change = decide(alloc, &event, command)?;
-    match event.apply(alloc, &change) {
-        Ok(event) => Ok(event),
-        Err((_, error)) => Err(error)?,
+/// What the command of a line makes of an event, if it is taken.
+fn decided(alloc: Global, event: &Event, line: &str) -> Option<Change> {
+    let command = command(alloc, line)?;
+    decide(alloc, event, &command).ok()
+}
+
+/// The event after the command of a line, if it is taken.
+fn after(alloc: Global, event: Event, line: &str) -> Option<Event> {
+    match decided(alloc, &event, line) {
+        Some(change) => changed(alloc, event, &change),
+        None => None,
     }
 }
 
-fn refusal_of(alloc: Global, event: &Event, command: &Command) -> Option<Refusal> {
-    decide(alloc, event, command).err()
-}
-
-fn enrol(alloc: Global, name: &[u8]) -> Result<Command, Fail> {
-    Ok(Command::Enrol {
-        name: Items::from(Vec::from_slice(alloc, name)?),
-    })
-}
-
-fn pair(round: u8) -> Command {
-    Command::Pair {
-        round,
-        seed: [0; 32],
+/// A new event of two rounds that took these commands, a line each.
+fn event_after(alloc: Global, lines: &str) -> Option<Event> {
+    let mut event = new_event(alloc, 2, 0)?;
+    for line in lines.lines() {
+        event = after(alloc, event, line)?;
     }
+    Some(event)
 }
 
-/// The score of the first table.
-fn report(x: u8, y: u8) -> Command {
-    Command::Result {
-        round: 1,
-        table: 1,
-        score: Games { x, y, d: 0 },
-    }
+fn refusal_of(alloc: Global, event: &Event, line: &str) -> Option<Refusal> {
+    let command = command(alloc, line)?;
+    decide(alloc, event, &command).err()
+}
+
+/// Whether each of these commands, a line each, is refused for this reason.
+fn are_refused(alloc: Global, event: &Event, lines: &str, why: Refusal) -> bool {
+    lines
+        .lines()
+        .all(|line| refusal_of(alloc, event, line) == Some(why))
+}
+
+/// Whether each of these commands is refused for this reason after those that are taken.
+fn are_refused_after(alloc: Global, taken: &str, lines: &str, why: Refusal) -> Option<bool> {
+    let event = event_after(alloc, taken)?;
+    Some(are_refused(alloc, &event, lines, why))
 }
 
 /// Two players in the open first round of two.
-fn paired(alloc: Global) -> Result<Event, Fail> {
-    let name = Name::try_from_bytes(alloc, b"Friday")?;
-    let event = Event::create(alloc, name, 2, 0)?;
-    let event = after(alloc, event, &enrol(alloc, b"Ana")?)?;
-    let event = after(alloc, event, &enrol(alloc, b"Bo")?)?;
-    let event = after(alloc, event, &Command::Start)?;
-    after(alloc, event, &pair(1))
-}
+const PAIRED: &str = "enrol Ana\nenrol Bo\nstart\npair 1";
 
 /// A refusal of a round names the round that is next, or that is open.
 #[test]
 fn refusals_name_the_round(rt: HostRuntime) -> Result<(), Fail> {
-    let alloc = rt.alloc();
-    let event = paired(alloc)?;
-    for round in [0, 1, 3, 255] {
-        assert_eq!(rt;
-            refusal_of(alloc, &event, &pair(round)),
-            Some(Refusal::WrongRound { next: 2 })
-        );
-    }
+    let none = "pair 0\npair 1\npair 3\npair 255";
+    let wrong = Refusal::WrongRound { next: 2 };
+    let open = Refusal::RoundOpen { round: 1 };
     assert_eq!(rt;
-        refusal_of(alloc, &event, &pair(2)),
-        Some(Refusal::RoundOpen { round: 1 })
+        are_refused_after(rt.alloc(), PAIRED, none, wrong),
+        Some(true)
+    );
+    assert_eq!(rt;
+        are_refused_after(rt.alloc(), PAIRED, "pair 2", open),
+        Some(true)
     );
     Ok(())
 }
 
+const REPORTED: &str = "enrol Ana\nenrol Bo\nstart\npair 1\nresult 1 1 2 1 0";
+
 /// A result that is handed in twice is refused with the score that stands, also where it is another.
+fn names_the_stored_score(alloc: Global) -> Option<bool> {
+    let score = Score::swiss(Games { x: 2, y: 1, d: 0 })?;
+    let again = "result 1 1 2 1 0\nresult 1 1 0 2 0\nresult 1 1 2 2 0";
+    are_refused_after(alloc, REPORTED, again, Refusal::AlreadyReported { score })
+}
+
 #[test]
 fn refusals_name_the_stored_score(rt: HostRuntime) -> Result<(), Fail> {
-    let alloc = rt.alloc();
-    let event = after(alloc, paired(alloc)?, &report(2, 1))?;
-    let stored = Score::swiss(Games { x: 2, y: 1, d: 0 }).ok_or("2-1-0")?;
-    let refused = Some(Refusal::AlreadyReported { score: stored });
-    assert_eq!(rt; refusal_of(alloc, &event, &report(2, 1)), refused);
-    assert_eq!(rt; refusal_of(alloc, &event, &report(0, 2)), refused);
-    assert_eq!(rt; refusal_of(alloc, &event, &report(2, 2)), refused);
+    assert_eq!(rt; names_the_stored_score(rt.alloc()), Some(true));
     Ok(())
 }

@@ -5,6 +5,12 @@ use er_share::{GameRecord, MatchRecord, Share, average, gwp, hundredths, mwp};
 use std::alloc::Global;
 use std::test::Fail;
 
+/// What is printed of the share of these match points, and whether it is of the base.
+fn match_percentage(points: u8, rounds: u8) -> Option<(u32, bool)> {
+    let share = mwp(MatchRecord::try_new(points, rounds)?);
+    Some((hundredths(share), share.is_base()))
+}
+
 /// Worked example 11.
 #[test]
 fn match_win_percentages(rt: HostRuntime) -> Result<(), Fail> {
@@ -15,19 +21,22 @@ fn match_win_percentages(rt: HostRuntime) -> Result<(), Fail> {
         (9, 5, 6000),
         (0, 0, 3300),
     ] {
-        let counts = MatchRecord::try_new(points, rounds).ok_or("beyond the limits")?;
-        let share = mwp(counts);
         assert_eq!(rt;
-            hundredths(share),
-            printed,
+            match_percentage(points, rounds),
+            Some((printed, true)),
             "{points} points in {rounds} rounds"
         );
-        assert!(rt; share.is_base(), "{points} points in {rounds} rounds");
     }
     assert!(rt; MatchRecord::try_new(27, 9).is_some());
     assert_eq!(rt; MatchRecord::try_new(28, 9), None);
     assert_eq!(rt; MatchRecord::try_new(0, 10), None);
     Ok(())
+}
+
+/// What is printed of the share of these game points, and whether it is of the base.
+fn game_percentage(points: u16, games: u8) -> Option<(u32, bool)> {
+    let share = gwp(GameRecord::try_new(points, games)?);
+    Some((hundredths(share), share.is_base()))
 }
 
 /// Worked examples 11 and 34.
@@ -41,14 +50,11 @@ fn game_win_percentages(rt: HostRuntime) -> Result<(), Fail> {
         (162, 54, 10_000),
         (63, 32, 6563),
     ] {
-        let counts = GameRecord::try_new(points, games).ok_or("beyond the limits")?;
-        let share = gwp(counts);
         assert_eq!(rt;
-            hundredths(share),
-            printed,
+            game_percentage(points, games),
+            Some((printed, true)),
             "{points} points in {games} games"
         );
-        assert!(rt; share.is_base(), "{points} points in {games} games");
     }
     assert_eq!(rt; GameRecord::try_new(0, 55), None);
     Ok(())

@@ -1,6 +1,6 @@
 mod seeds;
 
-use crate::helpers::{changed, drop, name, started};
+use crate::helpers::{changed, drop, new_event, started};
 use er_event::{Change, Event, Games, Items, Match, Score};
 use er_rank::{standings, top};
 use std::alloc::Global;
@@ -24,25 +24,39 @@ fn are_first(alloc: Global, event: &Event, k: usize, numbers: &[u16]) -> bool {
     players.len() == numbers.len() && listed
 }
 
+fn rows_len(alloc: Global, event: &Event) -> Option<usize> {
+    Some(standings(alloc, event).ok()?.len())
+}
+
+/// Whether four players are listed, and the second is never among the first.
+fn lists_the_second_alone(alloc: Global, event: &Event) -> bool {
+    rows_len(alloc, event) == Some(4)
+        && are_first(alloc, event, 0, &[])
+        && are_first(alloc, event, 2, &[1, 3])
+        && are_first(alloc, event, 3, &[1, 3, 4])
+        && are_first(alloc, event, 8, &[1, 3, 4])
+}
+
+fn the_second_of_four_is_listed(alloc: Global) -> Option<bool> {
+    let event = friday(alloc, 4)?;
+    Some(lists_the_second_alone(alloc, &event))
+}
+
 /// A player who has left is listed, and not among the first.
 #[test]
 fn the_first_are_active(rt: HostRuntime) -> Result<(), Fail> {
-    let alloc = rt.alloc();
-    let event = friday(alloc, 4).ok_or("four players")?;
-    assert_eq!(rt; standings(alloc, &event)?.len(), 4);
-    assert!(rt; are_first(alloc, &event, 0, &[]));
-    assert!(rt; are_first(alloc, &event, 2, &[1, 3]));
-    assert!(rt; are_first(alloc, &event, 3, &[1, 3, 4]));
-    assert!(rt; are_first(alloc, &event, 8, &[1, 3, 4]));
+    assert_eq!(rt; the_second_of_four_is_listed(rt.alloc()), Some(true));
     Ok(())
+}
+
+fn nobody_is_listed(alloc: Global) -> Option<bool> {
+    let event = new_event(alloc, 3, 0)?;
+    Some(rows_len(alloc, &event) == Some(0) && are_first(alloc, &event, 4, &[]))
 }
 
 #[test]
 fn an_event_without_players_has_no_rows(rt: HostRuntime) -> Result<(), Fail> {
-    let friday = name(rt.alloc(), "Friday").ok_or("a name")?;
-    let event = Event::create(rt.alloc(), friday, 3, 0)?;
-    assert!(rt; standings(rt.alloc(), &event)?.is_empty());
-    assert!(rt; top(rt.alloc(), &event, 4)?.is_empty());
+    assert_eq!(rt; nobody_is_listed(rt.alloc()), Some(true));
     Ok(())
 }
 
@@ -58,11 +72,14 @@ fn six(alloc: Global) -> Option<Event> {
     changed(alloc, friday(alloc, 6)?, &Change::AddRound { matches })
 }
 
+fn four_go_on(alloc: Global) -> Option<bool> {
+    let event = six(alloc)?;
+    Some(are_first(alloc, &event, 4, &[5, 6, 1, 3]))
+}
+
 /// The four who go on in worked example 17, in which player 2 has left.
 #[test]
 fn a_dropped_player_is_no_seed(rt: HostRuntime) -> Result<(), Fail> {
-    let alloc = rt.alloc();
-    let event = six(alloc).ok_or("six players")?;
-    assert!(rt; are_first(alloc, &event, 4, &[5, 6, 1, 3]));
+    assert_eq!(rt; four_go_on(rt.alloc()), Some(true));
     Ok(())
 }

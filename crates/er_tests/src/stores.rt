@@ -239,14 +239,30 @@ fn adopt(alloc: Global, conn: Connection<MemStore>) -> Adopted
     Store::adopt(alloc, conn)
 }
 
-/// The serial that a store and a load of it find with just the desk's event.
+/// The serial that a load of the store finds, if it finds just this event.
+fn loaded(alloc: Global, store: &mut Store<MemStore>, event: &Event) -> Option<u32> {
+    let (read, serial) = store.load(alloc).ok()?;
+    are_same(&read, event).then_some(serial)
+}
+
+/// The serial that a store over the tables and a load of it find, if both find just this event.
+fn found(alloc: Global, conn: Connection<MemStore>, event: &Event) -> Option<u32>
+    requires { conn.in_transaction ≡ false }
+{
+    let (mut store, found, serial) = adopt(alloc, conn).ok()?;
+    let is_found = are_same(&found, event) && loaded(alloc, &mut store, event) == Some(serial);
+    is_found.then_some(serial)
+}
+
+fn copy(alloc: Global, desk: &Desk<MemStore>) -> Option<Event> {
+    desk.event().ok()?.copy(alloc).ok()
+}
+
+/// The serial that is found in a desk's tables, if just its event is found.
 fn serial_read(alloc: Global, desk: Option<Desk<MemStore>>) -> Option<u32> {
     let desk = desk?;
-    let event = desk.event().ok()?.copy(alloc).ok()?;
-    let (mut store, found, at) = adopt(alloc, desk.close()).ok()?;
-    let (read, serial) = store.load(alloc).ok()?;
-    let is_same = are_same(&read, &event) && are_same(&found, &event) && serial == at;
-    is_same.then_some(serial)
+    let event = copy(alloc, &desk)?;
+    found(alloc, desk.close(), &event)
 }
 
 #[test]

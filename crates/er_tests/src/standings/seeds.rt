@@ -40,9 +40,13 @@ fn the_first_stage_is_of_the_seeds(rt: HostRuntime) -> Result<(), Fail> {
     Ok(())
 }
 
+fn agree_before_the_cut(alloc: Global) -> Option<bool> {
+    let event = six(alloc)?;
+    seeds_agree(alloc, &event).ok()
+}
+
 #[test]
 fn no_bracket_has_no_wrong_seeds(rt: HostRuntime) -> Result<(), Fail> {
-    let event = six(rt.alloc()).ok_or("six players")?;
-    assert!(rt; seeds_agree(rt.alloc(), &event)?);
+    assert_eq!(rt; agree_before_the_cut(rt.alloc()), Some(true));
     Ok(())
 }
