@@ -4,3 +4,4 @@ pub mod Turns
 pub mod Running
 pub mod Plain
 pub mod Adopting
+pub mod Slips

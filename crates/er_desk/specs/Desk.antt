@@ -1,17 +1,19 @@
 -- What a desk shows, and what a command does to it.
-use Rattle.std.specs.Prelude.{◌≡◌, ◌⊎◌, ℕ, ◌+◌, ◌<◌, ◌≤◌, ◌==◌, ◌||◌, Bool, true, IsTrue, IsFalse, Ok, Err}
+use Rattle.std.specs.Prelude.{◌≡◌, ◌⊎◌, ℕ, ◌+◌, ◌<◌, ◌≤◌, ◌==◌, ◌||◌, Bool, true, IsTrue, IsFalse, Result, Ok, Err, IsOk}
 use Rattle.sqlite_trees.specs.declared.store.Store.{Ghosts}
 use Rattle.sqlite.specs.State.{State}
 use Rattle.sqlite.specs.Tree.{Trees}
 use Rattle.er_event.specs.declared.refusals.Command.{Command}
 use Rattle.er_event.specs.declared.refusals.Refusal.{Refusal}
-use Rattle.er_event.specs.declared.refusals.Refusal.TheVariants.{Memory, SerialFull, NeedsReopen}
+use Rattle.er_event.specs.declared.refusals.Refusal.TheVariants.{Memory, SerialFull, NoSuchMatch, NeedsReopen}
 use Rattle.er_event.specs.declared.refusals.TheConstants.{MAX_SERIAL}
 use Rattle.er_event.specs.declared.events.TheConstants.{MAX_ROUNDS}
+use Rattle.er_event.specs.declared.slips.SlipRow.{SlipRow}
 use Rattle.er_event.specs.Event.{EventValue}
 use Rattle.er_rules.specs.Refusing.{IsOfRules}
 use Rattle.er_rules.specs.Step.{Answers}
 use Rattle.er_store.specs.Fault.{IsFault}
+use Rattle.er_store.specs.Slip.{IsSlipFault}
 use Rattle.er_store.specs.Standing as tables
 use Rattle.er_store.specs.Store as store
 use Rattle.er_desk.specs.Reply.{Reply, receipt, IsDue}
@@ -94,3 +96,10 @@ module _ (old : Standing) (command : Command) (reply : Reply) (new : Standing) w
 
   abbrev pub Turn : Type 0
   Turn = Accepts ⊎ Declines ⊎ Stops ⊎ Waits
+
+-- Reading a slip. A slip, or no such match, leaves the desk as it is. A fault of the store stops it, and a desk that was stopped asks for reopening.
+abbrev pub ReadsSlip : Standing → Result SlipRow Refusal → Standing → Type 0
+ReadsSlip old result new =
+    (IsFalse old.stopped × (new ≡ old) × (IsOk result ⊎ (result ≡ Err NoSuchMatch)))
+    ⊎ (IsFalse old.stopped × (new ≡ record old { stopped = true }) × (why : Refusal) × IsSlipFault why × (result ≡ Err why))
+    ⊎ (IsTrue old.stopped × (new ≡ old) × (result ≡ Err NeedsReopen))

@@ -5,7 +5,7 @@ ghost use Rattle.er_event.specs.declared.refusals.TheConstants.{MAX_SERIAL};
 ghost use Rattle.er_rules.specs.Sound.{IsSound};
 ghost use Rattle.er_store.specs.Store as tables;
 
-use er_event::{Change, Command, Event, MAX_SERIAL, Name, Place, Receipt, Refusal};
+use er_event::{Change, Command, Event, MAX_SERIAL, Name, Place, Receipt, Refusal, SlipRow};
 use er_rank::{Row, standings};
 use er_rules::laws::budget_searches;
 use er_rules::{decide, seeds_agree};
@@ -59,8 +59,9 @@ impl<S: Alter> Desk<S> {
     ghost use Rattle.er_store.specs.Store as tables;
     ghost use Rattle.er_store.specs.Standing.{HasTables, AreKeyed, StandsFor, CanRead, IsStored, Leaves, Either, KeepsOthers};
     ghost use Rattle.er_store.specs.Loading.{ShowsEvent};
+    ghost use Rattle.er_store.specs.Slip.{FindsSlip};
     ghost use Rattle.er_store.specs.Reading.{KeepsTables};
-    ghost use Rattle.er_desk.specs.Desk.{Point, Turn, Stops, ShowsOwn, AreLimits, point_of, state, standing};
+    ghost use Rattle.er_desk.specs.Desk.{Point, Turn, Stops, ReadsSlip, ShowsOwn, AreLimits, point_of, state, standing};
     ghost use Rattle.er_desk.specs.Run.{Runs, IsRun, session_of};
     ghost use Rattle.er_desk.specs.Headline.{IsEmptyFile, LeavesJust, LeavesEither, LeavesEnd, FindsAgain, RepeatsNobody, AreTheStandings};
     ghost use Rattle.er_desk.specs.History.{new_point};
@@ -202,6 +203,33 @@ impl<S: Alter> Desk<S> {
             Ok(rows) => Ok(rows),
             Err(_error) => Err(Refusal::Memory),
         }
+    }
+
+    /// Reads the slip of a match. It changes no table. A slip, or no such match, leaves the desk as it is.
+    pub fn slip(&mut self, alloc: Global, round: u8, table: u16) -> Result<SlipRow, Refusal>
+        ensures turn { ReadsSlip (standing self.old) result (standing self.new) }
+        ensures waits { IsTrue (standing self.old).stopped → self.new ≡ self.old }
+
+        // Where the tables stand for the event, what is found is its slip.
+        ensures found { HasCleanDisk (state S.Store self.new) → ShowsOwn S.Store self.old → FindsSlip self.old.event round table result }
+
+        // The tables stand for the event, and those of others stay.
+        ensures clean { HasCleanDisk (state S.Store self.new) → HasCleanDisk (state S.Store self.old) }
+        ensures stands { HasCleanDisk (state S.Store self.new) → ShowsOwn S.Store self.old → IsFalse (standing self.new).stopped → ShowsOwn S.Store self.new }
+        ensures kept { HasCleanDisk (state S.Store self.new) → OnErr result (KeepsTables (state S.Store self.old) (state S.Store self.new)) }
+        ensures others { HasCleanDisk (state S.Store self.new) → ShowsOwn S.Store self.old → IsTrue (state S.Store self.new).is_open
+            → KeepsOthers (state S.Store self.old).now (state S.Store self.new).now }
+        ensures crash { ShowsOwn S.Store self.old → LeavesJust (state S.Store self.new) (point_of (standing self.old)) }
+    {
+        // What the tables stand for, a crash leaves, and an event is always sound: these tell the proof.
+        shown_is_stored(&self.store);
+        let _ = self.event.phase();
+        if self.needs_reopen {
+            return Err(Refusal::NeedsReopen);
+        }
+        let read = self.store.slip(alloc, round, table);
+        self.needs_reopen = matches!(read, Err(Refusal::Memory | Refusal::Store { .. }));
+        read
     }
 
     /// Whether a fault of the store is behind, so that the file is to be opened anew.

@@ -1,5 +1,6 @@
 -- Which matches may stand in a Swiss round.
-use Rattle.std.specs.Prelude.{ℕ, ◌==◌, ◌&&◌, ◌||◌, nat_le, Bool, true, false, Option, Some, None}
+use Rattle.std.specs.Prelude.{◌≡◌, ◌≢◌, IsTrue, ℕ, ◌==◌, ◌&&◌, ◌||◌, nat_le, Bool, true, false, Option, Some, None}
+use Rattle.er_event.specs.declared.players.TheConstants.{MAX_PLAYERS}
 use Rattle.er_event.specs.declared.rounds.Match.{Match}
 use Rattle.er_event.specs.declared.scores.Games.{Games}
 use Rattle.er_event.specs.Score.{is_swiss_score, is_playoff_score}
@@ -21,6 +22,12 @@ is_lawful_score false (Some s) = is_swiss_score s
 
 abbrev pub is_lawful_match : ℕ → Match → Bool
 is_lawful_match count m = is_known count m.a && (is_bye m || is_known count m.b) && is_lawful_score (is_bye m) m.score
+
+-- two players, or a bye at the table 0
+pub record MayStand (table : ℕ) (m : Match) : Type 0 where
+  pub lawful : IsTrue (is_lawful_match MAX_PLAYERS m)
+  pub apart : m.a ≢ m.b
+  pub bye : is_bye m ≡ (table == 0)
 
 -- one who sits in both
 abbrev pub shares_seat : Match → Match → Bool

@@ -2,9 +2,10 @@ ghost use Rattle.std.specs.Prelude.{◌≡◌, ◌≢◌, ◌↔◌, ◌-◌, �
 ghost use Rattle.std.specs.List.{list_all, list_any, range_with_len};
 ghost use Rattle.er_event.specs.Score.{is_swiss_score, is_playoff_score, bye_score};
 ghost use Rattle.er_event.specs.Round.{is_bye, is_counted, is_same_pairing, seats};
-ghost use Rattle.er_event.specs.Match.{is_known, is_lawful_match, shares_seat};
+ghost use Rattle.er_event.specs.Match.{is_known, is_lawful_match, MayStand, shares_seat};
 ghost use Rattle.er_event.specs.Sound.{IsRound};
 
+use crate::players::MAX_PLAYERS;
 use crate::rounds::{Match, Round};
 use crate::scores::{Games, Score};
 
@@ -44,6 +45,13 @@ fn is_lawful(count: u16, played: &Match) -> bool
         (b, None) => is_known(count, b),
         (b, Some(score)) => is_known(count, b) && is_swiss(score),
     }
+}
+
+/// Whether a match of two players, or a bye at the table 0, may be stored.
+pub(crate) fn may_stand(table: u16, played: &Match) -> bool
+    ensures { IsTrue result ↔ MayStand table played.now }
+{
+    played.a != played.b && (played.b == 0) == (table == 0) && is_lawful(MAX_PLAYERS, played)
 }
 
 fn are_lawful(count: u16, matches: &[Match]) -> bool

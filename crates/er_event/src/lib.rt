@@ -23,6 +23,7 @@ pub use checks::BYE;
 pub use events::{Event, MAX_ROUNDS, Phase};
 pub use items::Items;
 pub use names::{MAX_NAME_BYTES, Name, NameFault};
+pub use pairings::match_at_table;
 pub use parts::{Parts, PartsFault};
 pub use players::{MAX_PLAYERS, Player, PlayerNo};
 pub use refusals::{Cause, Command, MAX_SERIAL, Place, Receipt, Refusal};

@@ -6,9 +6,11 @@ ghost use Rattle.er_event.specs.declared.refusals.Place.{Place};
 ghost use Rattle.er_event.specs.Rows.{games_of, pairing_row, keyed_round_rows, keyed_rows_from};
 ghost use Rattle.er_event.specs.Round.{is_bye, numbered_from, table_of};
 ghost use Rattle.er_event.specs.Score.{is_swiss_score};
+ghost use Rattle.er_event.specs.Match.{MayStand};
 ghost use Rattle.er_event.specs.declared.events.TheConstants.{MAX_ROUNDS};
 ghost use Rattle.er_event.specs.Pairings.{IsShown, AreTables, AreShown, table_rows, is_of};
 
+use crate::checks::may_stand;
 use crate::events::MAX_ROUNDS;
 use crate::items::Items;
 use crate::parts::PartsFault;
@@ -110,6 +112,17 @@ fn read_match(round: u8, table: usize, row: &PairingRow) -> Option<Match>
         Some(played)
     } else {
         None
+    }
+}
+
+/// The match that a row has at this table of a round, of which a bye's is 0, where such a match may be stored.
+pub fn match_at_table(round: u8, table: u16, row: &PairingRow) -> Option<Match>
+    ensures value { IfSome result (λ m. (row.now ≡ pairing_row round (table, m)) × MayStand table m) }
+    ensures exact { (m : Match) → MayStand table m → row.now ≡ pairing_row round (table, m) → result ≡ Some m }
+{
+    match read_match(round, usize::from(table), row) {
+        Some(played) if may_stand(table, &played) => Some(played),
+        _ => None,
     }
 }
 

@@ -188,7 +188,7 @@ is_memory e h = absurd (h (λ same. cc))
 
 -- ---- the texts of a sound event are UTF-8
 
-lawful-utf8 : (name : List ℕ) → IsTrue (is_lawful_name name) → IsUtf8 name
+pub lawful-utf8 : (name : List ℕ) → IsTrue (is_lawful_name name) → IsUtf8 name
 lawful-utf8 name h = IsUtf8-from_is_utf8 name (grind (arith, nat_tests))
 
 pub event_text : (e : EventValue) (s : ℕ) → IsSoundButForSeeds e → All (λ (r : EventRow). IsUtf8 r.name) (event_row e s ∷ [])

@@ -12,6 +12,10 @@ pub mod Where
 pub mod Picking
 pub mod Dropping
 pub mod PickingTable
+pub mod Alone
+pub mod SlipLemmas
+pub mod Joining
+pub mod Joined
 pub mod PickingSlot
 pub mod Scoring
 pub mod Crash

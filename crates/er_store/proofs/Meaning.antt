@@ -4,7 +4,7 @@ use Rattle.sqlite.specs.Compile.{table_defined_by}
 use Rattle.sqlite.specs.Table.{Table}
 use Rattle.sqlite.specs.Schema.{Schema}
 use Rattle.sqlite.specs.Term.{Term, lit, col, op1, op2}
-use Rattle.sqlite.specs.Query.{Query, Join, inner, end}
+use Rattle.sqlite.specs.Query.{Query, Join, inner, left, end}
 use Rattle.sqlite.specs.Command.TheVariants.{Insert, Select, Update}
 use Rattle.sqlite.specs.Source.TheVariants.{Values}
 use Rattle.sqlite.specs.declared.types.Value.TheVariants.{Null, Int}
@@ -21,8 +21,9 @@ use Rattle.sqlite_tied.specs.Compute.{everything}
 use Rattle.sqlite.specs.Listing.{understood, listing_schema, reads_listing}
 use Rattle.sqlite.proofs.Callers.{IsPlain, command_of}
 use Rattle.er_store.specs.Standing.{with_ours, CanRead}
-use Rattle.er_store.specs.Rows.{event_places, player_places, pairing_places, bracket_places}
-use Rattle.er_store.specs.Tables.{no_schema, event_text, player_text, pairing_text, bracket_text, event, player, pairing, bracket, insert_event, insert_player, set_serial, set_phase, set_dropped, set_score, insert_pairing, insert_slot, set_slot_score, find_event, read_event, read_players, read_pairings, read_bracket}
+use Rattle.sqlite.specs.Order.{Row}
+use Rattle.er_store.specs.Rows.{number, event_places, player_places, pairing_places, bracket_places}
+use Rattle.er_store.specs.Tables.{no_schema, event_text, player_text, pairing_text, bracket_text, event, player, pairing, bracket, insert_event, insert_player, set_serial, set_phase, set_dropped, set_score, insert_pairing, insert_slot, set_slot_score, find_event, read_event, read_players, read_pairings, read_bracket, read_slip}
 
 pub event_defined : table_defined_by event_text ≡ Ok (event 0)
 unfolding understood everything
@@ -109,14 +110,32 @@ abbrev pub Takes : ℕ → List ℕ → Result Compiled CompileError → Type 0
 Takes n sql (Ok c) = (length sql ≤ c.tail) × (length c.names ≡ n)
 Takes n sql (Err e) = ⊥
 
--- the text is one SELECT of the schema, with no parameter, by this query
-pub record Selects (sql : List ℕ) (q : Query) (schema : Schema) : Type 0 where
+-- the text is one SELECT of the schema, with these parameters, by this query
+pub record SelectsWith (params : Row) (sql : List ℕ) (q : Query) (schema : Schema) : Type 0 where
   pub names : List (List ℕ)
   pub is : command_of (understood schema sql) ≡ Select (record { lets = []; body = q }) names
   pub plain : IsPlain (understood schema sql)
   pub unlisted : reads_listing schema sql ≡ false
-  pub whole : Takes 0 sql (understood schema sql)
-  pub typed : accepts_program schema [] q [] ≡ true
+  pub whole : Takes (length params) sql (understood schema sql)
+  pub typed : accepts_program schema [] q params ≡ true
+
+-- and with none
+abbrev pub Selects : List ℕ → Query → Schema → Type 0
+Selects = SelectsWith []
+
+abbrev equals : Term → Term → Term
+equals x y = op2 (Compare Eq Binary) x y
+
+-- the pairings, each with the player `lo`, if there is one, and the player `hi`
+abbrev pub slip_from : Join
+slip_from = inner 3 (left 1 (equals (col 2 0) (col 1 3) ∷ []) (left 1 (equals (col 3 0) (col 1 4) ∷ []) end))
+
+abbrev pub slip_terms : List Term
+slip_terms = col 1 1 ∷ col 1 2 ∷ col 1 3 ∷ col 1 4 ∷ col 1 5 ∷ col 1 6 ∷ col 1 7 ∷ col 1 8 ∷ col 1 9 ∷ col 2 2 ∷ col 3 2 ∷ []
+
+-- only the match of the round and the table that are given passes
+abbrev pub slip_query : Query
+slip_query = plain_query slip_from score_tests slip_terms
 
 module _ (others : List Table) (indexes : List Index) (views : List View) where
   abbrev pub full : Schema
@@ -209,6 +228,10 @@ module _ (others : List Table) (indexes : List Index) (views : List View) where
   pub bracket_selected : Selects read_bracket (table_query 6 bracket_places (1 ∷ 2 ∷ [])) full
   unfolding understood everything
   bracket_selected = record { names = codes "stage" ∷ codes "slot" ∷ codes "a" ∷ codes "b" ∷ codes "done" ∷ codes "x" ∷ codes "y" ∷ codes "d" ∷ []; is = refl; plain = (refl, refl); unlisted = refl; whole = (lit≤ tt, refl); typed = refl }
+
+  pub slip_selected : (round table : ℕ) → SelectsWith (number round ∷ number table ∷ []) read_slip slip_query full
+  unfolding understood everything
+  slip_selected round table = record { names = codes "round" ∷ codes "tab" ∷ codes "lo" ∷ codes "hi" ∷ codes "swapped" ∷ codes "done" ∷ codes "x" ∷ codes "y" ∷ codes "d" ∷ codes "name" ∷ codes "name" ∷ []; is = refl; plain = (refl, refl); unlisted = refl; whole = (lit≤ tt, refl); typed = refl }
 
   -- the table can be read
   pub readable : CanRead full

@@ -49,7 +49,7 @@ is_number-same n k same = ap is_eq (value_cmp-Int (pos n) (pos k)) ∙ grind (ar
 pub is_number-other : (n k : ℕ) → n ≢ k → is_eq (value_cmp (number n) (number k)) ≡ false
 is_number-other n k apart = ap is_eq (value_cmp-Int (pos n) (pos k)) ∙ grind (arith, nat_tests)
 
-picks-is : (k : ℕ) (p : Player) → picks k (row_of p) ≡ is_number k (row_of p)
+pub picks-is : (k : ℕ) (p : Player) → picks k (row_of p) ≡ is_number k (row_of p)
 unfolding binary
 picks-is k p = said (is_eq (value_cmp (number p.no) (number k)))
 
@@ -79,12 +79,12 @@ first_number : (p : Player) (ps : List Player) (a : ℕ) → numbers (p ∷ ps) 
 first_number p ps a e = (ap (λ (ns : List ℕ). get_or ns 0 0) e, ap (Rattle.std.specs.Prelude.drop 1) e)
 
 -- a number below them all picks none
-record PicksNone (k : ℕ) (players : List Player) : Type 0 where
+pub record PicksNone (k : ℕ) (players : List Player) : Type 0 where
   pub none : filter (picks k) (rows_of players) ≡ []
   pub others : filter (is_another k) (rows_of players) ≡ rows_of players
   pub stay : map (dropped_at k) players ≡ players
 
-picks_none : (k a : ℕ) (ps : List Player) → k < a → numbers ps ≡ range_with_len a (length ps) → PicksNone k ps
+pub picks_none : (k a : ℕ) (ps : List Player) → k < a → numbers ps ≡ range_with_len a (length ps) → PicksNone k ps
 picks_none k a [] low numbered = record { none = refl; others = refl; stay = refl }
 picks_none k a (p ∷ ps) low numbered =
     let both = first_number p ps a numbered in

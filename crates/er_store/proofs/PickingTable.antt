@@ -53,7 +53,7 @@ picks-row k t j n = ap₂ (λ a b. a && (b && true)) (equal j k) (equal (table_o
 other_round : (k t j : ℕ) (n : ℕ × Match) → j ≢ k → picks_table k t (pairing_columns (pairing_row j n)) ≡ false
 other_round k t j n apart = picks-row k t j n ∙ ap (λ b. b && (is_at t n && true)) (let not : (j == k) ≡ false = grind (arith, nat_tests) in not)
 
-own_round : (k t : ℕ) (n : ℕ × Match) (b : Bool) → is_at t n ≡ b → picks_table k t (pairing_columns (pairing_row k n)) ≡ b
+pub own_round : (k t : ℕ) (n : ℕ × Match) (b : Bool) → is_at t n ≡ b → picks_table k t (pairing_columns (pairing_row k n)) ≡ b
 own_round k t n b at = picks-row k t k n ∙ (ap₂ (λ a c. a && (c && true)) (let same : (k == k) ≡ true = grind (arith, nat_tests) in same) at ∙ and_true b)
   where
     and_true : (c : Bool) → (c && true) ≡ c
@@ -131,7 +131,7 @@ module _ {X : Type 0} (columns : X → Row) (test : Row → Bool) (old new : Lis
 
 -- ---- the matches of a round
 
-not-at : (t n : ℕ) (m : Match) → 1 ≤ t → n ≢ t → is_at t (n, m) ≡ false
+pub not-at : (t n : ℕ) (m : Match) → 1 ≤ t → n ≢ t → is_at t (n, m) ≡ false
 not-at t n m some apart = by_bye (is_bye m)
   where
     by_bye : (b : Bool) → (cond b 0 n == t) ≡ false
@@ -196,11 +196,11 @@ module _ (k t : ℕ) (s : Games) where
 
   -- ---- the rounds
 
-  none-of_round : (j : ℕ) (numbered : List (ℕ × Match)) → j ≢ k → None_of test (map (pairing_row j) numbered)
+  pub none-of_round : (j : ℕ) (numbered : List (ℕ × Match)) → j ≢ k → None_of test (map (pairing_row j) numbered)
   none-of_round j [] apart = tt
   none-of_round j (n ∷ numbered) apart = (other_round k t j n apart, none-of_round j numbered apart)
 
-  none-of_later : (j : ℕ) (rounds : List Round) → k < j → None_of test (pairing_rows_from j rounds)
+  pub none-of_later : (j : ℕ) (rounds : List Round) → k < j → None_of test (pairing_rows_from j rounds)
   none-of_later j [] low = tt
   none-of_later j (r ∷ rounds) low =
       all-append (λ x. test x ≡ false) (round_rows j r.matches) (pairing_rows_from (j + 1) rounds) (none-of_round j (numbered_from 1 r.matches) (λ same. absurd (omega arith))) (none-of_later (j + 1) rounds (omega arith))

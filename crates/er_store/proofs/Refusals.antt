@@ -1,6 +1,7 @@
 -- Why a read of the tables is refused.
 use Rattle.std.proofs.Common.{◌≡◌, inl, inr, ℕ, List, [], ◌∷◌, length, Ok, IsSome, sym, ap, subst, subst₂, ◌∙◌, append-nil}
 use Rattle.sqlite.specs.Order.{Row}
+use Rattle.sqlite.specs.Query.{Query}
 use Rattle.sqlite.specs.Program.{ProgramOverflows}
 use Rattle.sqlite.specs.Clock.{timed}
 use Rattle.sqlite.specs.Command.TheVariants.{Select}
@@ -13,7 +14,7 @@ use Rattle.sqlite.specs.Listing.{understood, IsSourceOf}
 use Rattle.sqlite.specs.State.{State, FailsToQuery, FailsToShow, IsNotRun, IsNoStatement}
 use Rattle.sqlite.proofs.Callers.{IsPlain, command_of}
 use Rattle.er_store.specs.Reading.{IsReadRefused}
-use Rattle.er_store.proofs.Meaning.{Takes, Selects, table_query}
+use Rattle.er_store.proofs.Meaning.{Takes, Selects, SelectsWith, table_query, slip_query}
 
 -- a text that is one statement, with as many parameters as are given, is a statement
 is_statement : (old : State) (sql : List ℕ) (params : Row) (e : Error) → IsPlain (understood old.now.schema sql) → Takes (length params) sql (understood old.now.schema sql) → ¬ IsNoStatement old sql params e
@@ -32,23 +33,34 @@ sums_nothing : (trees : Trees) (tree : ℕ) (places keys : List ℕ) → ¬ Prog
 sums_nothing trees tree places keys (inl sum) = sum
 sums_nothing trees tree places keys (inr fold) = fold.4
 
-module _ (tree : ℕ) (places keys : List ℕ) (sql : List ℕ) (old new : State) (e : Error) (it : Selects sql (table_query tree places keys) old.now.schema) where
-  only_limit : RefusesQuery old.step_limit old.now (record { lets = []; body = table_query tree places keys }) [] e → (e ≡ SqliteFailure OperationInterrupted) × IsSome old.step_limit
+module _ (q : Query) (params : Row) (sums : (trees : Trees) → ¬ ProgramOverflows trees params [] [] q) (sql : List ℕ) (old new : State) (e : Error) (it : SelectsWith params sql q old.now.schema) where
+  only_limit : RefusesQuery old.step_limit old.now (record { lets = []; body = q }) params e → (e ≡ SqliteFailure OperationInterrupted) × IsSome old.step_limit
   only_limit (inl kind) = let never = kind.1 in let typed = it.typed in absurd (cc)
-  only_limit (inr (inl big)) = absurd (sums_nothing old.now.trees tree places keys big.1)
+  only_limit (inr (inl big)) = absurd (sums old.now.trees big.1)
   only_limit (inr (inr stopped)) = stopped
 
   -- by memory, the file or the device, or by the limit on steps
-  pub read_refused : FailsToQuery sql [] old new e → IsReadRefused old new e
+  pub query_refused : FailsToQuery sql params old new e → IsReadRefused old new e
   unfolding FailsToQuery IsNotRun
-  read_refused (inl (inl no_statement)) = absurd (is_statement old sql [] e it.plain it.whole no_statement.0)
-  read_refused (inl (inr fails)) = inl fails
-  read_refused (inr (c, s, shows)) =
+  query_refused (inl (inl no_statement)) = absurd (is_statement old sql params e it.plain it.whole no_statement.0)
+  query_refused (inl (inr fails)) = inl fails
+  query_refused (inr (c, s, shows)) =
       let known : Ok c ≡ understood old.now.schema sql = sym s.is in
       let bare = subst IsPlain (sym known) it.plain in
-      let kind : c.command ≡ Select (record { lets = []; body = table_query tree places keys }) it.names = ap command_of known ∙ it.is in
-      let failed = subst (FailsToShow old new sql c (timed [] c.formats s.now) e) bare.0 shows in
+      let kind : c.command ≡ Select (record { lets = []; body = q }) it.names = ap command_of known ∙ it.is in
+      let failed = subst (FailsToShow old new sql c (timed params c.formats s.now) e) bare.0 shows in
       let db : failed.0 ≡ old.now = subst (λ b. IsSourceOf b old.now failed.0) it.unlisted failed.1 in
-      let why = subst (λ p. RefusesToRead old.step_limit c.command failed.0 p e) (untimed [] c.formats s.now bare.1) failed.2 in
-      let stopped = only_limit (subst₂ (λ k d. RefusesToRead old.step_limit k d [] e) kind db why) in
+      let why = subst (λ p. RefusesToRead old.step_limit c.command failed.0 p e) (untimed params c.formats s.now bare.1) failed.2 in
+      let stopped = only_limit (subst₂ (λ k d. RefusesToRead old.step_limit k d params e) kind db why) in
       inr (stopped.0, stopped.1, failed.3)
+
+pub read_refused : (tree : ℕ) (places keys sql : List ℕ) (old new : State) (e : Error) → Selects sql (table_query tree places keys) old.now.schema → FailsToQuery sql [] old new e → IsReadRefused old new e
+read_refused tree places keys sql old new e it = query_refused (table_query tree places keys) [] (λ trees. sums_nothing trees tree places keys) sql old new e it
+
+-- nor does that of a slip
+slip_sums : (params : Row) (trees : Trees) → ¬ ProgramOverflows trees params [] [] slip_query
+slip_sums params trees (inl sum) = sum
+slip_sums params trees (inr fold) = fold.4.4.4
+
+pub slip_refused : (sql : List ℕ) (params : Row) (old new : State) (e : Error) → SelectsWith params sql slip_query old.now.schema → FailsToQuery sql params old new e → IsReadRefused old new e
+slip_refused sql params old new e it = query_refused slip_query params (slip_sums params) sql old new e it

@@ -16,7 +16,7 @@ use Rattle.sqlite.specs.State.{State, Survives, CommitsShowing, Shown, ShowsRows
 use Rattle.sqlite.proofs.StateLemmas.{survives_weaker}
 use Rattle.sqlite_tied.specs.Compute.{everything}
 use Rattle.er_store.specs.Reading.{KeepsTables}
-use Rattle.er_store.specs.Tables.{read_event, read_players, read_pairings, read_bracket}
+use Rattle.er_store.specs.Tables.{read_event, read_players, read_pairings, read_bracket, read_slip}
 use Rattle.er_store.proofs.LoadLemmas.{unchanged_keeps, refused_keeps}
 
 abbrev is_select_by : Statement → Bool
@@ -43,6 +43,10 @@ pairings_select = refl
 pub bracket_selects : begins_select (first read_bracket) ≡ true
 unfolding understood everything
 bracket_selects = refl
+
+pub slip_selects : begins_select (first read_slip) ≡ true
+unfolding understood everything
+slip_selects = refl
 
 taken : (r : Checked Command) (p : Parsed) (formats : List (List ℕ)) (c : Compiled)
     → and_then (and_then (and_then r (λ k. Ok (k, None))) (λ found. Ok (formats, found))) (λ plan. Ok (with_command p plan)) ≡ Ok c → c.returning ≡ None
@@ -79,17 +83,27 @@ never_returns schema sql c is h = go _ h
     go true got = compiled_select listing_schema sql c is (listed_select _ c got)
     go false got = compiled_select schema sql c is got
 
-pub select_commits_nothing : (sql : List ℕ) (old new : State) → begins_select (first sql) ≡ true → Survives old new (CommitsShowing sql [] old) → Survives old new (λ _. ⊥)
+pub commits_nothing : (sql : List ℕ) (params : Row) (old new : State) → begins_select (first sql) ≡ true → Survives old new (CommitsShowing sql params old) → Survives old new (λ _. ⊥)
 unfolding CommitsShowing
-select_commits_nothing sql old new is = survives_weaker old new _ _ (λ _ db h. absurd (let none = rw (never_returns old.now.schema sql h.0 is h.1.is) at h.2 in cc))
+commits_nothing sql params old new is = survives_weaker old new _ _ (λ _ db h. absurd (let none = rw (never_returns old.now.schema sql h.0 is h.1.is) at h.2 in cc))
 
 -- a read changes no table, in success or refusal
-pub select_shows : (sql : List ℕ) (old new : State) (rows : List Row) → begins_select (first sql) ≡ true → Shown sql [] old new rows → IsUnchanged old new
+pub shows_unchanged : (sql : List ℕ) (params : Row) (old new : State) (rows : List Row) → begins_select (first sql) ≡ true → Shown sql params old new rows → IsUnchanged old new
 unfolding Shown
-select_shows sql old new rows is h = (subst (ShowsRows old new sql h.0 (timed [] h.0.formats h.1.now) rows) (never_returns old.now.schema sql h.0 is h.1.is) h.2).3
+shows_unchanged sql params old new rows is h = (subst (ShowsRows old new sql h.0 (timed params h.0.formats h.1.now) rows) (never_returns old.now.schema sql h.0 is h.1.is) h.2).3
+
+pub fails_keeping : (sql : List ℕ) (params : Row) (old new : State) (e : Error) → begins_select (first sql) ≡ true → FailsToQuery sql params old new e → KeepsTables old new
+unfolding FailsToQuery IsNotRun
+fails_keeping sql params old new e is (inl (inl none)) = unchanged_keeps old new none.1
+fails_keeping sql params old new e is (inl (inr fails)) = refused_keeps old new e (inl fails)
+fails_keeping sql params old new e is (inr (c, s, shows)) = unchanged_keeps old new (subst (FailsToShow old new sql c (timed params c.formats s.now) e) (never_returns old.now.schema sql c is s.is) shows).3
+
+-- so does one with no parameter
+pub select_commits_nothing : (sql : List ℕ) (old new : State) → begins_select (first sql) ≡ true → Survives old new (CommitsShowing sql [] old) → Survives old new (λ _. ⊥)
+select_commits_nothing sql = commits_nothing sql []
+
+pub select_shows : (sql : List ℕ) (old new : State) (rows : List Row) → begins_select (first sql) ≡ true → Shown sql [] old new rows → IsUnchanged old new
+select_shows sql = shows_unchanged sql []
 
 pub select_fails : (sql : List ℕ) (old new : State) (e : Error) → begins_select (first sql) ≡ true → FailsToQuery sql [] old new e → KeepsTables old new
-unfolding FailsToQuery IsNotRun
-select_fails sql old new e is (inl (inl none)) = unchanged_keeps old new none.1
-select_fails sql old new e is (inl (inr fails)) = refused_keeps old new e (inl fails)
-select_fails sql old new e is (inr (c, s, shows)) = unchanged_keeps old new (subst (FailsToShow old new sql c (timed [] c.formats s.now) e) (never_returns old.now.schema sql c is s.is) shows).3
+select_fails sql = fails_keeping sql []

@@ -7,3 +7,4 @@ pub mod Loading
 pub mod Fault
 pub mod Store
 pub mod Damage
+pub mod Slip

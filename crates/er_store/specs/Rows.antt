@@ -1,5 +1,5 @@
 -- The rows of an event, as SQL shows them and as they are stored.
-use Rattle.std.specs.Prelude.{ℕ, ℤ, pos, Bool, List, [], ◌∷◌, map}
+use Rattle.std.specs.Prelude.{ℕ, ℤ, pos, Bool, List, [], ◌∷◌, ◌++◌, map, Option, Some, None}
 use Rattle.sqlite.specs.declared.types.Value.{Value}
 use Rattle.sqlite.specs.declared.types.Value.TheVariants.{Null, Int, Text}
 use Rattle.sqlite.specs.Order.{Row, column}
@@ -8,6 +8,7 @@ use Rattle.er_event.specs.declared.rows.PlayerRow.{PlayerRow}
 use Rattle.er_event.specs.declared.rows.PairingRow.{PairingRow}
 use Rattle.er_event.specs.declared.rows.BracketRow.{BracketRow}
 use Rattle.er_event.specs.Event.{EventValue}
+use Rattle.er_store.specs.declared.rows.NamedPairing.{NamedPairing}
 use Rattle.er_event.specs.Rows.{flag, phase_code}
 
 abbrev pub number : ℕ → Value
@@ -28,6 +29,14 @@ pairing_columns r = Int r.round ∷ Int r.tab ∷ Int r.lo ∷ Int r.hi ∷ Int 
 -- stage, slot, a, b, done, x, y, d
 abbrev pub bracket_columns : BracketRow → Row
 bracket_columns r = Int r.stage ∷ Int r.slot ∷ Int r.a ∷ Int r.b ∷ Int r.done ∷ Int r.x ∷ Int r.y ∷ Int r.d ∷ []
+
+abbrev pub text_or_null : Option (List ℕ) → Value
+text_or_null None = Null
+text_or_null (Some text) = Text text
+
+-- the pairing, and the names of lo and hi
+abbrev pub named_columns : NamedPairing → Row
+named_columns r = pairing_columns r.pairing ++ text_or_null r.lo_name ∷ text_or_null r.hi_name ∷ []
 
 -- the stored rows at these places, of which 0 is the rowid
 abbrev pub shown : List ℕ → List Row → List Row

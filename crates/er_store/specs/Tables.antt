@@ -164,3 +164,7 @@ read_pairings = codes "SELECT round, tab, lo, hi, swapped, done, x, y, d FROM pa
 
 abbrev pub read_bracket : List ℕ
 read_bracket = codes "SELECT stage, slot, a, b, done, x, y, d FROM bracket ORDER BY stage, slot"
+
+-- the match of a round and a table, with the names of its players; a bye has none for the missing one
+abbrev pub read_slip : List ℕ
+read_slip = codes "SELECT p.round, p.tab, p.lo, p.hi, p.swapped, p.done, p.x, p.y, p.d, l.name, h.name FROM pairing AS p LEFT JOIN player AS l ON l.no = p.lo LEFT JOIN player AS h ON h.no = p.hi WHERE p.round = ?1 AND p.tab = ?2"

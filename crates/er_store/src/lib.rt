@@ -9,13 +9,15 @@ pub mod laws;
 mod loading;
 mod reading;
 mod rows;
+mod slips;
 mod statements;
 mod transactions;
 
 pub use creation::{CREATE_BRACKET, CREATE_EVENT, CREATE_PAIRING, CREATE_PLAYER};
-use er_event::{Change, Event, Refusal};
+use er_event::{Change, Event, Refusal, SlipRow};
 use faults::refusal_of;
 use loading::load_tables;
+use slips::find_slip;
 use sqlite::{Alter, Connection};
 use std::alloc::Global;
 use transactions::{create_tables, has_event, reads_event, write_tables};
@@ -46,6 +48,7 @@ impl<S: Alter> Store<S> {
     ghost use Rattle.er_store.specs.Fault.{IsFault, IsLoadFault, FaultOrDamage};
     ghost use Rattle.er_store.specs.Loading.{ShowsEvent};
     ghost use Rattle.er_store.specs.Reading.{KeepsTables};
+    ghost use Rattle.er_store.specs.Slip.{IsLawful, IsSlipFault, FindsSlip};
     ghost use Rattle.er_store.specs.Damage.{ReadsParts, IsAtFault, IfDamaged};
 
     /// Makes the tables of a new event, with serial 0. A refusal gives the connection back.
@@ -215,6 +218,35 @@ impl<S: Alter> Store<S> {
         let _ = self.conn.schema();
         self.needs_reopen = matches!(read, Err(Refusal::Memory | Refusal::Store { .. }));
         read
+    }
+
+    /// Reads the slip of a match, by one statement. It changes no table. Want of memory, a failing store and a row that the format does not allow end it as any fault does.
+    pub fn slip(&mut self, alloc: Global, round: u8, table: u16) -> Result<SlipRow, Refusal>
+        ensures stopped { IsTrue (is_stopped self.old) → (result ≡ Err Refusal.NeedsReopen) × (self.new ≡ self.old) }
+        ensures asks { IsFalse (is_stopped self.old) → IfErr result (λ why. why ≢ Refusal.NeedsReopen) }
+        ensures stops { IsFalse (is_stopped self.old)
+            → MatchResult result (λ _. IsFalse (is_stopped self.new)) (λ why. ((why ≡ Refusal.NoSuchMatch) × IsFalse (is_stopped self.new)) ⊎ (IsSlipFault why × IsTrue (is_stopped self.new))) }
+        ensures clean { HasCleanDisk (store.state S.Store self.new) → HasCleanDisk (store.state S.Store self.old) }
+
+        // Where the tables stand for a sound event, its slip is found, or there is no such match, or memory or the store fails.
+        ensures found { HasCleanDisk (store.state S.Store self.new) → (e : EventValue) (s : ℕ) → StandsFor (store.state S.Store self.old).now e s → IsSoundButForSeeds e → FindsSlip e round table result }
+        ensures good { IsFalse (is_stopped self.old) → HasCleanDisk (store.state S.Store self.new) → (e : EventValue) (s : ℕ) → StandsFor (store.state S.Store self.old).now e s → IsSoundButForSeeds e
+            → IfErr result (λ why. (why ≡ Refusal.NoSuchMatch) ⊎ IsFault why) }
+
+        // Whatever the tables hold, it is a slip that the format allows.
+        ensures allowed { IfOk result (λ slip. (slip.round ≡ round) × (slip.table ≡ table) × IsLawful slip) }
+
+        // Whatever the schema is, nothing is written.
+        ensures same { HasCleanDisk (store.state S.Store self.new) → IsFalse (is_stopped self.new) → IsUnchanged (store.state S.Store self.old) (store.state S.Store self.new) }
+        ensures kept { HasCleanDisk (store.state S.Store self.new) → OnErr result (KeepsTables (store.state S.Store self.old) (store.state S.Store self.new)) }
+        ensures crash { Leaves (store.state S.Store self.new) (store.state S.Store self.old).may_leave }
+    {
+        if self.needs_reopen {
+            return Err(Refusal::NeedsReopen);
+        }
+        let slip = find_slip(alloc, &mut self.conn, round, table);
+        self.needs_reopen = matches!(slip, Err(Refusal::Memory | Refusal::Store { .. }));
+        slip
     }
 
     /// Gives the connection back as it is.

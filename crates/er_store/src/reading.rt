@@ -11,10 +11,11 @@ ghost use Rattle.er_event.specs.declared.refusals.Refusal.{Refusal};
 ghost use Rattle.er_store.specs.Damage.{ReadsEvents, ReadsPlayers, ReadsPairings, ReadsBracket, IsMisread};
 ghost use Rattle.er_store.specs.Fault.{reading_refusal, IsLoadFault};
 ghost use Rattle.er_store.specs.Reading.{Lists, by_first, by_first_two, out_of_memory, IsReadRefused, KeepsTables};
+ghost use Rattle.er_store.specs.Slip.{named_pairings};
 
-use crate::rows::typed;
+use crate::rows::{NamedPairing, typed};
 use er_event::{BracketRow, Cause, EventRow, PairingRow, Place, PlayerRow, Refusal};
-use sqlite::{Alter, Connection, Error, ErrorCode};
+use sqlite::{Alter, Connection, Error, ErrorCode, params};
 use std::alloc::Global;
 
 pub const READ_EVENT: &str =
@@ -114,6 +115,30 @@ pub fn read_bracket<S: Alter>(
     ensures survives { Survives (state S.Store conn.old) (state S.Store conn.new) (λ _. ⊥) }
 {
     let rows = conn.query_all(READ_BRACKET, &[])?;
+    typed(alloc, &rows)
+}
+
+pub const READ_SLIP: &str =
+    "SELECT p.round, p.tab, p.lo, p.hi, p.swapped, p.done, p.x, p.y, p.d, l.name, h.name FROM pairing AS p LEFT JOIN player AS l ON l.no = p.lo LEFT JOIN player AS h ON h.no = p.hi WHERE p.round = ?1 AND p.tab = ?2";
+
+/// The match of a round and a table with the names of its players. A crash in it leaves what it could leave before.
+pub fn read_slip<S: Alter>(
+    alloc: Global,
+    conn: &mut Connection<S>,
+    round: u32,
+    table: u32,
+) -> Result<Vec<NamedPairing>, Error>
+    ensures clean { HasCleanDisk (state S.Store conn.new) → HasCleanDisk (state S.Store conn.old) }
+    ensures mode { conn.old.in_transaction ≡ false → conn.new.in_transaction ≡ false }
+    ensures exact { HasCleanDisk (state S.Store conn.new) → (e : EventValue) (s : ℕ) → StandsFor (state S.Store conn.old).now e s → IsSoundButForSeeds e
+        → IfOk result (λ rows. rows.items ≡ named_pairings e round table) }
+    ensures refused { HasCleanDisk (state S.Store conn.new) → (e : EventValue) (s : ℕ) → StandsFor (state S.Store conn.old).now e s → IsSoundButForSeeds e
+        → IfErr result (λ why. (why ≡ out_of_memory) ⊎ IsReadRefused (state S.Store conn.old) (state S.Store conn.new) why) }
+    ensures same { HasCleanDisk (state S.Store conn.new) → OnOk result (IsUnchanged (state S.Store conn.old) (state S.Store conn.new)) }
+    ensures kept { HasCleanDisk (state S.Store conn.new) → OnErr result (KeepsTables (state S.Store conn.old) (state S.Store conn.new)) }
+    ensures survives { Survives (state S.Store conn.old) (state S.Store conn.new) (λ _. ⊥) }
+{
+    let rows = conn.query_all(READ_SLIP, params![round, table])?;
     typed(alloc, &rows)
 }
 

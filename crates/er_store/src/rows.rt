@@ -1,12 +1,21 @@
-ghost use Rattle.std.specs.Prelude.{◌≡◌, ◌≢◌, ◌<◌, ℕ, List, All, IfOk, IfErr, map, length, ⊤, IsUtf8};
+ghost use Rattle.std.specs.Prelude.{◌≡◌, ◌≢◌, ◌<◌, ℕ, List, All, IfOk, IfErr, IfSome, Option, map, length, ⊤, IsUtf8};
 ghost use Rattle.sqlite.specs.declared.types.Value.TheVariants.{Text};
 ghost use Rattle.sqlite.specs.Order.{Row, column};
-ghost use Rattle.er_store.specs.Rows.{event_columns, player_columns, pairing_columns, bracket_columns};
+ghost use Rattle.er_store.specs.Rows.{event_columns, player_columns, pairing_columns, bracket_columns, named_columns, text_or_null};
 ghost use Rattle.er_store.specs.Reading.{first_columns, out_of_memory};
 
 use er_event::{BracketRow, EventRow, Items, PairingRow, PlayerRow};
 use sqlite::{Error, Row as SqlRow};
 use std::alloc::Global;
+
+/// A stored match of a round and a table, with the names of its players.
+#[derive(Drop)]
+pub struct NamedPairing {
+    pub pairing: PairingRow,
+    /// None where no player has the number.
+    pub lo_name: Option<Items<u8>>,
+    pub hi_name: Option<Items<u8>>,
+}
 
 /// A typed row of a table.
 pub trait FromRow: Sized + Drop {
@@ -98,6 +107,44 @@ impl FromRow for BracketRow {
             y: row.get(6)?,
             d: row.get(7)?,
         })
+    }
+}
+
+impl FromRow for NamedPairing {
+    ghost columns = { named_columns };
+
+    ghost width = { 11 };
+
+    ghost is_text = { λ r. IfSome r.lo_name IsUtf8 × IfSome r.hi_name IsUtf8 };
+
+    fn from_row(row: &SqlRow) -> Result<NamedPairing, Error> {
+        Ok(NamedPairing {
+            pairing: PairingRow {
+                round: row.get(0)?,
+                tab: row.get(1)?,
+                lo: row.get(2)?,
+                hi: row.get(3)?,
+                swapped: row.get(4)?,
+                done: row.get(5)?,
+                x: row.get(6)?,
+                y: row.get(7)?,
+                d: row.get(8)?,
+            },
+            lo_name: text_or_null(row, 9)?,
+            hi_name: text_or_null(row, 10)?,
+        })
+    }
+}
+
+/// The bytes of the text in this column, if there is one.
+fn text_or_null(row: &SqlRow, at: usize) -> Result<Option<Items<u8>>, Error>
+    ensures value { IfOk result (λ bytes. column row.now at ≡ text_or_null bytes) }
+    ensures refused { IfErr result (λ e. e ≢ out_of_memory → at < length row.now → (bytes : Option (List ℕ)) → IfSome bytes IsUtf8 → column row.now at ≢ text_or_null bytes) }
+{
+    let text: Option<String> = row.get(at)?;
+    match text {
+        Some(text) => Ok(Some(Items::from(text.into_bytes()))),
+        None => Ok(None),
     }
 }
 

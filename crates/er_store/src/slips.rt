@@ -1,0 +1,100 @@
+ghost use Rattle.std.specs.Prelude.{◌≡◌, ◌⊎◌, ℕ, Some, None, [], ◌∷◌, false, IfSome, IfOk, IfErr, OnErr, MatchResult};
+ghost use Rattle.sqlite.specs.State.{HasCleanDisk, Survives, IsUnchanged};
+ghost use Rattle.sqlite.specs.Held.{state};
+ghost use Rattle.er_event.specs.declared.refusals.Cause.{Cause};
+ghost use Rattle.er_event.specs.declared.slips.SlipRow.{SlipRow};
+ghost use Rattle.er_event.specs.Event.{EventValue};
+ghost use Rattle.er_event.specs.Slip.{slip_of};
+ghost use Rattle.er_event.specs.Sound.{IsSoundButForSeeds};
+ghost use Rattle.er_store.specs.Fault.{IsFault};
+ghost use Rattle.er_store.specs.Reading.{KeepsTables};
+ghost use Rattle.er_store.specs.Slip.{Side, number_in, name_in, named_pairing, IsPlayer, IsLawful, IsSlipFault};
+ghost use Rattle.er_store.specs.Standing.{StandsFor};
+
+use crate::faults::refusal_of;
+use crate::reading::read_slip;
+use crate::rows::NamedPairing;
+use er_event::{Cause, Items, Name, NameFault, PlayerNo, Refusal, SlipRow, match_at_table};
+use sqlite::{Alter, Connection};
+use std::alloc::Global;
+
+const BAD_ROW: Refusal = Refusal::Store {
+    cause: Cause::BadRow,
+};
+
+/// Who has this number and this name: nobody has 0 and no name.
+fn side(
+    alloc: Global,
+    number: u16,
+    name: &Option<Items<u8>>,
+) -> Result<Option<(PlayerNo, Name)>, Refusal>
+    ensures value { IfOk result (λ who. (number ≡ number_in who) × (name.now ≡ name_in who) × IfSome who IsPlayer) }
+    ensures exact { (who : Side) → IfSome who IsPlayer → number ≡ number_in who → name.now ≡ name_in who → MatchResult result (λ found. found ≡ who) (λ why. why ≡ Refusal.Memory) }
+    ensures fault { IfErr result (λ why. (why ≡ Refusal.Memory) ⊎ (why ≡ Refusal.Store Cause.BadRow)) }
+{
+    match (PlayerNo::try_new(number), name) {
+        (Some(number), Some(name)) => match Name::try_from_bytes(alloc, name.as_slice()) {
+            Ok(name) => Ok(Some((number, name))),
+            Err(NameFault::Memory) => Err(Refusal::Memory),
+            Err(NameFault::Bad) => Err(BAD_ROW),
+        },
+        (None, None) if number == 0 => Ok(None),
+        _ => Err(BAD_ROW),
+    }
+}
+
+/// The slip that a row shows, where the format allows it.
+fn slip_of(alloc: Global, round: u8, table: u16, row: &NamedPairing) -> Result<SlipRow, Refusal>
+    ensures value { IfOk result (λ slip. (row.now ≡ named_pairing slip) × (slip.round ≡ round) × (slip.table ≡ table) × IsLawful slip) }
+    ensures exact { (slip : SlipRow) → IsLawful slip → slip.round ≡ round → slip.table ≡ table → row.now ≡ named_pairing slip → MatchResult result (λ found. found ≡ slip) (λ why. why ≡ Refusal.Memory) }
+    ensures fault { IfErr result (λ why. (why ≡ Refusal.Memory) ⊎ (why ≡ Refusal.Store Cause.BadRow)) }
+{
+    let Some(played) = match_at_table(round, table, &row.pairing) else {
+        return Err(BAD_ROW);
+    };
+    let low = side(alloc, played.a.min(played.b), &row.lo_name)?;
+    let high = side(alloc, played.a.max(played.b), &row.hi_name)?;
+    let (first, second) = if played.b < played.a {
+        (high, low)
+    } else {
+        (low, high)
+    };
+    match first {
+        Some(first) => Ok(SlipRow {
+            round,
+            table,
+            first,
+            second,
+            score: played.score,
+        }),
+        None => Err(BAD_ROW),
+    }
+}
+
+/// The slip of the match at a table of a round, by one statement.
+pub fn find_slip<S: Alter>(
+    alloc: Global,
+    conn: &mut Connection<S>,
+    round: u8,
+    table: u16,
+) -> Result<SlipRow, Refusal>
+    ensures clean { HasCleanDisk (state S.Store conn.new) → HasCleanDisk (state S.Store conn.old) }
+    ensures mode { conn.old.in_transaction ≡ false → conn.new.in_transaction ≡ false }
+    ensures found { HasCleanDisk (state S.Store conn.new) → (e : EventValue) (s : ℕ) → StandsFor (state S.Store conn.old).now e s → IsSoundButForSeeds e
+        → MatchResult result (λ row. slip_of e round table ≡ Some row) (λ why. IsFault why ⊎ ((why ≡ Refusal.NoSuchMatch) × (slip_of e round table ≡ None))) }
+    ensures allowed { IfOk result (λ slip. (slip.round ≡ round) × (slip.table ≡ table) × IsLawful slip) }
+    ensures fault { IfErr result (λ why. (why ≡ Refusal.NoSuchMatch) ⊎ IsSlipFault why) }
+    ensures same { HasCleanDisk (state S.Store conn.new) → MatchResult result (λ _. IsUnchanged (state S.Store conn.old) (state S.Store conn.new)) (λ why. why ≡ Refusal.NoSuchMatch → IsUnchanged (state S.Store conn.old) (state S.Store conn.new)) }
+    ensures kept { HasCleanDisk (state S.Store conn.new) → OnErr result (KeepsTables (state S.Store conn.old) (state S.Store conn.new)) }
+    ensures survives { Survives (state S.Store conn.old) (state S.Store conn.new) (λ _. ⊥) }
+{
+    let rows = match read_slip(alloc, conn, u32::from(round), u32::from(table)) {
+        Ok(rows) => rows,
+        Err(error) => return Err(refusal_of(error)),
+    };
+    match rows.as_slice() {
+        [] => Err(Refusal::NoSuchMatch),
+        [row] => slip_of(alloc, round, table, row),
+        _ => Err(BAD_ROW),
+    }
+}
