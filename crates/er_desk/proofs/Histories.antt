@@ -11,7 +11,7 @@ use Rattle.er_event.specs.Change.{created}
 use Rattle.er_event.specs.Sound.{IsSetUp, IsInPlayoff}
 use Rattle.er_rules.specs.Sound.{IsSound}
 use Rattle.er_rules.specs.Step.{Steps}
-use Rattle.er_desk.specs.Fold.{Folds}
+use Rattle.er_rules.specs.Fold.{Folds}
 use Rattle.er_desk.specs.Desk.{Point}
 use Rattle.er_desk.specs.Run.{Session, MayEnd, EndsAfterKept, EndsWithDoubt}
 use Rattle.er_desk.specs.History.{Ended, IsHistory, LeadsTo, found_of, accepted, accepted_surely, listed}

@@ -7,7 +7,7 @@ use Rattle.er_event.specs.declared.refusals.Cause.{Cause}
 use Rattle.er_event.specs.declared.refusals.Refusal.{Refusal}
 use Rattle.er_event.specs.declared.refusals.Refusal.TheVariants.{Memory, Store, NeedsReopen}
 use Rattle.er_event.specs.Event.{EventValue}
-use Rattle.er_desk.specs.Fold.{Folds}
+use Rattle.er_rules.specs.Fold.{Folds}
 use Rattle.er_desk.specs.Reply.{Reply, receipt, IsDue, IsLawful}
 use Rattle.er_desk.specs.Desk.{Standing, Stops, Turn}
 use Rattle.er_desk.specs.Run.{Runs, acknowledged, FailsAt, IsRun}

@@ -4,7 +4,7 @@ use Rattle.er_event.specs.declared.refusals.Command.{Command}
 use Rattle.er_event.specs.Change.{created}
 use Rattle.er_event.specs.Sound.{IsSetUp}
 use Rattle.er_rules.specs.Sound.{IsSound}
-use Rattle.er_desk.specs.Fold.{Folds}
+use Rattle.er_rules.specs.Fold.{Folds}
 use Rattle.er_desk.specs.Desk.{Point}
 use Rattle.er_desk.specs.Run.{Session, MayEnd}
 use Rattle.er_desk.specs.Headline.{RepeatsNobody}

@@ -1,4 +1,3 @@
-pub mod Fold
 pub mod Reply
 pub mod Desk
 pub mod Run

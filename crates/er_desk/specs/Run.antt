@@ -9,7 +9,7 @@ use Rattle.er_event.specs.Event.{EventValue}
 use Rattle.er_rules.specs.Step.{Steps}
 use Rattle.er_store.specs.Fault.{IsFault}
 use Rattle.er_store.specs.Standing.{IsStored}
-use Rattle.er_desk.specs.Fold.{Folds}
+use Rattle.er_rules.specs.Fold.{Folds}
 use Rattle.er_desk.specs.Reply.{Reply, IsLawful}
 use Rattle.er_desk.specs.Desk.{Point, Standing, Turn}
 

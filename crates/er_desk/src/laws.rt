@@ -2,8 +2,9 @@
 
 ghost use Rattle.er_desk.specs.History.{Histories};
 ghost use Rattle.er_desk.specs.Resuming.{Resuming};
+ghost use Rattle.er_rules.specs.Retry.{NoDoubleEffect};
 
-use er_rules::laws::step_keeps_sound;
+use er_rules::laws::{no_double_effect as step_has_no_double_effect, step_keeps_sound};
 
 /// After any sessions, each stopped anywhere, the event is sound, and is what the accepted commands make of a new one.
 pub fn histories()
@@ -16,3 +17,11 @@ pub fn histories()
 pub fn resuming()
     ensures { Resuming }
 {}
+
+/// A command that was taken once, and no correction, is refused at every later point of a run. A correction that is sent again at once gives the
+/// same event.
+pub fn no_double_effect()
+    ensures { NoDoubleEffect }
+{
+    step_has_no_double_effect();
+}

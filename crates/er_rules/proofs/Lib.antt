@@ -10,3 +10,7 @@ pub mod Sound
 pub mod Once
 pub mod Examples
 pub mod Searching
+pub mod Retrying
+pub mod Rescoring
+pub mod Replaying
+pub mod Correcting

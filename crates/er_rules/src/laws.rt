@@ -8,6 +8,7 @@ ghost use Rattle.er_event.specs.Event.{EventValue};
 ghost use Rattle.er_event.specs.Sound.{IsSoundButForSeeds};
 ghost use Rattle.er_rules.specs.Sound.{IsSound};
 ghost use Rattle.er_rules.specs.Step.{Steps, Answers, NeedsMoreSteps};
+ghost use Rattle.er_rules.specs.Retry.{NoDoubleEffect};
 
 /// A command does one thing to a sound event: it is taken with one event after it, or refused in one way.
 pub fn one_step()
@@ -22,4 +23,9 @@ pub fn step_keeps_sound()
 /// `Budget` is answered only where the search for a round needs more than its steps.
 pub fn budget_searches()
     ensures { (event : EventValue) (command : Command) (steps : ℕ) → Answers event command (Err (Budget steps)) → NeedsMoreSteps event command }
+{}
+
+/// A command that was taken once, and no correction, is refused at every later point. A correction that is sent again at once gives the same event.
+pub fn no_double_effect()
+    ensures { NoDoubleEffect }
 {}
