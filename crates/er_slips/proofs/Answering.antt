@@ -1,0 +1,176 @@
+-- What the desk answers, and how serving an input ends.
+use Rattle.std.proofs.Common.{◌≡◌, ◌⊎◌, inl, inr, ℕ, ◌==◌, false, true≢false, arith, List, [], ◌∷◌, Option, Some, None, Result, Ok, Err, IsTrue, IsFalse, IfOk, IfErr, OnOk, IfSome, MatchResult, refl, sym, ap, subst, ◌∙◌}
+use Rattle.std.specs.Io.KnownBytes.{Keeps}
+use Rattle.std.specs.List.{AllByRecursion}
+use Rattle.std.proofs.lemmas.Bool.Decides.{nat_tests}
+use Rattle.std.specs.declared.alloc.AllocError.{AllocError}
+use Rattle.sqlite.specs.Table.{Table}
+use Rattle.sqlite.specs.Effect.{Database}
+use Rattle.er_event.specs.declared.refusals.Refusal.{Refusal}
+use Rattle.er_event.specs.declared.refusals.Refusal.TheVariants.{Memory, NoSuchMatch, NeedsReopen}
+use Rattle.er_event.specs.declared.refusals.Command.TheVariants.{Result as Hand}
+use Rattle.er_event.specs.declared.refusals.TheConstants.{MAX_SERIAL}
+use Rattle.er_event.specs.declared.scores.Games.{Games}
+use Rattle.er_event.specs.declared.slips.SlipRow.{SlipRow}
+use Rattle.er_event.specs.Event.{EventValue}
+use Rattle.er_paper.specs.Slip.{slip_text}
+use Rattle.er_store.specs.Standing.{IsOther, KeepsOthers}
+use Rattle.sqlite_trees.specs.declared.store.Store.{Ghosts}
+use Rattle.er_desk.specs.declared.desk.Desk.{Desk}
+use Rattle.er_desk.specs.Desk.{Standing, Turn, ShowsOwn, point_of, standing, state, ReadsSlip}
+use Rattle.er_desk.specs.Headline.{LeavesJust}
+use Rattle.er_desk.specs.Reply.{Reply, receipt, reply_to, IsDue}
+use Rattle.er_slips.specs.declared.answer.Answer.{Answer}
+use Rattle.er_slips.specs.declared.request.asked.Asked.{Asked}
+use Rattle.er_slips.specs.declared.request.asked.Asked.TheVariants.{Standings, Pairings, Slip, Report}
+use Rattle.er_slips.specs.declared.request.asked.Fault.{Fault}
+use Rattle.er_slips.specs.declared.request.asked.Unasked.{Unasked}
+use Rattle.er_slips.specs.declared.request.asked.Unasked.TheVariants.{Refused}
+use Rattle.er_slips.specs.declared.serve.Served.{Served}
+use Rattle.er_slips.specs.declared.serve.Served.TheVariants.{Answered, ReadFault, WriteFault}
+use Rattle.er_slips.specs.Request.{Asks, TellsAsked}
+use Rattle.er_slips.specs.Answer.{AnswerValue, shown, fault_answer, refusal_answer, slip_answer, status_of}
+use Rattle.er_slips.specs.Whole.{ShowsStandings, ShowsPairings, row_answer, reply_answer, IsAnswered, submitted, IsAnswerUnless503}
+use Rattle.er_store.specs.Slip.{IsSlipFault, FindsSlip}
+use Rattle.er_slips.specs.Serving.{IsShown, IsSlipAnswer, Answers, IsServed, IsUnserved, Writes, Ends, IsWritten}
+
+pub reopening : (desk : Standing) (Shows : EventValue → AnswerValue → Type 0) (answer : AnswerValue) (why : Refusal)
+    → IsTrue desk.stopped × (why ≡ NeedsReopen) → answer ≡ refusal_answer why → IsShown desk Shows answer
+reopening desk Shows answer why stopped is = inr (stopped.0, is ∙ ap refusal_answer stopped.1)
+
+-- a slip that was made, or want of memory
+pub slip-made : (read : Result SlipRow Refusal) (row : SlipRow) (made : Result Answer AllocError) (answer : AnswerValue) → read ≡ Ok row → IfOk made (λ a. shown a ≡ slip_answer (slip_text row))
+    → MatchResult made (λ a. answer ≡ shown a) (λ _. answer ≡ refusal_answer Memory) → IsSlipAnswer read answer
+slip-made read row (Ok a) answer of is same = rw of (inl (same ∙ is))
+slip-made read row (Err e) answer of is same = rw of (inr same)
+
+-- ---- how serving ends
+
+module _ (Stood : Type 0) (input : Option (List ℕ)) (old new : Standing) (before after : Option (List ℕ)) (answer : AnswerValue) where
+  ends : (served : Served) → Writes before after served answer → IsServed Stood input old answer new ⊎ IsUnserved old answer new → Ends Stood input old new before after served
+  ends (Answered status) wrote due = (answer, wrote, due)
+  ends (WriteFault sent) wrote due = (answer, wrote, due)
+  ends ReadFault wrote due = absurd wrote
+
+  asks : (i : Option (List ℕ)) (asked : Asked) → IfSome i (λ xs. TellsAsked xs (Ok asked)) → IfSome i (λ xs. Asks xs (Ok asked))
+  asks None asked told = tt
+  asks (Some xs) asked told = told
+
+  asks-fault : (i : Option (List ℕ)) (fault : Fault) → IfSome i (λ xs. TellsAsked xs (Err (Refused fault))) → IfSome i (λ xs. Asks xs (Err fault))
+  asks-fault None fault told = tt
+  asks-fault (Some xs) fault told = told
+
+  pub ends-asked : (served : Served) (asked : Asked) → IfSome input (λ xs. TellsAsked xs (Ok asked)) → Answers Stood old (Ok asked) answer new
+      → Writes before after served answer → Ends Stood input old new before after served
+  ends-asked served asked told answers wrote = ends served wrote (inl (Ok asked, asks input asked told, answers))
+
+  pub ends-refused : (served : Served) (why : Unasked) (fault : Fault) → why ≡ Refused fault → IfSome input (λ xs. TellsAsked xs (Err why)) → answer ≡ fault_answer fault → new ≡ old
+      → Writes before after served answer → Ends Stood input old new before after served
+  ends-refused served why fault of told is same wrote = ends served wrote (inl (Err fault, asks-fault input fault (subst (λ u. IfSome input (λ xs. TellsAsked xs (Err u))) of told), (is, same)))
+
+pub keeps : (known : Option (List ℕ)) → Keeps known known
+keeps None = tt
+keeps (Some xs) = refl
+
+pub written-unread : (Runs Stood : Type 0) (input before : Option (List ℕ)) → IfSome input (λ xs. Runs → Stood → Keeps before before)
+written-unread Runs Stood None before = tt
+written-unread Runs Stood (Some xs) before = λ runs stood. keeps before
+
+pub ends-unserved : (Stood : Type 0) (input : Option (List ℕ)) (old : Standing) (before after : Option (List ℕ)) (answer : AnswerValue) (served : Served)
+    → answer ≡ refusal_answer Memory → Writes before after served answer → Ends Stood input old old before after served
+ends-unserved Stood input old before after answer served is wrote = ends Stood input old old before after answer served wrote (inr (is, refl))
+
+-- ---- the answer of a desk that runs, over tables that stand
+
+module _ (old new : Standing) (input : List ℕ) (answer : AnswerValue) (runs : IsFalse old.stopped) where
+  exact : (asked : Result Asked Fault) → Asks input asked → IsAnswered old.event old.serial asked answer → IsAnswerUnless503 old.event old.serial input answer
+  exact asked is answered = inl (submitted asked, record { asked = asked; asks = is; answered = answered; command = refl })
+
+  hindered : (why : Refusal) → status_of why ≡ 503 → answer ≡ refusal_answer why → IsAnswerUnless503 old.event old.serial input answer
+  hindered why is same = inr (ap (λ (a : AnswerValue). a.status) same ∙ is)
+
+  runs-on : {A : Type 0} → IsTrue old.stopped → A
+  runs-on stopped = absurd (true≢false (sym stopped ∙ runs))
+
+  shown-by : (asked : Result Asked Fault) (Shows : EventValue → AnswerValue → Type 0) → Asks input asked
+      → (Shows old.event answer → IsAnswered old.event old.serial asked answer) → IsShown old Shows answer → IsAnswerUnless503 old.event old.serial input answer
+  shown-by asked Shows is to (inl (running, inl shows)) = exact asked is (to shows)
+  shown-by asked Shows is to (inl (running, inr memory)) = hindered Memory refl memory
+  shown-by asked Shows is to (inr (stopped, e)) = runs-on stopped
+
+  fault-status : (why : Refusal) → IsSlipFault why → status_of why ≡ 503
+  fault-status why (inl (inl e)) = rw e refl
+  fault-status why (inl (inr e)) = rw e refl
+  fault-status why (inr e) = rw e refl
+
+  slip-by : (round table : ℕ) (read : Result SlipRow Refusal) → Asks input (Ok (Slip round table)) → ReadsSlip old read new → FindsSlip old.event round table read
+      → IsSlipAnswer read answer → IsAnswerUnless503 old.event old.serial input answer
+  slip-by round table (Ok row) is reads found (inl e) = exact (Ok (Slip round table)) is (e ∙ ap row_answer (sym found))
+  slip-by round table (Ok row) is reads found (inr memory) = hindered Memory refl memory
+  slip-by round table (Err why) is (inl (running, same, inl ok)) found e = absurd (true≢false (sym ok))
+  slip-by round table (Err why) is (inl (running, same, inr none)) found e =
+      let no-match : why ≡ NoSuchMatch = cc in
+      exact (Ok (Slip round table)) is (e ∙ ap refusal_answer no-match ∙ ap row_answer (sym (found no-match)))
+  slip-by round table (Err why) is (inr (inl (running, same, other, fault, f))) found e =
+      let which : why ≡ other = cc in
+      hindered other (fault-status other fault) (e ∙ ap refusal_answer which)
+  slip-by round table (Err why) is (inr (inr (stopped, same, f))) found e = runs-on stopped
+
+  reply-by : (round table : ℕ) (score : Games) (reply : Reply) → Asks input (Ok (Report round table score)) → Turn old (Hand round table score) reply new
+      → answer ≡ reply_answer reply → IsAnswerUnless503 old.event old.serial input answer
+  reply-by round table score reply is (inl it) e = exact (Ok (Report round table score)) is (reply, (Ok new.event, it.taken, due), e)
+    where
+      below : (old.serial == MAX_SERIAL) ≡ false
+      below = let room = it.room in grind (arith, nat_tests)
+
+      due : reply ≡ reply_to old.serial (Ok new.event)
+      due = rw below (it.answered ∙ ap (λ (n : ℕ). Ok (receipt n)) it.serial_is)
+  reply-by round table score reply is (inr (inl it)) e = by it.cause
+    where
+      by : (it.why ≡ Memory) ⊎ IsDue old.event old.serial (Hand round table score) (Err it.why) → IsAnswerUnless503 old.event old.serial input answer
+      by (inl memory) = hindered Memory refl (e ∙ ap reply_answer it.answered ∙ ap refusal_answer memory)
+      by (inr due) = exact (Ok (Report round table score)) is (Err it.why, due, e ∙ ap reply_answer it.answered)
+  reply-by round table score reply is (inr (inr (inl it))) e = hindered it.why (fault-status it.why (inl it.fault)) (e ∙ ap reply_answer it.answered)
+  reply-by round table score reply is (inr (inr (inr it))) e = runs-on it.was_stopped
+
+  answered-by : (Stood : Type 0) → Stood → (asked : Result Asked Fault) → Asks input asked → Answers Stood old asked answer new → IsAnswerUnless503 old.event old.serial input answer
+  answered-by Stood stood (Err fault) is answers = exact (Err fault) is answers.0
+  answered-by Stood stood (Ok Standings) is answers = shown-by (Ok Standings) ShowsStandings is (λ s. s) answers.0
+  answered-by Stood stood (Ok (Pairings round)) is answers = shown-by (Ok (Pairings round)) (ShowsPairings round) is (λ s. s) answers.0
+  answered-by Stood stood (Ok (Slip round table)) is (read, reads, found, e) = slip-by round table read is reads (found stood) e
+  answered-by Stood stood (Ok (Report round table score)) is (reply, turn, e) = reply-by round table score reply is turn e
+
+  due-by : (Stood : Type 0) → Stood → IsServed Stood (Some input) old answer new ⊎ IsUnserved old answer new → IsAnswerUnless503 old.event old.serial input answer
+  due-by Stood stood (inl (asked, is, answers)) = answered-by Stood stood asked is answers
+  due-by Stood stood (inr unserved) = hindered Memory refl unserved.0
+
+pub written : (Stood : Type 0) (input : Option (List ℕ)) (old new : Standing) (before after : Option (List ℕ)) (served : Served) → Ends Stood input old new before after served
+    → IfSome input (λ xs. IsFalse old.stopped → Stood → IsWritten old xs before after served)
+written Stood None old new before after served e = tt
+written Stood (Some xs) old new before after ReadFault e = λ runs stood. e.0
+written Stood (Some xs) old new before after (Answered status) (answer, wrote, due) = λ runs stood. (answer, wrote, due-by old new xs answer runs Stood stood due)
+written Stood (Some xs) old new before after (WriteFault sent) (answer, wrote, due) = λ runs stood. (answer, wrote, due-by old new xs answer runs Stood stood due)
+
+-- ---- tables that stay
+
+keeps_all : (db : Database) (tables : List Table) → AllByRecursion (λ t. IsOther t.tree → db.trees t.tree ≡ db.trees t.tree) tables
+keeps_all db [] = tt
+keeps_all db (t ∷ ts) = (λ _. refl, keeps_all db ts)
+
+pub keeps_self : (db : Database) → KeepsOthers db db
+keeps_self db = record { schema = refl; rows = keeps_all db db.schema.tables }
+
+-- ---- what a crash leaves
+
+module _ {S : Type 0} (g : Ghosts S) (old new : Desk S g) where
+  -- after a reply, while the desk runs
+  pub replied-leaves : (reply : Reply) → (ShowsOwn g old → OnOk reply (LeavesJust (state g new) (point_of (standing new)))) → IfErr reply (λ _. IsFalse (standing new).stopped → new ≡ old)
+      → ShowsOwn g old → LeavesJust (state g old) (point_of (standing old)) → IsFalse (standing new).stopped → LeavesJust (state g new) (point_of (standing new))
+  replied-leaves (Ok receipt) acknowledged same shows before runs = acknowledged shows
+  replied-leaves (Err why) acknowledged same shows before runs = subst (λ (d : Desk S g). LeavesJust (state g d) (point_of (standing d))) (sym (same runs)) before
+
+  -- after a slip, or none, the desk stands where it stood
+  pub read-leaves : (read : Result SlipRow Refusal) → ReadsSlip (standing old) read (standing new) → LeavesJust (state g new) (point_of (standing old)) → LeavesJust (state g new) (point_of (standing new))
+  read-leaves read (inl (running, same, e)) leaves = subst (λ (s : Standing). LeavesJust (state g new) (point_of s)) (sym same) leaves
+  read-leaves read (inr (inl (running, same, why, fault, e))) leaves = subst (λ (s : Standing). LeavesJust (state g new) (point_of s)) (sym same) leaves
+  read-leaves read (inr (inr (stopped, same, e))) leaves = subst (λ (s : Standing). LeavesJust (state g new) (point_of s)) (sym same) leaves

@@ -1,0 +1,97 @@
+-- Answers, to the byte. Each text is nested to the right, as the code writes its parts.
+use Rattle.std.specs.Prelude.{ℕ, ◌==◌, ◌||◌, Bool, true, false, if◌then◌else◌, List, [], ◌∷◌, ◌++◌, length, Option, Some, None, codes}
+use Rattle.std.specs.Fmt.{decimal}
+use Rattle.er_event.specs.declared.refusals.Refusal.{Refusal}
+use Rattle.er_event.specs.declared.refusals.Refusal.TheVariants.{AlreadyReported}
+use Rattle.er_event.specs.declared.scores.Games.{Games}
+use Rattle.er_event.specs.Refusal.{entry_of}
+use Rattle.er_slips.specs.declared.answer.Answer.{Answer}
+use Rattle.er_slips.specs.declared.answer.Answer.TheVariants.{Short, Long}
+use Rattle.er_slips.specs.declared.request.asked.Fault.{Fault}
+use Rattle.er_slips.specs.declared.request.asked.Fault.TheVariants.{BadRequest, NotFound, NotAllowed, TooLarge}
+
+-- a status, and the bytes that begin with it
+pub record AnswerValue : Type 0 where
+  pub status : ℕ
+  pub bytes : List ℕ
+
+abbrev pub shown : Answer → AnswerValue
+shown (Short status text) = record { status = status; bytes = text }
+shown (Long text) = record { status = 200; bytes = text.items }
+
+-- ---- the head of an answer
+
+abbrev pub line_end : List ℕ
+line_end = 13 ∷ 10 ∷ []
+
+-- number and reason
+abbrev pub status_line : ℕ → List ℕ
+status_line status =
+    if status == 200 then codes "HTTP/1.1 200 OK\r\n"
+    else if status == 400 then codes "HTTP/1.1 400 Bad Request\r\n"
+    else if status == 404 then codes "HTTP/1.1 404 Not Found\r\n"
+    else if status == 405 then codes "HTTP/1.1 405 Method Not Allowed\r\n"
+    else if status == 409 then codes "HTTP/1.1 409 Conflict\r\n"
+    else if status == 413 then codes "HTTP/1.1 413 Content Too Large\r\n"
+    else codes "HTTP/1.1 503 Service Unavailable\r\n"
+
+-- in a 405 alone: the methods that the route has
+abbrev pub allow_line : Option Bool → List ℕ
+allow_line None = []
+allow_line (Some takes_post) = if takes_post then codes "Allow: GET, POST\r\n" else codes "Allow: GET\r\n"
+
+abbrev pub type_line : Bool → List ℕ
+type_line is_text = if is_text then codes "Content-Type: text/plain; charset=utf-8\r\n" else codes "Content-Type: application/json\r\n"
+
+abbrev pub head_of : ℕ → Option Bool → Bool → ℕ → List ℕ
+head_of status allow is_text size =
+    status_line status ++ (allow_line allow ++ (type_line is_text ++ (codes "Content-Length: " ++ (decimal size ++ codes "\r\nConnection: close\r\n\r\n"))))
+
+abbrev pub answer_of : ℕ → Option Bool → Bool → List ℕ → AnswerValue
+answer_of status allow is_text body = record { status = status; bytes = head_of status allow is_text (length body) ++ body }
+
+abbrev pub json_answer : ℕ → List ℕ → AnswerValue
+json_answer status body = answer_of status None false body
+
+-- ---- before the desk is asked
+
+abbrev pub fault_answer : Fault → AnswerValue
+fault_answer BadRequest = json_answer 400 (codes "{\"error\":\"bad request\"}")
+fault_answer NotFound = json_answer 404 (codes "{\"error\":\"not found\"}")
+fault_answer (NotAllowed takes_post) = answer_of 405 (Some takes_post) false (codes "{\"error\":\"method not allowed\"}")
+fault_answer TooLarge = json_answer 413 (codes "{\"error\":\"body too large\"}")
+
+-- ---- after it
+
+-- no such match: 404; want of memory, a fault of the store, a store that needs reopening: 503; else 409
+abbrev pub status_by : ℕ → ℕ
+status_by number = if number == 12 then 404 else if number == 24 || number == 25 || number == 26 then 503 else 409
+
+abbrev pub status_of : Refusal → ℕ
+status_of why = status_by (entry_of why).0
+
+abbrev pub games_text : Games → List ℕ
+games_text g = codes "{\"a\":" ++ (decimal g.x ++ (codes ",\"b\":" ++ (decimal g.y ++ (codes ",\"d\":" ++ (decimal g.d ++ codes "}")))))
+
+-- the stored score, where one is there already
+abbrev pub detail : Refusal → List ℕ
+detail (AlreadyReported score) = codes ",\"score\":" ++ games_text score
+detail _ = []
+
+abbrev pub refusal_body : Refusal → List ℕ
+refusal_body why = codes "{\"name\":\"" ++ ((entry_of why).1 ++ (codes "\",\"refused\":" ++ (decimal (entry_of why).0 ++ (detail why ++ codes "}"))))
+
+abbrev pub refusal_answer : Refusal → AnswerValue
+refusal_answer why = json_answer (status_of why) (refusal_body why)
+
+abbrev pub receipt_body : ℕ → List ℕ
+receipt_body serial = codes "{\"serial\":" ++ (decimal serial ++ codes "}")
+
+abbrev pub receipt_answer : ℕ → AnswerValue
+receipt_answer serial = json_answer 200 (receipt_body serial)
+
+abbrev pub text_answer : List ℕ → AnswerValue
+text_answer text = answer_of 200 None true text
+
+abbrev pub slip_answer : List ℕ → AnswerValue
+slip_answer slip = json_answer 200 slip

@@ -1,0 +1,145 @@
+-- What a request asks for, by the checks in their order.
+use Rattle.std.specs.Prelude.{◌≡◌, ◌≤◌, ℕ, ◌==◌, nat_lt, nat_le, Bool, true, false, ◌&&◌, if◌then◌else◌, List, [], ◌∷◌, length, take, drop, map, filter, Option, Some, None, option_map, option_and_then, Result, Ok, Err, codes}
+use Rattle.std.specs.List.{list_all, list_any}
+use Rattle.std.specs.Char.{is_ascii_digit, to_ascii_lowercase}
+use Rattle.std.specs.Str.{bytes_eq}
+use Rattle.std.specs.Str.Parse.{digits_value}
+use Rattle.httparse.specs.Grammar.{RequestHead}
+use Rattle.httparse.specs.Spans.{name_and_value}
+use Rattle.er_event.specs.declared.scores.Games.{Games}
+use Rattle.er_paper.specs.Slip.{slip_games}
+use Rattle.er_slips.specs.declared.request.fields.TheConstants.{MAX_BODY}
+use Rattle.er_slips.specs.declared.request.routes.Route.{Route}
+use Rattle.er_slips.specs.declared.request.routes.Route.TheVariants as route
+use Rattle.er_slips.specs.declared.request.asked.Asked.{Asked}
+use Rattle.er_slips.specs.declared.request.asked.Asked.TheVariants.{Standings, Pairings, Slip, Report}
+use Rattle.er_slips.specs.declared.request.Next.{Next}
+use Rattle.er_slips.specs.declared.request.Next.TheVariants.{Get, Body}
+use Rattle.er_slips.specs.declared.request.asked.Fault.{Fault}
+use Rattle.er_slips.specs.declared.request.asked.Fault.TheVariants.{BadRequest, NotFound, NotAllowed, TooLarge}
+use Rattle.er_slips.specs.declared.request.asked.Unasked.{Unasked}
+use Rattle.er_slips.specs.declared.request.asked.Unasked.TheVariants as unasked
+use Rattle.er_slips.specs.Head.{IsHead, HasNoHead}
+use Rattle.er_slips.specs.Routes.{before, after, number_of_route}
+
+-- ---- the route
+
+-- the target up to its first question mark
+abbrev pub path_of : List ℕ → List ℕ
+path_of [] = []
+path_of (b ∷ rest) = if b == 63 then [] else b ∷ path_of rest
+
+-- 1 to 3 digits
+abbrev pub number_of : List ℕ → Option ℕ
+number_of part = if nat_lt 0 (length part) && nat_le (length part) 3 && list_all is_ascii_digit part then Some (digits_value 10 part) else None
+
+-- at most 255
+abbrev pub round_of : List ℕ → Option ℕ
+round_of part = option_and_then (λ n. if nat_lt n 256 then Some n else None) (number_of part)
+
+abbrev pub table_with : Option ℕ → Option ℕ → Option Route
+table_with (Some round) (Some table) = Some (route.Table round table)
+table_with (Some round) None = None
+table_with None table = None
+
+-- behind `/rounds/`: a round, or a round, `/tables/` and a table
+abbrev pub round_route : List ℕ → Option Route
+round_route rest = option_map route.Round (round_of (before rest))
+
+abbrev pub table_route : List ℕ → Option Route
+table_route rest = table_with (round_of (before rest)) (number_of (drop 8 (after rest)))
+
+abbrev pub route_by : List ℕ → Option ℕ → Option Route
+route_by path None = None
+route_by path (Some n) = if n == 0 then Some route.Standings else if n == 1 then round_route (drop 8 path) else table_route (drop 8 path)
+
+abbrev pub route_of : List ℕ → Option Route
+route_of path = route_by path (number_of_route path)
+
+-- ---- the length of a body
+
+-- a field's name and value
+abbrev pub Pair : Type 0
+Pair = List ℕ × List ℕ
+
+-- in whatever case
+abbrev pub is_named : List ℕ → Pair → Bool
+is_named name field = bytes_eq (map to_ascii_lowercase field.0) name
+
+abbrev pub length_of : List ℕ → Result ℕ Fault
+length_of value =
+    if nat_lt 0 (length value) && list_all is_ascii_digit value then (if nat_lt MAX_BODY (digits_value 10 value) then Err TooLarge else Ok (digits_value 10 value))
+    else Err BadRequest
+
+abbrev pub only_length : List Pair → Result ℕ Fault
+only_length (field ∷ []) = length_of field.1
+only_length _ = Err BadRequest
+
+-- one Content-Length of digits alone, and no Transfer-Encoding
+abbrev pub body_length : List Pair → Result ℕ Fault
+body_length fields =
+    if list_any (is_named (codes "transfer-encoding")) fields then Err BadRequest
+    else only_length (filter (is_named (codes "content-length")) fields)
+
+-- ---- the head's part
+
+abbrev pub with_length : ℕ → ℕ → Result ℕ Fault → Result Next Fault
+with_length round table (Err fault) = Err fault
+with_length round table (Ok n) = Ok (Body round table n)
+
+-- a GET serves each route, a POST the last
+abbrev pub serves : Route → List ℕ → List Pair → Result Next Fault
+serves route.Standings method fields = if bytes_eq method (codes "GET") then Ok (Get Standings) else Err (NotAllowed false)
+serves (route.Round round) method fields = if bytes_eq method (codes "GET") then Ok (Get (Pairings round)) else Err (NotAllowed false)
+serves (route.Table round table) method fields =
+    if bytes_eq method (codes "GET") then Ok (Get (Slip round table))
+    else if bytes_eq method (codes "POST") then with_length round table (body_length fields) else Err (NotAllowed true)
+
+abbrev pub next_on : Option Route → List ℕ → List Pair → Result Next Fault
+next_on None method fields = Err NotFound
+next_on (Some to) method fields = serves to method fields
+
+-- what is left to do once the head is there
+abbrev pub next_of : RequestHead → Result Next Fault
+next_of head = next_on (route_of (path_of head.target)) head.method (map name_and_value head.fields)
+
+-- ---- the body's part
+
+abbrev pub reported : ℕ → ℕ → Option Games → Result Asked Fault
+reported round table None = Err BadRequest
+reported round table (Some games) = Ok (Report round table games)
+
+abbrev pub asked_with : Result Next Fault → List ℕ → Result Asked Fault
+asked_with (Err fault) rest = Err fault
+asked_with (Ok (Get asked)) rest = Ok asked
+asked_with (Ok (Body round table n)) rest = if nat_lt (length rest) n then Err BadRequest else reported round table (slip_games (take n rest))
+
+-- what is asked for, or the first check that fails
+abbrev pub asked_of : RequestHead → List ℕ → Result Asked Fault
+asked_of head rest = asked_with (next_of head) rest
+
+-- ---- the whole input
+
+-- Asked of a whole input. There is one such answer, since a text has at most one head.
+pub data Asks (input : List ℕ) (result : Result Asked Fault) : Type 0 where
+  headed : (head : RequestHead) (rest : List ℕ) → IsHead input head rest → result ≡ asked_of head rest → Asks input result
+  headless : HasNoHead input → result ≡ Err BadRequest → Asks input result
+
+-- what reading an input tells of it
+abbrev pub TellsAsked : List ℕ → Result Asked Unasked → Type 0
+TellsAsked input (Ok asked) = Asks input (Ok asked)
+TellsAsked input (Err (unasked.Refused fault)) = Asks input (Err fault)
+TellsAsked input (Err unasked.Memory) = Unit {0}
+TellsAsked input (Err unasked.Unread) = Unit {0}
+
+-- what is due, or want of memory
+abbrev pub Tells : {A : Type 0} → Result A Fault → Result A Unasked → Type 0
+Tells due (Ok told) = due ≡ Ok told
+Tells due (Err (unasked.Refused fault)) = due ≡ Err fault
+Tells due (Err unasked.Memory) = Unit {0}
+Tells due (Err unasked.Unread) = ⊥
+
+-- a body has at most 4096 bytes
+abbrev pub IsShort : Next → Type 0
+IsShort (Get asked) = Unit {0}
+IsShort (Body round table n) = n ≤ MAX_BODY

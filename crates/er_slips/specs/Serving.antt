@@ -1,0 +1,67 @@
+-- What serving one request does: to the desk, and to what is written.
+use Rattle.std.specs.Prelude.{◌≡◌, ◌⊎◌, ◌≤◌, ℕ, IsTrue, IsFalse, List, length, take, Option, Some, Result, Ok, Err, IfSome}
+use Rattle.std.specs.Io.KnownBytes.{Appends, Keeps}
+use Rattle.er_event.specs.declared.refusals.Command.TheVariants.{Result as Hand}
+use Rattle.er_event.specs.declared.refusals.Refusal.{Refusal}
+use Rattle.er_event.specs.declared.refusals.Refusal.TheVariants.{Memory, NeedsReopen}
+use Rattle.er_event.specs.declared.slips.SlipRow.{SlipRow}
+use Rattle.er_event.specs.Event.{EventValue}
+use Rattle.er_store.specs.Slip.{FindsSlip}
+use Rattle.er_desk.specs.Desk.{Standing, Turn, ReadsSlip}
+use Rattle.er_desk.specs.Reply.{Reply}
+use Rattle.er_slips.specs.declared.request.asked.Asked.{Asked}
+use Rattle.er_slips.specs.declared.request.asked.Asked.TheVariants.{Standings, Pairings, Slip, Report}
+use Rattle.er_slips.specs.declared.request.asked.Fault.{Fault}
+use Rattle.er_slips.specs.declared.serve.Served.{Served}
+use Rattle.er_slips.specs.declared.serve.Served.TheVariants.{Answered, ReadFault, WriteFault}
+use Rattle.er_slips.specs.Request.{Asks}
+use Rattle.er_slips.specs.Answer.{AnswerValue, fault_answer, refusal_answer}
+use Rattle.er_slips.specs.Whole.{ShowsStandings, ShowsPairings, row_answer, reply_answer, IsAnswerUnless503}
+
+-- ---- the desk
+
+-- the event is shown, where memory serves and no fault of the store is behind
+abbrev pub IsShown : Standing → (EventValue → AnswerValue → Type 0) → AnswerValue → Type 0
+IsShown desk Shows answer = (IsFalse desk.stopped × (Shows desk.event answer ⊎ (answer ≡ refusal_answer Memory))) ⊎ (IsTrue desk.stopped × (answer ≡ refusal_answer NeedsReopen))
+
+-- of what was read, its slip, or want of memory in making it
+abbrev pub IsSlipAnswer : Result SlipRow Refusal → AnswerValue → Type 0
+IsSlipAnswer (Ok row) answer = (answer ≡ row_answer (Some row)) ⊎ (answer ≡ refusal_answer Memory)
+IsSlipAnswer (Err why) answer = answer ≡ refusal_answer why
+
+-- What is asked of the desk, its answer, and where it stands then. `Stood` is that its tables stood for its event, on a clean disk: on this rests what is read of them.
+abbrev pub Answers : Type 0 → Standing → Result Asked Fault → AnswerValue → Standing → Type 0
+Answers Stood old (Err fault) answer new = (answer ≡ fault_answer fault) × (new ≡ old)
+Answers Stood old (Ok Standings) answer new = IsShown old ShowsStandings answer × (new ≡ old)
+Answers Stood old (Ok (Pairings round)) answer new = IsShown old (ShowsPairings round) answer × (new ≡ old)
+Answers Stood old (Ok (Slip round table)) answer new =
+    (read : Result SlipRow Refusal) × ReadsSlip old read new × (Stood → FindsSlip old.event round table read) × IsSlipAnswer read answer
+Answers Stood old (Ok (Report round table score)) answer new = (reply : Reply) × Turn old (Hand round table score) reply new × (answer ≡ reply_answer reply)
+
+-- ---- one request
+
+-- the desk was asked what the input asks for
+abbrev pub IsServed : Type 0 → Option (List ℕ) → Standing → AnswerValue → Standing → Type 0
+IsServed Stood input old answer new = (asked : Result Asked Fault) × IfSome input (λ xs. Asks xs asked) × Answers Stood old asked answer new
+
+-- or memory was wanting before it was asked, and it stays as it is
+abbrev pub IsUnserved : Standing → AnswerValue → Standing → Type 0
+IsUnserved old answer new = (answer ≡ refusal_answer Memory) × (new ≡ old)
+
+-- what was written of an answer
+abbrev pub Writes : Option (List ℕ) → Option (List ℕ) → Served → AnswerValue → Type 0
+Writes before after (Answered status) answer = (status ≡ answer.status) × Appends before after answer.bytes
+Writes before after (WriteFault sent) answer = (sent ≤ length answer.bytes) × Appends before after (take sent answer.bytes)
+Writes before after ReadFault answer = ⊥
+
+-- how serving an input ends: with an answer, of which all or the first bytes were written, or by a read that failed, with nothing submitted or written
+abbrev pub Ends : Type 0 → Option (List ℕ) → Standing → Standing → Option (List ℕ) → Option (List ℕ) → Served → Type 0
+Ends Stood input old new before after ReadFault = Keeps before after × (new ≡ old)
+Ends Stood input old new before after (Answered status) = (answer : AnswerValue) × Writes before after (Answered status) answer × (IsServed Stood input old answer new ⊎ IsUnserved old answer new)
+Ends Stood input old new before after (WriteFault sent) = (answer : AnswerValue) × Writes before after (WriteFault sent) answer × (IsServed Stood input old answer new ⊎ IsUnserved old answer new)
+
+-- What was written where the desk runs and its tables stand for its event: the answer to the input on that event and serial, and nothing else but a 503.
+abbrev pub IsWritten : Standing → List ℕ → Option (List ℕ) → Option (List ℕ) → Served → Type 0
+IsWritten old input before after ReadFault = Keeps before after
+IsWritten old input before after (Answered status) = (answer : AnswerValue) × Writes before after (Answered status) answer × IsAnswerUnless503 old.event old.serial input answer
+IsWritten old input before after (WriteFault sent) = (answer : AnswerValue) × Writes before after (WriteFault sent) answer × IsAnswerUnless503 old.event old.serial input answer

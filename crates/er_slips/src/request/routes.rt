@@ -1,0 +1,117 @@
+ghost use Rattle.std.specs.Prelude.{◌≡◌, ◌≤◌, IfOk, length, take, drop};
+ghost use Rattle.er_slips.specs.Routes.{before, after, routes, number_of_route};
+ghost use Rattle.er_slips.specs.Request.{path_of, number_of, round_of, round_route, table_route, route_of};
+
+use crate::request::numbers::are_digits;
+use matchit::{InsertError, Router};
+use std::alloc::Global;
+
+/// What a path names.
+#[derive(Clone, Copy, Debug, PartialEq, Eq)]
+pub enum Route {
+    Standings,
+    Round { round: u8 },
+    Table { round: u8, table: u16 },
+}
+
+/// The three routes.
+pub fn router(alloc: Global) -> Result<Router<u32>, InsertError>
+    ensures { IfOk result (λ r. r ≡ routes) }
+{
+    let mut router = Router::new(alloc);
+    router.insert("/standings", 0)?;
+    router.insert("/rounds/{r}", 1)?;
+    router.insert("/rounds/{r}/tables/{t}", 2)?;
+    Ok(router)
+}
+
+/// The number of the route of a path among the three.
+fn number_of_route(router: &Router<u32>, path: &str) -> Option<u32>
+    requires { router.now ≡ routes }
+    ensures { result ≡ number_of_route path.now }
+{
+    match router.at(path) {
+        Ok(found) => Some(*found.value),
+        Err(_) => None,
+    }
+}
+
+/// The target up to its first question mark.
+pub fn path_of(target: &[u8]) -> &[u8]
+    ensures { result.now ≡ path_of target.now }
+{
+    let mut end = 0;
+    while end < target.len() && target[end] != b'?' {
+        end += 1;
+    }
+    &target[..end]
+}
+
+/// What stands before the first slash, and what stands from it on.
+fn split(text: &[u8]) -> (&[u8], &[u8])
+    ensures before { result.0.now ≡ before text.now }
+    ensures after { result.1.now ≡ after text.now }
+{
+    let mut end = 0;
+    while end < text.len() && text[end] != b'/' {
+        end += 1;
+    }
+    (&text[..end], &text[end..])
+}
+
+/// What stands behind so many bytes.
+fn behind(text: &[u8], count: usize) -> &[u8]
+    ensures { result.now ≡ drop count text.now }
+{
+    &text[count.min(text.len())..]
+}
+
+/// The number that 1 to 3 digits are.
+fn number_of(part: &[u8]) -> Option<u16>
+    ensures { result ≡ number_of part.now }
+{
+    if part.len() > 3 || !are_digits(part) {
+        return None;
+    }
+    match str::from_utf8(part) {
+        Ok(digits) => digits.parse().ok(),
+        Err(_) => None,
+    }
+}
+
+fn round_of(part: &[u8]) -> Option<u8>
+    ensures { result ≡ round_of part.now }
+{
+    u8::try_from(number_of(part)?).ok()
+}
+
+fn round_route(rest: &[u8]) -> Option<Route>
+    ensures { result ≡ round_route rest.now }
+{
+    let (round, _) = split(rest);
+    Some(Route::Round {
+        round: round_of(round)?,
+    })
+}
+
+fn table_route(rest: &[u8]) -> Option<Route>
+    ensures { result ≡ table_route rest.now }
+{
+    let (round, rest) = split(rest);
+    let round = round_of(round)?;
+    let table = number_of(behind(rest, 8))?;
+    Some(Route::Table { round, table })
+}
+
+/// The route of a path.
+pub fn route_of(router: &Router<u32>, path: &str) -> Option<Route>
+    requires { router.now ≡ routes }
+    ensures { result ≡ route_of path.now }
+{
+    let rest = behind(path.as_bytes(), 8);
+    match number_of_route(router, path)? {
+        0 => Some(Route::Standings),
+        1 => round_route(rest),
+        _ => table_route(rest),
+    }
+}

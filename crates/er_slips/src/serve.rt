@@ -1,0 +1,188 @@
+ghost use Rattle.std.specs.Prelude.{◌≡◌, Ok, IfSome, IsTrue, IsFalse, MatchResult};
+ghost use Rattle.sqlite.specs.State.{HasCleanDisk};
+ghost use Rattle.er_event.specs.declared.refusals.Command.TheVariants as command;
+ghost use Rattle.er_store.specs.Standing.{KeepsOthers};
+ghost use Rattle.er_desk.specs.Desk.{Turn, ShowsOwn, point_of, standing, state};
+ghost use Rattle.er_desk.specs.Headline.{LeavesJust};
+ghost use Rattle.er_slips.specs.declared.request.asked.Asked.TheVariants as asked;
+ghost use Rattle.er_slips.specs.Answer.{shown, refusal_answer};
+ghost use Rattle.er_slips.specs.Whole.{ShowsStandings, ShowsPairings, reply_answer};
+ghost use Rattle.er_slips.specs.Serving.{IsShown, IsSlipAnswer, Answers, Writes, Ends, IsWritten};
+
+mod sending;
+
+use crate::answer::{
+    Answer, fault_answer, pairings_answer, receipt_answer, refusal_answer, slip_answer,
+    standings_answer,
+};
+use crate::request::{Asked, Unasked, read_request};
+use crate::serve::sending::{Sent, send};
+use er_desk::{Desk, Reply};
+use er_event::{Command, Games, Refusal, SlipRow};
+use sqlite::Alter;
+use std::alloc::{AllocError, Global};
+use std::io::{Read, Write};
+
+/// How serving one request ended.
+#[derive(Clone, Copy, Debug, PartialEq, Eq)]
+pub enum Served {
+    Answered { status: u16 },
+    /// A read failed. Nothing was submitted or written.
+    ReadFault,
+    /// A write or the flush failed after the first `sent` bytes of the answer. A command that was accepted stays accepted.
+    WriteFault { sent: usize },
+}
+
+/// The answer, or that memory was wanting for it.
+fn made(answer: Result<Answer, AllocError>) -> Answer
+    ensures { MatchResult answer (λ made. shown result ≡ shown made) (λ _. shown result ≡ refusal_answer Refusal.Memory) }
+{
+    match answer {
+        Ok(answer) => answer,
+        Err(_error) => refusal_answer(&Refusal::Memory),
+    }
+}
+
+fn standings<S: Alter>(alloc: Global, desk: &Desk<S>) -> Answer
+    ensures { IsShown (standing desk.now) ShowsStandings (shown result) }
+{
+    match desk.event() {
+        Ok(event) => made(standings_answer(alloc, event)),
+        Err(why) => refusal_answer(&why),
+    }
+}
+
+fn pairings<S: Alter>(alloc: Global, desk: &Desk<S>, round: u8) -> Answer
+    ensures { IsShown (standing desk.now) (ShowsPairings round) (shown result) }
+{
+    match desk.event() {
+        Ok(event) => made(pairings_answer(alloc, event, round)),
+        Err(why) => refusal_answer(&why),
+    }
+}
+
+/// The answer to what was read of a slip.
+fn slip_row_answer(alloc: Global, read: &Result<SlipRow, Refusal>) -> Answer
+    ensures { IsSlipAnswer read.now (shown result) }
+{
+    match read {
+        Ok(row) => made(slip_answer(alloc, row)),
+        Err(why) => refusal_answer(why),
+    }
+}
+
+fn slip<S: Alter>(alloc: Global, desk: &mut Desk<S>, round: u8, table: u16) -> Answer
+    ensures answers { Answers (HasCleanDisk (state S.Store desk.new) × ShowsOwn S.Store desk.old) (standing desk.old) (Ok (asked.Slip round table)) (shown result) (standing desk.new) }
+    ensures waits { IsTrue (standing desk.old).stopped → desk.new ≡ desk.old }
+    ensures clean { HasCleanDisk (state S.Store desk.new) → HasCleanDisk (state S.Store desk.old) }
+    ensures stands { HasCleanDisk (state S.Store desk.new) → ShowsOwn S.Store desk.old → IsFalse (standing desk.new).stopped → ShowsOwn S.Store desk.new }
+    ensures others { HasCleanDisk (state S.Store desk.new) → ShowsOwn S.Store desk.old → IsTrue (state S.Store desk.new).is_open
+        → KeepsOthers (state S.Store desk.old).now (state S.Store desk.new).now }
+    ensures leaves { ShowsOwn S.Store desk.old → LeavesJust (state S.Store desk.old) (point_of (standing desk.old)) → IsFalse (standing desk.new).stopped
+        → LeavesJust (state S.Store desk.new) (point_of (standing desk.new)) }
+{
+    let read = desk.slip(alloc, round, table);
+    slip_row_answer(alloc, &read)
+}
+
+fn answer_to(reply: Reply) -> Answer
+    ensures { shown result ≡ reply_answer reply }
+{
+    match reply {
+        Ok(receipt) => receipt_answer(receipt),
+        Err(why) => refusal_answer(&why),
+    }
+}
+
+/// Submits the score of a match.
+fn report<S: Alter>(
+    alloc: Global,
+    desk: &mut Desk<S>,
+    round: u8,
+    table: u16,
+    score: Games,
+) -> Answer
+    ensures answers { Answers (HasCleanDisk (state S.Store desk.new) × ShowsOwn S.Store desk.old) (standing desk.old) (Ok (asked.Report round table score)) (shown result) (standing desk.new) }
+    ensures waits { IsTrue (standing desk.old).stopped → desk.new ≡ desk.old }
+    ensures clean { HasCleanDisk (state S.Store desk.new) → HasCleanDisk (state S.Store desk.old) }
+    ensures stands { HasCleanDisk (state S.Store desk.new) → ShowsOwn S.Store desk.old → IsFalse (standing desk.new).stopped → ShowsOwn S.Store desk.new }
+    ensures others { HasCleanDisk (state S.Store desk.new) → ShowsOwn S.Store desk.old → IsTrue (state S.Store desk.new).is_open
+        → KeepsOthers (state S.Store desk.old).now (state S.Store desk.new).now }
+    ensures leaves { ShowsOwn S.Store desk.old → LeavesJust (state S.Store desk.old) (point_of (standing desk.old)) → IsFalse (standing desk.new).stopped
+        → LeavesJust (state S.Store desk.new) (point_of (standing desk.new)) }
+{
+    let reply = desk.submit(
+        alloc,
+        Command::Result {
+            round,
+            table,
+            score,
+        },
+    );
+    answer_to(reply)
+}
+
+/// What the desk answers. It is asked once.
+fn answer<S: Alter>(alloc: Global, desk: &mut Desk<S>, asked: Asked) -> Answer
+    ensures answers { Answers (HasCleanDisk (state S.Store desk.new) × ShowsOwn S.Store desk.old) (standing desk.old) (Ok asked) (shown result) (standing desk.new) }
+    ensures waits { IsTrue (standing desk.old).stopped → desk.new ≡ desk.old }
+    ensures clean { HasCleanDisk (state S.Store desk.new) → HasCleanDisk (state S.Store desk.old) }
+    ensures stands { HasCleanDisk (state S.Store desk.new) → ShowsOwn S.Store desk.old → IsFalse (standing desk.new).stopped → ShowsOwn S.Store desk.new }
+    ensures others { HasCleanDisk (state S.Store desk.new) → ShowsOwn S.Store desk.old → IsTrue (state S.Store desk.new).is_open
+        → KeepsOthers (state S.Store desk.old).now (state S.Store desk.new).now }
+    ensures leaves { ShowsOwn S.Store desk.old → LeavesJust (state S.Store desk.old) (point_of (standing desk.old)) → IsFalse (standing desk.new).stopped
+        → LeavesJust (state S.Store desk.new) (point_of (standing desk.new)) }
+{
+    match asked {
+        Asked::Standings => standings(alloc, desk),
+        Asked::Pairings { round } => pairings(alloc, desk, round),
+        Asked::Slip { round, table } => slip(alloc, desk, round, table),
+        Asked::Report {
+            round,
+            table,
+            score,
+        } => report(alloc, desk, round, table, score),
+    }
+}
+
+/// Sends a whole answer.
+fn deliver<W: Write>(writer: &mut W, answer: &Answer) -> Served
+    ensures { Writes (W.contents writer.old) (W.contents writer.new) result (shown answer.now) }
+{
+    match send(writer, answer.as_slice()) {
+        Sent::All => Served::Answered {
+            status: answer.status(),
+        },
+        Sent::Fault(sent) => Served::WriteFault { sent },
+    }
+}
+
+/// Reads one request, asks the desk at most once, and writes one answer. Nothing of the answer is written before the whole of it is made.
+pub fn serve_one<S: Alter, R: Read, W: Write>(
+    alloc: Global,
+    desk: &mut Desk<S>,
+    reader: &mut R,
+    writer: &mut W,
+) -> Served
+    ensures ends { Ends (HasCleanDisk (state S.Store desk.new) × ShowsOwn S.Store desk.old) (R.remaining reader.old) (standing desk.old) (standing desk.new) (W.contents writer.old) (W.contents writer.new) result }
+    // Where the desk runs and its tables stand for its event, that is the answer to the input, or a 503.
+    ensures written { IfSome (R.remaining reader.old) (λ input. IsFalse (standing desk.old).stopped → HasCleanDisk (state S.Store desk.new) × ShowsOwn S.Store desk.old
+        → IsWritten (standing desk.old) input (W.contents writer.old) (W.contents writer.new) result) }
+
+    ensures waits { IsTrue (standing desk.old).stopped → desk.new ≡ desk.old }
+    ensures clean { HasCleanDisk (state S.Store desk.new) → HasCleanDisk (state S.Store desk.old) }
+    ensures stands { HasCleanDisk (state S.Store desk.new) → ShowsOwn S.Store desk.old → IsFalse (standing desk.new).stopped → ShowsOwn S.Store desk.new }
+    ensures others { HasCleanDisk (state S.Store desk.new) → ShowsOwn S.Store desk.old → IsTrue (state S.Store desk.new).is_open
+        → KeepsOthers (state S.Store desk.old).now (state S.Store desk.new).now }
+
+    // While it runs, a crash leaves just the event that it stands at.
+    ensures leaves { ShowsOwn S.Store desk.old → LeavesJust (state S.Store desk.old) (point_of (standing desk.old)) → IsFalse (standing desk.new).stopped
+        → LeavesJust (state S.Store desk.new) (point_of (standing desk.new)) }
+{
+    match read_request(alloc, reader) {
+        Ok(asked) => deliver(writer, &answer(alloc, desk, asked)),
+        Err(Unasked::Refused(fault)) => deliver(writer, &fault_answer(fault)),
+        Err(Unasked::Memory) => deliver(writer, &refusal_answer(&Refusal::Memory)),
+        Err(Unasked::Unread) => Served::ReadFault,
+    }
+}
