@@ -75,7 +75,7 @@ def run_seeds():
             check(f"seed {word}", run(script + b"pair\t1\t%s\nslips\t1\n" % word.encode()), (0, answers, b""))
 
 
-SUBCOMMANDS = "init enrol start pair result correct drop cut playoff standings players slips bracket".split()
+SUBCOMMANDS = "init enrol start pair result correct drop cut playoff standings players slips bracket serve".split()
 
 
 def run_words():
@@ -96,7 +96,9 @@ def run_words():
         check(f"{name} alone", run(b"", [name]), (2, b"", missing))
     for number, name in enumerate(NAMES, 1):
         check(f"{name} in the help", b"\n  %2d %s " % (number, name.encode()) in help_text, True)
+    check("a script serves nobody", run(b"init\tFriday\t3\t0\nserve\t0\t1\nplayers\n"), (0, b"ok 0\nusage\n  No D Name\n", b""))
     pair = run(b"", ["pair", "--help"])[1]
+    serve = run(b"", ["serve", "--help"])[1]
     for words, told in (
         (["pair", "f", "1", "x"], b"`x` is not 64 hexadecimal digits\n" + pair),
         (["pair", "f", "+1", "0" * 64], b"`+1` is no whole number from 0 to 255\n" + pair),
@@ -104,6 +106,9 @@ def run_words():
         (["pair", "f", "1", "0" * 64, "2"], b"`2` is a word too many\n" + pair),
         (["pair", "f", "-1", "0" * 64], b"`-1` begins with `-`, which no word may\n" + pair),
         (["drop", "f", "65536"], b"`65536` is no whole number from 0 to 65535\n" + run(b"", ["drop", "-h"])[1]),
+        (["serve", "f", "65536", "1"], b"`65536` is no whole number from 0 to 65535\n" + serve),
+        (["serve", "f", "0", "0"], b"`0` is no whole number from 1 to 1000000\n" + serve),
+        (["serve", "f", "0", "1000001"], b"`1000001` is no whole number from 1 to 1000000\n" + serve),
         (["help"], b"`help` is no subcommand\nusage: event_reporter SUBCOMMAND FILE WORDS\nTry: event_reporter --help\n"),
         ([""], b"`` is no subcommand\nusage: event_reporter SUBCOMMAND FILE WORDS\nTry: event_reporter --help\n"),
         (["help", "--version"], b"`--version` begins with `-`, which no word may\nusage: event_reporter SUBCOMMAND FILE WORDS\nTry: event_reporter --help\n"),

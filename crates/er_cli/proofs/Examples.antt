@@ -1,7 +1,8 @@
--- The statuses that a script ends with, and how long it may be, as literals.
+-- The statuses that a script ends with, how long it may be, and how many connections are served, as literals.
 use Rattle.std.proofs.Common.{◌≡◌, refl}
 use Rattle.er_cli.specs.declared.TheConstants.{DONE, USAGE, DEVICE, MEMORY}
 use Rattle.er_cli.specs.declared.input.TheConstants.{MAX_SCRIPT_BYTES}
+use Rattle.er_cli.specs.declared.values.TheConstants.{MAX_CONNECTIONS}
 
 done_is_0 : DONE ≡ 0
 done_is_0 = refl
@@ -17,3 +18,6 @@ memory_is_4 = refl
 
 a_script_has_65536_bytes : MAX_SCRIPT_BYTES ≡ 65536
 a_script_has_65536_bytes = refl
+
+a_million_connections : MAX_CONNECTIONS ≡ 1000000
+a_million_connections = refl

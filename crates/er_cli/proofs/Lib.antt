@@ -9,4 +9,5 @@ pub mod Turns
 pub mod Walks
 pub mod WordLemmas
 pub mod Sending
+pub mod Connecting
 pub mod Examples

@@ -1,7 +1,8 @@
 -- What went out, and what came to be printed where a write or the flush failed.
-use Rattle.std.proofs.Common.{◌≡◌, ℕ, ◌+◌, ◌-◌, ◌≤◌, List, ◌++◌, take, drop, length, Option, Result, Ok, Err, OnErr, sym, ap, subst, ◌∙◌, arith, length-drop}
-use Rattle.std.proofs.lemmas.List.{take_all}
-use Rattle.std.proofs.Math.Seq.{take-add, take-append-add}
+use Rattle.std.proofs.Common.{◌≡◌, ℕ, ◌+◌, ◌-◌, ◌≤◌, nat_le, Bool, true, false, List, ◌++◌, take, drop, length, Option, Result, Ok, Err, OnErr, refl, sym, ap, subst, ◌∙◌, arith, length-drop}
+use Rattle.std.proofs.lemmas.List.{take_all, take-append-le}
+use Rattle.std.proofs.lemmas.Bool.Decides.{nat_tests}
+use Rattle.std.proofs.Math.Seq.{take-add, take-append-add, take-append_seam}
 use Rattle.std.specs.Io.KnownBytes.{Appends, Keeps}
 use Rattle.std.proofs.KnownBytes.{Appends-trans, Appends-kept}
 use Rattle.er_cli.specs.Texts.{AppendsPart}
@@ -27,3 +28,17 @@ err_is (Err e) p = p
 pub part_after : (before mid after : Option (List ℕ)) (text more : List ℕ) → Appends before mid text → AppendsPart mid after more → AppendsPart before after (text ++ more)
 part_after before mid after text more whole part =
     (length text + part.0, subst (λ t. Appends before after t) (sym (take-append-add text more part.0)) (Appends-trans before mid after text (take part.0 more) whole part.1))
+
+fits : (n size : ℕ) → nat_le n size ≡ true → n ≤ size
+fits n size is = grind (arith, nat_tests)
+
+past : (n size : ℕ) → nat_le n size ≡ false → size ≤ n
+past n size is = grind (arith, nat_tests)
+
+-- a beginning of a text is one of the text with more behind it
+pub part_first : (before after : Option (List ℕ)) (text more : List ℕ) → AppendsPart before after text → AppendsPart before after (text ++ more)
+part_first before after text more part = by_size (nat_le part.0 (length text)) refl
+  where
+    by_size : (b : Bool) → nat_le part.0 (length text) ≡ b → AppendsPart before after (text ++ more)
+    by_size true is = (part.0, subst (λ t. Appends before after t) (sym (take-append-le part.0 text more (fits part.0 (length text) is))) part.1)
+    by_size false is = (length text, subst (λ t. Appends before after t) (take_all part.0 text (past part.0 (length text) is) ∙ sym (take-append_seam text more)) part.1)

@@ -8,13 +8,13 @@ use Rattle.std.proofs.lemmas.Option.{slice_get_within, slice_get-get_or, slice_g
 use Rattle.er_event.specs.declared.scores.Games.{Games}
 use Rattle.er_cli.specs.declared.line.Line.{Line}
 use Rattle.er_cli.specs.declared.usage.Kind.{Kind}
-use Rattle.er_cli.specs.declared.usage.Kind.TheVariants.{Text, SmallNumber, Number, Seed}
+use Rattle.er_cli.specs.declared.usage.Kind.TheVariants.{Text, SmallNumber, Number, Seed, Count}
 use Rattle.er_cli.specs.declared.usage.UsageFault.{UsageFault}
-use Rattle.er_cli.specs.declared.usage.UsageFault.TheVariants.{UnknownSubcommand, LeadingDash, TooFew, TooMany, BadNumber, BadSeed}
+use Rattle.er_cli.specs.declared.usage.UsageFault.TheVariants.{UnknownSubcommand, LeadingDash, TooFew, TooMany, BadNumber, BadSeed, BadCount}
 use Rattle.er_cli.proofs.WordLemmas.{list_any-map}
-use Rattle.er_cli.specs.Line.{is_option, lone_file, init_of, enrol_of, pair_of, result_of, correct_of, drop_of, playoff_of, slips_of}
+use Rattle.er_cli.specs.Line.{is_option, lone_file, init_of, enrol_of, pair_of, result_of, correct_of, drop_of, playoff_of, slips_of, serve_of}
 use Rattle.er_cli.specs.Usage.{HasFault, IsOf, Takes, are_of_kinds, is_of_kind}
-use Rattle.er_cli.specs.Values.{both, all_three, number_below, seed_of, games_of, report_of, slot_report_of}
+use Rattle.er_cli.specs.Values.{both, all_three, number_below, count_of, seed_of, games_of, report_of, slot_report_of}
 
 and_false : (b : Bool) → (b && false) ≡ false
 and_false true = refl
@@ -86,6 +86,13 @@ takes-slips (file ∷ []) = refl
 takes-slips (file ∷ round ∷ []) = lone_value (number_below 256 round) _
 takes-slips (file ∷ round ∷ more ∷ words) = and_false (is_some (number_below 256 round))
 
+pub takes-serve : Takes (Text ∷ Number ∷ Count ∷ []) serve_of
+takes-serve [] = refl
+takes-serve (file ∷ []) = refl
+takes-serve (file ∷ port ∷ []) = and_false (is_some (number_below 65536 port))
+takes-serve (file ∷ port ∷ count ∷ []) = two_values (number_below 65536 port) (count_of count) _
+takes-serve (file ∷ port ∷ count ∷ more ∷ words) = ap (λ (last : Bool). is_some (number_below 65536 port) && last) (and_false (is_some (count_of count))) ∙ and_false (is_some (number_below 65536 port))
+
 -- ---- scores
 
 games_taken : (words : List (List ℕ)) → are_of_kinds (SmallNumber ∷ SmallNumber ∷ SmallNumber ∷ []) words ≡ is_some (games_of words)
@@ -136,6 +143,7 @@ fault_at words place word (TooFew at) found is = absurd is
 fault_at words place word (TooMany at) found is = absurd is
 fault_at words place word (BadNumber at most) found is = (place, word, found, is)
 fault_at words place word (BadSeed at) found is = (place, word, found, is)
+fault_at words place word (BadCount at) found is = (place, word, found, is)
 
 -- the word at a place is looked at, and the rest behind it
 pub one_more : (kinds : List Kind) (texts : List (List ℕ)) (i place : ℕ) (kind : Kind) (text : List ℕ) → i < length kinds → slice_get texts place ≡ Some text

@@ -14,7 +14,7 @@ use Rattle.std.proofs.lemmas.Str.Parse.{IsNumeralModel, IsDigitsTest, numerals_b
 use Rattle.er_cli.specs.declared.line.Line.{Line}
 use Rattle.er_cli.specs.declared.line.LineFault.{LineFault}
 use Rattle.er_cli.specs.declared.line.LineFault.TheVariants.{Usage, Memory}
-use Rattle.er_cli.specs.Values.{number_below}
+use Rattle.er_cli.specs.Values.{count_of, number_below}
 use Rattle.er_cli.specs.Line.{Subcommand, subcommands, line_by, named_line, names_one, is_option, line_of, Reads}
 use Rattle.er_cli.specs.Words.{names, split_of}
 use Rattle.er_cli.specs.Fields.{fields_of, with_file, script_line}
@@ -45,6 +45,16 @@ module _ (bits limit : ℕ) (is_limit : 2 ^ bits ≡ limit) (word : List ℕ) (a
   number_of-parsed {E} (Err e) parsed =
       let unread : ¬ ((0 < length word) × (digits_value 10 word < 2 ^ bits)) = parse_digits numerals {E = E} bits word (Err e) parsed all in
       sym (below-none (λ h. unread (h.1, subst (λ m. digits_value 10 word < m) (sym is_limit) h.2)))
+
+-- a number of connections, by the number that the word is
+pub count_of-none : (word : List ℕ) → number_below 4294967296 word ≡ None → count_of word ≡ None
+count_of-none word none = grind (arith, nat_tests)
+
+pub count_of-some : (word : List ℕ) (n : ℕ) → number_below 4294967296 word ≡ Some n → 0 < n → n ≤ 1000000 → count_of word ≡ Some n
+count_of-some word n is some most = grind (arith, nat_tests)
+
+pub count_of-out : (word : List ℕ) (n : ℕ) → number_below 4294967296 word ≡ Some n → ¬ ((0 < n) × (n ≤ 1000000)) → count_of word ≡ None
+count_of-out word n is out = grind (arith, nat_tests)
 
 -- ---- a line of a script
 

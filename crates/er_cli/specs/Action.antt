@@ -5,7 +5,7 @@ use Rattle.er_cli.specs.declared.action.Action.{Action}
 use Rattle.er_cli.specs.declared.action.Action.TheVariants as action
 use Rattle.er_cli.specs.declared.action.Request.TheVariants as request
 use Rattle.er_cli.specs.declared.line.Line.{Line}
-use Rattle.er_cli.specs.declared.line.Line.TheVariants.{Init, Enrol, Start, Pair, Result as Report, Correct, Drop, Cut, Playoff, Standings, Players, Slips, Bracket}
+use Rattle.er_cli.specs.declared.line.Line.TheVariants.{Init, Enrol, Start, Pair, Result as Report, Correct, Drop, Cut, Playoff, Standings, Players, Slips, Bracket, Serve}
 
 abbrev pub file_of : Line → List ℕ
 file_of (Init file name rounds cut) = file
@@ -21,8 +21,9 @@ file_of (Standings file) = file
 file_of (Players file) = file
 file_of (Slips file round) = file
 file_of (Bracket file) = file
+file_of (Serve file port count) = file
 
--- an event is made, gets a command, or is shown
+-- an event is made, gets a command, is shown, or served to clients
 abbrev pub action_of : Line → Action
 action_of (Init file name rounds cut) = action.Init name rounds cut
 action_of (Enrol file name) = action.Ask (request.Submit (command.Enrol name))
@@ -37,3 +38,4 @@ action_of (Standings file) = action.Ask request.Standings
 action_of (Players file) = action.Ask request.Players
 action_of (Slips file round) = action.Ask (request.Slips round)
 action_of (Bracket file) = action.Ask request.Bracket
+action_of (Serve file port count) = action.Serve port count

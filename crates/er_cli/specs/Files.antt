@@ -1,5 +1,5 @@
 -- What a command line over the file of an event may be answered.
-use Rattle.std.specs.Prelude.{◌≡◌, ◌⊎◌, ◌≤◌, false, IsFalse, MatchOption, Ok, Err}
+use Rattle.std.specs.Prelude.{◌≡◌, ◌⊎◌, ◌≤◌, ℕ, false, IsFalse, List, Option, MatchOption, Ok, Err}
 use Rattle.er_event.specs.declared.refusals.Refusal.{Refusal}
 use Rattle.er_event.specs.declared.refusals.Refusal.TheVariants.{Memory, NoEvent, EventExists}
 use Rattle.er_event.specs.declared.refusals.TheConstants.{MAX_SERIAL}
@@ -9,10 +9,14 @@ use Rattle.er_store.specs.Fault.{IsFault, IsLoadFault}
 use Rattle.er_desk.specs.Desk.{Standing}
 use Rattle.er_desk.specs.Reply.{Reply, receipt}
 use Rattle.er_cli.specs.declared.action.Action.{Action}
-use Rattle.er_cli.specs.declared.action.Action.TheVariants.{Init, Ask}
+use Rattle.er_cli.specs.declared.action.Action.TheVariants.{Init, Ask, Serve}
 use Rattle.er_cli.specs.declared.action.Request.{Request}
 use Rattle.er_cli.specs.declared.texts.Answer.{Answer}
 use Rattle.er_cli.specs.declared.texts.Answer.TheVariants.{Refused}
+use Rattle.er_cli.specs.declared.TheConstants.{DEVICE}
+use Rattle.er_cli.specs.declared.help.TheConstants.{CANNOT_LISTEN}
+use Rattle.er_cli.specs.Help.{Says, Tells}
+use Rattle.er_cli.specs.Serving.{PrintsServed}
 use Rattle.er_cli.specs.Setup.{init_checks}
 use Rattle.er_cli.specs.Answers.{Answers, reply_answer}
 
@@ -40,3 +44,16 @@ MakesInFile answer = (reply : Reply) × IsMade reply × (answer ≡ reply_answer
 abbrev pub FileAnswers : Action → Answer → Type 0
 FileAnswers (Init name rounds cut) answer = MatchOption (first_refusal (init_checks false name rounds cut)) (MakesInFile answer ⊎ (answer ≡ Refused Memory)) (λ why. (answer ≡ Refused why) ⊎ (answer ≡ Refused Memory))
 FileAnswers (Ask request) answer = IsNotOpened answer ⊎ OpenedAnswers request answer
+FileAnswers (Serve port count) answer = IsNotOpened answer
+
+-- clients were served, or the port can't be had
+abbrev pub Serves : Action → (out out_then err err_then : Option (List ℕ)) → ℕ → Type 0
+Serves (Serve port count) out out_then err err_then status =
+    (PrintsServed count out out_then status × (err_then ≡ err))
+    ⊎ Says CANNOT_LISTEN.now DEVICE (record { meant = err; other = out }) (record { meant = err_then; other = out_then }) status
+Serves _ out out_then err err_then status = ⊥
+
+-- what a command line does to the output and the errors, and its status
+abbrev pub EndsLine : Action → (out out_then err err_then : Option (List ℕ)) → ℕ → Type 0
+EndsLine action out out_then err err_then status =
+    ((answer : Answer) × FileAnswers action answer × Tells answer out out_then err err_then status) ⊎ Serves action out out_then err err_then status

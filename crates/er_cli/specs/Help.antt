@@ -8,7 +8,7 @@ use Rattle.er_cli.specs.Texts.{answer_text, AppendsPart}
 use Rattle.er_cli.specs.declared.texts.Answer.{Answer}
 use Rattle.er_cli.specs.declared.texts.Answer.TheVariants.{Accepted, Text, Refused, Usage}
 use Rattle.er_cli.specs.declared.TheConstants.{DONE, REFUSED, USAGE, DEVICE, MEMORY}
-use Rattle.er_cli.specs.declared.help.TheConstants.{VERSION, HELP, INIT, ENROL, START, PAIR, RESULT, CORRECT, DROP, CUT, PLAYOFF, STANDINGS, PLAYERS, SLIPS, BRACKET}
+use Rattle.er_cli.specs.declared.help.TheConstants.{VERSION, HELP, INIT, ENROL, START, PAIR, RESULT, CORRECT, DROP, CUT, PLAYOFF, STANDINGS, PLAYERS, SLIPS, BRACKET, SERVE}
 
 abbrev pub is_help : List ℕ → Bool
 is_help word = bytes_eq word (codes "--help") || bytes_eq word (codes "-h")
@@ -39,6 +39,7 @@ subcommand_text = text_in (
     ∷ (codes "players", PLAYERS.now)
     ∷ (codes "slips", SLIPS.now)
     ∷ (codes "bracket", BRACKET.now)
+    ∷ (codes "serve", SERVE.now)
     ∷ [])
 
 -- the text of the subcommand, or the version, behind the name of one

@@ -13,3 +13,4 @@ pub mod Files
 pub mod Status
 pub mod Help
 pub mod Complaints
+pub mod Serving

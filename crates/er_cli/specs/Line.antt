@@ -5,8 +5,8 @@ use Rattle.std.specs.Str.{bytes_eq}
 use Rattle.er_cli.specs.declared.line.LineFault.{LineFault}
 use Rattle.er_cli.specs.declared.line.LineFault.TheVariants.{Usage, Memory}
 use Rattle.er_cli.specs.declared.line.Line.{Line}
-use Rattle.er_cli.specs.declared.line.Line.TheVariants.{Init, Enrol, Start, Pair, Result as Report, Correct, Drop, Cut, Playoff, Standings, Players, Slips, Bracket}
-use Rattle.er_cli.specs.Values.{number_below, seed_of, both, report_of, slot_report_of}
+use Rattle.er_cli.specs.declared.line.Line.TheVariants.{Init, Enrol, Start, Pair, Result as Report, Correct, Drop, Cut, Playoff, Standings, Players, Slips, Bracket, Serve}
+use Rattle.er_cli.specs.Values.{number_below, count_of, seed_of, both, report_of, slot_report_of}
 
 -- the FILE that a lone word is
 abbrev pub lone_file : List (List ℕ) → Option (List ℕ)
@@ -73,6 +73,11 @@ slips_of _ = None
 abbrev pub bracket_of : List (List ℕ) → Option Line
 bracket_of words = option_map Bracket (lone_file words)
 
+-- `serve FILE PORT COUNT`
+abbrev pub serve_of : List (List ℕ) → Option Line
+serve_of (file ∷ port ∷ count ∷ []) = option_map (λ it. Serve file it.0 it.1) (both (number_below 65536 port) (count_of count))
+serve_of _ = None
+
 -- a subcommand: its name, and the line that the words after it are
 abbrev pub Subcommand : Type 0
 Subcommand = List ℕ × (List (List ℕ) → Option Line)
@@ -92,6 +97,7 @@ subcommands =
     ∷ (codes "players", players_of)
     ∷ (codes "slips", slips_of)
     ∷ (codes "bracket", bracket_of)
+    ∷ (codes "serve", serve_of)
     ∷ []
 
 -- the line of the subcommand that has this name

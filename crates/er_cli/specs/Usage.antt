@@ -1,18 +1,19 @@
 -- What is at fault in words that are no line.
 use Rattle.std.specs.Prelude.{◌≡◌, ℕ, ◌+◌, ◌<◌, Bool, true, false, ◌&&◌, List, [], ◌∷◌, length, Option, Some, None, is_some, IsTrue, IsFalse, slice_get}
 use Rattle.er_cli.specs.declared.usage.Kind.{Kind}
-use Rattle.er_cli.specs.declared.usage.Kind.TheVariants.{Text, SmallNumber, Number, Seed}
+use Rattle.er_cli.specs.declared.usage.Kind.TheVariants.{Text, SmallNumber, Number, Seed, Count}
 use Rattle.er_cli.specs.declared.usage.UsageFault.{UsageFault}
-use Rattle.er_cli.specs.declared.usage.UsageFault.TheVariants.{UnknownSubcommand, LeadingDash, TooFew, TooMany, BadNumber, BadSeed}
+use Rattle.er_cli.specs.declared.usage.UsageFault.TheVariants.{UnknownSubcommand, LeadingDash, TooFew, TooMany, BadNumber, BadSeed, BadCount}
 use Rattle.er_cli.specs.declared.line.Line.{Line}
 use Rattle.er_cli.specs.Line.{is_option, names_one}
-use Rattle.er_cli.specs.Values.{number_below, seed_of}
+use Rattle.er_cli.specs.Values.{number_below, count_of, seed_of}
 
 -- the fault lies in this word, at this place
 abbrev pub IsOf : List ℕ → ℕ → UsageFault → Type 0
 IsOf word at (LeadingDash place) = (place ≡ at) × IsTrue (is_option word)
 IsOf word at (BadNumber place most) = (place ≡ at) × (number_below (most + 1) word ≡ None)
 IsOf word at (BadSeed place) = (place ≡ at) × (seed_of word ≡ None)
+IsOf word at (BadCount place) = (place ≡ at) × (count_of word ≡ None)
 IsOf word at _ = ⊥
 
 -- the words have the fault
@@ -29,6 +30,7 @@ is_of_kind Text word = true
 is_of_kind SmallNumber word = is_some (number_below 256 word)
 is_of_kind Number word = is_some (number_below 65536 word)
 is_of_kind Seed word = is_some (seed_of word)
+is_of_kind Count word = is_some (count_of word)
 
 -- one word of each of these kinds, in order
 abbrev pub are_of_kinds : List Kind → List (List ℕ) → Bool

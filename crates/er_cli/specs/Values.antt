@@ -1,5 +1,5 @@
 -- The values that words are.
-use Rattle.std.specs.Prelude.{ℕ, ◌+◌, ◌*◌, ◌==◌, nat_lt, ◌&&◌, if◌then◌else◌, List, [], ◌∷◌, length, Option, Some, None, option_map}
+use Rattle.std.specs.Prelude.{ℕ, ◌+◌, ◌*◌, ◌==◌, nat_lt, ◌&&◌, if◌then◌else◌, List, [], ◌∷◌, length, Option, Some, None, option_and_then, option_map}
 use Rattle.std.specs.List.{list_all}
 use Rattle.std.specs.Char.{is_ascii_digit, is_ascii_hexdigit, digit_value}
 use Rattle.std.specs.Str.Parse.{digits_value}
@@ -8,6 +8,10 @@ use Rattle.er_event.specs.declared.scores.Games.{Games}
 -- the number below the limit that a word of digits is
 abbrev pub number_below : ℕ → List ℕ → Option ℕ
 number_below limit word = if nat_lt 0 (length word) && list_all is_ascii_digit word && nat_lt (digits_value 10 word) limit then Some (digits_value 10 word) else None
+
+-- the number of connections that a word is: from 1 to a million
+abbrev pub count_of : List ℕ → Option ℕ
+count_of word = option_and_then (λ count. if nat_lt 0 count then Some count else None) (number_below 1000001 word)
 
 -- the bytes of hexadecimal digits, two for each. The first of the two counts sixteen.
 abbrev pub hex_bytes : List ℕ → List ℕ

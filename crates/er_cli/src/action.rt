@@ -13,6 +13,11 @@ pub enum Action {
     Ask {
         request: Request,
     },
+    /// Clients ask it, over so many connections.
+    Serve {
+        port: u16,
+        count: u32,
+    },
 }
 
 /// What the desk of an event is asked.

@@ -32,6 +32,7 @@ fn what_is_wrong(fault: UsageFault) -> &'static str
         } => "is no whole number from 0 to 255\n",
         UsageFault::BadNumber { place: _, most: _ } => "is no whole number from 0 to 65535\n",
         UsageFault::BadSeed { place: _ } => "is not 64 hexadecimal digits\n",
+        UsageFault::BadCount { place: _ } => "is no whole number from 1 to 1000000\n",
     }
 }
 
@@ -44,7 +45,8 @@ fn place_of(fault: UsageFault) -> usize
         | UsageFault::TooFew { place }
         | UsageFault::TooMany { place }
         | UsageFault::BadNumber { place, most: _ }
-        | UsageFault::BadSeed { place } => place,
+        | UsageFault::BadSeed { place }
+        | UsageFault::BadCount { place } => place,
     }
 }
 

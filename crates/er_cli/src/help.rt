@@ -29,6 +29,7 @@ Keeps one event of a Magic Swiss tournament in FILE. What is answered `ok` is in
   standings FILE                  lists the players by rank, with their points and percentages
   slips FILE ROUND                lists the matches of a round that was paired, table by table
   bracket FILE                    lists the matches of the playoff, stage by stage, and then its champion
+  serve FILE PORT COUNT           lets players read slips and hand in scores over HTTP on this machine, for so many connections
 
   SUBCOMMAND --help               says more of one of them
   -h, --help                      prints this text
@@ -228,6 +229,32 @@ Example: event_reporter bracket friday.event
 Refuses: 24 Memory, 25 Store, 27 NoEvent, 29 Damaged.
 ";
 
+pub const SERVE: &str = "\
+usage: event_reporter serve FILE PORT COUNT
+
+Answers HTTP on 127.0.0.1, this machine alone, one connection after the other, and prints `listening` and its port. While it serves,
+no other command opens FILE. Ctrl-C stops it, and what was answered with a serial is kept; after COUNT connections it ends.
+
+  PORT    0 to 65535; 0 takes any that is free
+  COUNT   the connections to serve: 1 to 1000000
+
+  GET  /standings                      the standings, as text
+  GET  /rounds/ROUND                   the pairings of a round, as text
+  GET  /rounds/ROUND/tables/TABLE      the slip of a match, as JSON
+  POST /rounds/ROUND/tables/TABLE      hands in a score, as {\"a\":X,\"b\":Y,\"d\":D}
+
+Example: event_reporter serve friday.event 8080 100
+   then: curl http://127.0.0.1:8080/rounds/1/tables/1
+   then: curl -d '{\"a\":2,\"b\":1,\"d\":0}' http://127.0.0.1:8080/rounds/1/tables/1
+Refuses: 24 Memory, 25 Store, 27 NoEvent, 29 Damaged. Where it can't listen the status is 3.
+";
+
+/// What a person is told where the port can't be had.
+pub const CANNOT_LISTEN: &str = "\
+event_reporter: cannot listen at this port: another program may have it, or it is below 1024
+Try port 0, which takes any that is free.
+";
+
 /// What a terminal is told where there are no words, since a prompt that says nothing looks as if it hung.
 pub const AWAITING: &str = "\
 event_reporter: no words were given, so a script is read from this terminal: a line each, its words separated by one TAB.
@@ -284,6 +311,7 @@ pub fn subcommand_text(name: &str) -> Option<&'static str>
         "players" => Some(PLAYERS),
         "slips" => Some(SLIPS),
         "bracket" => Some(BRACKET),
+        "serve" => Some(SERVE),
         _ => None,
     }
 }

@@ -6,7 +6,7 @@ ghost use Rattle.std.specs.Io.KnownBytes.{Appends};
 ghost use Rattle.er_cli.specs.Texts.{answer_text, AppendsPart};
 ghost use Rattle.er_cli.specs.Action.{action_of};
 ghost use Rattle.er_cli.specs.Complaints.{EndsAsUsage};
-ghost use Rattle.er_cli.specs.Files.{FileAnswers};
+ghost use Rattle.er_cli.specs.Files.{EndsLine};
 ghost use Rattle.er_cli.specs.declared.help.TheConstants.{AWAITING};
 ghost use Rattle.er_cli.specs.Help.{Says, Tells, refusal_status, text_for};
 ghost use Rattle.er_cli.specs.Line.{line_of};
@@ -22,6 +22,7 @@ mod input;
 mod line;
 mod paths;
 mod script;
+mod serving;
 mod setup;
 mod texts;
 mod usage;
@@ -31,12 +32,13 @@ mod words;
 pub use action::{Action, Request};
 use complaints::complaint;
 use er_event::Refusal;
-use files::answer_line;
+use files::act;
 use help::{AWAITING, say, text_for};
 use input::{InputFault, lines_of, read_script};
 pub use line::{Line, LineFault, read_words};
 pub use paths::FilePath;
 use script::run_lines;
+pub use serving::serve_on;
 use std::alloc::Global;
 use std::io::{Read, Write};
 use texts::{Answer, WriteFault, flush, print_answer};
@@ -170,14 +172,14 @@ pub fn run<O: Write, E: Write>(rt: &HostRuntime, words: &[String], out: &mut O, 
         → EndsAsUsage (map string_bytes words.now) (O.contents out.old) (O.contents out.new) (E.contents err.old) (E.contents err.new) result }
     // What is one is answered as the event of the file has it, with the status of that answer. Memory may be wanting to read it.
     ensures answered { text_for (map string_bytes words.now) ≡ None → IfSome (line_of (map string_bytes words.now))
-        (λ line. (answer : Answer) × (FileAnswers (action_of line) answer ⊎ (answer ≡ Answer.Refused Refusal.Memory))
-        × Tells answer (O.contents out.old) (O.contents out.new) (E.contents err.old) (E.contents err.new) result) }
+        (λ line. EndsLine (action_of line) (O.contents out.old) (O.contents out.new) (E.contents err.old) (E.contents err.new) result
+        ⊎ Tells (Answer.Refused Refusal.Memory) (O.contents out.old) (O.contents out.new) (E.contents err.old) (E.contents err.new) result) }
 {
     if let Some(text) = text_for(words) {
         return say_all(out, text, DONE);
     }
     match read_words(rt.alloc(), words) {
-        Ok(line) => tell(out, err, &answer_line(rt, line)),
+        Ok(line) => act(rt, line, out, err),
         Err(LineFault::Usage) => say_usage(rt.alloc(), words, out, err),
         Err(LineFault::Memory) => tell(out, err, &Answer::Refused(Refusal::Memory)),
     }

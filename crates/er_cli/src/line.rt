@@ -1,9 +1,11 @@
 ghost use Rattle.std.specs.Prelude.{◌≡◌, map, string_bytes};
-ghost use Rattle.er_cli.specs.Line.{Reads, lone_file, init_of, enrol_of, start_of, pair_of, result_of, correct_of, drop_of, cut_of, playoff_of, standings_of, players_of, slips_of, bracket_of, subcommands, line_by, line_of};
+ghost use Rattle.er_cli.specs.Line.{Reads, lone_file, init_of, enrol_of, start_of, pair_of, result_of, correct_of, drop_of, cut_of, playoff_of, standings_of, players_of, slips_of, bracket_of, serve_of, subcommands, line_by, line_of};
 
 use crate::action::{Action, Request};
 use crate::paths::FilePath;
-use crate::values::{name_of, number_of, report_of, seed_of, slot_report_of, small_number_of};
+use crate::values::{
+    count_of, name_of, number_of, report_of, seed_of, slot_report_of, small_number_of,
+};
 use crate::words::{has_option, split_words};
 use er_event::{Command, Games, Items};
 use std::alloc::{AllocError, Global};
@@ -66,6 +68,11 @@ pub enum Line {
     },
     Bracket {
         file: FilePath,
+    },
+    Serve {
+        file: FilePath,
+        port: u16,
+        count: u32,
     },
 }
 
@@ -147,6 +154,7 @@ impl Line {
             Line::Players { file } => (file, Action::from(Request::Players)),
             Line::Slips { file, round } => (file, Action::from(Request::Slips { round })),
             Line::Bracket { file } => (file, Action::from(Request::Bracket)),
+            Line::Serve { file, port, count } => (file, Action::Serve { port, count }),
         }
     }
 }
@@ -327,6 +335,22 @@ fn read_bracket(alloc: Global, words: &[&str]) -> Result<Line, LineFault>
     })
 }
 
+fn read_serve(alloc: Global, words: &[&str]) -> Result<Line, LineFault>
+    ensures { Reads (serve_of (map (λ word. word.now) words.now)) result }
+{
+    let [file, port, count] = *words else {
+        return Err(LineFault::Usage);
+    };
+    let (Some(port), Some(count)) = (number_of(port), count_of(count)) else {
+        return Err(LineFault::Usage);
+    };
+    Ok(Line::Serve {
+        file: FilePath::from_str(alloc, file)?,
+        port,
+        count,
+    })
+}
+
 /// The line of the subcommand that has this name.
 fn read_named(alloc: Global, name: &str, words: &[&str]) -> Result<Line, LineFault>
     ensures { Reads (line_by subcommands name.now (map (λ word. word.now) words.now)) result }
@@ -345,6 +369,7 @@ fn read_named(alloc: Global, name: &str, words: &[&str]) -> Result<Line, LineFau
         "players" => read_players(alloc, words),
         "slips" => read_slips(alloc, words),
         "bracket" => read_bracket(alloc, words),
+        "serve" => read_serve(alloc, words),
         _ => Err(LineFault::Usage),
     }
 }

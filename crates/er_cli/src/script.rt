@@ -75,6 +75,8 @@ impl Runner {
                 reply_answer(self.init(name.as_slice(), rounds, cut))
             }
             Action::Ask { request } => self.ask(request),
+            // A script has no file that clients could ask.
+            Action::Serve { port: _, count: _ } => Answer::Usage,
         }
     }
 

@@ -3,7 +3,7 @@ ghost use Rattle.std.specs.List.{list_any};
 ghost use Rattle.er_cli.specs.Line.{is_option, line_by, line_of, names_one, subcommands};
 ghost use Rattle.er_cli.specs.Usage.{HasFault, IsOf, Takes, are_of_kinds, is_of_kind};
 
-use crate::values::{number_of, seed_of, small_number_of};
+use crate::values::{count_of, number_of, seed_of, small_number_of};
 use crate::words::is_option;
 
 /// Which word keeps words from being a line. Places count from 0, the place of the subcommand's name.
@@ -21,6 +21,8 @@ pub enum UsageFault {
     BadNumber { place: usize, most: u16 },
     /// The word at this place isn't 64 hexadecimal digits.
     BadSeed { place: usize },
+    /// The word at this place is no number of connections.
+    BadCount { place: usize },
 }
 
 /// What a word has to be.
@@ -30,6 +32,7 @@ enum Kind {
     SmallNumber,
     Number,
     Seed,
+    Count,
 }
 
 /// What the words after a subcommand's name have to be.
@@ -58,6 +61,7 @@ fn kinds_of(name: &str) -> Option<&'static [Kind]>
             Kind::SmallNumber,
         ]),
         "slips" => Some(&[Kind::Text, Kind::SmallNumber]),
+        "serve" => Some(&[Kind::Text, Kind::Number, Kind::Count]),
         "start" | "cut" | "standings" | "players" | "bracket" => Some(&[Kind::Text]),
         _ => None,
     }
@@ -78,6 +82,7 @@ fn word_fault(kind: Kind, word: &str, place: usize) -> Option<UsageFault>
             most: u16::MAX,
         }),
         Kind::Seed if seed_of(word).is_none() => Some(UsageFault::BadSeed { place }),
+        Kind::Count if count_of(word).is_none() => Some(UsageFault::BadCount { place }),
         _ => None,
     }
 }

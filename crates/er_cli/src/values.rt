@@ -1,11 +1,14 @@
 ghost use Rattle.std.specs.Prelude.{◌≡◌, IfOk, map};
 ghost use Rattle.std.specs.List.{list_all};
 ghost use Rattle.std.specs.Char.{is_ascii_digit};
-ghost use Rattle.er_cli.specs.Values.{number_below, seed_of, games_of, report_of, slot_report_of};
+ghost use Rattle.er_cli.specs.Values.{number_below, count_of, seed_of, games_of, report_of, slot_report_of};
 
 use er_event::{Games, Items};
 use hex::FromHex;
 use std::alloc::{AllocError, Global};
+
+/// How many connections are served at most before the file is given back.
+const MAX_CONNECTIONS: u32 = 1_000_000;
 
 fn is_number(word: &str) -> bool
     ensures { result ≡ list_all is_ascii_digit word.now }
@@ -30,6 +33,28 @@ pub fn number_of(word: &str) -> Option<u16>
 {
     if is_number(word) {
         word.parse().ok()
+    } else {
+        None
+    }
+}
+
+fn large_number_of(word: &str) -> Option<u32>
+    ensures { result ≡ number_below 4294967296 word.now }
+{
+    if is_number(word) {
+        word.parse().ok()
+    } else {
+        None
+    }
+}
+
+/// The number of connections that a word is, from 1 on.
+pub fn count_of(word: &str) -> Option<u32>
+    ensures { result ≡ count_of word.now }
+{
+    let count = large_number_of(word)?;
+    if 0 < count && count <= MAX_CONNECTIONS {
+        Some(count)
     } else {
         None
     }

@@ -10,7 +10,7 @@ use clap::{Arg, ArgMatches, Command, Error};
 use std::alloc::{AllocError, Global};
 
 /// The names of the subcommands.
-static SUBCOMMANDS: [&str; 13] = [
+static SUBCOMMANDS: [&str; 14] = [
     "init",
     "enrol",
     "start",
@@ -24,6 +24,7 @@ static SUBCOMMANDS: [&str; 13] = [
     "players",
     "slips",
     "bracket",
+    "serve",
 ];
 
 /// Whether a word asks for an option. There are none.

@@ -1,6 +1,7 @@
 ghost use Rattle.std.specs.Prelude.{◌≡◌, false, IfSome};
 
-use crate::helpers::{commands, desk_after, new_desk, submit};
+use crate::helpers::{FOUR, commands, desk_after, is_slip, new_desk, submit};
+use crate::requests::are_unavailable;
 use er_desk::{Desk, Reply};
 use er_event::{Cause, Receipt, Refusal};
 use sqlite::{Alter, Connection, FileStore, Files, MemStore, Options};
@@ -61,6 +62,24 @@ fn a_desk_answers_and_is_adopted(rt: HostRuntime) -> Result<(), Fail> {
     Ok(())
 }
 
+const SLIP: &str =
+    "{\"first\":{\"name\":\"Di\",\"no\":4},\"round\":1,\"score\":null,\"second\":{\"name\":\"Bo\",\"no\":2},\"table\":1}";
+
+/// Whether a desk reads a slip, finds no third table, and goes on.
+fn reads_slips(alloc: Global) -> Option<bool> {
+    let mut desk = desk_after(alloc, 3, 0, FOUR)?;
+    let third = desk.slip(alloc, 1, 3).err();
+    let is_read = is_slip(alloc, desk.slip(alloc, 1, 1), SLIP);
+    let is_refused = third == Some(Refusal::NoSuchMatch);
+    Some(is_read == Some(true) && is_refused && !desk.needs_reopen())
+}
+
+#[test]
+fn a_desk_reads_slips(rt: HostRuntime) -> Result<(), Fail> {
+    assert_eq!(rt; reads_slips(rt.alloc()), Some(true));
+    Ok(())
+}
+
 /// An empty database, whose log fails after so many calls.
 fn failing(alloc: Global, calls: u64) -> Option<Connection<FileStore<Fuse<Memory>>>>
     ensures { IfSome result (λ conn. conn.in_transaction ≡ false) }
@@ -86,8 +105,8 @@ fn first_refusal<S: Alter>(alloc: Global, desk: &mut Desk<S>) -> Option<Refusal>
     None
 }
 
-/// The first refusal, what the desk then says of itself, and what it answers next.
-type Stop = (Option<Refusal>, bool, Option<Reply>);
+/// The first refusal, what the desk then says of itself, what it answers next, to the reader of a slip, and whether requests get the like.
+type Stop = (Option<Refusal>, bool, Option<Reply>, Option<Refusal>, bool);
 
 fn stopped<S: Alter + Drop>(alloc: Global, conn: Connection<S>) -> Option<Stop>
     requires { conn.in_transaction ≡ false }
@@ -96,7 +115,14 @@ fn stopped<S: Alter + Drop>(alloc: Global, conn: Connection<S>) -> Option<Stop>
     let why = first_refusal(alloc, &mut desk);
     let needs_reopen = desk.needs_reopen();
     let next = submit(alloc, &mut desk, "enrol Ana");
-    Some((why, needs_reopen, next))
+    let slip = desk.slip(alloc, 1, 1).err();
+    Some((
+        why,
+        needs_reopen,
+        next,
+        slip,
+        are_unavailable(alloc, &mut desk),
+    ))
 }
 
 fn stopped_by_the_device(alloc: Global) -> Option<Stop> {
@@ -108,10 +134,16 @@ const REFUSED: Refusal = Refusal::Store {
     cause: Cause::Refused,
 };
 
-/// After a fault of the device the desk takes no command.
+/// After a fault of the device the desk takes no command, shows no slip, and answers each request with a 503.
 #[test]
 fn a_fault_of_the_device_stops_the_desk(rt: HostRuntime) -> Result<(), Fail> {
-    let answers = (Some(REFUSED), true, Some(Err(Refusal::NeedsReopen)));
+    let answers = (
+        Some(REFUSED),
+        true,
+        Some(Err(Refusal::NeedsReopen)),
+        Some(Refusal::NeedsReopen),
+        true,
+    );
     assert_eq!(rt; stopped_by_the_device(rt.alloc()), Some(answers));
     Ok(())
 }

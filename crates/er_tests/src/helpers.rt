@@ -2,9 +2,20 @@
 ghost use Rattle.std.specs.Prelude.{◌≡◌, false};
 
 use er_desk::{Desk, Reply};
-use er_event::{Change, Command, Event, Games, Items, Name, Phase, PlayerNo};
+use er_event::{Change, Command, Event, Games, Items, Name, Phase, PlayerNo, Refusal, SlipRow};
+use er_paper::slip_json;
 use sqlite::{Alter, Connection, MemStore};
 use std::alloc::Global;
+
+/// Ana, Bo, Cy and Di; the first round is (4,2), (1,3).
+pub const FOUR: &str = "\
+enrol Ana
+enrol Bo
+enrol Cy
+enrol Di
+start
+pair 1
+";
 
 pub fn name(alloc: Global, text: &str) -> Option<Name> {
     Name::try_from_bytes(alloc, text.as_bytes()).ok()
@@ -193,4 +204,11 @@ pub fn desk_after(alloc: Global, rounds: u8, cut: u8, lines: &str) -> Option<Des
     } else {
         None
     }
+}
+
+/// Whether a slip was read that is written as this text.
+pub fn is_slip(alloc: Global, read: Result<SlipRow, Refusal>, text: &str) -> Option<bool> {
+    let row = read.ok()?;
+    let json = slip_json(alloc, &row).ok()?;
+    Some(json.as_slice() == text.as_bytes())
 }

@@ -13,6 +13,8 @@ mod helpers;
 #[cfg(test)]
 mod pairings;
 #[cfg(test)]
+mod requests;
+#[cfg(test)]
 mod rules;
 #[cfg(test)]
 mod scripts;
@@ -21,6 +23,10 @@ mod shares;
 #[cfg(test)]
 mod slips;
 #[cfg(test)]
+mod sockets;
+#[cfg(test)]
 mod standings;
 #[cfg(test)]
 mod stores;
+#[cfg(test)]
+mod wires;

@@ -1,6 +1,4 @@
-use Rattle.std.proofs.Common.{inr, refl, map, Option, Some, None, IfSome, string_bytes}
-use Rattle.er_event.specs.declared.refusals.Refusal.TheVariants.{Memory}
-use Rattle.er_cli.specs.declared.texts.Answer.TheVariants.{Refused}
+use Rattle.std.proofs.Common.{inr, map, Option, Some, None, IfSome, string_bytes}
 use Rattle.er_cli.specs.Line.{line_of}
 use Rattle.er_cli.proofs.run.Goals as goal
 
@@ -11,5 +9,5 @@ always (Some x) it = it x
 -- memory may be wanting for any words
 pub returns-in-Err-Memory-clause-answered : goal.returns-in-Err-Memory-clause-answered
 returns-in-Err-Memory-clause-answered g c asked =
-    let tell = c.tell-in-Err-Memory in
-    always (line_of (map string_bytes c.args.words.now)) (λ line. (Refused Memory, inr refl, tell.ensures))
+    let tell = c.tell in
+    always (line_of (map string_bytes c.args.words.now)) (λ line. inr tell.ensures)

@@ -1,6 +1,0 @@
-use Rattle.std.proofs.Common.{sym, ap, ℕ, List}
-use Rattle.er_cli.specs.declared.action.Action.{Action}
-use Rattle.er_cli.proofs.files.answer_line.Goals as goal
-
-pub returns-in-Init : goal.returns-in-Init
-returns-in-Init c = rw (sym (ap (λ (parts : List ℕ × Action). parts.1) c.into_parts-file.ensures), c.in-Init.is, c.reply_answer.ensures, sym c.as_slice.ensures) c.init.ensures

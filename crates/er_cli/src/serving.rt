@@ -1,0 +1,122 @@
+ghost use Rattle.std.specs.Prelude.{◌≡◌, ◌⊎◌, ◌≤◌, IsTrue, IsFalse, MatchResult, OnOk, OnErr};
+ghost use Rattle.std.specs.Io.KnownBytes.{Appends};
+ghost use Rattle.sqlite.specs.State.{HasCleanDisk};
+ghost use Rattle.er_desk.specs.Desk.{ShowsOwn, point_of, standing, state};
+ghost use Rattle.er_desk.specs.Headline.{LeavesJust};
+ghost use Rattle.er_cli.specs.Serving.{Connects, ConnectsAll, ConnectsUpTo, PrintsServed, listening, served};
+ghost use Rattle.er_cli.specs.Texts.{AppendsPart};
+
+use crate::texts::{WriteFault, flush, send};
+use crate::{DEVICE, DONE};
+use er_desk::Desk;
+use er_paper::ShortText;
+use er_slips::serve_one;
+use sqlite::Alter;
+use std::alloc::Global;
+use std::io::Write;
+use std::net::{TcpListener, TcpStream};
+
+fn listening_line(port: u16) -> ShortText
+    ensures { result ≡ listening port }
+{
+    let mut line = ShortText::new();
+    line.push(b"listening ");
+    line.push_number(u64::from(port));
+    line.push(b"\n");
+    line
+}
+
+fn served_line(count: u32) -> ShortText
+    ensures { result ≡ served count }
+{
+    let mut line = ShortText::new();
+    line.push(b"served ");
+    line.push_number(u64::from(count));
+    line.push(b"\n");
+    line
+}
+
+/// Prints a line, and has the writer pass it on: whoever waits for the port reads it at once.
+fn print_line<W: Write>(writer: &mut W, line: &ShortText) -> Result<(), WriteFault>
+    ensures sent { OnOk result (Appends (W.contents writer.old) (W.contents writer.new) line.now) }
+    ensures part { OnErr result (AppendsPart (W.contents writer.old) (W.contents writer.new) line.now) }
+{
+    send(writer, line.as_slice())?;
+    flush(writer)
+}
+
+/// Serves the request of one client. One that goes away counts as served.
+fn serve_client<S: Alter>(alloc: Global, desk: &mut Desk<S>, client: &TcpStream)
+    ensures turn { Connects (standing desk.old) (standing desk.new) }
+    ensures waits { IsTrue (standing desk.old).stopped → desk.new ≡ desk.old }
+    ensures clean { HasCleanDisk (state S.Store desk.new) → HasCleanDisk (state S.Store desk.old) }
+    ensures stands { HasCleanDisk (state S.Store desk.new) → ShowsOwn S.Store desk.old → IsFalse (standing desk.new).stopped → ShowsOwn S.Store desk.new }
+    ensures leaves { ShowsOwn S.Store desk.old → LeavesJust (state S.Store desk.old) (point_of (standing desk.old)) → IsFalse (standing desk.new).stopped
+        → LeavesJust (state S.Store desk.new) (point_of (standing desk.new)) }
+{
+    let (mut reader, mut writer) = (client, client);
+    let _served = serve_one(alloc, desk, &mut reader, &mut writer);
+}
+
+/// The listener gave no connection.
+#[derive(Clone, Copy, Debug, PartialEq, Eq)]
+struct AcceptFault;
+
+/// Serves so many clients, one after the other.
+fn serve_clients<S: Alter>(
+    alloc: Global,
+    desk: &mut Desk<S>,
+    listener: &TcpListener,
+    count: u32,
+) -> Result<(), AcceptFault>
+    ensures turns { MatchResult result (λ _. ConnectsAll count (standing desk.old) (standing desk.new)) (λ _. ConnectsUpTo count (standing desk.old) (standing desk.new)) }
+    ensures waits { IsTrue (standing desk.old).stopped → desk.new ≡ desk.old }
+    ensures clean { HasCleanDisk (state S.Store desk.new) → HasCleanDisk (state S.Store desk.old) }
+    ensures stands { HasCleanDisk (state S.Store desk.new) → ShowsOwn S.Store desk.old → IsFalse (standing desk.new).stopped → ShowsOwn S.Store desk.new }
+    ensures leaves { ShowsOwn S.Store desk.old → LeavesJust (state S.Store desk.old) (point_of (standing desk.old)) → IsFalse (standing desk.new).stopped
+        → LeavesJust (state S.Store desk.new) (point_of (standing desk.new)) }
+{
+    for _ in 0..count {
+        let Ok((client, _address)) = listener.accept() else {
+            return Err(AcceptFault);
+        };
+        serve_client(alloc, desk, &client);
+    }
+    Ok(())
+}
+
+/// Serves so many clients of a listener, one after the other, and gives the status to end with: 3 where the listener or a print fails.
+/// Prints the port that it listens at, and at the end how many it has served. A client that goes away counts as served.
+pub fn serve_on<S: Alter, W: Write>(
+    alloc: Global,
+    desk: &mut Desk<S>,
+    listener: &TcpListener,
+    count: u32,
+    out: &mut W,
+) -> u8
+    // Each client leaves the desk as it was, has it read a slip, or hands it one score.
+    ensures turns { ((result ≡ DONE) × ConnectsAll count (standing desk.old) (standing desk.new)) ⊎ ((result ≡ DEVICE) × ConnectsUpTo count (standing desk.old) (standing desk.new)) }
+    ensures printed { PrintsServed count (W.contents out.old) (W.contents out.new) result }
+
+    ensures waits { IsTrue (standing desk.old).stopped → desk.new ≡ desk.old }
+    ensures clean { HasCleanDisk (state S.Store desk.new) → HasCleanDisk (state S.Store desk.old) }
+    ensures stands { HasCleanDisk (state S.Store desk.new) → ShowsOwn S.Store desk.old → IsFalse (standing desk.new).stopped → ShowsOwn S.Store desk.new }
+
+    // While the desk runs, a crash leaves just the event that it stands at.
+    ensures leaves { ShowsOwn S.Store desk.old → LeavesJust (state S.Store desk.old) (point_of (standing desk.old)) → IsFalse (standing desk.new).stopped
+        → LeavesJust (state S.Store desk.new) (point_of (standing desk.new)) }
+{
+    let Ok(address) = listener.local_addr() else {
+        return DEVICE;
+    };
+    let Ok(()) = print_line(out, &listening_line(address.port())) else {
+        return DEVICE;
+    };
+    let Ok(()) = serve_clients(alloc, desk, listener, count) else {
+        return DEVICE;
+    };
+    match print_line(out, &served_line(count)) {
+        Ok(()) => DONE,
+        Err(WriteFault) => DEVICE,
+    }
+}

@@ -1,0 +1,72 @@
+//! Clients over real sockets. They send their requests before anybody serves them, so that nothing runs at the same time.
+
+use crate::helpers::{FOUR, desk_after};
+use crate::requests::{POST, TAKEN};
+use er_cli::serve_on;
+use std::alloc::Global;
+use std::io::{Read, Write};
+use std::net::{Ipv4Addr, Shutdown, SocketAddr, TcpListener, TcpStream};
+use std::test::Fail;
+
+const GET: &str = "GET /rounds/1/tables/1 HTTP/1.1\r\n\r\n";
+
+const SCORED: &str = "\
+HTTP/1.1 200 OK\r
+Content-Type: application/json\r
+Content-Length: 108\r
+Connection: close\r
+\r
+{\"first\":{\"name\":\"Di\",\"no\":4},\"round\":1,\"score\":{\"a\":2,\"b\":1,\"d\":0},\"second\":{\"name\":\"Bo\",\"no\":2},\"table\":1}";
+
+/// A client that has sent its whole request.
+fn client(rt: &HostRuntime, address: SocketAddr, request: &str) -> Option<TcpStream> {
+    let stream = TcpStream::connect(rt, address).ok()?;
+    (&stream).write_all(request.as_bytes()).ok()?;
+    stream.shutdown(Shutdown::Write).ok()?;
+    Some(stream)
+}
+
+/// A listener with a client who hands in a score, and another one who asks for its slip.
+fn two_clients(rt: &HostRuntime) -> Option<(TcpListener, TcpStream, TcpStream)> {
+    let listener = TcpListener::bind(rt, (Ipv4Addr::LOCALHOST, 0)).ok()?;
+    let address = listener.local_addr().ok()?;
+    let first = client(rt, address, POST)?;
+    let second = client(rt, address, GET)?;
+    Some((listener, first, second))
+}
+
+/// The status, and what is printed, where two clients of a listener are served.
+fn serve_two(alloc: Global, listener: &TcpListener) -> Option<(u8, Vec<u8>)> {
+    let mut desk = desk_after(alloc, 3, 0, FOUR)?;
+    let mut out = Vec::new(alloc);
+    let status = serve_on(alloc, &mut desk, listener, 2, &mut out);
+    Some((status, out))
+}
+
+/// Whether a client got this answer.
+fn got(alloc: Global, mut client: &TcpStream, answer: &str) -> bool {
+    let mut bytes = Vec::new(alloc);
+    client.read_to_end(&mut bytes).is_ok() && bytes.as_slice() == answer.as_bytes()
+}
+
+/// Whether two clients are served in the order in which they came.
+fn are_served(rt: &HostRuntime) -> Option<bool> {
+    let alloc = rt.alloc();
+    let (listener, first, second) = two_clients(rt)?;
+    let (status, out) = serve_two(alloc, &listener)?;
+    let port = listener.local_addr().ok()?.port();
+    let due = format!(in alloc; "listening {port}\nserved 2\n").ok()?;
+    Some(
+        status == 0
+            && out.as_slice() == due.as_bytes()
+            && got(alloc, &first, TAKEN)
+            && got(alloc, &second, SCORED),
+    )
+}
+
+/// Worked example 36.
+#[test]
+fn two_clients_are_served(rt: HostRuntime) -> Result<(), Fail> {
+    assert_eq!(rt; are_served(&rt), Some(true));
+    Ok(())
+}
