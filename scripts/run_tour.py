@@ -1,6 +1,8 @@
 """Runs what the documents show: in each block of kind `console` the lines behind `$`, one after the other in one new folder for a document,
 in which `event_reporter` is the program as it is built and the examples lie beside it. What they print, errors too, has to be what stands
-beneath them.
+beneath them. A line that ends with `&` goes on behind the ones that follow; what stands beneath it is what it prints at once, and beneath `wait`
+stands the rest. The port that is shown stands for one that is free. What goes on behind is asked by `curl`; where that isn't installed, a document
+ends there, and a line says so.
 """
 import os
 import re
@@ -9,10 +11,12 @@ import subprocess
 import sys
 import tempfile
 
+from serving import free_port
 from tally import check, end
 
 program, *documents = sys.argv[1:]
 top = os.path.dirname(os.path.dirname(os.path.abspath(__file__)))
+PORT = "8080"
 
 
 def steps_of(document):
@@ -23,11 +27,41 @@ def steps_of(document):
             yield typed, shown
 
 
+class Tour:
+    """One document, in its folder."""
+
+    def __init__(self, room):
+        self.port, self.behind = str(free_port()), None
+        self.how = {"shell": True, "cwd": room, "stdout": subprocess.PIPE, "stderr": subprocess.STDOUT, "stdin": subprocess.DEVNULL}
+
+    def printed(self, typed, lines):
+        """What the line prints; of one that goes on behind the others, so many lines."""
+        if typed == "wait":
+            return self.behind.communicate(timeout=60)[0]
+        if typed.endswith(" &"):
+            self.behind = subprocess.Popen("exec " + typed.removesuffix(" &"), bufsize=0, **self.how)
+            return b"".join(self.behind.stdout.readline() for _ in range(lines))
+        return subprocess.run(typed, timeout=60, **self.how).stdout
+
+    def run(self, typed, shown):
+        printed = self.printed(typed.replace(PORT, self.port), shown.count("\n"))
+        return printed.decode().replace(self.port, PORT)
+
+    def end(self):
+        if self.behind and self.behind.poll() is None:
+            self.behind.kill()
+            self.behind.wait()
+
+
 for document in documents:
     with tempfile.TemporaryDirectory() as room:
         os.symlink(os.path.abspath(program), f"{room}/event_reporter")
         shutil.copytree(f"{top}/examples", f"{room}/examples")
+        tour = Tour(room)
         for typed, shown in steps_of(document):
-            ran = subprocess.run(typed, shell=True, cwd=room, stdout=subprocess.PIPE, stderr=subprocess.STDOUT, stdin=subprocess.DEVNULL, timeout=60)
-            check(f"{document}: {typed}", ran.stdout.decode(), shown)
+            if typed.endswith(" &") and not shutil.which("curl"):
+                print(f"curl is not installed: {document} is not run from `{typed}` on")
+                break
+            check(f"{document}: {typed}", tour.run(typed, shown), shown)
+        tour.end()
 end("what the documents show")
