@@ -1,10 +1,12 @@
 -- A score that is handed in again.
-use Rattle.std.specs.Prelude.{◌≡◌, ◌⊎◌, ℕ, List, Option, Ok}
+use Rattle.std.specs.Prelude.{◌≡◌, ◌⊎◌, ℕ, List, Option, Some, Ok}
 use Rattle.er_event.specs.declared.refusals.Command.{Command}
 use Rattle.er_event.specs.declared.refusals.Command.TheVariants.{Result as Hand}
 use Rattle.er_event.specs.declared.refusals.Refusal.TheVariants.{AlreadyReported, NotSwiss}
 use Rattle.er_event.specs.declared.scores.Games.{Games}
+use Rattle.er_event.specs.declared.rounds.Match.{Match}
 use Rattle.er_event.specs.Event.{EventValue}
+use Rattle.er_event.specs.Round.{match_at}
 use Rattle.er_rules.specs.Step.{Steps}
 use Rattle.er_rules.specs.Fold.{Folds}
 use Rattle.er_slips.specs.declared.request.asked.Asked.TheVariants.{Report}
@@ -12,10 +14,14 @@ use Rattle.er_slips.specs.Answer.{AnswerValue, refusal_answer}
 use Rattle.er_slips.specs.Request.{Asks}
 use Rattle.er_slips.specs.Whole.{IsAnswer}
 
+-- the match of this table is stored with this score
+abbrev pub HasScore : EventValue → ℕ → ℕ → Games → Type 0
+HasScore event round table score = (stored : Match) × (match_at event round table ≡ Some stored) × (stored.score ≡ Some score)
+
 -- A score that was taken once, and is handed in again by the same input after any more commands, is answered with the score that is stored then, or that
 -- the event is no longer in its Swiss rounds.
 abbrev pub Retries : Type 0
 Retries = (event next later : EventValue) (more : List Command) (round table : ℕ) (handed : Games)
     → Steps event (Hand round table handed) (Ok next) → Folds next more later
     → (serial : ℕ) (input : List ℕ) (answer : AnswerValue) (submits : Option Command) → Asks input (Ok (Report round table handed)) → IsAnswer later serial input answer submits
-    → ((stored : Games) × (answer ≡ refusal_answer (AlreadyReported stored))) ⊎ (answer ≡ refusal_answer NotSwiss)
+    → ((stored : Games) × HasScore later round table stored × (answer ≡ refusal_answer (AlreadyReported stored))) ⊎ (answer ≡ refusal_answer NotSwiss)
