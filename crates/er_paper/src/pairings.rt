@@ -51,7 +51,7 @@ pub fn push_pairing(
 }
 
 /// The table of the match at this place, and 0 for a bye.
-fn table_at(place: usize, m: &Match) -> usize
+pub fn table_at(place: usize, m: &Match) -> usize
     requires { place < 2 ^ 63 }
     ensures { result ≡ table_of (1 + place, m.now) }
 {

@@ -29,4 +29,6 @@ mod standings;
 #[cfg(test)]
 mod stores;
 #[cfg(test)]
+mod tables;
+#[cfg(test)]
 mod wires;

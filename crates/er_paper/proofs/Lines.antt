@@ -1,0 +1,52 @@
+-- Rows that are read in turn.
+use Rattle.std.proofs.Common.{◌≡◌, ℕ, zero, suc, ◌+◌, ◌<◌, ◌≤◌, List, [], ◌∷◌, ◌++◌, length, map, drop, get_or, Option, Some, None, Result, Ok, Err, refl, sym, ap, ap₂, ◌∙◌, arith, append_assoc, append-nil, drop-cons}
+use Rattle.csv.specs.Records.{Row, fields_of}
+use Rattle.er_paper.specs.declared.imports.CsvFault.{CsvFault}
+use Rattle.er_paper.specs.declared.imports.CsvFault.TheVariants.{BadRow}
+use Rattle.er_paper.specs.Reading.{lines_from, with_line}
+
+-- lines that were read, and then what the later rows are read as
+abbrev pub after_lines : {L : Type 0} → List L → Result (List L) CsvFault → Result (List L) CsvFault
+after_lines lines (Ok later) = Ok (lines ++ later)
+after_lines lines (Err fault) = Err fault
+
+after_none : {L : Type 0} (r : Result (List L) CsvFault) → r ≡ after_lines [] r
+after_none (Ok lines) = refl
+after_none (Err fault) = refl
+
+after_one : {L : Type 0} (lines : List L) (place : ℕ) (line : L) (r : Result (List L) CsvFault) → after_lines lines (with_line place (Some line) r) ≡ after_lines (lines ++ line ∷ []) r
+after_one lines place line (Ok later) = ap Ok (sym (append_assoc lines (line ∷ []) later))
+after_one lines place line (Err fault) = refl
+
+none_left : {X : Type 0} (xs : List X) (n : ℕ) → length xs ≤ n → drop n xs ≡ []
+none_left [] zero h = refl
+none_left [] (suc n) h = refl
+none_left (x ∷ xs) zero h = absurd (omega arith)
+none_left (x ∷ xs) (suc n) h = none_left xs n (omega arith)
+
+module _ {L : Type 0} (line : ℕ → List (List ℕ) → Option L) (rows : List Row) where
+  -- what all rows are read as, from the lines of those before this one and the rows from it on
+  abbrev pub Reached : List L → ℕ → Type 0
+  Reached lines at = lines_from line 1 (map fields_of rows) ≡ after_lines lines (lines_from line (1 + at) (map fields_of (drop at rows)))
+
+  pub reached-start : Reached [] 0
+  reached-start = after_none (lines_from line 1 (map fields_of rows))
+
+  module _ (lines : List L) (at : ℕ) (row : Row) (below : at < length rows) (is : row ≡ get_or rows at row) (so_far : Reached lines at) where
+    here : lines_from line 1 (map fields_of rows) ≡ after_lines lines (with_line (1 + at) (line (1 + at) (fields_of row)) (lines_from line (1 + at + 1) (map fields_of (drop (suc at) rows))))
+    here = so_far ∙ ap (λ (rs : List Row). after_lines lines (lines_from line (1 + at) (map fields_of rs))) (drop-cons rows at row below ∙ ap (λ r. r ∷ drop (suc at) rows) (sym is))
+
+    pub reached-more : (next : L) (place : ℕ) → line (1 + at) (fields_of row) ≡ Some next → place ≡ at + 1 → Reached (lines ++ next ∷ []) place
+    reached-more next place e p =
+        let number : 1 + at + 1 ≡ 1 + place = omega arith in
+        let later : suc at ≡ place = omega arith in
+        here ∙ ap (λ o. after_lines lines (with_line (1 + at) o (lines_from line (1 + at + 1) (map fields_of (drop (suc at) rows))))) e
+        ∙ after_one lines (1 + at) next (lines_from line (1 + at + 1) (map fields_of (drop (suc at) rows)))
+        ∙ ap₂ (λ (n k : ℕ). after_lines (lines ++ next ∷ []) (lines_from line n (map fields_of (drop k rows)))) number later
+
+    pub reached-bad : line (1 + at) (fields_of row) ≡ None → lines_from line 1 (map fields_of rows) ≡ Err (BadRow (1 + at))
+    reached-bad e = here ∙ ap (λ o. after_lines lines (with_line (1 + at) o (lines_from line (1 + at + 1) (map fields_of (drop (suc at) rows))))) e
+
+  pub reached-end : (lines : List L) (at : ℕ) → length rows ≡ at → Reached lines at → lines_from line 1 (map fields_of rows) ≡ Ok lines
+  reached-end lines at n so_far =
+      so_far ∙ ap (λ (rs : List Row). after_lines lines (lines_from line (1 + at) (map fields_of rs))) (none_left rows at (omega arith)) ∙ ap Ok (append-nil lines)

@@ -1,0 +1,112 @@
+-- Many records as one text, and the one list of records of a text.
+use Rattle.std.proofs.Common.{◌≡◌, ℕ, suc, ◌+◌, ◌<◌, List, [], ◌∷◌, ◌++◌, map, flat_map, take, length, get_or, refl, sym, ap, ap₂, subst, ◌∙◌, arith, append_assoc, append-nil, Some, None}
+use Rattle.std.proofs.lemmas.List.{map_more, take_more, length-take-le}
+use Rattle.csv.specs.Machine.{Read, next_record}
+use Rattle.csv.specs.Reading.{AreRecords, Reached, default_config}
+use Rattle.csv.specs.Writing.{default_writer, row_text, read_back}
+use Rattle.csv.specs.declared.parser.State.{State}
+use Rattle.csv.specs.declared.parser.State.TheVariants as st
+use Rattle.csv.specs.declared.parser.Config.{Config}
+use Rattle.csv.proofs.RoundTrip.{rows_text, read-write}
+use Rattle.er_event.specs.declared.players.Player.{Player}
+use Rattle.er_event.specs.declared.rounds.Match.{Match}
+use Rattle.er_event.specs.declared.rounds.Round.{Round}
+use Rattle.er_paper.specs.Tables.{players_heading, player_fields, result_fields, round_table, rounds_table}
+
+pub rows-push : (rows : List (List (List ℕ))) (row : List (List ℕ)) → rows_text (rows ++ row ∷ []) ≡ rows_text rows ++ row_text default_writer row
+unfolding rows_text
+rows-push [] row = append-nil (row_text default_writer row)
+rows-push (r ∷ rows) row =
+    ap (λ t. row_text default_writer r ++ t) (rows-push rows row) ∙ sym (append_assoc (row_text default_writer r) (rows_text rows) (row_text default_writer row))
+
+-- one more line
+pub lines_more : (lines : List Player) (i : ℕ) (d : Player) (old new : List ℕ) → i < length lines
+    → old ≡ rows_text (players_heading ∷ map player_fields (take i lines)) → new ≡ old ++ row_text default_writer (player_fields (get_or lines i d))
+    → new ≡ rows_text (players_heading ∷ map player_fields (take (i + 1) lines))
+lines_more lines i d old new lt before step =
+    step ∙ ap (λ t. t ++ row_text default_writer (player_fields (get_or lines i d))) before
+    ∙ sym (rows-push (players_heading ∷ map player_fields (take i lines)) (player_fields (get_or lines i d)))
+    ∙ ap (λ (rows : List (List (List ℕ))). rows_text (players_heading ∷ rows)) (sym (map_more player_fields lines i d lt))
+
+-- what is written reads back
+pub back : (rows : List (List (List ℕ))) → AreRecords default_config st.StartRecord (rows_text rows) (map read_back rows)
+unfolding rows_text Reached next_record
+back [] = (st.StartRecord, [], (refl, refl), refl)
+back (row ∷ rows) =
+    let later = back rows in
+    (later.0, later.1, ((read_back row, st.StartRecord, rows_text rows), read-write row (rows_text rows), refl, later.2), later.3)
+
+-- a text has one list of records
+step : (cfg : Config) (s : State) (xs : List ℕ) (p q : Read) → next_record cfg s [] [] xs ≡ Some p → next_record cfg s [] [] xs ≡ Some q → p ≡ q
+step cfg s xs p q a b = let e : Some p ≡ Some q = sym a ∙ b in cc
+
+apart : (p : Read) → Some p ≡ None → ⊥
+apart p e = absurd (cc)
+
+one_from : (cfg : Config) (s : State) (xs : List ℕ) (a b : List (List (List ℕ))) (s1 s2 : State) (y1 y2 : List ℕ)
+    → Reached cfg s xs a s1 y1 → next_record cfg s1 [] [] y1 ≡ None → Reached cfg s xs b s2 y2 → next_record cfg s2 [] [] y2 ≡ None → a ≡ b
+unfolding Reached
+one_from cfg s xs [] [] s1 s2 y1 y2 p pe q qe = refl
+one_from cfg s xs [] (t ∷ ts) s1 s2 y1 y2 p pe q qe =
+    absurd (apart q.0 (sym q.1 ∙ ap₂ (λ (u : State) (ys : List ℕ). next_record cfg u [] [] ys) p.0 p.1 ∙ pe))
+one_from cfg s xs (r ∷ rs) [] s1 s2 y1 y2 p pe q qe =
+    absurd (apart p.0 (sym p.1 ∙ ap₂ (λ (u : State) (ys : List ℕ). next_record cfg u [] [] ys) q.0 q.1 ∙ qe))
+one_from cfg s xs (r ∷ rs) (t ∷ ts) s1 s2 y1 y2 p pe q qe =
+    let same = step cfg s xs p.0 q.0 p.1 q.1 in
+    let later = subst (λ (z : Read). Reached cfg z.1 z.2 ts s2 y2) (sym same) q.3 in
+    ap₂ (λ (u : List (List ℕ)) (us : List (List (List ℕ))). u ∷ us) (p.2 ∙ ap (λ (z : Read). z.0) same ∙ sym q.2)
+    (one_from cfg p.0.1 p.0.2 rs ts s1 s2 y1 y2 p.3 pe later qe)
+
+pub one_list : (cfg : Config) (s : State) (xs : List ℕ) (a b : List (List (List ℕ))) → AreRecords cfg s xs a → AreRecords cfg s xs b → a ≡ b
+one_list cfg s xs a b p q = one_from cfg s xs a b p.0 q.0 p.1 q.1 p.2 p.3 q.2 q.3
+
+pub rows-first : (row : List (List ℕ)) → [] ++ row_text default_writer row ≡ rows_text (row ∷ [])
+unfolding rows_text
+rows-first row = sym (append-nil (row_text default_writer row))
+
+-- ---- results
+
+pub rows-append : (rows more : List (List (List ℕ))) → rows_text (rows ++ more) ≡ rows_text rows ++ rows_text more
+unfolding rows_text
+rows-append [] more = refl
+rows-append (r ∷ rows) more =
+    ap (λ t. row_text default_writer r ++ t) (rows-append rows more) ∙ sym (append_assoc (row_text default_writer r) (rows_text rows) (rows_text more))
+
+-- the text of a match's row
+abbrev pub result_row : ℕ → ℕ × Match → List ℕ
+result_row round numbered = row_text default_writer (result_fields round numbered)
+
+pub rows-of-round : (round : ℕ) (numbered : List (ℕ × Match)) → rows_text (map (result_fields round) numbered) ≡ flat_map (result_row round) numbered
+unfolding rows_text
+rows-of-round round [] = refl
+rows-of-round round (n ∷ ns) = ap (λ t. result_row round n ++ t) (rows-of-round round ns)
+
+rounds-push : (n : ℕ) (rounds : List Round) (r : Round) → rows_text (rounds_table n (rounds ++ r ∷ [])) ≡ rows_text (rounds_table n rounds) ++ rows_text (round_table (n + length rounds) r.matches)
+unfolding rows_text
+rounds-push n [] r = let same : n ≡ n + 0 = omega arith in
+    ap rows_text (append-nil (round_table n r.matches)) ∙ ap (λ (k : ℕ). rows_text (round_table k r.matches)) same
+rounds-push n (first ∷ later) r =
+    let next : n + 1 + length later ≡ n + suc (length later) = omega arith in
+    let front = round_table n first.matches in
+    let last = λ (k : ℕ). rows_text (round_table k r.matches) in
+    rows-append front (rounds_table (n + 1) (later ++ r ∷ []))
+    ∙ ap (λ t. rows_text front ++ t) (rounds-push (n + 1) later r ∙ ap (λ (k : ℕ). rows_text (rounds_table (n + 1) later) ++ last k) next)
+    ∙ sym (append_assoc (rows_text front) (rows_text (rounds_table (n + 1) later)) (last (n + suc (length later))))
+    ∙ ap (λ t. t ++ last (n + suc (length later))) (sym (rows-append front (rounds_table (n + 1) later)))
+
+-- one more round
+pub rounds-more : (rounds : List Round) (i : ℕ) (r : Round) → i < length rounds → r ≡ get_or rounds i r → rows_text (rounds_table 1 (take (i + 1) rounds)) ≡ rows_text (rounds_table 1 (take i rounds)) ++ rows_text (round_table (1 + i) r.matches)
+rounds-more rounds i r below is =
+    let count : length (take i rounds) ≡ i = length-take-le i rounds (omega arith) in
+    ap (λ rs. rows_text (rounds_table 1 rs)) (take_more rounds i r below ∙ ap (λ x. take i rounds ++ x ∷ []) (sym is))
+    ∙ (rounds-push 1 (take i rounds) r ∙ ap (λ (k : ℕ). rows_text (rounds_table 1 (take i rounds)) ++ rows_text (round_table (1 + k) r.matches)) count)
+
+-- no rows, and then some
+pub no-rows : (text : List ℕ) → text ≡ text ++ rows_text []
+unfolding rows_text
+no-rows text = sym (append-nil text)
+
+-- a heading before rows
+pub rows-under : (heading : List (List ℕ)) (rows : List (List (List ℕ))) → ([] ++ row_text default_writer heading) ++ rows_text rows ≡ rows_text (heading ∷ rows)
+unfolding rows_text
+rows-under heading rows = refl

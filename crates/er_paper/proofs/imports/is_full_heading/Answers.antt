@@ -1,0 +1,8 @@
+use Rattle.std.proofs.Common.{sym}
+use Rattle.csv.specs.Records.{fields_of}
+use Rattle.er_paper.specs.Tables.{players_heading}
+use Rattle.er_paper.proofs.Fields.{not_same}
+use Rattle.er_paper.proofs.imports.is_full_heading.Goals as goal
+
+pub returns-in-None : goal.returns-in-None
+returns-in-None c = sym (not_same (fields_of c.args.row.now) players_heading c.in-None.ensures)

@@ -1,0 +1,16 @@
+use Rattle.std.proofs.Common.{◌≡◌, ◌+◌, ℕ, Some, List, refl, sym, ◌∙◌, ap, subst, arith}
+use Rattle.csv.specs.Records.{fields_of}
+use Rattle.er_paper.specs.Reading.{chosen_line}
+use Rattle.er_paper.specs.declared.imports.PlayerLine.{PlayerLine}
+use Rattle.er_paper.proofs.Lines.{Reached, reached-more}
+use Rattle.er_paper.proofs.imports.player_lines.Goals as goal
+
+pub loop-at-preserved : goal.loop-at-preserved
+loop-at-preserved c =
+    let line = chosen_line c.args.heading in
+    let at = c.loop-at.at in
+    let row = c.index-rows-at.result in
+    let number : 1 + at ≡ at + 1 = omega arith in
+    let read : line (1 + at) (fields_of row) ≡ Some c.in-Some.line = ap (λ (k : ℕ). line k (fields_of row)) number ∙ sym c.in_ok-line.ensures ∙ c.in-Some.is in
+    subst (λ (ls : List PlayerLine). Reached line c.args.rows.now ls (at + 1)) (sym c.in_ok-push_line-in-Some.ensures)
+    (reached-more line c.args.rows.now c.loop-at.lines.items at row c.loop-at-test.true c.index-rows-at.is c.loop-at.invariant c.in-Some.line (at + 1) read refl)
