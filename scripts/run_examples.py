@@ -75,7 +75,7 @@ def run_seeds():
             check(f"seed {word}", run(script + b"pair\t1\t%s\nslips\t1\n" % word.encode()), (0, answers, b""))
 
 
-SUBCOMMANDS = "init enrol start pair result correct drop cut playoff standings players slips bracket serve".split()
+SUBCOMMANDS = "init enrol import start pair result correct drop cut playoff standings players slips bracket export serve".split()
 
 
 def run_words():
@@ -97,6 +97,8 @@ def run_words():
     for number, name in enumerate(NAMES, 1):
         check(f"{name} in the help", b"\n  %2d %s " % (number, name.encode()) in help_text, True)
     check("a script serves nobody", run(b"init\tFriday\t3\t0\nserve\t0\t1\nplayers\n"), (0, b"ok 0\nusage\n  No D Name\n", b""))
+    check("a script imports no list", run(b"init\tFriday\t3\t0\nimport\tnames.csv\nplayers\n"), (0, b"ok 0\nusage\n  No D Name\n", b""))
+    export = run(b"", ["export", "--help"])[1]
     pair = run(b"", ["pair", "--help"])[1]
     serve = run(b"", ["serve", "--help"])[1]
     for words, told in (
@@ -109,6 +111,9 @@ def run_words():
         (["serve", "f", "65536", "1"], b"`65536` is no whole number from 0 to 65535\n" + serve),
         (["serve", "f", "0", "0"], b"`0` is no whole number from 1 to 1000000\n" + serve),
         (["serve", "f", "0", "1000001"], b"`1000001` is no whole number from 1 to 1000000\n" + serve),
+        (["export", "f", "standings"], b"`standings` is no kind of list: players or results\n" + export),
+        (["export", "f", "Players"], b"`Players` is no kind of list: players or results\n" + export),
+        (["export", "f"], b"a word is missing at the end\n" + export),
         (["help"], b"`help` is no subcommand\nusage: event_reporter SUBCOMMAND FILE WORDS\nTry: event_reporter --help\n"),
         ([""], b"`` is no subcommand\nusage: event_reporter SUBCOMMAND FILE WORDS\nTry: event_reporter --help\n"),
         (["help", "--version"], b"`--version` begins with `-`, which no word may\nusage: event_reporter SUBCOMMAND FILE WORDS\nTry: event_reporter --help\n"),

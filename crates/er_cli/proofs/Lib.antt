@@ -1,13 +1,8 @@
 pub mod Bytes
 pub mod Ending
-pub mod WordKinds
-pub mod Leaves
-pub mod Refusals
 pub mod Runs
-pub mod Seeds
 pub mod Turns
-pub mod Walks
-pub mod WordLemmas
 pub mod Sending
 pub mod Connecting
+pub mod Enrolling
 pub mod Examples

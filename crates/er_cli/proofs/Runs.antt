@@ -4,7 +4,7 @@ use Rattle.std.specs.List.{flat_map}
 use Rattle.std.proofs.lemmas.List.{map-append, take_more}
 use Rattle.std.proofs.lemmas.List.Concat.{flat_map-append}
 use Rattle.er_cli.specs.declared.texts.Answer.{Answer}
-use Rattle.er_cli.specs.Fields.{script_action}
+use Rattle.er_words.specs.Fields.{script_action}
 use Rattle.er_cli.specs.Texts.{answer_text}
 use Rattle.er_desk.specs.Desk.{Standing}
 use Rattle.er_cli.specs.Script.{LineAnswers, Runs}

@@ -6,11 +6,11 @@ use Rattle.er_desk.specs.declared.desk.Desk.{Desk}
 use Rattle.er_desk.specs.Desk.{Standing, Turn}
 use Rattle.er_desk.specs.Reply.{Reply}
 use Rattle.er_event.specs.declared.refusals.Command.{Command}
-use Rattle.er_cli.specs.declared.action.Request.{Request}
-use Rattle.er_cli.specs.declared.action.Request.TheVariants.{Submit, Players, Standings, Slips, Bracket}
+use Rattle.er_words.specs.declared.action.Request.{Request}
+use Rattle.er_words.specs.declared.action.Request.TheVariants.{Submit, Players, Standings, Slips, Bracket, Export}
 use Rattle.er_cli.specs.declared.texts.Answer.{Answer}
 use Rattle.er_cli.specs.Answers.{Answers}
-use Rattle.er_cli.specs.declared.action.Action.{Action}
+use Rattle.er_words.specs.declared.action.Action.{Action}
 use Rattle.er_cli.specs.declared.texts.Answer.TheVariants.{Refused}
 use Rattle.er_cli.specs.Script.{LineAnswers, standing_of}
 
@@ -36,3 +36,4 @@ ran_before old new Players answer it runs = subst (λ (s : Standing). IsFalse s.
 ran_before old new Standings answer it runs = subst (λ (s : Standing). IsFalse s.stopped) it.1 runs
 ran_before old new (Slips round) answer it runs = subst (λ (s : Standing). IsFalse s.stopped) it.1 runs
 ran_before old new Bracket answer it runs = subst (λ (s : Standing). IsFalse s.stopped) it.1 runs
+ran_before old new (Export kind) answer it runs = subst (λ (s : Standing). IsFalse s.stopped) it.1 runs

@@ -3,10 +3,13 @@ use Rattle.std.specs.Prelude.{◌≡◌, ◌⊎◌, ℕ, IsTrue, IsFalse, List, 
 use Rattle.er_event.specs.declared.refusals.Refusal.TheVariants.{Memory, NeedsReopen, NoSuchMatch}
 use Rattle.er_event.specs.Event.{EventValue}
 use Rattle.er_paper.specs.Texts.{players_text, IsStandingsText, pairings_text, bracket_text}
+use Rattle.er_paper.specs.Tables.{players_csv, results_csv}
 use Rattle.er_desk.specs.Desk.{Standing, Turn}
 use Rattle.er_desk.specs.Reply.{Reply}
-use Rattle.er_cli.specs.declared.action.Request.{Request}
-use Rattle.er_cli.specs.declared.action.Request.TheVariants.{Submit, Players, Standings, Slips, Bracket}
+use Rattle.er_words.specs.declared.action.Request.{Request}
+use Rattle.er_words.specs.declared.action.Request.TheVariants.{Submit, Players, Standings, Slips, Bracket, Export}
+use Rattle.er_words.specs.declared.action.ExportKind.{ExportKind}
+use Rattle.er_words.specs.declared.action.ExportKind.TheVariants as exported
 use Rattle.er_cli.specs.declared.texts.Answer.{Answer}
 use Rattle.er_cli.specs.declared.texts.Answer.TheVariants.{Accepted, Text, Refused}
 
@@ -31,6 +34,14 @@ ShowsSlips round event answer = answer ≡ slips_answer (pairings_text event rou
 abbrev pub ShowsBracket : EventValue → Answer → Type 0
 ShowsBracket event answer = answer ≡ Text (bracket_text event)
 
+-- a list of the event as CSV
+abbrev pub csv_of : ExportKind → EventValue → List ℕ
+csv_of exported.Players event = players_csv event
+csv_of exported.Results event = results_csv event
+
+abbrev pub ShowsExport : ExportKind → EventValue → Answer → Type 0
+ShowsExport kind event answer = answer ≡ Text (csv_of kind event)
+
 -- the event is shown, where memory serves and no fault of the store is behind
 abbrev pub IsShown : Standing → (EventValue → Answer → Type 0) → Answer → Type 0
 IsShown desk Shows answer = (IsFalse desk.stopped × (Shows desk.event answer ⊎ (answer ≡ Refused Memory))) ⊎ (IsTrue desk.stopped × (answer ≡ Refused NeedsReopen))
@@ -42,3 +53,4 @@ Answers old Players answer new = IsShown old ShowsPlayers answer × (new ≡ old
 Answers old Standings answer new = IsShown old ShowsStandings answer × (new ≡ old)
 Answers old (Slips round) answer new = IsShown old (ShowsSlips round) answer × (new ≡ old)
 Answers old Bracket answer new = IsShown old ShowsBracket answer × (new ≡ old)
+Answers old (Export kind) answer new = IsShown old (ShowsExport kind) answer × (new ≡ old)

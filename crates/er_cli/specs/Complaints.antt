@@ -4,10 +4,10 @@ use Rattle.er_event.specs.declared.refusals.Refusal.TheVariants.{Memory}
 use Rattle.er_cli.specs.declared.TheConstants.{USAGE}
 use Rattle.er_cli.specs.declared.complaints.TheConstants.{TRY_HELP, NO_TEXT}
 use Rattle.er_cli.specs.declared.texts.Answer.TheVariants.{Refused}
-use Rattle.er_cli.specs.declared.usage.UsageFault.{UsageFault}
-use Rattle.er_cli.specs.declared.usage.UsageFault.TheVariants.{UnknownSubcommand, LeadingDash, TooFew, TooMany, BadNumber, BadSeed, BadCount}
+use Rattle.er_words.specs.declared.usage.UsageFault.{UsageFault}
+use Rattle.er_words.specs.declared.usage.UsageFault.TheVariants.{UnknownSubcommand, LeadingDash, TooFew, TooMany, BadNumber, BadSeed, BadCount, BadKind}
 use Rattle.er_cli.specs.Help.{Says, Tells, subcommand_text}
-use Rattle.er_cli.specs.Usage.{HasFault}
+use Rattle.er_words.specs.Usage.{HasFault}
 
 abbrev pub what_is_wrong : UsageFault → List ℕ
 what_is_wrong UnknownSubcommand = codes "is no subcommand\n"
@@ -17,6 +17,7 @@ what_is_wrong (TooMany place) = codes "is a word too many\n"
 what_is_wrong (BadNumber place most) = if most == 255 then codes "is no whole number from 0 to 255\n" else codes "is no whole number from 0 to 65535\n"
 what_is_wrong (BadSeed place) = codes "is not 64 hexadecimal digits\n"
 what_is_wrong (BadCount place) = codes "is no whole number from 1 to 1000000\n"
+what_is_wrong (BadKind place) = codes "is no kind of list: players or results\n"
 
 abbrev pub place_of : UsageFault → ℕ
 place_of UnknownSubcommand = 0
@@ -26,6 +27,7 @@ place_of (TooMany place) = place
 place_of (BadNumber place most) = place
 place_of (BadSeed place) = place
 place_of (BadCount place) = place
+place_of (BadKind place) = place
 
 -- how the subcommand of this name is called, or where to look
 abbrev pub advice : List ℕ → List ℕ

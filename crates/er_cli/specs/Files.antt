@@ -8,14 +8,17 @@ use Rattle.er_rules.specs.Sound.{IsSound}
 use Rattle.er_store.specs.Fault.{IsFault, IsLoadFault}
 use Rattle.er_desk.specs.Desk.{Standing}
 use Rattle.er_desk.specs.Reply.{Reply, receipt}
-use Rattle.er_cli.specs.declared.action.Action.{Action}
-use Rattle.er_cli.specs.declared.action.Action.TheVariants.{Init, Ask, Serve}
-use Rattle.er_cli.specs.declared.action.Request.{Request}
+use Rattle.er_words.specs.declared.action.Action.{Action}
+use Rattle.er_words.specs.declared.action.Action.TheVariants.{Init, Open}
+use Rattle.er_words.specs.declared.action.Task.{Task}
+use Rattle.er_words.specs.declared.action.Task.TheVariants.{Ask, Import, Serve}
+use Rattle.er_words.specs.declared.action.Request.{Request}
 use Rattle.er_cli.specs.declared.texts.Answer.{Answer}
 use Rattle.er_cli.specs.declared.texts.Answer.TheVariants.{Refused}
 use Rattle.er_cli.specs.declared.TheConstants.{DEVICE}
 use Rattle.er_cli.specs.declared.help.TheConstants.{CANNOT_LISTEN}
 use Rattle.er_cli.specs.Help.{Says, Tells}
+use Rattle.er_cli.specs.Importing.{Imports}
 use Rattle.er_cli.specs.Serving.{PrintsServed}
 use Rattle.er_cli.specs.Setup.{init_checks}
 use Rattle.er_cli.specs.Answers.{Answers, reply_answer}
@@ -41,19 +44,33 @@ abbrev pub MakesInFile : Answer → Type 0
 MakesInFile answer = (reply : Reply) × IsMade reply × (answer ≡ reply_answer reply)
 
 -- What is checked of an event that is to be made comes before any file is touched.
-abbrev pub FileAnswers : Action → Answer → Type 0
-FileAnswers (Init name rounds cut) answer = MatchOption (first_refusal (init_checks false name rounds cut)) (MakesInFile answer ⊎ (answer ≡ Refused Memory)) (λ why. (answer ≡ Refused why) ⊎ (answer ≡ Refused Memory))
-FileAnswers (Ask request) answer = IsNotOpened answer ⊎ OpenedAnswers request answer
-FileAnswers (Serve port count) answer = IsNotOpened answer
+abbrev pub InitAnswers : List ℕ → ℕ → ℕ → Answer → Type 0
+InitAnswers name rounds cut answer = MatchOption (first_refusal (init_checks false name rounds cut)) (MakesInFile answer ⊎ (answer ≡ Refused Memory)) (λ why. (answer ≡ Refused why) ⊎ (answer ≡ Refused Memory))
 
--- clients were served, or the port can't be had
-abbrev pub Serves : Action → (out out_then err err_then : Option (List ℕ)) → ℕ → Type 0
-Serves (Serve port count) out out_then err err_then status =
-    (PrintsServed count out out_then status × (err_then ≡ err))
-    ⊎ Says CANNOT_LISTEN.now DEVICE (record { meant = err; other = out }) (record { meant = err_then; other = out_then }) status
-Serves _ out out_then err err_then status = ⊥
+module _ (out out_then err err_then : Option (List ℕ)) (status : ℕ) where
+  -- clients were served, or the port can't be had
+  abbrev pub Serves : ℕ → Type 0
+  Serves count =
+      (PrintsServed count out out_then status × (err_then ≡ err))
+      ⊎ Says CANNOT_LISTEN.now DEVICE (record { meant = err; other = out }) (record { meant = err_then; other = out_then }) status
+
+-- what importing a list does to a desk that was just opened, and what is printed of it
+pub record OpenedImports (out out_then err err_then : Option (List ℕ)) (status : ℕ) : Type 0 where
+  pub found : Standing
+  pub sound : IsSound found.event
+  pub low : found.serial ≤ MAX_SERIAL
+  pub ready : IsFalse found.stopped
+  pub last : Standing
+  pub imports : Imports found last out out_then err err_then status
+
+-- what is done with an event that was opened
+abbrev pub Does : Task → (out out_then err err_then : Option (List ℕ)) → ℕ → Type 0
+Does (Ask request) out out_then err err_then status = (answer : Answer) × OpenedAnswers request answer × Tells answer out out_then err err_then status
+Does (Import list) out out_then err err_then status = OpenedImports out out_then err err_then status
+Does (Serve port count) out out_then err err_then status = Serves out out_then err err_then status count
 
 -- what a command line does to the output and the errors, and its status
 abbrev pub EndsLine : Action → (out out_then err err_then : Option (List ℕ)) → ℕ → Type 0
-EndsLine action out out_then err err_then status =
-    ((answer : Answer) × FileAnswers action answer × Tells answer out out_then err err_then status) ⊎ Serves action out out_then err err_then status
+EndsLine (Init name rounds cut) out out_then err err_then status = (answer : Answer) × InitAnswers name rounds cut answer × Tells answer out out_then err err_then status
+EndsLine (Open task) out out_then err err_then status =
+    ((answer : Answer) × IsNotOpened answer × Tells answer out out_then err err_then status) ⊎ Does task out out_then err err_then status

@@ -8,7 +8,7 @@ use Rattle.er_cli.specs.Texts.{answer_text, AppendsPart}
 use Rattle.er_cli.specs.declared.texts.Answer.{Answer}
 use Rattle.er_cli.specs.declared.texts.Answer.TheVariants.{Accepted, Text, Refused, Usage}
 use Rattle.er_cli.specs.declared.TheConstants.{DONE, REFUSED, USAGE, DEVICE, MEMORY}
-use Rattle.er_cli.specs.declared.help.TheConstants.{VERSION, HELP, INIT, ENROL, START, PAIR, RESULT, CORRECT, DROP, CUT, PLAYOFF, STANDINGS, PLAYERS, SLIPS, BRACKET, SERVE}
+use Rattle.er_cli.specs.declared.help.TheConstants.{VERSION, HELP, INIT, ENROL, IMPORT, START, PAIR, RESULT, CORRECT, DROP, CUT, PLAYOFF, STANDINGS, PLAYERS, SLIPS, BRACKET, EXPORT, SERVE}
 
 abbrev pub is_help : List ℕ → Bool
 is_help word = bytes_eq word (codes "--help") || bytes_eq word (codes "-h")
@@ -28,6 +28,7 @@ abbrev pub subcommand_text : List ℕ → Option (List ℕ)
 subcommand_text = text_in (
     (codes "init", INIT.now)
     ∷ (codes "enrol", ENROL.now)
+    ∷ (codes "import", IMPORT.now)
     ∷ (codes "start", START.now)
     ∷ (codes "pair", PAIR.now)
     ∷ (codes "result", RESULT.now)
@@ -39,6 +40,7 @@ subcommand_text = text_in (
     ∷ (codes "players", PLAYERS.now)
     ∷ (codes "slips", SLIPS.now)
     ∷ (codes "bracket", BRACKET.now)
+    ∷ (codes "export", EXPORT.now)
     ∷ (codes "serve", SERVE.now)
     ∷ [])
 

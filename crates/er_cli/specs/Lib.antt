@@ -1,10 +1,4 @@
 pub mod Setup
-pub mod Values
-pub mod Line
-pub mod Words
-pub mod Action
-pub mod Fields
-pub mod Usage
 pub mod Texts
 pub mod Input
 pub mod Answers
@@ -14,3 +8,4 @@ pub mod Status
 pub mod Help
 pub mod Complaints
 pub mod Serving
+pub mod Importing

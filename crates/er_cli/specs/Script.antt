@@ -11,12 +11,13 @@ use Rattle.er_rules.specs.Commands.{first_refusal}
 use Rattle.er_store.specs.Fault.{IsFault}
 use Rattle.er_desk.specs.declared.desk.Desk.{Desk}
 use Rattle.er_desk.specs.Desk.{Standing, ShowsOwn, standing}
-use Rattle.er_cli.specs.declared.action.Action.{Action}
-use Rattle.er_cli.specs.declared.action.Action.TheVariants.{Init, Ask, Serve}
+use Rattle.er_words.specs.declared.action.Action.{Action}
+use Rattle.er_words.specs.declared.action.Action.TheVariants.{Init, Open}
+use Rattle.er_words.specs.declared.action.Task.TheVariants.{Ask, Import, Serve}
 use Rattle.er_cli.specs.declared.texts.Answer.{Answer}
 use Rattle.er_cli.specs.declared.texts.Answer.TheVariants.{Accepted, Refused, Usage}
 use Rattle.er_cli.specs.Setup.{init_checks}
-use Rattle.er_cli.specs.Fields.{script_action}
+use Rattle.er_words.specs.Fields.{script_action}
 use Rattle.er_cli.specs.Answers.{Answers}
 use Rattle.er_cli.specs.Texts.{answer_text, AppendsPart}
 
@@ -30,13 +31,14 @@ Makes old name rounds cut answer new =
     ((answer ≡ Accepted (record { serial = 0 })) × (new ≡ Some (record { event = created name rounds cut; serial = 0; stopped = false })))
     ⊎ ((why : Refusal) × IsFault why × (answer ≡ Refused why) × (new ≡ old))
 
--- What an action is answered, and where the desk stands then. All but `init` want an event, and a script serves no clients.
+-- What an action is answered, and where the desk stands then. All but `init` want an event. A script imports no list, and serves no clients.
 abbrev pub Acts : Option Standing → Action → Answer → Option Standing → Type 0
 Acts old (Init name rounds cut) answer new =
     MatchOption (first_refusal (init_checks (is_some old) name rounds cut)) (Makes old name rounds cut answer new) (λ why. ((answer ≡ Refused why) ⊎ (answer ≡ Refused Memory)) × (new ≡ old))
-Acts None (Ask request) answer new = (answer ≡ Refused NoEvent) × (new ≡ None)
-Acts (Some old) (Ask request) answer new = (next : Standing) × Answers old request answer next × (new ≡ Some next)
-Acts old (Serve port count) answer new = (answer ≡ Usage) × (new ≡ old)
+Acts old (Open (Import list)) answer new = (answer ≡ Usage) × (new ≡ old)
+Acts None (Open (Ask request)) answer new = (answer ≡ Refused NoEvent) × (new ≡ None)
+Acts (Some old) (Open (Ask request)) answer new = (next : Standing) × Answers old request answer next × (new ≡ Some next)
+Acts old (Open (Serve port count)) answer new = (answer ≡ Usage) × (new ≡ old)
 
 -- What a line is answered. Memory may be wanting to read it.
 abbrev pub LineAnswers : Option Standing → Option Action → Answer → Option Standing → Type 0

@@ -1,14 +1,16 @@
-ghost use Rattle.std.specs.Prelude.{◌≡◌, IsFalse, MatchResult, option_map};
+ghost use Rattle.std.specs.Prelude.{◌≡◌, IfOk, IsFalse, MatchResult, option_map};
 ghost use Rattle.sqlite.specs.State.{HasCleanDisk};
 ghost use Rattle.er_desk.specs.Desk.{ShowsOwn, standing, state};
-ghost use Rattle.er_cli.specs.Answers.{Answers, reply_answer, slips_answer};
-ghost use Rattle.er_cli.specs.declared.action.Request.TheVariants.{Players, Standings, Slips, Bracket};
+ghost use Rattle.er_cli.specs.Answers.{Answers, csv_of, reply_answer, slips_answer};
+ghost use Rattle.er_words.specs.declared.action.Request.TheVariants.{Players, Standings, Slips, Bracket, Export};
 
-use crate::action::Request;
 use crate::texts::Answer;
 use er_desk::{Desk, Reply};
 use er_event::{Event, Items, Refusal};
-use er_paper::{bracket_text, pairings_text, players_text, standings_text};
+use er_paper::{
+    bracket_text, pairings_text, players_csv, players_text, results_csv, standings_text,
+};
+use er_words::{ExportKind, Request};
 use sqlite::Alter;
 use std::alloc::{AllocError, Global};
 
@@ -78,6 +80,25 @@ fn bracket<S: Alter>(alloc: Global, desk: &Desk<S>) -> Answer
     }
 }
 
+/// A list of the event as CSV.
+fn csv_of(alloc: Global, event: &Event, kind: ExportKind) -> Result<Vec<u8>, AllocError>
+    ensures { IfOk result (λ text. text.items ≡ csv_of kind event.now) }
+{
+    match kind {
+        ExportKind::Players => players_csv(alloc, event),
+        ExportKind::Results => results_csv(alloc, event),
+    }
+}
+
+fn export<S: Alter>(alloc: Global, desk: &Desk<S>, kind: ExportKind) -> Answer
+    ensures { Answers (standing desk.now) (Export kind) result (standing desk.now) }
+{
+    match desk.event() {
+        Ok(event) => text_answer(csv_of(alloc, event, kind)),
+        Err(why) => Answer::Refused(why),
+    }
+}
+
 /// What a desk answers. A text leaves it as it is.
 pub fn answer<S: Alter>(alloc: Global, desk: &mut Desk<S>, request: Request) -> Answer
     ensures answers { Answers (standing desk.old) request result (standing desk.new) }
@@ -89,5 +110,6 @@ pub fn answer<S: Alter>(alloc: Global, desk: &mut Desk<S>, request: Request) -> 
         Request::Players => players(alloc, desk),
         Request::Slips { round } => slips(alloc, desk, round),
         Request::Bracket => bracket(alloc, desk),
+        Request::Export { kind } => export(alloc, desk, kind),
     }
 }

@@ -1,9 +1,9 @@
 ghost use Rattle.std.specs.Prelude.{◌≡◌, IfOk, None, map, string_bytes};
 ghost use Rattle.er_cli.specs.Complaints.{Complains, advice, complaint_with, place_of, what_is_wrong};
-ghost use Rattle.er_cli.specs.Line.{line_of};
+ghost use Rattle.er_words.specs.Line.{line_of};
 
 use crate::help::subcommand_text;
-use crate::usage::{UsageFault, usage_of};
+use er_words::{UsageFault, usage_of};
 use std::alloc::{AllocError, Global};
 
 /// Where to look where the first word is no subcommand.
@@ -33,6 +33,7 @@ fn what_is_wrong(fault: UsageFault) -> &'static str
         UsageFault::BadNumber { place: _, most: _ } => "is no whole number from 0 to 65535\n",
         UsageFault::BadSeed { place: _ } => "is not 64 hexadecimal digits\n",
         UsageFault::BadCount { place: _ } => "is no whole number from 1 to 1000000\n",
+        UsageFault::BadKind { place: _ } => "is no kind of list: players or results\n",
     }
 }
 
@@ -46,7 +47,8 @@ fn place_of(fault: UsageFault) -> usize
         | UsageFault::TooMany { place }
         | UsageFault::BadNumber { place, most: _ }
         | UsageFault::BadSeed { place }
-        | UsageFault::BadCount { place } => place,
+        | UsageFault::BadCount { place }
+        | UsageFault::BadKind { place } => place,
     }
 }
 

@@ -3,38 +3,29 @@ ghost use Rattle.er_event.specs.declared.refusals.TheConstants.{MAX_SERIAL};
 ghost use Rattle.er_rules.specs.Sound.{IsSound};
 ghost use Rattle.er_desk.specs.Desk.{AreLimits, standing};
 ghost use Rattle.er_desk.specs.Reply.{Reply, receipt};
-ghost use Rattle.er_cli.specs.declared.action.Action.TheVariants.{Init, Ask, Serve};
-ghost use Rattle.er_cli.specs.Action.{action_of};
+ghost use Rattle.er_words.specs.declared.action.Action.TheVariants.{Open};
+ghost use Rattle.er_words.specs.declared.action.Task.TheVariants.{Serve};
+ghost use Rattle.er_words.specs.Action.{action_of};
 ghost use Rattle.er_cli.specs.Answers.{reply_answer};
 ghost use Rattle.er_store.specs.Fault.{IsLoadFault};
-ghost use Rattle.er_cli.specs.Files.{EndsLine, FileAnswers, IsMade, OpenedAnswers, Serves};
+ghost use Rattle.er_cli.specs.Files.{Does, EndsLine, InitAnswers, IsMade};
 ghost use Rattle.er_cli.specs.Help.{Tells};
 
-use crate::action::{Action, Request};
 use crate::answers::{answer, reply_answer};
 use crate::help::CANNOT_LISTEN;
-use crate::line::Line;
+use crate::importing::import;
 use crate::serving::serve_on;
 use crate::setup::set_up;
 use crate::texts::Answer;
 use crate::{DEVICE, say_all, tell};
 use er_desk::{Desk, Reply, opening_refusal};
 use er_event::{Cause, Name, Receipt, Refusal};
+use er_words::{Action, Line, Task};
 use sqlite::{Alter, Connection, Wary};
 use std::alloc::Global;
 use std::fs;
 use std::io::Write;
 use std::net::{Ipv4Addr, TcpListener};
-
-/// Asks a desk that was just opened. It is closed then.
-fn answer_once<S: Alter + Drop>(alloc: Global, mut desk: Desk<S>, request: Request) -> Answer
-    requires sound { IsSound desk.event }
-    requires low { desk.serial ≤ MAX_SERIAL }
-    requires ready { IsFalse (standing desk).stopped }
-    ensures { OpenedAnswers request result }
-{
-    answer(alloc, &mut desk, request)
-}
 
 /// Sees whether a file is there. One that isn't has no event, and isn't made.
 fn find_file(rt: &HostRuntime, path: &str) -> Result<(), Refusal>
@@ -46,19 +37,6 @@ fn find_file(rt: &HostRuntime, path: &str) -> Result<(), Refusal>
         Err(_error) => Err(Refusal::Store {
             cause: Cause::Refused,
         }),
-    }
-}
-
-/// Asks the event in a file.
-fn ask(rt: &HostRuntime, path: &str, request: Request) -> Answer
-    ensures { FileAnswers (Ask request) result }
-{
-    if let Err(why) = find_file(rt, path) {
-        return Answer::Refused(why);
-    }
-    match er_desk::open(rt, path, Wary) {
-        Ok(desk) => answer_once(rt.alloc(), desk, request),
-        Err(fault) => Answer::Refused(fault.into_refusal()),
     }
 }
 
@@ -93,26 +71,46 @@ fn create(rt: &HostRuntime, path: &str, name: Name, rounds: u8, cut: u8) -> Repl
 
 /// Makes an event in a file, once it is sure that it may be set up so.
 fn init(rt: &HostRuntime, path: &str, name: &[u8], rounds: u8, cut: u8) -> Reply
-    ensures { FileAnswers (Init name.now rounds cut) (reply_answer result) }
+    ensures { InitAnswers name.now rounds cut (reply_answer result) }
 {
     let name = set_up(rt.alloc(), name, rounds, cut)?;
     create(rt, path, name, rounds, cut)
 }
 
-/// Serves the clients of a desk that was just opened, on this machine alone. It is closed then.
-fn serve_once<S: Alter + Drop, O: Write, E: Write>(
+/// Serves the clients of a desk, on this machine alone.
+fn listen<S: Alter, O: Write, E: Write>(
     rt: &HostRuntime,
-    mut desk: Desk<S>,
+    desk: &mut Desk<S>,
     port: u16,
     count: u32,
     out: &mut O,
     err: &mut E,
 ) -> u8
-    ensures { Serves (Serve port count) (O.contents out.old) (O.contents out.new) (E.contents err.old) (E.contents err.new) result }
+    ensures { Does (Serve port count) (O.contents out.old) (O.contents out.new) (E.contents err.old) (E.contents err.new) result }
 {
     match TcpListener::bind(rt, (Ipv4Addr::LOCALHOST, port)) {
-        Ok(listener) => serve_on(rt.alloc(), &mut desk, &listener, count, out),
+        Ok(listener) => serve_on(rt.alloc(), desk, &listener, count, out),
         Err(_error) => say_all(err, CANNOT_LISTEN, DEVICE),
+    }
+}
+
+/// Does what an event was opened for. Its desk is closed then.
+fn do_task<S: Alter + Drop, O: Write, E: Write>(
+    rt: &HostRuntime,
+    mut desk: Desk<S>,
+    task: Task,
+    out: &mut O,
+    err: &mut E,
+) -> u8
+    requires sound { IsSound desk.event }
+    requires low { desk.serial ≤ MAX_SERIAL }
+    requires ready { IsFalse (standing desk).stopped }
+    ensures { Does task (O.contents out.old) (O.contents out.new) (E.contents err.old) (E.contents err.new) result }
+{
+    match task {
+        Task::Ask { request } => tell(out, err, &answer(rt.alloc(), &mut desk, request)),
+        Task::Import { list } => import(rt, &mut desk, list.as_str(), out, err),
+        Task::Serve { port, count } => listen(rt, &mut desk, port, count, out, err),
     }
 }
 
@@ -123,22 +121,21 @@ fn tell_refusal<O: Write, E: Write>(out: &mut O, err: &mut E, why: Refusal) -> u
     tell(out, err, &Answer::Refused(why))
 }
 
-/// Serves the event in a file. The file is opened before anybody is listened to.
-fn serve<O: Write, E: Write>(
+/// Opens the event in a file for a task. The file is opened before a list is read, and before anybody is listened to.
+fn open<O: Write, E: Write>(
     rt: &HostRuntime,
     path: &str,
-    port: u16,
-    count: u32,
+    task: Task,
     out: &mut O,
     err: &mut E,
 ) -> u8
-    ensures { EndsLine (Serve port count) (O.contents out.old) (O.contents out.new) (E.contents err.old) (E.contents err.new) result }
+    ensures { EndsLine (Open task) (O.contents out.old) (O.contents out.new) (E.contents err.old) (E.contents err.new) result }
 {
     if let Err(why) = find_file(rt, path) {
         return tell_refusal(out, err, why);
     }
     match er_desk::open(rt, path, Wary) {
-        Ok(desk) => serve_once(rt, desk, port, count, out, err),
+        Ok(desk) => do_task(rt, desk, task, out, err),
         Err(fault) => tell_refusal(out, err, fault.into_refusal()),
     }
 }
@@ -153,7 +150,6 @@ pub fn act<O: Write, E: Write>(rt: &HostRuntime, line: Line, out: &mut O, err: &
             let reply = init(rt, file.as_str(), name.as_slice(), rounds, cut);
             tell(out, err, &reply_answer(reply))
         }
-        Action::Ask { request } => tell(out, err, &ask(rt, file.as_str(), request)),
-        Action::Serve { port, count } => serve(rt, file.as_str(), port, count, out, err),
+        Action::Open { task } => open(rt, file.as_str(), task, out, err),
     }
 }

@@ -18,6 +18,7 @@ Keeps one event of a Magic Swiss tournament in FILE. What is answered `ok` is in
 
   init FILE NAME ROUNDS CUT       creates the event: 1 to 9 rounds, and a cut to 0, 2, 4 or 8 players
   enrol FILE NAME                 enrols a player, who gets the next number
+  import FILE CSV                 enrols the players of a list: a CSV with the heading name, and a name a line
   start FILE                      ends enrolling, with two players or more
   pair FILE ROUND SEED            pairs the next round; SEED, 64 hexadecimal digits, draws the order of players with equal points
   result FILE ROUND TABLE X Y D   enters a score: games won by the first-named player, by the second, and drawn
@@ -29,14 +30,15 @@ Keeps one event of a Magic Swiss tournament in FILE. What is answered `ok` is in
   standings FILE                  lists the players by rank, with their points and percentages
   slips FILE ROUND                lists the matches of a round that was paired, table by table
   bracket FILE                    lists the matches of the playoff, stage by stage, and then its champion
+  export FILE KIND                prints a CSV; KIND is players, or results for those of the Swiss rounds
   serve FILE PORT COUNT           lets players read slips and hand in scores over HTTP on this machine, for so many connections
 
   SUBCOMMAND --help               says more of one of them
   -h, --help                      prints this text
   -V, --version                   prints the version
 
-An evening: init, enrol each player, start. Then for each round pair, slips, and a result for each table; then the next pair.
-After the last round, standings, or cut and a playoff for each match. Try it:
+An evening: init, enrol each player or import a list, start. Then for each round pair, slips, and a result for each table; then the
+next pair. After the last round, standings, or cut and a playoff for each match. Try it:
 
   event_reporter init friday.event 'Friday Night' 3 0
   event_reporter enrol friday.event Ana
@@ -46,7 +48,7 @@ With no words the same commands are read as a script from standard input, withou
 one TAB. A script keeps its event in memory alone. Try it: ./event_reporter < examples/friday.txt
 
 A command that is taken is answered `ok` and how many were taken so far. Another is answered `refused`, a number and a name, and
-has changed nothing:
+has changed nothing; an import that is refused keeps the players who were enrolled before. The refusals:
 
    1 BadName          1 to 60 bytes, no control character, no space at either end: write the name anew
    2 NameTaken        a player has this name: add something that tells the two apart
@@ -79,7 +81,8 @@ has changed nothing:
   29 Damaged          the file holds what no event can be: go back to a copy of it
   30 BadSetup         NAME is as a player's, ROUNDS 1 to 9, CUT 0, 2, 4 or 8
 
-The status is 0 where it was done, 1 refused, 2 not understood, 3 Store, NeedsReopen or a failed read or write, 4 Memory.
+The status is 0 where it was done, 1 refused or a faulty CSV, 2 not understood, 3 Store, NeedsReopen, a CSV that can't be read, or
+another read or write that failed, 4 Memory.
 ";
 
 pub const INIT: &str = "\
@@ -104,6 +107,23 @@ Enrols a player, who gets the next number. The event must not have started.
 
 Example: event_reporter enrol friday.event 'Ana Lima'
 Refuses: 1 BadName, 2 NameTaken, 3 PlayersFull, 4 NotEnrolling, 23 SerialFull, 24 Memory, 25 Store, 27 NoEvent, 29 Damaged.
+";
+
+pub const IMPORT: &str = "\
+usage: event_reporter import FILE CSV
+
+Enrols the players of a list, in its order. A name that is enrolled already is counted and passed over, so a list that has grown can be
+imported again. Any other refusal stops it, and whoever was enrolled before it stays. The event must not have started.
+
+  CSV     a file of at most 131072 bytes: a line `name`, and then a name a line, in double quotes where it has a comma;
+          or what `export` gave of the players, of which the names are taken. /dev/stdin reads a pipe
+
+Example: event_reporter import friday.event names.csv
+   then: printf 'name\\nAna\\nBo\\n' | event_reporter import friday.event /dev/stdin
+Answers `added` and `already`, each with its number. A faulty list is answered `bad csv heading`, or `bad csv row` and the number of the
+row, and nobody is enrolled; rows count from 1 behind the heading, up to 512. A list that can't be read or is too long is answered
+`cannot read`, with status 3.
+Refuses: 3 PlayersFull, 4 NotEnrolling, 23 SerialFull, 24 Memory, 25 Store, 27 NoEvent, 29 Damaged.
 ";
 
 pub const START: &str = "\
@@ -229,6 +249,19 @@ Example: event_reporter bracket friday.event
 Refuses: 24 Memory, 25 Store, 27 NoEvent, 29 Damaged.
 ";
 
+pub const EXPORT: &str = "\
+usage: event_reporter export FILE KIND
+
+Prints a CSV, for a spreadsheet or another program: a heading, and then a line each. The playoff is not in it; see bracket.
+
+  KIND    players: their numbers and names, and a 1 at those who were dropped
+          results: the matches of the rounds that were paired, with their scores; a bye has table 0 and b 0
+
+Example: event_reporter export friday.event players > players.csv
+   then: event_reporter export friday.event results > results.csv
+Refuses: 24 Memory, 25 Store, 27 NoEvent, 29 Damaged.
+";
+
 pub const SERVE: &str = "\
 usage: event_reporter serve FILE PORT COUNT
 
@@ -300,6 +333,7 @@ pub fn subcommand_text(name: &str) -> Option<&'static str>
     match name {
         "init" => Some(INIT),
         "enrol" => Some(ENROL),
+        "import" => Some(IMPORT),
         "start" => Some(START),
         "pair" => Some(PAIR),
         "result" => Some(RESULT),
@@ -311,6 +345,7 @@ pub fn subcommand_text(name: &str) -> Option<&'static str>
         "players" => Some(PLAYERS),
         "slips" => Some(SLIPS),
         "bracket" => Some(BRACKET),
+        "export" => Some(EXPORT),
         "serve" => Some(SERVE),
         _ => None,
     }

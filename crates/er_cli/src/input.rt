@@ -1,4 +1,4 @@
-ghost use Rattle.std.specs.Prelude.{◌≡◌, ◌+◌, ◌<◌, ◌≤◌, slice_range, Err, IfOk, IfSome, length, map, take, vec_len};
+ghost use Rattle.std.specs.Prelude.{◌≡◌, ◌+◌, ◌<◌, ◌≤◌, ◌^◌, slice_range, Err, IfOk, IfSome, length, map, take, vec_len};
 ghost use Rattle.std.specs.Io.KnownBytes.{Consumes, IsAtEnd};
 ghost use Rattle.er_cli.specs.Input.{Fills, lines_of};
 
@@ -8,7 +8,7 @@ use std::io::{self, Read};
 /// How many bytes a script may have.
 pub const MAX_SCRIPT_BYTES: usize = 65_536;
 
-/// Why a script was not read.
+/// Why an input was not read.
 #[derive(Clone, Copy, Debug, PartialEq, Eq)]
 pub enum InputFault {
     TooLong,
@@ -42,30 +42,45 @@ fn fill<R: Read>(reader: &mut R, buf: &mut [u8]) -> io::Result<usize>
     Ok(filled)
 }
 
-/// Room for a script and one byte more, by which one that is too long shows.
-fn room(alloc: Global) -> Result<Vec<u8>, AllocError>
-    ensures { IfOk result (λ room. vec_len room ≡ MAX_SCRIPT_BYTES + 1) }
+/// Room for so many bytes and one more, by which an input that is too long shows.
+fn room(alloc: Global, most: usize) -> Result<Vec<u8>, AllocError>
+    requires { most < 2 ^ 32 }
+    ensures { IfOk result (λ room. vec_len room ≡ most + 1) }
 {
-    vec![in alloc; 0; MAX_SCRIPT_BYTES + 1]
+    vec![in alloc; 0; most + 1]
 }
 
-/// Reads a whole script. Its memory is taken before the first read, so that no read fails for want of it.
+/// Reads a whole input of at most so many bytes. Its memory is taken before the first read, so that no read fails for want of it.
+pub fn read_whole<R: Read>(
+    alloc: Global,
+    reader: &mut R,
+    most: usize,
+) -> Result<Vec<u8>, InputFault>
+    requires { most < 2 ^ 32 }
+    ensures small { IfOk result (λ input. vec_len input ≤ most) }
+    ensures whole { IfOk result (λ input. IfSome (R.remaining reader.old) (λ all. input.items ≡ all)) }
+    ensures too_long { result ≡ Err InputFault.TooLong → IfSome (R.remaining reader.old) (λ all. most < length all) }
+{
+    let Ok(mut input) = room(alloc, most) else {
+        return Err(InputFault::Memory);
+    };
+    let Ok(filled) = fill(reader, &mut input) else {
+        return Err(InputFault::Read);
+    };
+    if filled > most {
+        return Err(InputFault::TooLong);
+    }
+    input.truncate(filled);
+    Ok(input)
+}
+
+/// Reads a whole script.
 pub fn read_script<R: Read>(alloc: Global, reader: &mut R) -> Result<Vec<u8>, InputFault>
     ensures small { IfOk result (λ script. vec_len script ≤ MAX_SCRIPT_BYTES) }
     ensures whole { IfOk result (λ script. IfSome (R.remaining reader.old) (λ all. script.items ≡ all)) }
     ensures too_long { result ≡ Err InputFault.TooLong → IfSome (R.remaining reader.old) (λ all. MAX_SCRIPT_BYTES < length all) }
 {
-    let Ok(mut script) = room(alloc) else {
-        return Err(InputFault::Memory);
-    };
-    let Ok(filled) = fill(reader, &mut script) else {
-        return Err(InputFault::Read);
-    };
-    if filled > MAX_SCRIPT_BYTES {
-        return Err(InputFault::TooLong);
-    }
-    script.truncate(filled);
-    Ok(script)
+    read_whole(alloc, reader, MAX_SCRIPT_BYTES)
 }
 
 /// The lines of a script, without those that are empty.

@@ -1,48 +1,41 @@
-//! Command lines over the file of an event, and scripts over one in memory: reads their words, does what they ask and prints the answers.
+//! Command lines over the file of an event, and scripts over one in memory: does what their words ask and prints the answers.
 #![tactic(auto)]
 
 ghost use Rattle.std.specs.Prelude.{◌≡◌, ◌⊎◌, IfOk, IfSome, OnOk, OnErr, None, map, string_bytes};
 ghost use Rattle.std.specs.Io.KnownBytes.{Appends};
 ghost use Rattle.er_cli.specs.Texts.{answer_text, AppendsPart};
-ghost use Rattle.er_cli.specs.Action.{action_of};
+ghost use Rattle.er_words.specs.Action.{action_of};
 ghost use Rattle.er_cli.specs.Complaints.{EndsAsUsage};
 ghost use Rattle.er_cli.specs.Files.{EndsLine};
 ghost use Rattle.er_cli.specs.declared.help.TheConstants.{AWAITING};
 ghost use Rattle.er_cli.specs.Help.{Says, Tells, refusal_status, text_for};
-ghost use Rattle.er_cli.specs.Line.{line_of};
+ghost use Rattle.er_words.specs.Line.{line_of};
 ghost use Rattle.er_cli.specs.Status.{Ends, EndsUnread, UnreadPart, Breaks};
 
-mod action;
 mod answers;
 mod complaints;
-mod fields;
 mod files;
 mod help;
+mod importing;
 mod input;
-mod line;
-mod paths;
 mod script;
 mod serving;
 mod setup;
 mod texts;
-mod usage;
-mod values;
-mod words;
 
-pub use action::{Action, Request};
 use complaints::complaint;
 use er_event::Refusal;
+pub use er_words::{
+    Action, ExportKind, FilePath, Line, LineFault, Request, Task, UsageFault, read_words, usage_of,
+};
 use files::act;
 use help::{AWAITING, say, text_for};
 use input::{InputFault, lines_of, read_script};
-pub use line::{Line, LineFault, read_words};
-pub use paths::FilePath;
 use script::run_lines;
 pub use serving::serve_on;
 use std::alloc::Global;
 use std::io::{Read, Write};
 use texts::{Answer, WriteFault, flush, print_answer};
-pub use usage::{UsageFault, usage_of};
 
 /// It was done; of a script, to its end, whatever its lines were answered.
 const DONE: u8 = 0;

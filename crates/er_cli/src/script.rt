@@ -3,19 +3,18 @@ ghost use Rattle.sqlite.specs.Steps.{over_memory};
 ghost use Rattle.er_event.specs.Change.{created};
 ghost use Rattle.er_store.specs.Fault.{IsFault};
 ghost use Rattle.er_desk.specs.Desk.{AreLimits, ShowsOwn, standing};
-ghost use Rattle.er_cli.specs.Fields.{script_action};
-ghost use Rattle.er_cli.specs.declared.action.Action.TheVariants.{Init, Ask};
+ghost use Rattle.er_words.specs.Fields.{script_action};
+ghost use Rattle.er_words.specs.declared.action.Action.TheVariants.{Init, Open};
+ghost use Rattle.er_words.specs.declared.action.Task.TheVariants.{Ask};
 ghost use Rattle.er_cli.specs.Answers.{reply_answer};
 ghost use Rattle.er_cli.specs.Script.{Acts, LineAnswers, IsWritten, Prints, PrintsPart, standing_of};
 
-use crate::action::{Action, Request};
 use crate::answers::{answer, reply_answer};
-use crate::fields::read_line;
-use crate::line::LineFault;
 use crate::setup::set_up;
 use crate::texts::{Answer, WriteFault, print_answer};
 use er_desk::{Desk, Reply};
 use er_event::{Name, Receipt, Refusal};
+use er_words::{Action, LineFault, Request, Task, read_line};
 use sqlite::{Connection, MemStore};
 use std::alloc::Global;
 use std::io::Write;
@@ -57,12 +56,23 @@ impl Runner {
     }
 
     fn ask(&mut self, request: Request) -> Answer
-        ensures acts { Acts (standing_of self.old.desk) (Ask request) result (standing_of self.new.desk) }
+        ensures acts { Acts (standing_of self.old.desk) (Open (Ask request)) result (standing_of self.new.desk) }
         ensures written { IsWritten self.old.desk → IsWritten self.new.desk }
     {
         match &mut self.desk {
             None => Answer::Refused(Refusal::NoEvent),
             Some(desk) => answer(self.alloc, desk, request),
+        }
+    }
+
+    fn open(&mut self, task: Task) -> Answer
+        ensures acts { Acts (standing_of self.old.desk) (Open task) result (standing_of self.new.desk) }
+        ensures written { IsWritten self.old.desk → IsWritten self.new.desk }
+    {
+        match task {
+            Task::Ask { request } => self.ask(request),
+            // A script keeps to itself: it reads no list, and has no file that clients could ask.
+            Task::Import { list: _ } | Task::Serve { port: _, count: _ } => Answer::Usage,
         }
     }
 
@@ -74,9 +84,7 @@ impl Runner {
             Action::Init { name, rounds, cut } => {
                 reply_answer(self.init(name.as_slice(), rounds, cut))
             }
-            Action::Ask { request } => self.ask(request),
-            // A script has no file that clients could ask.
-            Action::Serve { port: _, count: _ } => Answer::Usage,
+            Action::Open { task } => self.open(task),
         }
     }
 

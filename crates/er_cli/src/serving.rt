@@ -1,12 +1,10 @@
-ghost use Rattle.std.specs.Prelude.{◌≡◌, ◌⊎◌, ◌≤◌, IsTrue, IsFalse, MatchResult, OnOk, OnErr};
-ghost use Rattle.std.specs.Io.KnownBytes.{Appends};
+ghost use Rattle.std.specs.Prelude.{◌≡◌, ◌⊎◌, ◌≤◌, IsTrue, IsFalse, MatchResult};
 ghost use Rattle.sqlite.specs.State.{HasCleanDisk};
 ghost use Rattle.er_desk.specs.Desk.{ShowsOwn, point_of, standing, state};
 ghost use Rattle.er_desk.specs.Headline.{LeavesJust};
 ghost use Rattle.er_cli.specs.Serving.{Connects, ConnectsAll, ConnectsUpTo, PrintsServed, listening, served};
-ghost use Rattle.er_cli.specs.Texts.{AppendsPart};
 
-use crate::texts::{WriteFault, flush, send};
+use crate::texts::{WriteFault, print_line};
 use crate::{DEVICE, DONE};
 use er_desk::Desk;
 use er_paper::ShortText;
@@ -34,15 +32,6 @@ fn served_line(count: u32) -> ShortText
     line.push_number(u64::from(count));
     line.push(b"\n");
     line
-}
-
-/// Prints a line, and has the writer pass it on: whoever waits for the port reads it at once.
-fn print_line<W: Write>(writer: &mut W, line: &ShortText) -> Result<(), WriteFault>
-    ensures sent { OnOk result (Appends (W.contents writer.old) (W.contents writer.new) line.now) }
-    ensures part { OnErr result (AppendsPart (W.contents writer.old) (W.contents writer.new) line.now) }
-{
-    send(writer, line.as_slice())?;
-    flush(writer)
 }
 
 /// Serves the request of one client. One that goes away counts as served.

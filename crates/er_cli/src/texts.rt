@@ -81,3 +81,12 @@ pub fn print_answer<W: Write>(writer: &mut W, answer: &Answer) -> Result<(), Wri
         Answer::Usage => send(writer, b"usage\n"),
     }
 }
+
+/// Prints a line, and has the writer pass it on: whoever waits for the port reads it at once.
+pub fn print_line<W: Write>(writer: &mut W, line: &ShortText) -> Result<(), WriteFault>
+    ensures sent { OnOk result (Appends (W.contents writer.old) (W.contents writer.new) line.now) }
+    ensures part { OnErr result (AppendsPart (W.contents writer.old) (W.contents writer.new) line.now) }
+{
+    send(writer, line.as_slice())?;
+    flush(writer)
+}

@@ -1,5 +1,5 @@
 use Rattle.std.proofs.Common.{inr, map, Option, Some, None, IfSome, string_bytes}
-use Rattle.er_cli.specs.Line.{line_of}
+use Rattle.er_words.specs.Line.{line_of}
 use Rattle.er_cli.proofs.run.Goals as goal
 
 always : {A : Type 0} (found : Option A) {P : A → Type 0} → ((x : A) → P x) → IfSome found P

@@ -1,9 +1,0 @@
-use Rattle.std.proofs.Common.{◌≡◌, false, take, map}
-use Rattle.std.specs.List.{list_any}
-use Rattle.std.specs.String.{string_bytes}
-use Rattle.std.specs.Global.{Global}
-use Rattle.er_cli.specs.Line.{is_option}
-use Rattle.er_cli.proofs.usage.dash_at.Given as goal
-
-abbrev pub invariant-loop-word : goal.invariant-loop-word
-invariant-loop-word l = (l.place ≡ l.word-index) × (list_any is_option (map (string_bytes {Z = Global}) (take l.word-index l.words)) ≡ false)

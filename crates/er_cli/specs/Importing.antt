@@ -1,0 +1,95 @@
+-- What enrolling the names of a list does to the desk, and what is printed of it.
+use Rattle.std.specs.Prelude.{◌≡◌, ◌⊎◌, ◌≤◌, ℕ, Bool, true, false, ◌≢◌, IsTrue, IsFalse, List, [], ◌∷◌, ◌++◌, length, map, take, Option, Some, None, IfSome, MatchOption, Ok, Err, is_ok, not, codes}
+use Rattle.std.specs.List.{filter, list_any}
+use Rattle.std.specs.Fmt.{decimal}
+use Rattle.std.specs.Io.KnownBytes.{Appends}
+use Rattle.er_event.specs.declared.refusals.Command.TheVariants.{Enrol}
+use Rattle.er_event.specs.declared.refusals.Refusal.{Refusal}
+use Rattle.er_event.specs.declared.refusals.Refusal.TheVariants.{NameTaken, Memory}
+use Rattle.er_desk.specs.Desk.{Standing}
+use Rattle.er_desk.specs.Reply.{Reply}
+use Rattle.er_desk.specs.Run.{Runs}
+use Rattle.er_paper.specs.declared.imports.CsvFault.{CsvFault}
+use Rattle.er_paper.specs.declared.imports.CsvFault.TheVariants.{BadHeading, BadRow}
+use Rattle.er_paper.specs.declared.imports.CsvFault.TheVariants as csv
+use Rattle.er_paper.specs.declared.imports.PlayerLine.{PlayerLine}
+use Rattle.er_paper.specs.Reading.{ReadsPlayers}
+use Rattle.er_cli.specs.declared.TheConstants.{DONE, REFUSED, DEVICE}
+use Rattle.er_cli.specs.declared.importing.Tally.{Tally}
+use Rattle.er_cli.specs.declared.importing.TheConstants.{MAX_LIST_BYTES}
+use Rattle.er_cli.specs.declared.texts.Answer.TheVariants.{Refused}
+use Rattle.er_cli.specs.Help.{Says, Tells}
+use Rattle.er_cli.specs.Texts.{AppendsPart}
+
+-- the player was there already
+abbrev pub is_taken : Refusal → Bool
+is_taken NameTaken = true
+is_taken why = false
+
+abbrev pub is_already : Reply → Bool
+is_already (Ok receipt) = false
+is_already (Err why) = is_taken why
+
+-- any other refusal
+abbrev pub is_stop : Reply → Bool
+is_stop (Ok receipt) = false
+is_stop (Err why) = not (is_taken why)
+
+abbrev pub tally_of : List Reply → Tally
+tally_of replies = record { added = length (filter is_ok replies); already = length (filter is_already replies) }
+
+abbrev pub stopping : Option Refusal → List Reply
+stopping None = []
+stopping (Some why) = Err why ∷ []
+
+-- Each name is one command, in order, until there is none or one is refused otherwise than as taken.
+pub record Enrols (names : List (List ℕ)) (old : Standing) (tally : Tally) (stop : Option Refusal) (new : Standing) : Type 0 where
+  pub replies : List Reply
+  pub ran : Runs old (map Enrol (take (length (replies ++ stopping stop)) names)) (replies ++ stopping stop) new
+  pub counted : tally ≡ tally_of replies
+  pub goes_on : IsFalse (list_any is_stop replies)
+  pub all : stop ≡ None → length replies ≡ length names
+  pub ends : IfSome stop (λ why. IsTrue (is_stop (Err why)))
+
+abbrev pub names_of : List PlayerLine → List (List ℕ)
+names_of = map (λ line. line.name)
+
+-- ---- what is printed
+
+abbrev pub tally_text : Tally → List ℕ
+tally_text tally = codes "added " ++ (decimal tally.added ++ (codes " already " ++ (decimal tally.already ++ (10 ∷ []))))
+
+-- the tally goes to the output, and then the refusal that ended the import to the errors
+abbrev pub PrintsTally : Tally → Option Refusal → (out out_then err err_then : Option (List ℕ)) → ℕ → Type 0
+PrintsTally tally stop out out_then err err_then status =
+    (Appends out out_then (tally_text tally)
+    × MatchOption stop ((status ≡ DONE) × (err_then ≡ err)) (λ why. Tells (Refused why) out_then out_then err err_then status))
+    ⊎ ((status ≡ DEVICE) × AppendsPart out out_then (tally_text tally) × (err_then ≡ err))
+
+-- what is said of a list that has a fault
+abbrev pub fault_text : CsvFault → List ℕ
+fault_text BadHeading = codes "bad csv heading\n"
+fault_text (BadRow row) = codes "bad csv row " ++ (decimal row ++ (10 ∷ []))
+fault_text csv.Memory = []
+
+module _ (old new : Standing) (out out_then err err_then : Option (List ℕ)) (status : ℕ) where
+  -- the names are handed to the desk, and the tally is printed
+  pub record Hands (names : List (List ℕ)) : Type 0 where
+    pub tally : Tally
+    pub stop : Option Refusal
+    pub enrols : Enrols names old tally stop new
+    pub prints : PrintsTally tally stop out out_then err err_then status
+
+  -- the fault of a list is named; a list without one is enrolled
+  abbrev pub TakesList : List ℕ → Type 0
+  TakesList list =
+      ((fault : CsvFault) × (fault ≢ csv.Memory) × ReadsPlayers list (Err fault) × (new ≡ old)
+      × Says (fault_text fault) REFUSED (record { meant = err; other = out }) (record { meant = err_then; other = out_then }) status)
+      ⊎ ((lines : List PlayerLine) × ReadsPlayers list (Ok lines) × Hands (names_of lines))
+
+  -- The list can't be read, or memory is wanting for it, or it is taken. Nobody is enrolled but by the last.
+  abbrev pub Imports : Type 0
+  Imports =
+      ((new ≡ old) × Says (codes "cannot read\n") DEVICE (record { meant = err; other = out }) (record { meant = err_then; other = out_then }) status)
+      ⊎ ((new ≡ old) × Tells (Refused Memory) out out_then err err_then status)
+      ⊎ ((list : List ℕ) × (length list ≤ MAX_LIST_BYTES) × TakesList list)

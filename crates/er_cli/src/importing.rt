@@ -1,0 +1,202 @@
+ghost use Rattle.std.specs.Prelude.{◌≡◌, ◌⊎◌, ◌≤◌, IsFalse, IfOk, vec_len, OnOk, OnErr};
+ghost use Rattle.std.specs.Io.KnownBytes.{Appends};
+ghost use Rattle.sqlite.specs.State.{HasCleanDisk};
+ghost use Rattle.er_event.specs.declared.refusals.Command.TheVariants.{Enrol};
+ghost use Rattle.er_desk.specs.Desk.{ShowsOwn, Turn, point_of, standing, state};
+ghost use Rattle.er_desk.specs.Headline.{LeavesJust};
+ghost use Rattle.er_cli.specs.Importing.{Enrols, Imports, PrintsTally, TakesList, fault_text, is_taken, names_of, tally_text};
+ghost use Rattle.er_cli.specs.Help.{Tells};
+ghost use Rattle.er_cli.specs.Texts.{AppendsPart};
+
+use crate::input::{InputFault, read_whole};
+use crate::texts::{Answer, WriteFault, print_line};
+use crate::{DEVICE, DONE, REFUSED, say_all, tell};
+use er_desk::{Desk, Reply};
+use er_event::{Command, Items, Name, Refusal};
+use er_paper::{CsvFault, PlayerLine, ShortText, read_players_csv};
+use sqlite::Alter;
+use std::alloc::Global;
+use std::fs::File;
+use std::io::Write;
+
+/// How many bytes a list of players may have.
+pub const MAX_LIST_BYTES: usize = 131_072;
+
+/// How many names an import has added, and how many were there already.
+#[derive(Clone, Copy, Debug, PartialEq, Eq)]
+pub struct Tally {
+    pub added: usize,
+    pub already: usize,
+}
+
+/// How an import has ended: with all names, or at the first that is refused otherwise than as taken.
+#[derive(Debug, Drop)]
+pub struct Enrolled {
+    pub tally: Tally,
+    pub stop: Option<Refusal>,
+}
+
+fn tally_line(tally: Tally) -> ShortText
+    ensures { result ≡ tally_text tally }
+{
+    let mut line = ShortText::new();
+    line.push(b"added ");
+    line.push_number(tally.added as u64);
+    line.push(b" already ");
+    line.push_number(tally.already as u64);
+    line.push(b"\n");
+    line
+}
+
+/// What is said of a list with this fault.
+fn fault_line(fault: CsvFault) -> ShortText
+    ensures { result ≡ fault_text fault }
+{
+    let mut line = ShortText::new();
+    match fault {
+        CsvFault::BadHeading => line.push(b"bad csv heading\n"),
+        CsvFault::BadRow { row } => {
+            line.push(b"bad csv row ");
+            line.push_number(row as u64);
+            line.push(b"\n");
+        }
+        CsvFault::Memory => {}
+    }
+    line
+}
+
+fn say_fault<W: Write>(writer: &mut W, fault: CsvFault) -> u8
+    ensures { ((result ≡ REFUSED) × Appends (W.contents writer.old) (W.contents writer.new) (fault_text fault))
+        ⊎ ((result ≡ DEVICE) × AppendsPart (W.contents writer.old) (W.contents writer.new) (fault_text fault)) }
+{
+    match print_line(writer, &fault_line(fault)) {
+        Ok(()) => REFUSED,
+        Err(WriteFault) => DEVICE,
+    }
+}
+
+/// Reads the list of players in a file.
+fn read_list(rt: &HostRuntime, path: &str) -> Result<Vec<u8>, InputFault>
+    ensures { IfOk result (λ list. vec_len list ≤ MAX_LIST_BYTES) }
+{
+    let Ok(mut file) = File::open(rt, path) else {
+        return Err(InputFault::Read);
+    };
+    read_whole(rt.alloc(), &mut file, MAX_LIST_BYTES)
+}
+
+/// Whether a refusal says that the player is there already.
+fn is_taken(why: &Refusal) -> bool
+    ensures { result ≡ is_taken why.now }
+{
+    matches!(why, Refusal::NameTaken)
+}
+
+/// Hands one name to the desk.
+fn enrol<S: Alter>(alloc: Global, desk: &mut Desk<S>, name: &Name) -> Reply
+    requires { IsFalse (standing desk.old).stopped }
+    ensures turn { Turn (standing desk.old) (Enrol name.now) result (standing desk.new) }
+    ensures clean { HasCleanDisk (state S.Store desk.new) → HasCleanDisk (state S.Store desk.old) }
+    ensures stands { HasCleanDisk (state S.Store desk.new) → ShowsOwn S.Store desk.old → IsFalse (standing desk.new).stopped → ShowsOwn S.Store desk.new }
+    ensures leaves { ShowsOwn S.Store desk.old → LeavesJust (state S.Store desk.old) (point_of (standing desk.old)) → IsFalse (standing desk.new).stopped
+        → LeavesJust (state S.Store desk.new) (point_of (standing desk.new)) }
+{
+    let Ok(name) = Vec::from_slice(alloc, name.as_str().as_bytes()) else {
+        return Err(Refusal::Memory);
+    };
+    let name = Items::from(name);
+    desk.submit(alloc, Command::Enrol { name })
+}
+
+/// Hands the names to the desk in order, until one is refused otherwise than as taken.
+fn enrol_all<S: Alter>(alloc: Global, desk: &mut Desk<S>, lines: &[PlayerLine]) -> Enrolled
+    requires { IsFalse (standing desk.old).stopped }
+    ensures enrols { Enrols (names_of lines.now) (standing desk.old) result.tally result.stop (standing desk.new) }
+    ensures clean { HasCleanDisk (state S.Store desk.new) → HasCleanDisk (state S.Store desk.old) }
+    ensures stands { HasCleanDisk (state S.Store desk.new) → ShowsOwn S.Store desk.old → IsFalse (standing desk.new).stopped → ShowsOwn S.Store desk.new }
+
+    // While the desk runs, a crash leaves just the event that it stands at.
+    ensures leaves { ShowsOwn S.Store desk.old → LeavesJust (state S.Store desk.old) (point_of (standing desk.old)) → IsFalse (standing desk.new).stopped
+        → LeavesJust (state S.Store desk.new) (point_of (standing desk.new)) }
+{
+    let mut tally = Tally {
+        added: 0,
+        already: 0,
+    };
+    for line in lines {
+        match enrol(alloc, desk, &line.name) {
+            Ok(_receipt) => tally.added += 1,
+            Err(why) if is_taken(&why) => tally.already += 1,
+            Err(why) => {
+                return Enrolled {
+                    tally,
+                    stop: Some(why),
+                };
+            }
+        }
+    }
+    Enrolled { tally, stop: None }
+}
+
+/// Prints how many were enrolled, and the refusal that ended it, where there is one.
+fn print_tally<O: Write, E: Write>(out: &mut O, err: &mut E, enrolled: Enrolled) -> u8
+    ensures { PrintsTally enrolled.tally enrolled.stop (O.contents out.old) (O.contents out.new) (E.contents err.old) (E.contents err.new) result }
+{
+    let Ok(()) = print_line(out, &tally_line(enrolled.tally)) else {
+        return DEVICE;
+    };
+    match enrolled.stop {
+        Some(why) => tell(out, err, &Answer::Refused(why)),
+        None => DONE,
+    }
+}
+
+/// Enrols the names of a list, or says which fault it has.
+fn import_list<S: Alter, O: Write, E: Write>(
+    alloc: Global,
+    desk: &mut Desk<S>,
+    list: &[u8],
+    out: &mut O,
+    err: &mut E,
+) -> u8
+    requires { IsFalse (standing desk.old).stopped }
+    ensures imports { ((standing desk.new ≡ standing desk.old) × Tells (Answer.Refused Refusal.Memory) (O.contents out.old) (O.contents out.new) (E.contents err.old) (E.contents err.new) result)
+        ⊎ TakesList (standing desk.old) (standing desk.new) (O.contents out.old) (O.contents out.new) (E.contents err.old) (E.contents err.new) result list.now }
+    ensures clean { HasCleanDisk (state S.Store desk.new) → HasCleanDisk (state S.Store desk.old) }
+    ensures stands { HasCleanDisk (state S.Store desk.new) → ShowsOwn S.Store desk.old → IsFalse (standing desk.new).stopped → ShowsOwn S.Store desk.new }
+    ensures leaves { ShowsOwn S.Store desk.old → LeavesJust (state S.Store desk.old) (point_of (standing desk.old)) → IsFalse (standing desk.new).stopped
+        → LeavesJust (state S.Store desk.new) (point_of (standing desk.new)) }
+{
+    match read_players_csv(alloc, list) {
+        Ok(lines) => {
+            let enrolled = enrol_all(alloc, desk, &lines);
+            print_tally(out, err, enrolled)
+        }
+        Err(CsvFault::Memory) => tell(out, err, &Answer::Refused(Refusal::Memory)),
+        Err(fault) => say_fault(err, fault),
+    }
+}
+
+/// Enrols the names of the list in a file. Of a list that can't be read, or has a fault, nobody is enrolled.
+pub fn import<S: Alter, O: Write, E: Write>(
+    rt: &HostRuntime,
+    desk: &mut Desk<S>,
+    path: &str,
+    out: &mut O,
+    err: &mut E,
+) -> u8
+    requires { IsFalse (standing desk.old).stopped }
+    ensures imports { Imports (standing desk.old) (standing desk.new) (O.contents out.old) (O.contents out.new) (E.contents err.old) (E.contents err.new) result }
+    ensures clean { HasCleanDisk (state S.Store desk.new) → HasCleanDisk (state S.Store desk.old) }
+    ensures stands { HasCleanDisk (state S.Store desk.new) → ShowsOwn S.Store desk.old → IsFalse (standing desk.new).stopped → ShowsOwn S.Store desk.new }
+
+    // While the desk runs, a crash leaves just the event that it stands at.
+    ensures leaves { ShowsOwn S.Store desk.old → LeavesJust (state S.Store desk.old) (point_of (standing desk.old)) → IsFalse (standing desk.new).stopped
+        → LeavesJust (state S.Store desk.new) (point_of (standing desk.new)) }
+{
+    match read_list(rt, path) {
+        Ok(list) => import_list(rt.alloc(), desk, &list, out, err),
+        Err(InputFault::Memory) => tell(out, err, &Answer::Refused(Refusal::Memory)),
+        Err(InputFault::TooLong | InputFault::Read) => say_all(err, "cannot read\n", DEVICE),
+    }
+}

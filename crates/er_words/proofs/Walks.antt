@@ -1,0 +1,171 @@
+-- What the parser makes of words of which none begins with a hyphen.
+use Rattle.std.proofs.Common.{◌≡◌, ℕ, Bool, true, false, List, [], ◌∷◌, ◌++◌, map, codes, Option, Some, None, refl, sym, ap, ◌∙◌, cond, append_assoc, append-nil, option_map, find}
+use Rattle.std.specs.List.{fold, list_any}
+use Rattle.std.specs.Str.{bytes_eq}
+use Rattle.clap.specs.Words.{Rule, Shape, Text, built}
+use Rattle.clap.specs.Lexer.{strip_byte, long_of, short_of}
+use Rattle.std.proofs.lemmas.Slice.Eq.{bytes_eq-Decides}
+use Rattle.clap.specs.Simple.{filled, with_index, names_of, label_of, subcommand_of, entered, rows_at}
+use Rattle.clap.specs.Walk.{Held, Names, Step, Waiting, Walk, idle, positional, value, subcommand, walked, walk_from, nothing_held, word_met, subcommand_met, plain_word, after_step, finished, rows_after, subcommand_or_other, answers_to}
+use Rattle.clap.specs.Faults.{is_simple_and_free}
+use Rattle.er_words.specs.Line.{is_option}
+use Rattle.er_words.specs.Words.{names, leaf, program, words_rule, words_in}
+
+-- ---- a word with no hyphen in front
+
+abbrev pub AllPlain : List Text → Type 0
+AllPlain [] = Unit {0}
+AllPlain (w ∷ rest) = (is_option w ≡ false) × AllPlain rest
+
+plain_by : (b : Bool) (w : Text) (rest : List Text) → is_option w ≡ b → (list_any is_option rest ≡ false → AllPlain rest) → list_any is_option (w ∷ rest) ≡ false → AllPlain (w ∷ rest)
+plain_by true w rest e later none = let bad : true ≡ false = rw e at none in cc
+plain_by false w rest e later none = (e, later (rw e at none))
+
+pub AllPlain-none : (ws : List Text) → list_any is_option ws ≡ false → AllPlain ws
+AllPlain-none [] none = tt
+AllPlain-none (w ∷ rest) none = plain_by (is_option w) w rest refl (AllPlain-none rest) none
+
+pub no_hyphen : (w : Text) → is_option w ≡ false → strip_byte 45 w ≡ None
+no_hyphen [] plain = refl
+no_hyphen (x ∷ xs) plain = ap (λ b. cond b (Some xs) None) plain
+
+pub no_long : (w : Text) → is_option w ≡ false → long_of w ≡ None
+no_long w plain = rw (no_hyphen w plain)
+
+pub no_short : (w : Text) → is_option w ≡ false → short_of w ≡ None
+no_short w plain = rw (no_hyphen w plain)
+
+pub no_dashes : (w : Text) → is_option w ≡ false → bytes_eq w (45 ∷ 45 ∷ []) ≡ false
+no_dashes [] plain = refl
+no_dashes (x ∷ xs) plain = rw plain
+
+-- the word goes to a positional
+pub plain_met : (c : List Rule) (ns : Names) (waiting : Waiting) (position : ℕ) (w : Text) (h : Held) → is_option w ≡ false
+    → subcommand_met ns waiting w ≡ None → plain_word c waiting w h ≡ (h, value) → word_met c ns false waiting position w h ≡ (h, value)
+plain_met c ns waiting position w h plain none goes =
+    rw (none, no_dashes w plain, no_long w plain, no_short w plain) goes
+
+-- ---- the words of a subcommand
+
+abbrev pub leaf_rule : Rule
+leaf_rule = with_index 1 (filled words_rule)
+
+abbrev pub leaf_rules : List Rule
+leaf_rules = leaf_rule ∷ []
+
+abbrev pub reading_words : List Text → Walk
+reading_words ws = record {
+  held = record { rows = []; pending = Some (codes "words", ws); skip = 0 };
+  waiting = positional;
+  position = 1;
+  is_trailing = false;
+  stopped = None;
+}
+
+pub first_word : (w : Text) → is_option w ≡ false → walked leaf_rules [] (walk_from nothing_held) w ≡ reading_words (w ∷ [])
+unfolding walked
+first_word w plain =
+    ap (λ (m : Held × Step). after_step leaf_rules w (walk_from nothing_held) m.0 m.1)
+    (plain_met leaf_rules [] idle 1 w nothing_held plain refl refl)
+
+pub next_word : (ws : List Text) (w : Text) → is_option w ≡ false → walked leaf_rules [] (reading_words ws) w ≡ reading_words (ws ++ w ∷ [])
+unfolding walked
+next_word ws w plain =
+    ap (λ (m : Held × Step). after_step leaf_rules w (reading_words ws) m.0 m.1)
+    (plain_met leaf_rules [] positional 1 w (reading_words ws).held plain refl refl)
+
+pub next_words : (ws rest : List Text) → AllPlain rest → fold (walked leaf_rules []) (reading_words ws) rest ≡ reading_words (ws ++ rest)
+next_words ws [] plain = ap reading_words (sym (append-nil ws))
+next_words ws (w ∷ rest) plain =
+    ap (λ (s : Walk). fold (walked leaf_rules []) s rest) (next_word ws w plain.0)
+    ∙ next_words (ws ++ w ∷ []) rest plain.1 ∙ ap reading_words (append_assoc ws (w ∷ []) rest)
+
+pub leaf_walk : (w : Text) (rest : List Text) → AllPlain (w ∷ rest) → fold (walked leaf_rules []) (walk_from nothing_held) (w ∷ rest) ≡ reading_words (w ∷ rest)
+leaf_walk w rest plain =
+    ap (λ (s : Walk). fold (walked leaf_rules []) s rest) (first_word w plain.0) ∙ next_words (w ∷ []) rest plain.1
+
+pub leaf_words : (ws : List Text) → AllPlain ws → words_in (rows_after leaf_rules [] ws) ≡ ws
+leaf_words [] plain = refl
+leaf_words (w ∷ rest) plain = ap (λ (s : Walk). words_in (finished leaf_rules s.held)) (leaf_walk w rest plain)
+
+-- ---- the subcommand
+
+same_text : (n w : Text) → bytes_eq n w ≡ true → n ≡ w
+same_text n w h = (bytes_eq-Decides n w).0 h
+
+-- the item of a name, in a list with one for each name
+module _ {S : Type 0} (f : Text → S) (label : S → Text × List Text) (is : (n : Text) → label (f n) ≡ (n, [])) where
+  named_by : (n w : Text) (ns : List Text) (b : Bool) → bytes_eq n w ≡ b → (list_any (λ n. bytes_eq n w) ns ≡ true → find (λ s. answers_to w (label s)) (map f ns) ≡ Some (f w))
+      → list_any (λ n. bytes_eq n w) (n ∷ ns) ≡ true → find (λ s. answers_to w (label s)) (map f (n ∷ ns)) ≡ Some (f w)
+  named_by n w ns true e later h = rw (is n, e) (ap (λ (t : Text). Some (f t)) (same_text n w e))
+  named_by n w ns false e later h = rw (is n, e) (later (rw e at h))
+
+  pub find_named : (ns : List Text) (w : Text) → list_any (λ n. bytes_eq n w) ns ≡ true → find (λ s. answers_to w (label s)) (map f ns) ≡ Some (f w)
+  find_named [] w h = cc
+  find_named (n ∷ ns) w h = named_by n w ns (bytes_eq n w) refl (find_named ns w) h
+
+  none_by : (n w : Text) (ns : List Text) (b : Bool) → bytes_eq n w ≡ b → (list_any (λ n. bytes_eq n w) ns ≡ false → find (λ s. answers_to w (label s)) (map f ns) ≡ None)
+      → list_any (λ n. bytes_eq n w) (n ∷ ns) ≡ false → find (λ s. answers_to w (label s)) (map f (n ∷ ns)) ≡ None
+  none_by n w ns true e later h = let bad : true ≡ false = rw e at h in cc
+  none_by n w ns false e later h = rw (is n, e) (later (rw e at h))
+
+  pub find_none : (ns : List Text) (w : Text) → list_any (λ n. bytes_eq n w) ns ≡ false → find (λ s. answers_to w (label s)) (map f ns) ≡ None
+  find_none [] w h = refl
+  find_none (n ∷ ns) w h = none_by n w ns (bytes_eq n w) refl (find_none ns w) h
+
+-- what the parser is told, once it is built
+abbrev pub leaf_built : Text → Shape
+leaf_built n = record (leaf n) { rules = leaf_rules; is_built = true; no_binary_name = true; disable_help_flag = true; disable_help_subcommand = true }
+
+abbrev pub label_built : Text → Text × List Text
+label_built n = (n, [])
+
+subs_are : (built program).subs ≡ map leaf_built names
+subs_are = refl
+
+rules_are : (built program).top.rules ≡ []
+rules_are = refl
+
+names_are : names_of (built program) ≡ map label_built names
+names_are = refl
+
+pub simple_and_free : is_simple_and_free program ≡ true
+simple_and_free = refl
+
+-- ---- the walk of the program's own words
+
+abbrev pub is_name : Text → Bool
+is_name w = list_any (λ n. bytes_eq n w) names
+
+abbrev pub labels : Names
+labels = map label_built names
+
+abbrev pub stopped_at : Text → List Text → Walk
+stopped_at w rest = record (walk_from nothing_held) { stopped = Some (w, rest) }
+
+pub met_name : (w : Text) → is_name w ≡ true → subcommand_met labels idle w ≡ Some w
+met_name w named = ap (option_map (λ s. s.0)) (find_named label_built (λ s. s) (λ n. refl) names w named)
+
+pub met_none : (w : Text) → is_name w ≡ false → subcommand_met labels idle w ≡ None
+met_none w stray = ap (option_map (λ s. s.0)) (find_none label_built (λ s. s) (λ n. refl) names w stray)
+
+pub name_word : (w : Text) → is_name w ≡ true → word_met [] labels false idle 1 w nothing_held ≡ (nothing_held, subcommand w)
+name_word w named = ap (λ (o : Option Text). subcommand_or_other [] o idle 1 w nothing_held) (met_name w named)
+
+pub name_walked : (w : Text) → is_name w ≡ true → walked [] labels (walk_from nothing_held) w ≡ stopped_at w []
+unfolding walked
+name_walked w named = ap (λ (m : Held × Step). after_step [] w (walk_from nothing_held) m.0 m.1) (name_word w named)
+
+rest_walked : (w : Text) (acc rest : List Text) → fold (walked [] labels) (stopped_at w acc) rest ≡ stopped_at w (acc ++ rest)
+unfolding walked
+rest_walked w acc [] = ap (stopped_at w) (sym (append-nil acc))
+rest_walked w acc (x ∷ rest) = rest_walked w (acc ++ x ∷ []) rest ∙ ap (stopped_at w) (append_assoc acc (x ∷ []) rest)
+
+pub whole_walk : (w : Text) (rest : List Text) → is_name w ≡ true → fold (walked [] labels) (walk_from nothing_held) (w ∷ rest) ≡ stopped_at w rest
+whole_walk w rest named = ap (λ (s : Walk). fold (walked [] labels) s rest) (name_walked w named) ∙ rest_walked w [] rest
+
+pub entered_is : (w : Text) (rest : List Text) → is_name w ≡ true → entered (built program) (Some (w, rest)) ≡ Some (w, rows_after leaf_rules [] rest)
+entered_is w rest named = ap (option_map (λ s. rows_at s rest)) (find_named leaf_built label_of (λ n. refl) names w named)
+
+pub subcommand_is : (w : Text) (rest : List Text) → is_name w ≡ true → subcommand_of program (w ∷ rest) ≡ Some (w, rows_after leaf_rules [] rest)
+subcommand_is w rest named = ap (λ (s : Walk). entered (built program) s.stopped) (whole_walk w rest named) ∙ entered_is w rest named

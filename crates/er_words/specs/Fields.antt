@@ -1,0 +1,25 @@
+-- What a line of a script is.
+use Rattle.std.specs.Prelude.{ℕ, ◌==◌, if◌then◌else◌, List, [], ◌∷◌, Option, None, option_map, codes}
+use Rattle.std.specs.List.{slice_split}
+use Rattle.std.specs.Str.{is_utf8}
+use Rattle.er_words.specs.declared.action.Action.{Action}
+use Rattle.er_words.specs.declared.line.Line.{Line}
+use Rattle.er_words.specs.Action.{action_of}
+use Rattle.er_words.specs.Line.{line_of}
+
+-- what stands between the TABs
+abbrev pub fields_of : List ℕ → List (List ℕ)
+fields_of line = slice_split (λ byte. byte == 9) line
+
+-- the words of a command line, with `script` put in as FILE
+abbrev pub with_file : List (List ℕ) → List (List ℕ)
+with_file [] = []
+with_file (name ∷ values) = name ∷ codes "script" ∷ values
+
+-- the command line that a line of a script stands for. A line is UTF-8.
+abbrev pub script_line : List ℕ → Option Line
+script_line line = if is_utf8 line then line_of (with_file (fields_of line)) else None
+
+-- what a line of a script has done
+abbrev pub script_action : List ℕ → Option Action
+script_action line = option_map action_of (script_line line)

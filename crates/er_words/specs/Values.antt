@@ -1,0 +1,58 @@
+-- The values that words are.
+use Rattle.std.specs.Prelude.{ℕ, ◌+◌, ◌*◌, ◌==◌, nat_lt, ◌&&◌, if◌then◌else◌, List, [], ◌∷◌, length, Option, Some, None, option_and_then, option_map, codes}
+use Rattle.std.specs.List.{list_all}
+use Rattle.std.specs.Char.{is_ascii_digit, is_ascii_hexdigit, digit_value}
+use Rattle.std.specs.Str.{bytes_eq}
+use Rattle.std.specs.Str.Parse.{digits_value}
+use Rattle.er_event.specs.declared.scores.Games.{Games}
+use Rattle.er_words.specs.declared.action.ExportKind.{ExportKind}
+use Rattle.er_words.specs.declared.action.ExportKind.TheVariants.{Players, Results}
+
+-- the number below the limit that a word of digits is
+abbrev pub number_below : ℕ → List ℕ → Option ℕ
+number_below limit word = if nat_lt 0 (length word) && list_all is_ascii_digit word && nat_lt (digits_value 10 word) limit then Some (digits_value 10 word) else None
+
+-- the number of connections that a word is: from 1 to a million
+abbrev pub count_of : List ℕ → Option ℕ
+count_of word = option_and_then (λ count. if nat_lt 0 count then Some count else None) (number_below 1000001 word)
+
+-- the kind of list that a word names
+abbrev pub kind_of : List ℕ → Option ExportKind
+kind_of word = if bytes_eq word (codes "players") then Some Players else (if bytes_eq word (codes "results") then Some Results else None)
+
+-- the bytes of hexadecimal digits, two for each. The first of the two counts sixteen.
+abbrev pub hex_bytes : List ℕ → List ℕ
+hex_bytes (high ∷ low ∷ rest) = (16 * digit_value high + digit_value low) ∷ hex_bytes rest
+hex_bytes _ = []
+
+-- the seed that 64 hexadecimal digits are, small or capital
+unfoldable pub seed_of : List ℕ → Option (List ℕ)
+seed_of word = if length word == 64 && list_all is_ascii_hexdigit word then Some (hex_bytes word) else None
+
+-- two values, where both are there
+abbrev pub both : {A B : Type 0} → Option A → Option B → Option (A × B)
+both (Some a) (Some b) = Some (a, b)
+both (Some a) None = None
+both None b = None
+
+-- three values, where all are there
+abbrev pub all_three : {A B C : Type 0} → Option A → Option B → Option C → Option (A × B × C)
+all_three (Some a) (Some b) (Some c) = Some (a, b, c)
+all_three (Some a) (Some b) None = None
+all_three (Some a) None c = None
+all_three None b c = None
+
+-- `X Y D`: games won by the first-named player, won by the second, and drawn
+abbrev pub games_of : List (List ℕ) → Option Games
+games_of (x ∷ y ∷ d ∷ []) = option_map (λ it. record { x = it.0; y = it.1; d = it.2 }) (all_three (number_below 256 x) (number_below 256 y) (number_below 256 d))
+games_of _ = None
+
+-- `ROUND TABLE X Y D`
+abbrev pub report_of : List (List ℕ) → Option (ℕ × ℕ × Games)
+report_of (round ∷ table ∷ games) = all_three (number_below 256 round) (number_below 65536 table) (games_of games)
+report_of _ = None
+
+-- `STAGE SLOT X Y D`
+abbrev pub slot_report_of : List (List ℕ) → Option (ℕ × ℕ × Games)
+slot_report_of (stage ∷ slot ∷ games) = all_three (number_below 256 stage) (number_below 256 slot) (games_of games)
+slot_report_of _ = None

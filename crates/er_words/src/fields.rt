@@ -1,0 +1,41 @@
+ghost use Rattle.std.specs.Prelude.{◌≡◌, ◌∷◌, IfOk, codes, map, string_bytes};
+ghost use Rattle.er_words.specs.Fields.{fields_of, script_line};
+ghost use Rattle.er_words.specs.Line.{Reads};
+
+use crate::line::{Line, LineFault, read_words};
+use std::alloc::{AllocError, Global};
+
+/// The fields of a script's line, with a TAB between two.
+fn fields_of(alloc: Global, line: &str) -> Result<Vec<&str>, AllocError>
+    ensures { IfOk result (λ fields. map (λ field. field.now) fields.items ≡ fields_of line.entry.now) }
+{
+    line.split('\t').collect(alloc)
+}
+
+/// The words of a command line, with `script` put in as FILE.
+fn words_of(alloc: Global, name: &str, values: &[&str]) -> Result<Vec<String>, AllocError>
+    ensures { IfOk result (λ words. map string_bytes words.items ≡ name.now ∷ codes "script" ∷ map (λ value. value.now) values.now) }
+{
+    let mut words = Vec::new(alloc);
+    words.push(String::from_str(alloc, name)?)?;
+    words.push(String::from_str(alloc, "script")?)?;
+    for value in values {
+        words.push(String::from_str(alloc, value)?)?;
+    }
+    Ok(words)
+}
+
+/// The command line that a line of a script stands for.
+pub fn read_line(alloc: Global, line: &[u8]) -> Result<Line, LineFault>
+    ensures { Reads (script_line line.now) result }
+{
+    let Ok(line) = str::from_utf8(line) else {
+        return Err(LineFault::Usage);
+    };
+    let fields = fields_of(alloc, line)?;
+    let [name, values @ ..] = fields.as_slice() else {
+        return Err(LineFault::Usage);
+    };
+    let words = words_of(alloc, name, values)?;
+    read_words(alloc, &words)
+}

@@ -1,0 +1,125 @@
+ghost use Rattle.std.specs.Prelude.{◌≡◌, IfOk, map};
+ghost use Rattle.std.specs.List.{list_all};
+ghost use Rattle.std.specs.Char.{is_ascii_digit};
+ghost use Rattle.er_words.specs.Values.{number_below, count_of, kind_of, seed_of, games_of, report_of, slot_report_of};
+
+use crate::action::ExportKind;
+use er_event::{Games, Items};
+use hex::FromHex;
+use std::alloc::{AllocError, Global};
+
+/// How many connections are served at most before the file is given back.
+const MAX_CONNECTIONS: u32 = 1_000_000;
+
+fn is_number(word: &str) -> bool
+    ensures { result ≡ list_all is_ascii_digit word.now }
+{
+    word.bytes().all(|byte| byte.is_ascii_digit())
+}
+
+/// The small number that a word is. A sign is no digit.
+pub fn small_number_of(word: &str) -> Option<u8>
+    ensures { result ≡ number_below 256 word.now }
+{
+    if is_number(word) {
+        word.parse().ok()
+    } else {
+        None
+    }
+}
+
+/// The number that a word is, of a player or a table, whether there is one or not.
+pub fn number_of(word: &str) -> Option<u16>
+    ensures { result ≡ number_below 65536 word.now }
+{
+    if is_number(word) {
+        word.parse().ok()
+    } else {
+        None
+    }
+}
+
+fn large_number_of(word: &str) -> Option<u32>
+    ensures { result ≡ number_below 4294967296 word.now }
+{
+    if is_number(word) {
+        word.parse().ok()
+    } else {
+        None
+    }
+}
+
+/// The number of connections that a word is, from 1 on.
+pub fn count_of(word: &str) -> Option<u32>
+    ensures { result ≡ count_of word.now }
+{
+    let count = large_number_of(word)?;
+    if 0 < count && count <= MAX_CONNECTIONS {
+        Some(count)
+    } else {
+        None
+    }
+}
+
+/// The kind of list that a word names.
+pub fn kind_of(word: &str) -> Option<ExportKind>
+    ensures { result ≡ kind_of word.now }
+{
+    match word {
+        "players" => Some(ExportKind::Players),
+        "results" => Some(ExportKind::Results),
+        _ => None,
+    }
+}
+
+/// The seed that a word is: 64 hexadecimal digits, small or capital, two for each byte.
+pub fn seed_of(word: &str) -> Option<[u8; 32]>
+    ensures { result ≡ seed_of word.now }
+{
+    <[u8; 32]>::from_hex(word).ok()
+}
+
+/// The games that three words are: won by the first-named player, won by the second, drawn.
+fn games_of(words: &[&str]) -> Option<Games>
+    ensures { result ≡ games_of (map (λ word. word.now) words.now) }
+{
+    let [x, y, d] = *words else {
+        return None;
+    };
+    Some(Games {
+        x: small_number_of(x)?,
+        y: small_number_of(y)?,
+        d: small_number_of(d)?,
+    })
+}
+
+/// The round, the table and the games that the words of a report are.
+pub fn report_of(words: &[&str]) -> Option<(u8, u16, Games)>
+    ensures { result ≡ report_of (map (λ word. word.now) words.now) }
+{
+    let [round, table, games @ ..] = words else {
+        return None;
+    };
+    Some((small_number_of(round)?, number_of(table)?, games_of(games)?))
+}
+
+/// The stage, the slot and the games that the words of a playoff's report are.
+pub fn slot_report_of(words: &[&str]) -> Option<(u8, u8, Games)>
+    ensures { result ≡ slot_report_of (map (λ word. word.now) words.now) }
+{
+    let [stage, slot, games @ ..] = words else {
+        return None;
+    };
+    Some((
+        small_number_of(stage)?,
+        small_number_of(slot)?,
+        games_of(games)?,
+    ))
+}
+
+/// The name that a word is, whether it is lawful or not.
+pub fn name_of(alloc: Global, word: &str) -> Result<Items<u8>, AllocError>
+    ensures { IfOk result (λ bytes. bytes ≡ word.now) }
+{
+    Ok(Items::from(Vec::from_slice(alloc, word.as_bytes())?))
+}
