@@ -60,11 +60,26 @@ def rows_read(file):
         base.close()
 
 
+def copied(file, folder):
+    """A copy of the file in a folder, with its log, where they are there."""
+    for name in (file, f"{file}-wal"):
+        if os.path.exists(name):
+            shutil.copy(name, folder)
+    return f"{folder}/{os.path.basename(file)}"
+
+
 def rows_of_copy(file):
     """The same of a copy with its log, so that the file itself stays as it is."""
     with tempfile.TemporaryDirectory() as folder:
-        for name in (file, f"{file}-wal"):
-            if os.path.exists(name):
-                shutil.copy(name, folder)
-        copied = f"{folder}/{os.path.basename(file)}"
-        return rows_read(copied) if os.path.exists(copied) else None
+        copy = copied(file, folder)
+        return rows_read(copy) if os.path.exists(copy) else None
+
+
+def rows_left(file, before):
+    """The rows of a copy where the program was stopped. A file that isn't whole yet, and had no event before, has none."""
+    try:
+        return rows_of_copy(file)
+    except sqlite3.DatabaseError:
+        if before is None:
+            return None
+        raise

@@ -9,7 +9,7 @@ import sys
 import tempfile
 import time
 
-from event_files import due, rows_of, rows_of_copy, run, words_of
+from event_files import due, rows_left, rows_of, run, words_of
 from random_play import random_event
 
 
@@ -43,7 +43,7 @@ class Stops:
 
     def look(self, line, after, is_acknowledged):
         """Whether the file holds the event after the line. It holds that or the one before."""
-        rows = rows_of_copy(self.file)
+        rows = rows_left(self.file, self.before)
         if rows == after:
             self.taken += 1
         elif rows != self.before or is_acknowledged:
@@ -74,7 +74,7 @@ class Stops:
                 raise Stopped
             if is_after and after != self.before:
                 break
-        if rows_of_copy(self.file) != after:
+        if rows_left(self.file, self.before) != after:
             got = run(self.program, words)
             if got != due(answer):
                 self.complain(line, f"{got}, and not {due(answer)}")
