@@ -101,7 +101,7 @@ fn enrol<S: Alter>(alloc: Global, desk: &mut Desk<S>, name: &Name) -> Reply
     ensures leaves { ShowsOwn S.Store desk.old → LeavesJust (state S.Store desk.old) (point_of (standing desk.old)) → IsFalse (standing desk.new).stopped
         → LeavesJust (state S.Store desk.new) (point_of (standing desk.new)) }
 {
-    let Ok(name) = Vec::from_slice(alloc, name.as_str().as_bytes()) else {
+    let Ok(name) = Vec::from_slice(alloc, name.as_bytes()) else {
         return Err(Refusal::Memory);
     };
     let name = Items::from(name);

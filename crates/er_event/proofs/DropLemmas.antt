@@ -1,10 +1,11 @@
 -- A player who drops keeps number and name, so the event stays sound once it has started.
-use Rattle.std.proofs.Common.{◌≡◌, ◌≢◌, ℕ, zero, suc, ◌+◌, ◌-◌, ◌==◌, ◌<◌, ◌≤◌, Bool, true, false, cond, not, ◌&&◌, ◌⊎◌, inl, inr, List, [], ◌∷◌, length, map, get_or, IsTrue, IsFalse, All, AllPairs, Contains, Option, Some, None, IfSome, Bor, option_map, unwrap_or, find, refl, sym, ap, ap₂, subst, ◌∙◌, true≢false, arith, not-suc-le-zero}
-use Rattle.std.specs.List.{range_with_len, list_all}
+use Rattle.std.proofs.Common.{◌≡◌, ◌≢◌, ℕ, zero, suc, ◌+◌, ◌-◌, ◌==◌, ◌<◌, ◌≤◌, Bool, true, false, cond, not, ◌&&◌, ◌⊎◌, inl, inr, List, [], ◌∷◌, length, map, get_or, IsTrue, IsFalse, All, AllPairs, Contains, Option, Some, None, IfSome, Bor, option_map, unwrap_or, find, drop, refl, sym, ap, ap₂, subst, ◌∙◌, true≢false, arith, not-suc-le-zero}
+use Rattle.std.specs.List.{range_with_len, list_all, slice_get}
+use Rattle.std.specs.Slice.{IsItemAt}
 use Rattle.std.proofs.Math.ListN.{set, length-map}
 use Rattle.std.proofs.lemmas.Bool.Decides.{nat_tests}
 use Rattle.std.proofs.lemmas.List.Elements.{All-head, All-tail, All-cons, All-nil}
-use Rattle.std.proofs.lemmas.Option.{none-some}
+use Rattle.std.proofs.lemmas.Option.{none-some, slice_get_past, slice_get_read}
 use Rattle.std.proofs.lemmas.List.FromFn.{length-range_with_len, get_or-range_with_len}
 use Rattle.er_event.specs.declared.events.Phase.{Phase}
 use Rattle.er_event.specs.declared.events.Phase.TheVariants.{Enrolling, Swiss, Playoff, Finished}
@@ -201,6 +202,41 @@ IsSound-enrolling e h swiss none undropped = record {
 found-step : (b : Bool) (q p : Player) (ps : List Player) (found : Option Player) → (found ≡ Some p → Contains (numbers ps) p.no) → cond b (Some q) found ≡ Some p → Contains (numbers (q ∷ ps)) p.no
 found-step true q p ps found rest is = let same : q.no ≡ p.no = ap (λ (o : Option Player). (unwrap_or o q).no) is in (0, omega arith, same)
 found-step false q p ps found rest is = let has = rest is in (suc has.0, omega (arith, has.1), has.2)
+
+find-step : (b : Bool) (k n : ℕ) (q : Player) (qs : List Player) → (q.no == n) ≡ b → q.no ≡ k → k ≤ n → (k + 1 ≤ n → find (λ (p : Player). p.no == n) qs ≡ slice_get qs (n - (k + 1)))
+    → cond b (Some q) (find (λ (p : Player). p.no == n) qs) ≡ slice_get (q ∷ qs) (n - k)
+find-step true k n q qs same is low later =
+    let e : n - k ≡ 0 = grind (arith, nat_tests) in
+    sym (ap (slice_get (q ∷ qs)) e)
+find-step false k n q qs other is low later =
+    let more : k + 1 ≤ n = grind (arith, nat_tests) in
+    let e : n - k ≡ suc (n - (k + 1)) = omega arith in
+    later more ∙ sym (ap (slice_get (q ∷ qs)) e)
+
+-- where players are numbered from k, the one of a number stands at its place
+pub find-numbered : (k : ℕ) (ps : List Player) (n : ℕ) → numbers ps ≡ range_with_len k (length ps) → k ≤ n → find (λ (p : Player). p.no == n) ps ≡ slice_get ps (n - k)
+find-numbered k [] n numbered low = sym (slice_get_past [] (n - k) (omega arith))
+find-numbered k (q ∷ qs) n numbered low =
+    let first : q.no ≡ k = ap (λ ns. get_or ns 0 k) numbered in
+    let others : numbers qs ≡ range_with_len (k + 1) (length qs) = ap (drop 1) numbered in
+    find-step (q.no == n) k n q qs refl first low (find-numbered (k + 1) qs n others)
+
+-- what `get` lends
+pub item-got : (ps : List Player) (i : ℕ) (r : Option (Bor Player)) → IsItemAt ps i r → option_map (λ (p : Bor Player). p.now) r ≡ slice_get ps i
+item-got ps i None h = sym (slice_get_past ps i h.3)
+item-got ps i (Some p) h = sym (slice_get_read ps (length ps) i p.now refl h.3.0 h.1)
+
+none-step : (b : Bool) (k n : ℕ) (q : Player) (found : Option Player) → (q.no == n) ≡ b → q.no ≡ k → n < k → found ≡ None → cond b (Some q) found ≡ None
+none-step true k n q found same is low none = let no : ⊥ = grind (arith, nat_tests) in absurd no
+none-step false k n q found other is low none = none
+
+-- and nobody has a lower number
+pub find-below : (k : ℕ) (ps : List Player) (n : ℕ) → numbers ps ≡ range_with_len k (length ps) → n < k → find (λ (p : Player). p.no == n) ps ≡ None
+find-below k [] n numbered low = refl
+find-below k (q ∷ qs) n numbered low =
+    let first : q.no ≡ k = ap (λ ns. get_or ns 0 k) numbered in
+    let others : numbers qs ≡ range_with_len (k + 1) (length qs) = ap (drop 1) numbered in
+    none-step (q.no == n) k n q (find (λ (p : Player). p.no == n) qs) refl first low (find-below (k + 1) qs n others (omega arith))
 
 -- who is found is listed
 pub found-listed : (k : ℕ) (ps : List Player) (p : Player) → find (λ (q : Player). q.no == k) ps ≡ Some p → Contains (numbers ps) p.no

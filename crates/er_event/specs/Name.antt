@@ -1,5 +1,5 @@
 -- Which bytes are a name.
-use Rattle.std.specs.Prelude.{ℕ, ◌-◌, ◌==◌, nat_le, Bool, ◌&&◌, not, List, length, slice_index_or}
+use Rattle.std.specs.Prelude.{ℕ, ◌-◌, ◌==◌, nat_le, Bool, ◌&&◌, not, List, ◌++◌, length, replicate, slice_index_or}
 use Rattle.std.specs.List.{list_all}
 use Rattle.std.specs.Str.{is_utf8}
 use Rattle.er_event.specs.declared.names.TheConstants.{MAX_NAME_BYTES}
@@ -13,3 +13,7 @@ abbrev pub is_lawful_name : List ℕ → Bool
 is_lawful_name name =
     nat_le 1 (length name) && nat_le (length name) MAX_NAME_BYTES && is_utf8 name && list_all is_plain_byte name
     && not (slice_index_or name 0 0 == 32) && not (slice_index_or name (length name - 1) 0 == 32)
+
+-- a name with zeros behind it, as many as it lacks of 60 bytes
+abbrev pub padded : List ℕ → List ℕ
+padded name = name ++ replicate (MAX_NAME_BYTES - length name) 0

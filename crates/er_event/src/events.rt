@@ -120,7 +120,7 @@ impl Event {
         ensures value { result ≡ has_name self.now.players name.now }
         ensures fits { IsFalse result → length self.now.players < MAX_PLAYERS → Fits self.now (Change.AddPlayer name.now) }
     {
-        has_name(self.players(), name.as_str())
+        has_name(self.players(), name)
     }
 
     /// The player of this number, who can drop once the event has started.

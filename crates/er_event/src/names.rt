@@ -1,9 +1,9 @@
-ghost use Rattle.std.specs.Prelude.{◌≡◌, ◌↔◌, ◌<◌, ◌-◌, ◌==◌, ◌||◌, Err, IsTrue, IsFalse, IsOk, IfOk, IsSome, IfSome, length, slice_index_or};
+ghost use Rattle.std.specs.Prelude.{◌≡◌, ◌↔◌, ◌<◌, ◌-◌, ◌==◌, ◌||◌, IsTrue, IsOk, IfOk, IfErr, length, slice_index_or};
 ghost use Rattle.std.specs.List.{list_all};
 ghost use Rattle.er_event.specs.Name.{is_plain_byte, is_lawful_name};
 
-use std::alloc::{AllocError, Global};
 use std::marker::Model;
+use std::str;
 
 /// How many bytes a name may have.
 pub const MAX_NAME_BYTES: usize = 60;
@@ -13,66 +13,67 @@ pub const MAX_NAME_BYTES: usize = 60;
 pub enum NameFault {
     /// The bytes are no lawful name.
     Bad,
-    /// There was no memory to keep the name.
+    /// There was no memory to keep the name. A name takes none today, so no call answers it.
     Memory,
 }
 
-impl From<AllocError> for NameFault {
-    ghost use Rattle.std.specs.Prelude.{◌≡◌};
-    ghost use Rattle.er_event.specs.declared.names.NameFault.TheVariants.{Memory};
-
-    ghost from_gives = { λ _ fault. fault ≡ Memory };
-
-    fn from(_error: AllocError) -> Self {
-        NameFault::Memory
-    }
-}
-
-/// The name of an event or a player: 1 to 60 bytes of UTF-8 with no control character and no space at either end.
-#[derive(Drop)]
+/// The name of an event or a player: 1 to 60 bytes of UTF-8 with no control character and no space at either end. It takes no memory.
+#[derive(Clone, Copy)]
 pub struct Name {
-    text: String,
+    /// The bytes of the name, and zeros behind them.
+    bytes: [u8; MAX_NAME_BYTES],
+    len: usize,
 }
 
 impl Model for Name {
-    ghost use Rattle.std.specs.Prelude.{List, ℕ, string_bytes, IsTrue};
-    ghost use Rattle.er_event.specs.Name.{is_lawful_name};
+    ghost use Rattle.std.specs.Prelude.{List, ℕ, ◌≡◌, take, length, IsTrue};
+    ghost use Rattle.std.proofs.Common.{sym};
+    ghost use Rattle.er_event.specs.Name.{is_lawful_name, padded};
 
     ghost Value = { List ℕ };
 
-    ghost view = { λ n. string_bytes n.text };
+    ghost view = { λ n. take n.len n.bytes };
 
-    ghost invariant = { λ n. IsTrue (is_lawful_name (string_bytes n.text)) };
+    ghost invariant = { λ n. (n.bytes ≡ padded (take n.len n.bytes)) × (length (take n.len n.bytes) ≡ n.len) × IsTrue (is_lawful_name (take n.len n.bytes)) };
+
+    ghost inverse = { λ name. record { bytes = padded name; len = length name } };
+
+    ghost inverse_ok = { λ n h i. record { bytes = sym h.0 i; len = h.1 i } };
 }
 
 impl Name {
     /// The name that these bytes are.
-    pub fn try_from_bytes(alloc: Global, bytes: &[u8]) -> Result<Name, NameFault>
+    pub fn try_from_bytes(bytes: &[u8]) -> Result<Name, NameFault>
         ensures value { IfOk result (λ name. name ≡ bytes.now) }
-        ensures lawful { IsOk result → IsTrue (is_lawful_name bytes.now) }
-        ensures bad { (result ≡ Err NameFault.Bad) ↔ IsFalse (is_lawful_name bytes.now) }
+        ensures lawful { IsOk result ↔ IsTrue (is_lawful_name bytes.now) }
+        ensures bad { IfErr result (λ fault. fault ≡ NameFault.Bad) }
     {
-        match lawful_text(bytes) {
-            None => Err(NameFault::Bad),
-            Some(text) => Ok(Name {
-                text: String::from_str(alloc, text)?,
-            }),
+        if !is_lawful(bytes) {
+            return Err(NameFault::Bad);
         }
+        let mut padded = [0; MAX_NAME_BYTES];
+        padded[..bytes.len()].copy_from_slice(bytes);
+        Ok(Name {
+            bytes: padded,
+            len: bytes.len(),
+        })
+    }
+
+    pub fn as_bytes(&self) -> &[u8]
+        ensures value { result.now ≡ self.now }
+        ensures lawful { IsTrue (is_lawful_name self.now) }
+    {
+        &self.bytes[..self.len]
     }
 
     pub fn as_str(&self) -> &str
         ensures value { result.now ≡ self.now }
         ensures lawful { IsTrue (is_lawful_name self.now) }
     {
-        self.text.as_str()
-    }
-
-    pub fn copy(&self, alloc: Global) -> Result<Name, AllocError>
-        ensures { IfOk result (λ name. name ≡ self.now) }
-    {
-        Ok(Name {
-            text: String::from_str(alloc, self.text.as_str())?,
-        })
+        match str::from_utf8(self.as_bytes()) {
+            Ok(text) => text,
+            Err(_) => unreachable!(),
+        }
     }
 }
 
@@ -91,13 +92,12 @@ fn is_spaced(bytes: &[u8]) -> bool
     bytes[0] == b' ' || bytes[bytes.len() - 1] == b' '
 }
 
-/// The text of these bytes, where they are a lawful name.
-fn lawful_text(bytes: &[u8]) -> Option<&str>
-    ensures value { IfSome result (λ text. text.now ≡ bytes.now) }
-    ensures lawful { IsSome result ↔ IsTrue (is_lawful_name bytes.now) }
+/// Whether the bytes are a lawful name.
+fn is_lawful(bytes: &[u8]) -> bool
+    ensures { IsTrue result ↔ IsTrue (is_lawful_name bytes.now) }
 {
     if bytes.is_empty() || bytes.len() > MAX_NAME_BYTES || is_spaced(bytes) || !is_plain(bytes) {
-        return None;
+        return false;
     }
-    str::from_utf8(bytes).ok()
+    str::from_utf8(bytes).is_ok()
 }

@@ -14,7 +14,7 @@ ghost use Rattle.er_event.specs.declared.events.Phase.{Phase};
 
 use crate::events::{Event, Phase, has_name, is_nobody_dropped};
 use crate::items::Items;
-use crate::names::{Name, NameFault};
+use crate::names::Name;
 use crate::players::{MAX_PLAYERS, Player, PlayerNo};
 use crate::refusals::{MAX_SERIAL, Place};
 use crate::rows::{BracketRow, EventRow, PairingRow, PlayerRow};
@@ -88,6 +88,8 @@ fn is_serial(value: i64) -> bool
 
 const DAMAGED: PartsFault = PartsFault::Damaged(Place::EventTable);
 
+const DAMAGED_PLAYERS: PartsFault = PartsFault::Damaged(Place::PlayerTable);
+
 /// The event of this row with no players, in its first phase, and its phase.
 fn read_row(alloc: Global, row: &EventRow) -> Result<(Event, Phase), PartsFault>
     ensures value { IfOk result (λ read. IsBlank read.0 × IsEventRow (row.now ∷ []) (with_phase read.0 read.1)) }
@@ -103,10 +105,8 @@ fn read_row(alloc: Global, row: &EventRow) -> Result<(Event, Phase), PartsFault>
     ) else {
         return Err(DAMAGED);
     };
-    let name = match Name::try_from_bytes(alloc, row.name.as_slice()) {
-        Ok(name) => name,
-        Err(NameFault::Bad) => return Err(DAMAGED),
-        Err(NameFault::Memory) => return Err(PartsFault::Memory),
+    let Ok(name) = Name::try_from_bytes(row.name.as_slice()) else {
+        return Err(DAMAGED);
     };
     match Event::create(alloc, name, rounds, cut) {
         Ok(event) => Ok((event, phase)),
@@ -132,20 +132,14 @@ fn number_of(value: i64) -> Option<PlayerNo>
     u16::try_from(value).ok().and_then(PlayerNo::try_new)
 }
 
-const DAMAGED_PLAYERS: PartsFault = PartsFault::Damaged(Place::PlayerTable);
-
-fn read_player(alloc: Global, row: &PlayerRow) -> Result<Player, PartsFault>
-    ensures value { IfOk result (λ p. (row.now ≡ player_row p) × IsTrue (is_lawful_name p.name)) }
-    ensures damaged { (place : Place) → result ≡ Err (PartsFault.Damaged place) → (place ≡ Place.PlayerTable) × ((p : Player) → IsLawfulPlayer p → row.now ≢ player_row p) }
+fn read_player(row: &PlayerRow) -> Option<Player>
+    ensures value { IfSome result (λ p. (row.now ≡ player_row p) × IsTrue (is_lawful_name p.name)) }
+    ensures none { IsNone result → (p : Player) → IsLawfulPlayer p → row.now ≢ player_row p }
 {
-    let (Some(no), Some(dropped)) = (number_of(row.no), flag_of(row.dropped)) else {
-        return Err(DAMAGED_PLAYERS);
-    };
-    match Name::try_from_bytes(alloc, row.name.as_slice()) {
-        Ok(name) => Ok(Player { no, name, dropped }),
-        Err(NameFault::Bad) => Err(DAMAGED_PLAYERS),
-        Err(NameFault::Memory) => Err(PartsFault::Memory),
-    }
+    let no = number_of(row.no)?;
+    let name = Name::try_from_bytes(row.name.as_slice()).ok()?;
+    let dropped = flag_of(row.dropped)?;
+    Some(Player { no, name, dropped })
 }
 
 /// The players of these rows, which may be numbered and named anyhow.
@@ -155,10 +149,10 @@ pub fn read_players(alloc: Global, rows: &[PlayerRow]) -> Result<Vec<Player>, Pa
 {
     let mut players = Vec::new(alloc);
     for row in rows {
-        match read_player(alloc, row) {
-            Ok(player) => players.push(player).map_err(AllocError::from)?,
-            Err(fault) => return Err(fault),
-        }
+        let Some(player) = read_player(row) else {
+            return Err(DAMAGED_PLAYERS);
+        };
+        players.push(player).map_err(AllocError::from)?;
     }
     Ok(players)
 }
@@ -180,7 +174,7 @@ fn are_distinct(players: &[Player]) -> bool
     ensures { IsTrue result ↔ AllPairs (λ a b. a ≢ b) (names players.now) }
 {
     for (place, player) in players.iter().enumerate() {
-        if has_name(&players[..place], player.name.as_str()) {
+        if has_name(&players[..place], &player.name) {
             return false;
         }
     }

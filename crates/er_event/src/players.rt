@@ -1,7 +1,6 @@
-ghost use Rattle.std.specs.Prelude.{◌≡◌, ◌≤◌, ◌<◌, ◌↔◌, IsSome, IfSome, IfOk};
+ghost use Rattle.std.specs.Prelude.{◌≡◌, ◌≤◌, ◌<◌, ◌↔◌, IsSome, IfSome};
 
 use crate::names::Name;
-use std::alloc::{AllocError, Global};
 use std::marker::Model;
 
 /// How many players an event may have.
@@ -47,22 +46,10 @@ impl PlayerNo {
 }
 
 /// A player of an event.
-#[derive(Drop)]
+#[derive(Clone, Copy)]
 pub struct Player {
     pub no: PlayerNo,
     pub name: Name,
     /// Whether the player has left the tournament. A dropped player stays listed.
     pub dropped: bool,
-}
-
-impl Player {
-    pub fn copy(&self, alloc: Global) -> Result<Player, AllocError>
-        ensures { IfOk result (λ copy. copy ≡ self.now) }
-    {
-        Ok(Player {
-            no: self.no,
-            name: self.name.copy(alloc)?,
-            dropped: self.dropped,
-        })
-    }
 }

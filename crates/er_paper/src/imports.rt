@@ -8,7 +8,7 @@ ghost use Rattle.er_paper.specs.Reading.{number_of, number_within, player_line, 
 
 use crate::records::{only_field, records, seven_fields, three_fields};
 use csv::ByteRecord;
-use er_event::{Games, MAX_PLAYERS, MAX_ROUNDS, Name, NameFault, PlayerNo, Score};
+use er_event::{Games, MAX_PLAYERS, MAX_ROUNDS, Name, PlayerNo, Score};
 use std::alloc::{AllocError, Global};
 
 /// Why a table was not read.
@@ -33,7 +33,7 @@ impl From<AllocError> for CsvFault {
 }
 
 /// A player as a row of a table.
-#[derive(Drop)]
+#[derive(Clone, Copy)]
 pub struct PlayerLine {
     pub no: PlayerNo,
     pub name: Name,
@@ -89,83 +89,41 @@ fn number_within(low: usize, high: usize, field: &[u8]) -> Option<usize>
 }
 
 /// The player of this place, where the name is lawful and there is room.
-fn player_line(
-    alloc: Global,
-    place: usize,
-    name: &[u8],
-    flag: Option<usize>,
-) -> Result<Option<PlayerLine>, AllocError>
+fn player_line(place: usize, name: &[u8], flag: Option<usize>) -> Option<PlayerLine>
     requires { 1 ≤ place }
-    ensures { IfOk result (λ line. line ≡ player_line place name.now flag) }
+    ensures { result ≡ player_line place name.now flag }
 {
-    let Some(flag) = flag else {
-        return Ok(None);
-    };
-    let Some(number) = u16::try_from(place).ok().and_then(PlayerNo::try_new) else {
-        return Ok(None);
-    };
-    match Name::try_from_bytes(alloc, name) {
-        Ok(name) => Ok(Some(PlayerLine {
-            no: number,
-            name,
-            dropped: flag == 1,
-        })),
-        Err(NameFault::Bad) => Ok(None),
-        Err(NameFault::Memory) => Err(AllocError),
-    }
+    let dropped = flag? == 1;
+    let no = u16::try_from(place).ok().and_then(PlayerNo::try_new)?;
+    let name = Name::try_from_bytes(name).ok()?;
+    Some(PlayerLine { no, name, dropped })
 }
 
-fn full_line(
-    alloc: Global,
-    place: usize,
-    row: &ByteRecord,
-) -> Result<Option<PlayerLine>, AllocError>
+fn full_line(place: usize, row: &ByteRecord) -> Option<PlayerLine>
     requires { 1 ≤ place }
-    ensures { IfOk result (λ line. line ≡ full_line place (fields_of row.now)) }
+    ensures { result ≡ full_line place (fields_of row.now) }
 {
-    let Some((number, name, dropped)) = three_fields(row) else {
-        return Ok(None);
-    };
-    if number_within(place, place, number).is_none() {
-        return Ok(None);
-    }
-    player_line(alloc, place, name, number_within(0, 1, dropped))
+    let (number, name, dropped) = three_fields(row)?;
+    number_within(place, place, number)?;
+    player_line(place, name, number_within(0, 1, dropped))
 }
 
-fn name_line(
-    alloc: Global,
-    place: usize,
-    row: &ByteRecord,
-) -> Result<Option<PlayerLine>, AllocError>
+fn name_line(place: usize, row: &ByteRecord) -> Option<PlayerLine>
     requires { 1 ≤ place }
-    ensures { IfOk result (λ line. line ≡ name_line place (fields_of row.now)) }
+    ensures { result ≡ name_line place (fields_of row.now) }
 {
-    let Some(name) = only_field(row) else {
-        return Ok(None);
-    };
-    player_line(alloc, place, name, Some(0))
+    let name = only_field(row)?;
+    player_line(place, name, Some(0))
 }
 
-fn line_under(
-    alloc: Global,
-    heading: Heading,
-    place: usize,
-    row: &ByteRecord,
-) -> Result<Option<PlayerLine>, AllocError>
+fn line_under(heading: Heading, place: usize, row: &ByteRecord) -> Option<PlayerLine>
     requires { 1 ≤ place }
-    ensures { IfOk result (λ line. line ≡ chosen_line heading place (fields_of row.now)) }
+    ensures { result ≡ chosen_line heading place (fields_of row.now) }
 {
     match heading {
-        Heading::Full => full_line(alloc, place, row),
-        Heading::Names => name_line(alloc, place, row),
+        Heading::Full => full_line(place, row),
+        Heading::Names => name_line(place, row),
     }
-}
-
-fn push_line(lines: &mut Vec<PlayerLine>, line: PlayerLine) -> Result<(), AllocError>
-    ensures { OnOk result (lines.new.items ≡ lines.old.items ++ line ∷ []) }
-{
-    lines.push(line)?;
-    Ok(())
 }
 
 /// The lines of the rows after the heading, or the first bad row.
@@ -179,10 +137,11 @@ fn player_lines(
 {
     let mut lines = Vec::new(alloc);
     for (at, row) in rows.iter().enumerate() {
-        match line_under(alloc, heading, at + 1, row)? {
-            Some(line) => push_line(&mut lines, line)?,
-            None => return Err(CsvFault::BadRow { row: at + 1 }),
-        }
+        let Some(line) = line_under(heading, at + 1, row) else {
+            let bad = at + 1;
+            return Err(CsvFault::BadRow { row: bad });
+        };
+        lines.push(line).map_err(AllocError::from)?;
     }
     Ok(lines)
 }

@@ -1,6 +1,6 @@
 -- Which refusals a command may meet.
 use Rattle.er_event.specs.declared.refusals.Command.{Command}
-use Rattle.er_event.specs.declared.refusals.Command.TheVariants.{Start, Result as Report, Correct, Drop}
+use Rattle.er_event.specs.declared.refusals.Command.TheVariants.{Enrol, Start, Result as Report, Correct, Drop}
 use Rattle.er_event.specs.declared.refusals.Refusal.{Refusal}
 use Rattle.er_event.specs.declared.refusals.Refusal.TheVariants.{SerialFull, Memory, Store, NeedsReopen, NoEvent, EventExists, Damaged, BadSetup}
 
@@ -16,8 +16,9 @@ IsOfRules (Damaged table) = ⊥
 IsOfRules BadSetup = ⊥
 IsOfRules _ = Unit {0}
 
--- the command asks for memory: a name, a pairing or a stage of the playoff has to be made
+-- the command asks for memory: a pairing or a stage of the playoff has to be made
 abbrev pub TakesMemory : Command → Type 0
+TakesMemory (Enrol name) = ⊥
 TakesMemory Start = ⊥
 TakesMemory (Report round table score) = ⊥
 TakesMemory (Correct round table score) = ⊥

@@ -15,36 +15,26 @@ mod playoff;
 mod results;
 mod seeds;
 
-use er_event::{Change, Command, Event, MAX_PLAYERS, Name, NameFault, Phase, Refusal};
+use er_event::{Change, Command, Event, MAX_PLAYERS, Name, Phase, Refusal};
 use pairing::decide_pair;
 use playoff::{decide_cut, decide_playoff};
 use results::{decide_correct, decide_result};
 pub use seeds::seeds_agree;
 use std::alloc::Global;
 
-fn read_name(alloc: Global, name: &[u8]) -> Result<Name, Refusal>
-    ensures ok { IfOk result (λ read. (read ≡ name.now) × IsTrue (is_lawful_name name.now)) }
-    ensures refused { IfErr result (λ why. (why ≡ Refusal.Memory) ⊎ ((why ≡ Refusal.BadName) × IsFalse (is_lawful_name name.now))) }
-    ensures named { IfErr result (λ why. (why ≡ Refusal.Memory) ⊎ IsOfRules why) }
-{
-    match Name::try_from_bytes(alloc, name) {
-        Ok(name) => Ok(name),
-        Err(NameFault::Bad) => Err(Refusal::BadName),
-        Err(NameFault::Memory) => Err(Refusal::Memory),
-    }
-}
-
-fn decide_enrol(alloc: Global, event: &Event, name: &[u8]) -> Result<Change, Refusal>
+fn decide_enrol(event: &Event, name: &[u8]) -> Result<Change, Refusal>
     ensures change { IfOk result (λ change. change ≡ Change.AddPlayer name.now) }
     ensures fits { IfOk result (Fits event.now) }
     ensures accepted { OnOk result (first_refusal (enrol_checks event.now name.now) ≡ None) }
-    ensures refused { IfErr result (λ why. (why ≡ Refusal.Memory) ⊎ (first_refusal (enrol_checks event.now name.now) ≡ Some why)) }
-    ensures named { IfErr result (λ why. (why ≡ Refusal.Memory) ⊎ IsOfRules why) }
+    ensures refused { IfErr result (λ why. first_refusal (enrol_checks event.now name.now) ≡ Some why) }
+    ensures named { IfErr result IsOfRules }
 {
     if event.phase() != Phase::Enrolling {
         return Err(Refusal::NotEnrolling);
     }
-    let name = read_name(alloc, name)?;
+    let Ok(name) = Name::try_from_bytes(name) else {
+        return Err(Refusal::BadName);
+    };
     if event.has_name(&name) {
         return Err(Refusal::NameTaken);
     }
@@ -102,7 +92,7 @@ pub fn decide(alloc: Global, event: &Event, command: &Command) -> Result<Change,
     ensures named { IfErr result (λ why. (why ≡ Refusal.Memory) ⊎ IsOfRules why) }
 {
     match command {
-        Command::Enrol { name } => decide_enrol(alloc, event, name.as_slice()),
+        Command::Enrol { name } => decide_enrol(event, name.as_slice()),
         Command::Start => decide_start(event),
         Command::Pair { round, seed } => decide_pair(alloc, event, *round, seed),
         Command::Result {

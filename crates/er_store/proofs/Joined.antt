@@ -1,6 +1,7 @@
 -- What the join of a slip reads of tables that stand for an event.
 use Rattle.std.proofs.Common.{◌≡◌, ◌≢◌, ◌⊎◌, inl, inr, ℕ, ℤ, pos, ◌==◌, ◌<◌, ◌≤◌, min, max, nat_lt, nat_le, Bool, true, false, cond, List, [], ◌∷◌, ◌++◌, map, filter, find, length, get_or, Result, Ok, Err, IfErr, MatchResult, Option, Some, None, option_map, option_to_list, All, Contains, IfSome, IsTrue, IsFalse, refl, sym, ap, ap₂, subst, ◌∙◌, true≢false, arith}
 use Rattle.std.specs.List.{range_with_len}
+use Rattle.std.specs.Option.{ok_or}
 use Rattle.std.specs.List.Sorted.{IsPermutation}
 use Rattle.std.proofs.lemmas.List.Sorted.{IsPermutation-sym}
 use Rattle.std.proofs.lemmas.List.Elements.{All-nil, All-cons, All-from_get_or, All-weaker, recursion_from_All}
@@ -374,16 +375,13 @@ abbrev pub IsFound : EventValue → ℕ → ℕ → Result SlipRow Refusal → T
 IsFound e k t r = MatchResult r (λ row. slip_of e k t ≡ Some row) (λ why. IsFault why ⊎ ((why ≡ NoSuchMatch) × (slip_of e k t ≡ None)))
 
 -- the slip of the row is that of the event
-pub slip_found : (e : EventValue) (k t : ℕ) (slip : SlipRow) (r : Result SlipRow Refusal) → IsSoundButForSeeds e → slip_of e k t ≡ Some slip
-    → (IsLawful slip → slip.round ≡ k → slip.table ≡ t → MatchResult r (λ found. found ≡ slip) (λ why. why ≡ Memory)) → IsFound e k t r
-slip_found e k t slip r sound is exact =
+pub slip_found : (e : EventValue) (k t : ℕ) (slip : SlipRow) (read : Option SlipRow) (fault : Refusal) (r : Result SlipRow Refusal) → r ≡ ok_or read fault → IsSoundButForSeeds e → slip_of e k t ≡ Some slip
+    → (IsLawful slip → slip.round ≡ k → slip.table ≡ t → read ≡ Some slip) → IsFound e k t r
+slip_found e k t slip read fault r answer sound is exact =
     let lawful : IsLawful slip = subst (λ (o : Option SlipRow). IfSome o IsLawful) is (slips_lawful e k t sound) in
     let named : (slip.round ≡ k) × (slip.table ≡ t) = subst (λ (o : Option SlipRow). IfSome o (λ s. (s.round ≡ k) × (s.table ≡ t))) is (slip_names e k t) in
-    by_result r (exact lawful named.0 named.1)
-  where
-    by_result : (q : Result SlipRow Refusal) → MatchResult q (λ found. found ≡ slip) (λ why. why ≡ Memory) → IsFound e k t q
-    by_result (Ok row) same = is ∙ ap Some (sym same)
-    by_result (Err why) memory = inl (inl memory)
+    let ok : Ok slip ≡ r = sym (answer ∙ ap (λ o. ok_or o fault) (exact lawful named.0 named.1)) in
+    subst (IsFound e k t) ok is
 
 fault_finds : (why : Refusal) → IsFault why → why ≡ NoSuchMatch → ⊥
 fault_finds why (inl memory) is = absurd (let both : Memory ≡ NoSuchMatch = sym memory ∙ is in cc)

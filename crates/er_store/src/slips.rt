@@ -14,7 +14,7 @@ ghost use Rattle.er_store.specs.Standing.{StandsFor};
 use crate::faults::refusal_of;
 use crate::reading::read_slip;
 use crate::rows::NamedPairing;
-use er_event::{Cause, Items, Name, NameFault, PlayerNo, Refusal, SlipRow, match_at_table};
+use er_event::{Cause, Items, Name, PlayerNo, Refusal, SlipRow, match_at_table};
 use sqlite::{Alter, Connection};
 use std::alloc::Global;
 
@@ -23,52 +23,40 @@ const BAD_ROW: Refusal = Refusal::Store {
 };
 
 /// Who has this number and this name: nobody has 0 and no name.
-fn side(
-    alloc: Global,
-    number: u16,
-    name: &Option<Items<u8>>,
-) -> Result<Option<(PlayerNo, Name)>, Refusal>
-    ensures value { IfOk result (λ who. (number ≡ number_in who) × (name.now ≡ name_in who) × IfSome who IsPlayer) }
-    ensures exact { (who : Side) → IfSome who IsPlayer → number ≡ number_in who → name.now ≡ name_in who → MatchResult result (λ found. found ≡ who) (λ why. why ≡ Refusal.Memory) }
-    ensures fault { IfErr result (λ why. (why ≡ Refusal.Memory) ⊎ (why ≡ Refusal.Store Cause.BadRow)) }
+fn side(number: u16, name: &Option<Items<u8>>) -> Option<Option<(PlayerNo, Name)>>
+    ensures value { IfSome result (λ who. (number ≡ number_in who) × (name.now ≡ name_in who) × IfSome who IsPlayer) }
+    ensures exact { (who : Side) → IfSome who IsPlayer → number ≡ number_in who → name.now ≡ name_in who → result ≡ Some who }
 {
     match (PlayerNo::try_new(number), name) {
-        (Some(number), Some(name)) => match Name::try_from_bytes(alloc, name.as_slice()) {
-            Ok(name) => Ok(Some((number, name))),
-            Err(NameFault::Memory) => Err(Refusal::Memory),
-            Err(NameFault::Bad) => Err(BAD_ROW),
-        },
-        (None, None) if number == 0 => Ok(None),
-        _ => Err(BAD_ROW),
+        (Some(number), Some(name)) => {
+            let name = Name::try_from_bytes(name.as_slice()).ok()?;
+            Some(Some((number, name)))
+        }
+        (None, None) if number == 0 => Some(None),
+        _ => None,
     }
 }
 
 /// The slip that a row shows, where the format allows it.
-fn slip_of(alloc: Global, round: u8, table: u16, row: &NamedPairing) -> Result<SlipRow, Refusal>
-    ensures value { IfOk result (λ slip. (row.now ≡ named_pairing slip) × (slip.round ≡ round) × (slip.table ≡ table) × IsLawful slip) }
-    ensures exact { (slip : SlipRow) → IsLawful slip → slip.round ≡ round → slip.table ≡ table → row.now ≡ named_pairing slip → MatchResult result (λ found. found ≡ slip) (λ why. why ≡ Refusal.Memory) }
-    ensures fault { IfErr result (λ why. (why ≡ Refusal.Memory) ⊎ (why ≡ Refusal.Store Cause.BadRow)) }
+fn slip_of(round: u8, table: u16, row: &NamedPairing) -> Option<SlipRow>
+    ensures value { IfSome result (λ slip. (row.now ≡ named_pairing slip) × (slip.round ≡ round) × (slip.table ≡ table) × IsLawful slip) }
+    ensures exact { (slip : SlipRow) → IsLawful slip → slip.round ≡ round → slip.table ≡ table → row.now ≡ named_pairing slip → result ≡ Some slip }
 {
-    let Some(played) = match_at_table(round, table, &row.pairing) else {
-        return Err(BAD_ROW);
-    };
-    let low = side(alloc, played.a.min(played.b), &row.lo_name)?;
-    let high = side(alloc, played.a.max(played.b), &row.hi_name)?;
+    let played = match_at_table(round, table, &row.pairing)?;
+    let low = side(played.a.min(played.b), &row.lo_name)?;
+    let high = side(played.a.max(played.b), &row.hi_name)?;
     let (first, second) = if played.b < played.a {
         (high, low)
     } else {
         (low, high)
     };
-    match first {
-        Some(first) => Ok(SlipRow {
-            round,
-            table,
-            first,
-            second,
-            score: played.score,
-        }),
-        None => Err(BAD_ROW),
-    }
+    Some(SlipRow {
+        round,
+        table,
+        first: first?,
+        second,
+        score: played.score,
+    })
 }
 
 /// The slip of the match at a table of a round, by one statement.
@@ -94,7 +82,7 @@ pub fn find_slip<S: Alter>(
     };
     match rows.as_slice() {
         [] => Err(Refusal::NoSuchMatch),
-        [row] => slip_of(alloc, round, table, row),
+        [row] => slip_of(round, table, row).ok_or(BAD_ROW),
         _ => Err(BAD_ROW),
     }
 }

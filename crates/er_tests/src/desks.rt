@@ -1,6 +1,6 @@
 ghost use Rattle.std.specs.Prelude.{◌≡◌, false, IfSome};
 
-use crate::helpers::{FOUR, commands, desk_after, is_slip, new_desk, submit};
+use crate::helpers::{commands, desk_after, new_desk, submit};
 use crate::requests::are_unavailable;
 use er_desk::{Desk, Reply};
 use er_event::{Cause, Receipt, Refusal};
@@ -59,24 +59,6 @@ fn plays(alloc: Global) -> Option<bool> {
 #[test]
 fn a_desk_answers_and_is_adopted(rt: HostRuntime) -> Result<(), Fail> {
     assert_eq!(rt; plays(rt.alloc()), Some(true));
-    Ok(())
-}
-
-const SLIP: &str =
-    "{\"first\":{\"name\":\"Di\",\"no\":4},\"round\":1,\"score\":null,\"second\":{\"name\":\"Bo\",\"no\":2},\"table\":1}";
-
-/// Whether a desk reads a slip, finds no third table, and goes on.
-fn reads_slips(alloc: Global) -> Option<bool> {
-    let mut desk = desk_after(alloc, 3, 0, FOUR)?;
-    let third = desk.slip(alloc, 1, 3).err();
-    let is_read = is_slip(alloc, desk.slip(alloc, 1, 1), SLIP);
-    let is_refused = third == Some(Refusal::NoSuchMatch);
-    Some(is_read == Some(true) && is_refused && !desk.needs_reopen())
-}
-
-#[test]
-fn a_desk_reads_slips(rt: HostRuntime) -> Result<(), Fail> {
-    assert_eq!(rt; reads_slips(rt.alloc()), Some(true));
     Ok(())
 }
 

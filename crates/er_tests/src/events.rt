@@ -4,9 +4,9 @@ use std::alloc::Global;
 use std::test::Fail;
 
 /// Whether these bytes are taken as a name, just as they are.
-fn is_taken(alloc: Global, bytes: &[u8]) -> Option<bool> {
-    match Name::try_from_bytes(alloc, bytes) {
-        Ok(name) => (name.as_str().as_bytes() == bytes).then_some(true),
+fn is_taken(bytes: &[u8]) -> Option<bool> {
+    match Name::try_from_bytes(bytes) {
+        Ok(name) => (name.as_bytes() == bytes && name.as_str().as_bytes() == bytes).then_some(true),
         Err(NameFault::Bad) => Some(false),
         Err(NameFault::Memory) => None,
     }
@@ -34,7 +34,7 @@ fn names_are_taken_where_the_rule_says(rt: HostRuntime) -> Result<(), Fail> {
         (b"~", true),
     ];
     for (bytes, lawful) in cases {
-        assert_eq!(rt; is_taken(rt.alloc(), bytes), Some(lawful), "{bytes:?}");
+        assert_eq!(rt; is_taken(bytes), Some(lawful), "{bytes:?}");
     }
     Ok(())
 }
@@ -63,7 +63,7 @@ fn scores_are_taken_where_the_rule_says(rt: HostRuntime) -> Result<(), Fail> {
 
 /// The refusal to set up an event so, and none where its setup is this one.
 fn refusal_of(alloc: Global, rounds: u8, cut: u8) -> Option<Refusal> {
-    match Event::create(alloc, name(alloc, "Friday")?, rounds, cut) {
+    match Event::create(alloc, name("Friday")?, rounds, cut) {
         Ok(event) if (event.rounds(), event.cut()) == (rounds, cut) => None,
         Ok(_) => Some(Refusal::NoEvent),
         Err(why) => Some(why),

@@ -2,8 +2,7 @@
 ghost use Rattle.std.specs.Prelude.{◌≡◌, false};
 
 use er_desk::{Desk, Reply};
-use er_event::{Change, Command, Event, Games, Items, Name, Phase, PlayerNo, Refusal, SlipRow};
-use er_paper::slip_json;
+use er_event::{Change, Command, Event, Games, Items, Name, Phase, PlayerNo};
 use sqlite::{Alter, Connection, MemStore};
 use std::alloc::Global;
 
@@ -17,13 +16,13 @@ start
 pair 1
 ";
 
-pub fn name(alloc: Global, text: &str) -> Option<Name> {
-    Name::try_from_bytes(alloc, text.as_bytes()).ok()
+pub fn name(text: &str) -> Option<Name> {
+    Name::try_from_bytes(text.as_bytes()).ok()
 }
 
 /// The change that enrols a player.
-pub fn player(alloc: Global, text: &str) -> Option<Change> {
-    let name = name(alloc, text)?;
+pub fn player(text: &str) -> Option<Change> {
+    let name = name(text)?;
     Some(Change::AddPlayer { name })
 }
 
@@ -50,10 +49,7 @@ pub fn drop(number: u16) -> Option<Change> {
 
 /// The event after the enrolment of a player, if it fits.
 pub fn with_player(alloc: Global, event: Event, text: &str) -> Option<Event> {
-    match player(alloc, text) {
-        Some(change) => changed(alloc, event, &change),
-        None => None,
-    }
+    changed(alloc, event, &player(text)?)
 }
 
 /// The event with a player P1, P2, .. of this number.
@@ -66,7 +62,7 @@ fn with_number(alloc: Global, event: Event, number: u16) -> Option<Event> {
 
 /// An event named Friday that nobody has entered.
 pub fn new_event(alloc: Global, rounds: u8, cut: u8) -> Option<Event> {
-    let friday = name(alloc, "Friday")?;
+    let friday = name("Friday")?;
     Event::create(alloc, friday, rounds, cut).ok()
 }
 
@@ -175,11 +171,8 @@ pub fn new_desk<S: Alter + Drop>(
 ) -> Option<Desk<S>>
     requires { conn.in_transaction ≡ false }
 {
-    let name = Name::try_from_bytes(alloc, b"Friday");
-    match name {
-        Ok(name) => Desk::create(alloc, conn, name, rounds, cut).ok(),
-        Err(_) => None,
-    }
+    let friday = name("Friday")?;
+    Desk::create(alloc, conn, friday, rounds, cut).ok()
 }
 
 /// What a desk answers to the command of a line.
@@ -204,11 +197,4 @@ pub fn desk_after(alloc: Global, rounds: u8, cut: u8, lines: &str) -> Option<Des
     } else {
         None
     }
-}
-
-/// Whether a slip was read that is written as this text.
-pub fn is_slip(alloc: Global, read: Result<SlipRow, Refusal>, text: &str) -> Option<bool> {
-    let row = read.ok()?;
-    let json = slip_json(alloc, &row).ok()?;
-    Some(json.as_slice() == text.as_bytes())
 }

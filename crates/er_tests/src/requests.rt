@@ -2,6 +2,7 @@
 //! which `|` stands for CR LF.
 
 use crate::helpers::{FOUR, desk_after};
+use crate::stores::THREE;
 use crate::wires::{Break, Endless, Sink, Source};
 use er_desk::Desk;
 use er_slips::{Served, serve_one};
@@ -50,6 +51,22 @@ Content-Length: 93\r
 Connection: close\r
 \r
 {\"first\":{\"name\":\"Di\",\"no\":4},\"round\":1,\"score\":null,\"second\":{\"name\":\"Bo\",\"no\":2},\"table\":1}";
+
+const BYE_SLIP: &str = "\
+HTTP/1.1 200 OK\r
+Content-Type: application/json\r
+Content-Length: 92\r
+Connection: close\r
+\r
+{\"first\":{\"name\":\"Cy\",\"no\":3},\"round\":1,\"score\":{\"a\":2,\"b\":0,\"d\":0},\"second\":null,\"table\":0}";
+
+const SCORED_SLIP: &str = "\
+HTTP/1.1 200 OK\r
+Content-Type: application/json\r
+Content-Length: 109\r
+Connection: close\r
+\r
+{\"first\":{\"name\":\"Bo\",\"no\":2},\"round\":1,\"score\":{\"a\":2,\"b\":0,\"d\":0},\"second\":{\"name\":\"Ana\",\"no\":1},\"table\":1}";
 
 const PAIRINGS: &str = "\
 HTTP/1.1 200 OK\r
@@ -248,6 +265,30 @@ fn change_nothing(alloc: Global, requests: &[(&str, &str)]) -> Option<bool> {
 #[test]
 fn requests_that_change_nothing_are_answered(rt: HostRuntime) -> Result<(), Fail> {
     assert_eq!(rt; change_nothing(rt.alloc(), &CHANGING_NOTHING), Some(true));
+    Ok(())
+}
+
+/// Whether the slips of a bye and of a match with its score are shown.
+fn shows_slips(alloc: Global) -> Option<bool> {
+    let mut desk = desk_after(alloc, 4, 0, THREE)?;
+    let bye = are_answered(
+        alloc,
+        &mut desk,
+        "GET /rounds/1/tables/0 HTTP/1.1||",
+        BYE_SLIP,
+    );
+    let scored = are_answered(
+        alloc,
+        &mut desk,
+        "GET /rounds/1/tables/1 HTTP/1.1||",
+        SCORED_SLIP,
+    );
+    Some(bye && scored)
+}
+
+#[test]
+fn a_bye_and_a_score_are_shown(rt: HostRuntime) -> Result<(), Fail> {
+    assert_eq!(rt; shows_slips(rt.alloc()), Some(true));
     Ok(())
 }
 

@@ -3,6 +3,7 @@ ghost use Rattle.std.specs.List.{list_all, range_with_len};
 ghost use Rattle.er_event.specs.Change.{after, with_player, with_dropped, with_phase, with_round, with_score, dropped_at, scored, Fits, TakesMemory, has_name};
 ghost use Rattle.er_event.specs.Round.{is_bye, match_in};
 ghost use Rattle.er_event.specs.declared.rounds.Match.{Match};
+ghost use Rattle.er_event.specs.Name.{is_lawful_name};
 ghost use Rattle.er_event.specs.Sound.{numbers, IsSoundButForSeeds};
 
 use super::playoff::copy_next;
@@ -16,16 +17,23 @@ use crate::rounds::{Match, Round};
 use crate::scores::Score;
 use std::alloc::{AllocError, Global};
 
-pub fn has_name(players: &[Player], name: &str) -> bool
-    ensures { result ≡ has_name players.now name.now }
+pub fn has_name(players: &[Player], name: &Name) -> bool
+    ensures value { result ≡ has_name players.now name.now }
+    ensures lawful { IsTrue (is_lawful_name name.now) }
 {
-    players.iter().any(|player| player.name.as_str() == name)
+    let name = name.as_bytes();
+    players.iter().any(|player| player.name.as_bytes() == name)
 }
 
+/// The player of this number, among players who are numbered from 1.
 pub fn player_of(players: &[Player], number: u16) -> Option<&Player>
+    requires numbered { numbers players.now ≡ range_with_len 1 (length players.now) }
     ensures { option_map (λ p. p.now) result ≡ find (λ p. p.no == number) players.now }
 {
-    players.iter().find(|player| player.no.get() == number)
+    if number == 0 {
+        return None;
+    }
+    players.get(usize::from(number) - 1)
 }
 
 pub fn is_nobody_dropped(players: &[Player]) -> bool
@@ -78,7 +86,7 @@ impl Event {
         ensures { IsTrue result ↔ IsSoundButForSeeds (with_player self.now name.now) }
     {
         let players = self.players();
-        players.len() < usize::from(MAX_PLAYERS) && !has_name(players, name.as_str())
+        players.len() < usize::from(MAX_PLAYERS) && !has_name(players, name)
     }
 
     fn fits_dropped(&self, player: PlayerNo) -> bool
@@ -217,10 +225,7 @@ impl Event {
         ensures memory { IsErr result → TakesMemory change.now }
     {
         match change {
-            Change::AddPlayer { name } => match name.copy(alloc) {
-                Ok(name) => self.add_player(name),
-                Err(error) => Err((self, error)),
-            },
+            Change::AddPlayer { name } => self.add_player(*name),
             Change::SetDropped { player } => Ok(self.drop_player(*player)),
             Change::SetPhase { phase } => Ok(self.enter(*phase)),
             Change::AddRound { matches } => match matches.copy(alloc) {

@@ -1,19 +1,18 @@
-use Rattle.std.proofs.Common.{◌≢◌, List, AllPairs, subst, take, sym, ap, ◌∙◌, refl, true≢false}
+use Rattle.std.proofs.Common.{◌≢◌, List, AllPairs, subst, sym, ◌∙◌, refl, true≢false}
 use Rattle.er_event.specs.declared.players.Player.{Player}
 use Rattle.er_event.specs.Sound.{names}
-use Rattle.er_event.specs.Change.{has_name}
 use Rattle.std.proofs.lemmas.List.{take_all}
 use Rattle.er_event.proofs.PartsLemmas.{names-new, names-more}
 use Rattle.er_event.proofs.parts.are_distinct.Goals as goal
 
 pub returns-then-has_name : goal.returns-then-has_name
 returns-then-has_name c =
-    let found = ap (has_name (take c.loop-place.place c.args.players.now)) (sym c.as_str.ensures.value) ∙ (sym c.has_name.ensures ∙ c.if-has_name.true) in
+    let found = sym c.has_name.ensures.value ∙ c.if-has_name.true in
     (λ never. absurd (true≢false (sym never)), λ apart. absurd (names-new c.args.players.now c.loop-place.place c.index-players-place.result c.loop-place-test.true c.index-players-place.is apart found))
 
 pub loop-place-preserved : goal.loop-place-preserved
 loop-place-preserved c =
-    let new = ap (has_name (take c.loop-place.place c.args.players.now)) (sym c.as_str.ensures.value) ∙ (sym c.has_name.ensures ∙ c.if-has_name.false) in
+    let new = sym c.has_name.ensures.value ∙ c.if-has_name.false in
     names-more c.args.players.now c.loop-place.place c.index-players-place.result c.loop-place-test.true c.index-players-place.is new c.loop-place.invariant
 
 pub returns : goal.returns

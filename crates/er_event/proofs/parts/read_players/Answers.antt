@@ -8,18 +8,17 @@ use Rattle.er_event.specs.Rows.{player_row}
 use Rattle.er_event.proofs.PartsLemmas.{row_at}
 use Rattle.er_event.proofs.parts.read_players.Goals as goal
 
-pub returns-in-Err-clause-damaged : goal.returns-in-Err-clause-damaged
-returns-in-Err-clause-damaged c place bad =
-    let tells = c.in-Err.ensures.damaged place (cc) in
-    (tells.0, λ players lawful are. row_at c.args.rows.now players c.loop-row.row-index c.row-item.result c.loop-row-test.true c.row-item.is lawful are tells.1)
+pub returns-in_default-clause-damaged : goal.returns-in_default-clause-damaged
+returns-in_default-clause-damaged c place bad =
+    (cc, λ players lawful are. row_at c.args.rows.now players c.loop-row.row-index c.row-item.result c.loop-row-test.true c.row-item.is lawful are (c.read_player.ensures.none (cc)))
 
 pub loop-row-preserved : goal.loop-row-preserved
 loop-row-preserved c =
     let at = c.loop-row.row-index in
     let rows = c.args.rows.now in
     let players = c.loop-row.players.items in
-    let player = c.in-Ok.player in
-    let read = c.in-Ok.ensures.value in
+    let player = c.in-Some.player in
+    let read = c.in-Some.ensures.value in
     let items : c.push.new.self.items ≡ players ++ player ∷ [] = grind (arith, common_steps) in
     let more : take (at + 1) rows ≡ take at rows ++ c.row-item.result ∷ [] = take_more rows at c.row-item.result c.loop-row-test.true ∙ ap (λ r. take at rows ++ r ∷ []) (sym c.row-item.is) in (
       more ∙ (ap (λ rs. rs ++ c.row-item.result ∷ []) c.loop-row.invariant.0 ∙ (ap (λ r. map player_row players ++ r ∷ []) read.0 ∙ (sym (map-append player_row players (player ∷ [])) ∙ ap (map player_row) (sym items)))),

@@ -18,5 +18,5 @@ returns-in-Ok-create-clause-value c =
     let cut : row.cut ≡ pos some.cut = omega (arith, ints, some.ensures'.value) in
     let phase : row.phase ≡ pos (phase_code some.phase) = omega (arith, ints, some.ensures''.value) in
     let name : row.name ≡ c.in-Ok.name = cc in
-    let lawful = named.lawful refl in
+    let lawful = named.lawful.0 refl in
     read_is row c.in-Ok-create.event c.in-Ok.name some.rounds some.cut counted.0 some.phase id version serial name rounds cut phase counted.1 (rw (sym named.value) at lawful) (made.within.0 refl) made.value

@@ -1,4 +1,5 @@
-use Rattle.std.proofs.Common.{◌≡◌, ◌+◌, ℕ, Some, List, refl, sym, ◌∙◌, ap, subst, arith}
+use Rattle.std.proofs.Common.{◌≡◌, ◌+◌, ℕ, Some, List, [], ◌∷◌, ◌++◌, refl, sym, ◌∙◌, ap, subst, arith}
+use Rattle.std.proofs.lemmas.Grind.{common_steps}
 use Rattle.csv.specs.Records.{fields_of}
 use Rattle.er_paper.specs.Reading.{chosen_line}
 use Rattle.er_paper.specs.declared.imports.PlayerLine.{PlayerLine}
@@ -10,7 +11,8 @@ loop-at-preserved c =
     let line = chosen_line c.args.heading in
     let at = c.loop-at.at in
     let row = c.index-rows-at.result in
+    let items : c.push.new.self.items ≡ c.loop-at.lines.items ++ c.in-Some.line ∷ [] = grind (arith, common_steps) in
     let number : 1 + at ≡ at + 1 = omega arith in
-    let read : line (1 + at) (fields_of row) ≡ Some c.in-Some.line = ap (λ (k : ℕ). line k (fields_of row)) number ∙ sym c.in_ok-line.ensures ∙ c.in-Some.is in
-    subst (λ (ls : List PlayerLine). Reached line c.args.rows.now ls (at + 1)) (sym c.in_ok-push_line-in-Some.ensures)
+    let read : line (1 + at) (fields_of row) ≡ Some c.in-Some.line = ap (λ (k : ℕ). line k (fields_of row)) number ∙ sym c.line_under.ensures ∙ c.in-Some.is in
+    subst (λ (ls : List PlayerLine). Reached line c.args.rows.now ls (at + 1)) (sym items)
     (reached-more line c.args.rows.now c.loop-at.lines.items at row c.loop-at-test.true c.index-rows-at.is c.loop-at.invariant c.in-Some.line (at + 1) read refl)

@@ -7,11 +7,12 @@ use Rattle.sqlite.specs.State.{State, IsUnchanged}
 use Rattle.sqlite_resolve.specs.declared.compiled.Compiled.{Compiled}
 use Rattle.sqlite_resolve.specs.declared.error.CompileError.{CompileError}
 use Rattle.er_event.specs.Event.{EventValue}
-use Rattle.er_store.specs.Standing.{HasTables, StandsFor, ReadsEvent, Shows}
+use Rattle.er_store.specs.Loading.{ShowsEvent}
+use Rattle.er_store.specs.Standing.{HasTables, AreKeyed, StandsFor, ReadsEvent, Shows}
 use Rattle.er_store.proofs.Meaning.{Takes, event_selected}
 use Rattle.er_store.proofs.Effects.{at_ours}
 use Rattle.er_store.proofs.Crash.{shows_leaves}
-use Rattle.er_store.proofs.LoadLemmas.{kept_stands}
+use Rattle.er_store.proofs.LoadLemmas.{kept_tables, kept_stands}
 use Rattle.er_store.specs.Damage.{ReadsParts, IsAtFault}
 use Rattle.er_event.specs.Parts.{parts_of}
 use Rattle.er_store.proofs.Store.adopt.Goals as goal
@@ -54,6 +55,31 @@ returns-in-Ok-clause-found g c e s stands sound clean =
     let auto : IsTrue c.is_autocommit.result = c.is_autocommit.ensures.value ∙ ap not c.requires.mode in
     let was : old.now ≡ old.committed = c.is_autocommit.ensures.settled auto same.0.was_open in
     (found.0, found.1, shows_same old mid new e s (c.schema.ensures.live same.0.was_open).0 was stands same (c.in-Ok.ensures.same clean))
+
+-- tables with the schema whose rows are the event's stand for it
+shown_stands : (db : Database) (e : EventValue) (s : ℕ) → HasTables db.schema → AreKeyed db → ShowsEvent db e s → StandsFor db e s
+shown_stands db e s has keyed shows = record {
+  low = shows.low;
+  tables = has;
+  event = shows.event;
+  players = shows.players;
+  pairings = shows.pairings;
+  bracket = shows.bracket;
+  pairings_keyed = keyed.pairings;
+  bracket_keyed = keyed.bracket;
+}
+
+pub returns-in-Ok-clause-stands : goal.returns-in-Ok-clause-stands
+returns-in-Ok-clause-stands g c clean has keyed =
+    let old = state g.S.Store c.args.conn in
+    let mid = state g.S.Store c.reads_event.new.conn in
+    let new = state g.S.Store c.load_tables.new.conn in
+    let same = (c.in-Ok-true.ensures.found (c.in-Ok.ensures.clean clean)).1 in
+    let auto : IsTrue c.is_autocommit.result = c.is_autocommit.ensures.value ∙ ap not c.requires.mode in
+    let was : old.now ≡ old.committed = c.is_autocommit.ensures.settled auto same.0.was_open in
+    let shows = subst (λ (d : Database). ShowsEvent d c.in-Ok.event c.in-Ok.serial) same.0.now_is (c.in-Ok.ensures.shows clean (kept_tables old mid same has)) in
+    let stands = shown_stands old.now c.in-Ok.event c.in-Ok.serial has keyed shows in
+    shows_same old mid new c.in-Ok.event c.in-Ok.serial (c.schema.ensures.live same.0.was_open).0 was stands same (c.in-Ok.ensures.same clean)
 
 pub returns-in-Ok-clause-leaves : goal.returns-in-Ok-clause-leaves
 returns-in-Ok-clause-leaves g c clean e s stands sound =

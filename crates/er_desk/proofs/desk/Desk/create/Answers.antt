@@ -18,3 +18,8 @@ pub returns-in_err-store-clause-spares : goal.returns-in_err-store-clause-spares
 returns-in_err-store-clause-spares g c =
     let p = err_from_is_err_and c.from_residual.result c.from_residual.ensures.1 in
     rw (p.1, p.2) c.in_err-store.ensures.spares
+
+pub returns-in_err-store-clause-kept : goal.returns-in_err-store-clause-kept
+returns-in_err-store-clause-kept g c =
+    let p = err_from_is_err_and c.from_residual.result c.from_residual.ensures.1 in
+    rw (p.1, p.2) c.in_err-store.ensures.kept

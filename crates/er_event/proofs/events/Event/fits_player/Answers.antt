@@ -7,8 +7,8 @@ pub returns-then-players-from : goal.returns-then-players-from
 returns-then-players-from c =
     let e = c.args.self.now in
     let name = c.args.name.now in
-    let lawful = c.as_str.ensures.lawful in
+    let lawful = c.has_name.ensures.lawful in
     let same = ap length c.players-players.ensures.value in
     let room : length e.players < 512 = omega arith in
-    let test : c.has_name.result ≡ has_name e.players name = c.has_name.ensures ∙ (ap (λ ps. has_name ps c.as_str.result.now) c.players-players.ensures.value ∙ ap (has_name e.players) c.as_str.ensures.value) in
+    let test : c.has_name.result ≡ has_name e.players name = c.has_name.ensures.value ∙ ap (λ ps. has_name ps name) c.players-players.ensures.value in
     (λ new. IsSound-with e name c.players-players.ensures.sound lawful room (ap not (sym test) ∙ new), λ sound. ap not test ∙ IsSound-new e name sound)
