@@ -5,3 +5,4 @@ pub mod Running
 pub mod Plain
 pub mod Adopting
 pub mod Slips
+pub mod NextSession

@@ -1,5 +1,5 @@
 -- What a desk shows, and what a command does to it.
-use Rattle.std.specs.Prelude.{◌≡◌, ◌⊎◌, ℕ, ◌+◌, ◌<◌, ◌≤◌, ◌==◌, ◌||◌, Bool, true, IsTrue, IsFalse, Result, Ok, Err, IsOk}
+use Rattle.std.specs.Prelude.{◌≡◌, ◌⊎◌, ℕ, ◌+◌, ◌<◌, ◌≤◌, ◌==◌, ◌||◌, Bool, true, false, IsTrue, IsFalse, Result, Ok, Err, IsOk}
 use Rattle.sqlite_trees.specs.declared.store.Store.{Ghosts}
 use Rattle.sqlite.specs.State.{State}
 use Rattle.sqlite.specs.Tree.{Trees}
@@ -34,6 +34,10 @@ pub record Standing : Type 0 where
 
 abbrev pub point_of : Standing → Point
 point_of s = record { event = s.event; serial = s.serial }
+
+-- with no fault behind
+abbrev pub running_at : Point → Standing
+running_at point = record { event = point.event; serial = point.serial; stopped = false }
 
 -- what an event may be set up with
 abbrev pub AreLimits : ℕ → ℕ → Type 0

@@ -4,7 +4,7 @@
 --
 -- What it supposes: the creation of the event, in an empty file, was acknowledged; nobody else writes the file, and the device returns what was
 -- written and keeps the storage crate's model of crashes (`HasCleanDisk`, in each `Leaves`); an opening begins on what a crash may leave.
-use Rattle.std.specs.Prelude.{◌≡◌, List, AllPairs, IsFalse}
+use Rattle.std.specs.Prelude.{◌≡◌, ◌⊎◌, ℕ, List, [], ◌∷◌, ◌++◌, AllPairs, IsFalse}
 use Rattle.sqlite_trees.specs.declared.store.Store.{Ghosts}
 use Rattle.sqlite.specs.Tree.{Trees}
 use Rattle.sqlite.specs.State.{State}
@@ -12,14 +12,18 @@ use Rattle.sqlite.specs.Files.{HoldsDatabase}
 use Rattle.sqlite_wal.specs.Recovery.{Image}
 use Rattle.er_event.specs.declared.refusals.Command.{Command}
 use Rattle.er_event.specs.Event.{EventValue}
+use Rattle.er_event.specs.Change.{created}
 use Rattle.er_event.specs.Round.{is_same_pairing, matches_of}
+use Rattle.er_event.specs.Sound.{IsSetUp}
 use Rattle.er_rank.specs.declared.rows.Row.{Row}
 use Rattle.er_rank.specs.Standings.{AreStandings, OneStandings}
+use Rattle.er_rules.specs.Sound.{IsSound}
 use Rattle.er_store.specs.Standing.{IsStored, Leaves, Either}
 use Rattle.er_store.specs.Tables.{no_schema}
 use Rattle.er_desk.specs.Desk.{Point, ShowsOwn, IsStoredAfter, point_of, state, standing}
 use Rattle.er_desk.specs.declared.desk.Desk.{Desk}
 use Rattle.er_desk.specs.Run.{Session, IsStoredEnd}
+use Rattle.er_desk.specs.History.{Ended, IsHistory, LeadsTo, accepted, accepted_surely, new_point}
 
 -- each thing that a crash may leave stands for this event and this serial, whole
 abbrev pub LeavesJust : State → Point → Type 0
@@ -54,3 +58,37 @@ RepeatsNobody event = AllPairs (λ m n. IsFalse (is_same_pairing m n)) (matches_
 -- the rows are the standings that the rules define, and no other list is
 abbrev pub AreTheStandings : EventValue → List Row → Type 0
 AreTheStandings event rows = AreStandings event rows × OneStandings event rows
+
+-- ---- many sessions
+
+-- The event at the end of a history is sound, repeats no opponent and no bye, and is the fold of all accepted commands, or of all but the last
+-- session's doubt. Its serial is their number.
+pub record IsEndOf (new : Point) (ends : List Ended) (last : Point) : Type 0 where
+  pub sound : IsSound last.event
+  pub repeats : RepeatsNobody last.event
+  pub leads : LeadsTo new (accepted new.serial ends) last ⊎ LeadsTo new (accepted_surely new.serial ends) last
+
+-- every history of a new event ends so
+abbrev pub Histories : Type 0
+Histories = (name : List ℕ) (rounds cut : ℕ) → IsSetUp (created name rounds cut)
+    → (ends : List Ended) (last : Point) → IsHistory (new_point name rounds cut) ends last → IsEndOf (new_point name rounds cut) ends last
+
+-- with one session more
+abbrev pub and_then : List Ended → Session → Point → List Ended
+and_then ends session last = ends ++ record { session = session; last = last } ∷ []
+
+-- What is left is an end of the history with this session after it, whole, and the next session begins there.
+pub record NextBegins (new : Point) (ends : List Ended) (session : Session) (trees : Trees) : Type 0 where
+  pub last : Point
+  pub history : IsHistory new (and_then ends session last) last
+  pub is_end : IsEndOf new (and_then ends session last) last
+  pub stored : IsStored last.event last.serial trees
+
+-- The file was left by a history of a new event.
+pub record WasLeftBy (image : Image) (new : Point) (ends : List Ended) (first : Point) : Type 0 where
+  pub name : List ℕ
+  pub limits : ℕ × ℕ
+  pub is_new : new ≡ new_point name limits.0 limits.1
+  pub set_up : IsSetUp (created name limits.0 limits.1)
+  pub history : IsHistory new ends first
+  pub left : WasLeft image first

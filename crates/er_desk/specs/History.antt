@@ -1,13 +1,10 @@
 -- Many openings of one file, one after the other.
-use Rattle.std.specs.Prelude.{◌≡◌, ◌⊎◌, ℕ, ◌+◌, ◌==◌, if◌then◌else◌, List, [], ◌∷◌, ◌++◌, length, Option, Some, None}
+use Rattle.std.specs.Prelude.{◌≡◌, ℕ, ◌+◌, ◌==◌, if◌then◌else◌, List, [], ◌∷◌, ◌++◌, length, Option, Some, None}
 use Rattle.er_event.specs.declared.refusals.Command.{Command}
 use Rattle.er_event.specs.Change.{created}
-use Rattle.er_event.specs.Sound.{IsSetUp}
-use Rattle.er_rules.specs.Sound.{IsSound}
 use Rattle.er_rules.specs.Fold.{Folds}
 use Rattle.er_desk.specs.Desk.{Point}
 use Rattle.er_desk.specs.Run.{Session, MayEnd}
-use Rattle.er_desk.specs.Headline.{RepeatsNobody}
 
 -- a session, and where the next one begins
 pub record Ended : Type 0 where
@@ -46,8 +43,3 @@ pub record LeadsTo (first : Point) (commands : List Command) (last : Point) : Ty
 
 abbrev pub new_point : List ℕ → ℕ → ℕ → Point
 new_point name rounds cut = record { event = created name rounds cut; serial = 0 }
-
--- The event at the end of any history is sound, repeats no opponent and no bye, and is the fold of all accepted commands, or of all but the last session's doubt. Its serial is their number.
-abbrev pub Histories : Type 0
-Histories = (name : List ℕ) (rounds cut : ℕ) → IsSetUp (created name rounds cut) → (ends : List Ended) (last : Point) → IsHistory (new_point name rounds cut) ends last
-    → IsSound last.event × RepeatsNobody last.event × (LeadsTo (new_point name rounds cut) (accepted 0 ends) last ⊎ LeadsTo (new_point name rounds cut) (accepted_surely 0 ends) last)

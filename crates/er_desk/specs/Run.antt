@@ -55,6 +55,10 @@ pub record Session : Type 0 where
   -- the one that the store failed in, or the program was stopped in
   pub doubt : Option Command
 
+-- in which nothing was asked
+abbrev pub no_session : Session
+no_session = record { kept = []; doubt = None }
+
 -- the last command that was tried
 abbrev pub tried_or : Option Command → Command → Reply → Option Command
 tried_or (Some later) command reply = Some later

@@ -1,6 +1,6 @@
 //! Laws of runs and histories, over the definitions alone. A law is a function with no code of its own, whose contract is the law.
 
-ghost use Rattle.er_desk.specs.History.{Histories};
+ghost use Rattle.er_desk.specs.Headline.{Histories};
 ghost use Rattle.er_desk.specs.Resuming.{Resuming};
 ghost use Rattle.er_rules.specs.Retry.{NoDoubleEffect};
 

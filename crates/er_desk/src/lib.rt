@@ -5,6 +5,8 @@
 mod desk;
 pub mod laws;
 mod opening;
+mod sessions;
 
 pub use desk::{Desk, Reply};
 pub use opening::{OpenFault, open, opening_refusal};
+pub use sessions::session;

@@ -14,4 +14,4 @@ returns c name rounds cut set_up ends last history =
       | inl all ↦ fold_sound c.step_keeps_sound.ensures first.event last.event _ new all.event
       | inr surely ↦ fold_sound c.step_keeps_sound.ensures first.event last.event _ new surely.event
     ] in
-    (sound, sound.but_for_seeds.rounds.no_repeats, leads)
+    record { sound = sound; repeats = sound.but_for_seeds.rounds.no_repeats; leads = leads }

@@ -1,0 +1,80 @@
+-- A session goes on from where a history has ended.
+use Rattle.std.proofs.Common.{◌≡◌, List, [], ◌∷◌, ◌++◌, Bool, Result, Ok, Err, IfOk, IfErr, MatchResult, IsFalse, Vec, Global, inl, refl, sym, subst, ap₂, arith}
+use Rattle.sqlite_disk.specs.declared.Disk as disk
+use Rattle.sqlite_trees.specs.declared.store.Store.{Ghosts}
+use Rattle.sqlite.specs.State.{HasCleanDisk}
+use Rattle.sqlite.specs.Files.{HoldsDatabase, file_state}
+use Rattle.sqlite.specs.Tree.{Trees}
+use Rattle.sqlite_wal.specs.Recovery.{Image}
+use Rattle.er_event.specs.declared.refusals.Command.{Command}
+use Rattle.er_rules.specs.Sound.{IsSound}
+use Rattle.er_store.specs.Standing.{IsStored, Leaves}
+use Rattle.er_desk.specs.declared.desk.Desk.{Desk}
+use Rattle.er_desk.specs.declared.opening.OpenFault.{OpenFault}
+use Rattle.er_desk.specs.declared.opening.OpenFault.TheVariants.{Unopened, Refused}
+use Rattle.er_desk.specs.Reply.{Reply}
+use Rattle.er_desk.specs.Desk.{Point, Standing, ShowsOwn, point_of, state, standing, running_at}
+use Rattle.er_desk.specs.Opening.{OnRefused}
+use Rattle.er_desk.specs.Run.{Session, MayEnd, IsRun, IsStoredEnd, session_of, no_session}
+use Rattle.er_desk.specs.History.{Ended, IsHistory}
+use Rattle.er_desk.specs.Headline.{Histories, IsEndOf, FindsAgain, LeavesEnd, NextBegins, WasLeftBy, and_then}
+
+history_more : (new first : Point) (ends : List Ended) (it : Ended) → IsHistory new ends first → MayEnd first it.session it.last → IsHistory new (ends ++ it ∷ []) it.last
+history_more new first [] it is may = (subst (λ (p : Point). MayEnd p it.session it.last) is may, refl)
+history_more new first (before ∷ more) it (ended, rest) may = (ended, history_more before.last first more it rest may)
+
+-- nothing was asked, and what is left is what was there
+pub quiet_end : (first : Point) (trees : Trees) → IsStored first.event first.serial trees → IsStoredEnd first no_session trees
+quiet_end first trees stored = (first, inl (record { event = refl; serial = omega arith; taken = tt }), stored)
+
+module _ (law : Histories) (image : Image) (new first : Point) (ends : List Ended) (was : WasLeftBy image new ends first) where
+  ends_so : (all : List Ended) (last : Point) → IsHistory new all last → IsEndOf new all last
+  ends_so all last history =
+      subst (λ (p : Point). IsEndOf p all last) (sym was.is_new)
+      (law was.name was.limits.0 was.limits.1 was.set_up all last (subst (λ (p : Point). IsHistory p all last) was.is_new history))
+
+  pub first_sound : IsSound first.event
+  first_sound = (ends_so ends first was.history).sound
+
+  pub next_begins : (session : Session) (trees : Trees) → IsStoredEnd first session trees → NextBegins new ends session trees
+  next_begins session trees (last, may, stored) =
+      let history = history_more new first ends (record { session = session; last = last }) was.history may in
+      record { last = last; history = history; is_end = ends_so (and_then ends session last) last history; stored = stored }
+
+  -- nothing was asked
+  pub quiet_begins : (trees : Trees) → IsStored first.event first.serial trees → NextBegins new ends no_session trees
+  quiet_begins trees stored = next_begins no_session trees (quiet_end first trees stored)
+
+  -- the files were opened, and no event was given
+  pub refused_begins : {D : Type 0} {g : disk.Ghosts D} (why : OpenFault D g)
+      → ((db : Trees) → HoldsDatabase image db → OnRefused why (λ conn. Leaves (file_state conn) (λ trees. trees ≡ db)))
+      → OnRefused why (λ conn. Leaves (file_state conn) (NextBegins new ends no_session))
+  refused_begins (Unopened refusal left) kept = tt
+  refused_begins (Refused conn refusal) kept = λ clean trees may.
+      quiet_begins trees (subst (IsStored first.event first.serial) (sym (kept was.left.0 was.left.1 clean trees may)) was.left.2)
+
+  -- a desk before the commands and after them
+  module _ {S E : Type 0} (g : Ghosts S) (old now : Desk S g) (commands : List Command) where
+    pub run_begins : (r : Result (Vec Reply Global) E) → IsFalse (standing old).stopped → (HasCleanDisk (state g old) → FindsAgain g old first)
+        → (HasCleanDisk (state g now) → HasCleanDisk (state g old))
+        → (IsFalse (standing old).stopped → ShowsOwn g old
+        → IfOk r (λ replies. LeavesEnd (state g now) (point_of (standing old)) (session_of commands replies.items (standing now).stopped)))
+        → IfErr r (λ _. now ≡ old)
+        → MatchResult r
+        (λ replies. Leaves (state g now) (NextBegins new ends (session_of commands replies.items (standing now).stopped)))
+        (λ _. Leaves (state g now) (NextBegins new ends no_session))
+    run_begins (Ok replies) ready found before crash same = λ clean trees may.
+        let again = found (before clean) in
+        let session = session_of commands replies.items (standing now).stopped in
+        next_begins session trees (subst (λ (p : Point). IsStoredEnd p session trees) again.found (crash ready again.shows clean trees may))
+    run_begins (Err e) ready found before crash same = λ clean trees may.
+        quiet_begins trees ((found (before clean)).leaves (before clean) trees (subst (λ (d : Desk S g). (state g d).may_leave trees) same may))
+
+standing_is : (s : Standing) (point : Point) → IsFalse s.stopped → point_of s ≡ point → s ≡ running_at point
+standing_is s point runs is =
+    ap₂ (λ (p : Point) (b : Bool). (let at : Standing = record { event = p.event; serial = p.serial; stopped = b } in at)) is runs
+
+pub runs_from : {E : Type 0} (r : Result (Vec Reply Global) E) (commands : List Command) (old now : Standing) (point : Point) → IsFalse old.stopped → point_of old ≡ point
+    → IfOk r (λ replies. IsRun old commands replies.items now) → IfOk r (λ replies. IsRun (running_at point) commands replies.items now)
+runs_from (Ok replies) commands old now point runs is ran = subst (λ (s : Standing). IsRun s commands replies.items now) (standing_is old point runs is) ran
+runs_from (Err e) commands old now point runs is ran = tt
