@@ -27,6 +27,8 @@ mod sockets;
 #[cfg(test)]
 mod standings;
 #[cfg(test)]
+mod stops;
+#[cfg(test)]
 mod stores;
 #[cfg(test)]
 mod tables;

@@ -2,7 +2,7 @@
 //! expectation a text of statements with what they show.
 ghost use Rattle.std.specs.Prelude.{◌≡◌, false, IfSome};
 
-use crate::helpers::{FOUR, desk_after, is_slip};
+use crate::helpers::{FOUR, desk_after};
 use er_desk::Desk;
 use er_event::{Event, Place, Refusal};
 use er_store::Store;
@@ -24,7 +24,7 @@ pair 2
 ";
 
 /// Ana, Bo and Cy: the first round is (2,1) and a bye for 3, the second (2,3) and a bye for 1.
-const THREE: &str = "\
+pub const THREE: &str = "\
 enrol Ana
 enrol Bo
 enrol Cy
@@ -213,7 +213,8 @@ fn have_same_stages(one: &Event, other: &Event) -> bool {
     one.len() == other.len() && pairs.all(|(one, other)| one.as_slice() == other.as_slice())
 }
 
-fn are_same(one: &Event, other: &Event) -> bool {
+/// Whether two events are the same.
+pub fn are_same(one: &Event, other: &Event) -> bool {
     one.name().as_str() == other.name().as_str()
         && (one.rounds(), one.cut(), one.phase()) == (other.rounds(), other.cut(), other.phase())
         && have_same_players(one, other)
@@ -272,35 +273,6 @@ fn the_event_is_read_back(rt: HostRuntime) -> Result<(), Fail> {
     ];
     let wanted = [0, 4, 9, 7, 13, 15, 16];
     assert_eq!(rt; serials, wanted.map(Some));
-    Ok(())
-}
-
-const BYE_SLIP: &str =
-    "{\"first\":{\"name\":\"Cy\",\"no\":3},\"round\":1,\"score\":{\"a\":2,\"b\":0,\"d\":0},\"second\":null,\"table\":0}";
-
-const SCORED_SLIP: &str =
-    "{\"first\":{\"name\":\"Bo\",\"no\":2},\"round\":1,\"score\":{\"a\":2,\"b\":0,\"d\":0},\"second\":{\"name\":\"Ana\",\"no\":1},\"table\":1}";
-
-/// Whether a store reads the slips of a bye and of a match, and finds no second table.
-fn reads_slips(alloc: Global, conn: Connection<MemStore>) -> Option<bool>
-    requires { conn.in_transaction ≡ false }
-{
-    let (mut store, _event, _serial) = adopt(alloc, conn).ok()?;
-    let bye = is_slip(alloc, store.slip(alloc, 1, 0), BYE_SLIP);
-    let scored = is_slip(alloc, store.slip(alloc, 1, 1), SCORED_SLIP);
-    let second = store.slip(alloc, 1, 2).err();
-    let are_read = bye == Some(true) && scored == Some(true);
-    Some(are_read && second == Some(Refusal::NoSuchMatch))
-}
-
-fn reads_slips_of_three(alloc: Global) -> Option<bool> {
-    let desk = desk_after(alloc, 4, 0, THREE)?;
-    reads_slips(alloc, desk.close())
-}
-
-#[test]
-fn a_store_reads_slips(rt: HostRuntime) -> Result<(), Fail> {
-    assert_eq!(rt; reads_slips_of_three(rt.alloc()), Some(true));
     Ok(())
 }
 

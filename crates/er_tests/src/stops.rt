@@ -1,0 +1,354 @@
+//! A stop at each call of the disk, over sessions. The files are opened anew with what was synced alone, and with all that was written: each time
+//! they hold the event of the commands that were acknowledged, or of one more, and the rest of the commands lead to the same end.
+ghost use Rattle.std.specs.Prelude.{◌≡◌, false, IsTrue, IfSome};
+ghost use Rattle.sqlite_disk.specs.Memory.{memory_is_usable};
+ghost use Rattle.sqlite_disk.specs.Fuse.{inner_of, IsFresh};
+
+use crate::helpers::{command, name, new_desk};
+use crate::stores::are_same;
+use er_desk::{Desk, Reply};
+use er_event::{Cause, Command, Event, Refusal};
+use er_paper::{bracket_text, standings_text};
+use sqlite::{Alter, Connection, FileStore, Files, MemStore, Options};
+use sqlite_disk::{Crash, Disk, Fuse, Memory};
+use std::alloc::Global;
+use std::test::Fail;
+
+/// The log and the database of an event.
+type Disks = Files<Fuse<Memory>>;
+
+/// How many calls a file passes on before it stops, where it never does.
+const NEVER: u64 = u64::MAX;
+
+/// An event's rounds and cut, and its commands, a line each.
+#[derive(Clone, Copy)]
+struct Case {
+    rounds: u8,
+    cut: u8,
+    lines: &'static str,
+}
+
+/// The commands of a text's lines from one place on and before another.
+fn commands(alloc: Global, lines: &str, from: usize, to: usize) -> Option<Vec<Command>> {
+    let mut commands = Vec::new(alloc);
+    for line in lines.lines().take(to).skip(from) {
+        commands.push(command(alloc, line)?).ok()?;
+    }
+    Some(commands)
+}
+
+/// The event that so many lines make, in memory and with no stop.
+fn unstopped(alloc: Global, case: Case, count: usize) -> Option<Desk<MemStore>> {
+    let conn = Connection::open_in_memory(alloc).ok()?;
+    let mut desk = new_desk(alloc, conn, case.rounds, case.cut)?;
+    let replies = desk
+        .run(alloc, commands(alloc, case.lines, 0, count)?)
+        .ok()?;
+    let all = replies.as_slice().iter().all(|reply| reply.is_ok());
+    all.then_some(desk)
+}
+
+/// A file with the bytes of another, all of them there for good.
+fn copied(alloc: Global, bytes: &[u8]) -> Option<Memory>
+    ensures { IfSome result (λ memory. IsTrue (memory_is_usable memory)) }
+{
+    let mut copy = Memory::new(alloc);
+    copy.write_at(0, bytes).ok()?;
+    copy.sync().ok()?;
+    Some(copy)
+}
+
+/// Files with the bytes of these, of which each stops after so many calls.
+fn opened_again(alloc: Global, files: &Disks, log: u64, db: u64) -> Option<Disks>
+    ensures { IfSome result (λ files. IsTrue (memory_is_usable (inner_of files.log)) × IsFresh files.log × IsTrue (memory_is_usable (inner_of files.db)) × IsFresh files.db) }
+{
+    Some(Files {
+        log: Fuse::new(copied(alloc, files.log.inner().bytes())?, log),
+        db: Fuse::new(copied(alloc, files.db.inner().bytes())?, db),
+    })
+}
+
+/// What a session came to: how many commands were acknowledged, none where creation was not, and the files.
+#[derive(Drop)]
+struct Ended {
+    acknowledged: Option<usize>,
+    files: Disks,
+}
+
+fn closed(acknowledged: Option<usize>, conn: Connection<FileStore<Fuse<Memory>>>) -> Ended {
+    Ended {
+        acknowledged,
+        files: conn.into_store().close(),
+    }
+}
+
+const FAULT: Reply = Err(Refusal::Store {
+    cause: Cause::Refused,
+});
+
+/// How many receipts there are, where after them comes nothing, or one fault of the device and then that the file is to be opened anew.
+fn receipts(replies: &[Reply]) -> Option<usize> {
+    let count = replies.iter().filter(|reply| reply.is_ok()).count();
+    let all = match &replies[count..] {
+        [] => true,
+        [first, later @ ..] => {
+            *first == FAULT
+                && later
+                    .iter()
+                    .all(|reply| *reply == Err(Refusal::NeedsReopen))
+        }
+    };
+    all.then_some(count)
+}
+
+/// Sends a case's commands from the serial on and before this place. The count of all that were acknowledged then.
+fn send<S: Alter>(alloc: Global, desk: &mut Desk<S>, case: Case, to: usize) -> Option<usize> {
+    let serial = desk.serial().ok()? as usize;
+    let replies = desk
+        .run(alloc, commands(alloc, case.lines, serial, to)?)
+        .ok()?;
+    serial.checked_add(receipts(replies.as_slice())?)
+}
+
+/// A session over empty files, which creates the event and sends the commands before this place.
+fn first_session(alloc: Global, case: Case, log: u64, db: u64, to: usize) -> Option<Ended> {
+    let friday = name("Friday")?;
+    let files = Files {
+        log: Fuse::new(Memory::new(alloc), log),
+        db: Fuse::new(Memory::new(alloc), db),
+    };
+    let conn = match Connection::open_files(alloc, files, Options::new(7)) {
+        Ok(conn) => conn,
+        Err((_error, left)) => {
+            return Some(Ended {
+                acknowledged: None,
+                files: left.into_files(),
+            });
+        }
+    };
+    match Desk::create(alloc, conn, friday, case.rounds, case.cut) {
+        Ok(mut desk) => {
+            let acknowledged = send(alloc, &mut desk, case, to);
+            Some(closed(acknowledged, desk.close()))
+        }
+        Err((conn, _why)) => Some(closed(None, conn)),
+    }
+}
+
+/// A session over the files of an event with so many commands. Where it stops while it opens them, nothing more is acknowledged.
+fn next_session(alloc: Global, case: Case, files: Disks, before: usize, to: usize) -> Ended
+    requires { IsTrue (memory_is_usable (inner_of files.log)) × IsFresh files.log × IsTrue (memory_is_usable (inner_of files.db)) × IsFresh files.db }
+{
+    let conn = match Connection::open_files(alloc, files, Options::new(7)) {
+        Ok(conn) => conn,
+        Err((_error, left)) => {
+            return Ended {
+                acknowledged: Some(before),
+                files: left.into_files(),
+            };
+        }
+    };
+    match Desk::adopt(alloc, conn) {
+        Ok(mut desk) => {
+            let acknowledged = send(alloc, &mut desk, case, to);
+            closed(acknowledged, desk.close())
+        }
+        Err((conn, why)) => closed((Err(why) == FAULT).then_some(before), conn),
+    }
+}
+
+/// Whether this is the event that so many commands make with no stop, with its standings.
+fn is_unstopped(alloc: Global, case: Case, count: usize, event: &Event) -> Option<bool> {
+    let desk = unstopped(alloc, case, count)?;
+    let plain = desk.event().ok()?;
+    let same_text = standings_text(alloc, event).ok()?.as_slice()
+        == standings_text(alloc, plain).ok()?.as_slice();
+    Some(same_text && are_same(event, plain))
+}
+
+/// Whether an opening may find this serial: that of the acknowledged commands, or one more; and 0 where creation was not acknowledged.
+fn may_find(acknowledged: Option<usize>, serial: usize) -> bool {
+    match acknowledged {
+        Some(count) => serial == count || serial.checked_sub(1) == Some(count),
+        None => serial == 0,
+    }
+}
+
+/// Whether the desk stands where it may, and the rest of the commands lead to the end.
+fn ends_well<S: Alter>(
+    alloc: Global,
+    desk: &mut Desk<S>,
+    case: Case,
+    acknowledged: Option<usize>,
+) -> Option<bool> {
+    let serial = desk.serial().ok()? as usize;
+    let begins_well = is_unstopped(alloc, case, serial, desk.event().ok()?)?;
+    let all = case.lines.lines().count();
+    let is_sent = send(alloc, desk, case, all) == Some(all);
+    let ends_well = is_unstopped(alloc, case, all, desk.event().ok()?)?;
+    Some(may_find(acknowledged, serial) && begins_well && is_sent && ends_well)
+}
+
+/// Whether files that stop no more hold what they may, and lead to the end.
+fn goes_on(alloc: Global, case: Case, files: &Disks, acknowledged: Option<usize>) -> Option<bool> {
+    let files = opened_again(alloc, files, NEVER, NEVER)?;
+    let conn = match Connection::open_files(alloc, files, Options::new(7)) {
+        Ok(conn) => conn,
+        Err(_) => return None,
+    };
+    match Desk::adopt(alloc, conn) {
+        Ok(mut desk) => ends_well(alloc, &mut desk, case, acknowledged),
+        Err((_conn, why)) => Some(acknowledged.is_none() && why == Refusal::NoEvent),
+    }
+}
+
+/// Whether what a session left goes on after the process has stopped, with all that was written, and after the machine has, with what was synced.
+fn survives(alloc: Global, case: Case, it: &mut Ended) -> bool {
+    let after_process = goes_on(alloc, case, &it.files, it.acknowledged);
+    it.files.log.crash();
+    it.files.db.crash();
+    let after_machine = goes_on(alloc, case, &it.files, it.acknowledged);
+    after_process == Some(true) && after_machine == Some(true)
+}
+
+/// How many calls the log and the database pass on, where one of them stops.
+const fn calls_of(stops_log: bool, calls: u64) -> (u64, u64) {
+    if stops_log {
+        (calls, NEVER)
+    } else {
+        (NEVER, calls)
+    }
+}
+
+/// Whether a whole event ends before the stop. It survives the stop, or there is no answer.
+fn whole_event_ends(alloc: Global, case: Case, log: u64, db: u64) -> Option<bool> {
+    let all = case.lines.lines().count();
+    let mut it = first_session(alloc, case, log, db, all)?;
+    let is_whole = it.acknowledged == Some(all);
+    survives(alloc, case, &mut it).then_some(is_whole)
+}
+
+/// Stops a whole event at each call of one of its files. The count of these calls, if it survives each stop.
+fn whole_event(alloc: Global, case: Case, stops_log: bool) -> Option<u64> {
+    for calls in 0..10_000 {
+        let (log, db) = calls_of(stops_log, calls);
+        if whole_event_ends(alloc, case, log, db)? {
+            return Some(calls);
+        }
+    }
+    None
+}
+
+/// Whether a session over these files, that sends the commands between two places, ends before the stop. It survives the stop, or there is no answer.
+fn session_ends(alloc: Global, case: Case, files: Disks, places: (usize, usize)) -> Option<bool>
+    requires { IsTrue (memory_is_usable (inner_of files.log)) × IsFresh files.log × IsTrue (memory_is_usable (inner_of files.db)) × IsFresh files.db }
+{
+    let (from, to) = places;
+    let mut it = next_session(alloc, case, files, from, to);
+    let is_whole = it.acknowledged == Some(to);
+    survives(alloc, case, &mut it).then_some(is_whole)
+}
+
+/// Stops such a session at each call of one of the files. The count of these calls, if it survives each stop.
+fn later_session(
+    alloc: Global,
+    case: Case,
+    files: &Disks,
+    places: (usize, usize),
+    stops_log: bool,
+) -> Option<u64> {
+    for calls in 0..10_000 {
+        let (log, db) = calls_of(stops_log, calls);
+        if session_ends(alloc, case, opened_again(alloc, files, log, db)?, places)? {
+            return Some(calls);
+        }
+    }
+    None
+}
+
+/// Six players, one round and a playoff of four, with a correction.
+const PLAYOFF: Case = Case {
+    rounds: 1,
+    cut: 4,
+    lines: "\
+enrol P1
+enrol P2
+enrol P3
+enrol P4
+enrol P5
+enrol P6
+start
+pair 1
+result 1 1 2 0 0
+result 1 2 2 0 0
+result 1 3 2 0 0
+correct 1 1 2 0 0
+drop 2
+cut
+playoff 1 1 2 0 0
+playoff 1 2 1 2 0
+playoff 2 1 0 2 0
+",
+};
+
+const BRACKET: &str = " Stg Slot    A    B Score Names
+   1    1    5    3 2-0-0 P5 - P3
+   1    2    6    1 1-2-0 P6 - P1
+   2    1    5    1 0-2-0 P5 - P1
+Champion 1 P1
+";
+
+fn ends_with_its_bracket(alloc: Global) -> Option<bool> {
+    let desk = unstopped(alloc, PLAYOFF, 17)?;
+    let text = bracket_text(alloc, desk.event().ok()?).ok()?;
+    Some(text.as_slice() == BRACKET.as_bytes() && desk.serial() == Ok(17))
+}
+
+/// A stop at each call of each file, in creation and in each of 17 commands.
+#[test]
+fn a_whole_event_survives_each_stop(rt: HostRuntime) -> Result<(), Fail> {
+    let alloc = rt.alloc();
+    assert_eq!(rt; ends_with_its_bracket(alloc), Some(true));
+    assert!(rt; whole_event(alloc, PLAYOFF, true).is_some_and(|calls| calls > 17));
+    assert!(rt; whole_event(alloc, PLAYOFF, false).is_some());
+    Ok(())
+}
+
+/// Eight players. The second round is paired by the fifteenth command.
+const EIGHT: Case = Case {
+    rounds: 3,
+    cut: 0,
+    lines: "\
+enrol P1
+enrol P2
+enrol P3
+enrol P4
+enrol P5
+enrol P6
+enrol P7
+enrol P8
+start
+pair 1
+result 1 1 2 0 0
+result 1 2 2 0 0
+result 1 3 2 0 0
+result 1 4 2 0 0
+pair 2
+result 2 1 2 0 0
+",
+};
+
+/// The calls at which a session is stopped that pairs the second round and goes on.
+fn second_round(alloc: Global, stops_log: bool) -> Option<u64> {
+    let before = first_session(alloc, EIGHT, NEVER, NEVER, 14)?;
+    later_session(alloc, EIGHT, &before.files, (14, 16), stops_log)
+}
+
+/// A disk that fails at each call of a pairing: after it there are all tables of the round, or none.
+#[test]
+fn a_pairing_survives_each_stop(rt: HostRuntime) -> Result<(), Fail> {
+    let alloc = rt.alloc();
+    assert!(rt; second_round(alloc, true).is_some_and(|calls| calls > 2));
+    assert!(rt; second_round(alloc, false).is_some());
+    Ok(())
+}
