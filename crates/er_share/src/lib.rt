@@ -5,9 +5,11 @@
 //! as whole numbers, and are averaged without a remainder. Nothing here takes memory.
 #![tactic(auto)]
 
+mod mean;
 mod record;
 mod share;
 
+pub use mean::Mean;
 pub use record::{GameRecord, MatchRecord, gwp, mwp};
 pub use share::{Share, average, hundredths};
 

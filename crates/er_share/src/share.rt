@@ -15,12 +15,12 @@ use std::cmp::Ordering;
 use std::marker::Model;
 
 /// The parts of the minimum, 33/100.
-const MINIMUM: u128 = WHOLE / 100 * 33;
+pub(crate) const MINIMUM: u128 = WHOLE / 100 * 33;
 
 /// An exact share of one whole, from 0 to 1. Shares are ordered as the fractions that they are.
 #[derive(Clone, Copy, Debug, PartialEq, Eq, Hash)]
 pub struct Share {
-    parts: u128,
+    pub(crate) parts: u128,
 }
 
 impl Model for Share {
