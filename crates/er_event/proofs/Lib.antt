@@ -22,3 +22,5 @@ pub mod PlayoffLemmas
 pub mod SlotScoreLemmas
 pub mod EndLemmas
 pub mod Examples
+pub mod TotalLemmas
+pub mod RescoredLemmas

@@ -16,3 +16,5 @@ pub mod Reading
 pub mod Lines
 pub mod Totals
 pub mod Slip
+pub mod Seen
+pub mod Tallies

@@ -27,12 +27,19 @@ abbrev pub lines_of_match : ℕ → Match → List Line
 lines_of_match round m = lines_of_score round m.a m.b m.score
 
 -- a round counts once it is complete
+abbrev pub counted_lines : ℕ → Round → List Line
+counted_lines round r = if is_counted r.matches then flat_map (lines_of_match round) r.matches else []
+
 abbrev pub lines_from : ℕ → List Round → List Line
 lines_from round [] = []
-lines_from round (r ∷ later) = (if is_counted r.matches then flat_map (lines_of_match round) r.matches else []) ++ lines_from (round + 1) later
+lines_from round (r ∷ later) = counted_lines round r ++ lines_from (round + 1) later
 
 abbrev pub lines : EventValue → List Line
 lines event = lines_from 1 event.stored
 
+-- those of one player
+abbrev pub own : ℕ → List Line → List Line
+own player all = filter (λ l. l.player == player) all
+
 abbrev pub own_lines : EventValue → ℕ → List Line
-own_lines event player = filter (λ l. l.player == player) (lines event)
+own_lines event player = own player (lines event)

@@ -1,5 +1,7 @@
 -- Points, rounds and games of a player, over the counted rounds.
-use Rattle.std.specs.Prelude.{ℕ, ◌+◌, ◌*◌, ◌==◌, nat_lt, if◌then◌else◌, length, sum_by}
+use Rattle.std.specs.Prelude.{ℕ, ◌+◌, ◌*◌, ◌==◌, nat_lt, if◌then◌else◌, List, [], ◌∷◌, length, sum_by, Option, Some, None}
+use Rattle.er_event.specs.declared.scores.Games.{Games}
+use Rattle.er_event.specs.declared.totals.Totals.{Totals}
 use Rattle.er_event.specs.Event.{EventValue}
 use Rattle.er_event.specs.Lines.{Line, own_lines}
 
@@ -7,16 +9,33 @@ use Rattle.er_event.specs.Lines.{Line, own_lines}
 abbrev pub points_of : Line → ℕ
 points_of l = if nat_lt l.lost l.won then 3 else if l.won == l.lost then 1 else 0
 
-pub record Totals : Type 0 where
-  pub points : ℕ
-  pub rounds : ℕ
-  pub game_points : ℕ
-  pub games : ℕ
+abbrev pub game_points_of : Line → ℕ
+game_points_of l = 3 * l.won + l.drawn
 
-abbrev pub totals : EventValue → ℕ → Totals
-totals event player = let own = own_lines event player in record {
+abbrev pub games_of : Line → ℕ
+games_of l = l.won + l.lost + l.drawn
+
+-- what lines come to
+abbrev pub totals_of : List Line → Totals
+totals_of own = record {
   points = sum_by points_of own;
   rounds = length own;
-  game_points = sum_by (λ l. 3 * l.won + l.drawn) own;
-  games = sum_by (λ l. l.won + l.lost + l.drawn) own;
+  game_points = sum_by game_points_of own;
+  games = sum_by games_of own;
 }
+
+abbrev pub plus : Totals → Totals → Totals
+plus t u = record {
+  points = t.points + u.points;
+  rounds = t.rounds + u.rounds;
+  game_points = t.game_points + u.game_points;
+  games = t.games + u.games;
+}
+
+abbrev pub totals : EventValue → ℕ → Totals
+totals event player = totals_of (own_lines event player)
+
+-- what one match comes to for a player who saw these games, the player's own first
+abbrev pub totals_of_games : Option Games → Totals
+totals_of_games None = totals_of []
+totals_of_games (Some g) = totals_of (record { round = 0; player = 0; opponent = 0; won = g.x; lost = g.y; drawn = g.d } ∷ [])

@@ -17,6 +17,8 @@ mod rows;
 mod scores;
 mod slips;
 mod stages;
+mod tallies;
+mod totals;
 
 pub use changes::Change;
 pub use checks::BYE;
@@ -31,3 +33,5 @@ pub use rounds::{Bracket, Match, Round};
 pub use rows::{BracketRow, EventRow, PairingRow, PlayerRow};
 pub use scores::{Games, Score};
 pub use slips::SlipRow;
+pub use tallies::{Meeting, Tally};
+pub use totals::Totals;

@@ -33,4 +33,6 @@ mod stores;
 #[cfg(test)]
 mod tables;
 #[cfg(test)]
+mod totals;
+#[cfg(test)]
 mod wires;

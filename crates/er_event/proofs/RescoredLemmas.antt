@@ -1,0 +1,54 @@
+-- The rounds of an event in which a match gets a score are those of the event after it.
+use Rattle.std.proofs.Common.{◌≡◌, ℕ, ◌-◌, ◌≤◌, List, [], length, map, get_or, All, Option, Some, None, sym, ap, subst, ◌∙◌, arith}
+use Rattle.std.proofs.Math.ListN.{set}
+use Rattle.std.specs.List.{slice_get}
+use Rattle.std.proofs.lemmas.Option.{get_or_from_slice_get}
+use Rattle.er_event.specs.declared.scores.Games.{Games}
+use Rattle.er_event.specs.declared.rounds.Match.{Match}
+use Rattle.er_event.specs.declared.rounds.Round.{Round}
+use Rattle.er_event.specs.declared.changes.Change.TheVariants.{SetScore}
+use Rattle.er_event.specs.Event.{EventValue}
+use Rattle.er_event.specs.Round.{numbered_from}
+use Rattle.er_event.specs.Bracket.{open_match}
+use Rattle.er_event.specs.Change.{scored, score_table, scored_slot, with_score, Fits}
+use Rattle.er_event.specs.Seen.{IsSeatedOnce, HasTable, rescored}
+use Rattle.er_event.proofs.ScoreLemmas.{Found, found, within-get}
+use Rattle.er_event.proofs.TableLemmas.{at-place, score-place}
+
+some-injective : {X : Type 0} (d x y : X) → ◌≡◌ {A = Option X} (Some x) (Some y) → x ≡ y
+some-injective {X} d x y is = ap value is
+  where
+    value : Option X → X
+    value None = d
+    value (Some z) = z
+
+module _ (e : EventValue) (k t : ℕ) (s : Games) (fits : Fits e (SetScore k t s)) where
+  it : Found e k t fits.named.0
+  it = found e k t fits.named.0 fits.named.1
+
+  place : (1 ≤ t) × (slice_get it.round.matches (t - 1) ≡ Some fits.named.0)
+  place = at-place it.round.matches t fits.named.0 it.here fits.named.2
+
+  pub has-table : HasTable e.stored (k - 1) t
+  has-table r there =
+      let same : it.round ≡ r = some-injective r it.round r (sym it.stored ∙ there) in
+      let within = within-get it.round.matches (t - 1) fits.named.0 place.1 in
+      let low = place.0 in
+      subst (λ (q : Round). (1 ≤ t) × (t ≤ length q.matches)) same (low, omega (arith, within, low))
+
+  -- the round's matches are written alike
+  as-written : (ms : List Match) → slice_get ms (t - 1) ≡ Some fits.named.0 → map (score_table t s) (numbered_from 1 ms) ≡ set ms (t - 1) (scored s fits.named.0)
+      → scored_slot ms t s ≡ map (score_table t s) (numbered_from 1 ms)
+  as-written ms there written =
+      ap (λ (m : Match). set ms (t - 1) (scored s m)) (get_or_from_slice_get ms (t - 1) fits.named.0 (open_match 0 0) there) ∙ sym written
+
+  pub as-scored : rescored e.stored (k - 1) t s ≡ (with_score e k t s).stored
+  as-scored =
+      let here : get_or e.stored (k - 1) (record { matches = [] }) ≡ it.round = get_or_from_slice_get e.stored (k - 1) it.round (record { matches = [] }) it.stored in
+      let alike : scored_slot it.round.matches t s ≡ map (score_table t s) (numbered_from 1 it.round.matches)
+      = as-written it.round.matches place.1 (score-place s t it.round.matches fits.named.0 it.here fits.named.2) in
+      ap (λ (ms : List Match). (let r : Round = record { matches = ms } in set e.stored (k - 1) r))
+      (subst (λ (q : Round). scored_slot q.matches t s ≡ map (score_table t s) (numbered_from 1 q.matches)) (sym here) alike)
+
+  pub seated-after : All (λ (r : Round). IsSeatedOnce r.matches) (rescored e.stored (k - 1) t s)
+  seated-after = subst (λ (rs : List Round). All (λ (r : Round). IsSeatedOnce r.matches) rs) (sym as-scored) (λ i d below. (fits.sound.rounds.each i d below).seated_once)

@@ -1,0 +1,6 @@
+use Rattle.std.proofs.Common.{◌≡◌, ℕ, [], flat_map, take}
+use Rattle.er_event.specs.Lines.{own, lines_of_match}
+use Rattle.er_event.proofs.totals.games_of.Given as goal
+
+abbrev pub invariant-loop-played : goal.invariant-loop-played
+invariant-loop-played l = (round : ℕ) → own l.player (flat_map (lines_of_match round) (take l.played-index l.matches)) ≡ []

@@ -1,0 +1,7 @@
+use Rattle.std.proofs.Common.{◌≡◌, ℕ, [], flat_map, take}
+use Rattle.er_event.specs.Change.{scored_slot}
+use Rattle.er_event.specs.Lines.{own, lines_of_match}
+use Rattle.er_event.proofs.totals.games_with.Given as goal
+
+abbrev pub invariant-loop-at : goal.invariant-loop-at
+invariant-loop-at l = (round : ℕ) → own l.player (flat_map (lines_of_match round) (take l.at (scored_slot l.matches l.table l.score))) ≡ []

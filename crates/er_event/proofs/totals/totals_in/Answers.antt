@@ -1,0 +1,28 @@
+use Rattle.std.proofs.Common.{◌≡◌, ◌∙◌, ℕ, List, sym, ap, Some}
+use Rattle.er_event.specs.declared.rounds.Match.{Match}
+use Rattle.er_event.specs.declared.totals.Totals.{Totals}
+use Rattle.er_event.specs.Lines.{Line, own, counted_lines}
+use Rattle.er_event.specs.Totals.{totals_of, totals_of_games}
+use Rattle.er_event.proofs.TotalLemmas.{totals-more, totals-same, over-more}
+use Rattle.er_event.proofs.totals.totals_in.Goals as goal
+use Rattle.er_event.proofs.totals.totals_in.Goals.{in-Some, in_default}
+
+pub loop-round-preserved : goal.loop-round-preserved
+loop-round-preserved c =
+    let i = c.loop-round.round-index in
+    let inv = c.loop-round.invariant in
+    let own_totals : List Line → Totals = λ ls. totals_of (own c.args.player ls) in
+    let lines : (n : ℕ) → counted_lines n (record { matches = c.as_slice.result.now }) ≡ counted_lines n c.round-item.result
+    = λ n. ap (λ (ms : List Match). counted_lines n (record { matches = ms })) c.as_slice.ensures in
+    elim c.match-games_in.branch [
+      | in-Some w ↦ record {
+        value = w.totals-is ∙ (w.with-totals.ensures.value ∙ totals-more c.args.player c.args.rounds.now i c.round-item.result c.loop-round.totals (Some w.in-Some.games)
+            c.loop-round-test.true c.round-item.is inv.value (λ n. sym (ap own_totals (lines n)) ∙ w.in-Some.ensures.value n));
+        over = rw w.totals-is (w.with-totals.ensures.more i inv.over);
+      }
+      | in_default w ↦ record {
+        value = w.totals-is ∙ totals-same c.args.player c.args.rounds.now i c.round-item.result c.loop-round.totals
+            c.loop-round-test.true c.round-item.is inv.value (λ n. sym (ap own_totals (lines n)) ∙ (c.games_in.ensures.value n ∙ ap totals_of_games w.in_default.is));
+        over = rw w.totals-is (over-more i c.loop-round.totals inv.over);
+      }
+    ]

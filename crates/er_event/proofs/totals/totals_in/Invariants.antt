@@ -1,0 +1,11 @@
+use Rattle.std.proofs.Common.{◌≡◌, take}
+use Rattle.er_event.specs.Lines.{own, lines_from}
+use Rattle.er_event.specs.Seen.{AreOver}
+use Rattle.er_event.specs.Totals.{totals_of}
+use Rattle.er_event.proofs.totals.totals_in.Given as goal
+
+abbrev pub invariant-loop-round : goal.invariant-loop-round
+invariant-loop-round l = record {
+  value : l.totals ≡ totals_of (own l.player (lines_from 1 (take l.round-index l.rounds)));
+  over : AreOver l.round-index l.totals;
+}

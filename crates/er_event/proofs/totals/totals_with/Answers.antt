@@ -1,0 +1,31 @@
+use Rattle.std.proofs.Common.{◌≡◌, ◌<◌, ◌∙◌, [], length, get_or, ap, Some, arith}
+use Rattle.std.proofs.lemmas.List.{get_or_default}
+use Rattle.er_event.specs.declared.rounds.Round.{Round}
+use Rattle.er_event.specs.Seen.{rescored}
+use Rattle.er_event.specs.Totals.{totals_of_games}
+use Rattle.er_event.proofs.TotalLemmas.{totals-more, totals-same, over-more, rescored-length}
+use Rattle.er_event.proofs.totals.totals_with.Goals as goal
+use Rattle.er_event.proofs.totals.totals_with.Goals.{in-Some, in_default}
+
+pub loop-at-preserved : goal.loop-at-preserved
+loop-at-preserved c =
+    let new = c.args.new.now in
+    let rounds = rescored c.args.rounds.now new.place new.table new.score in
+    let i = c.loop-at.at in
+    let r : Round = get_or rounds i (record { matches = [] }) in
+    let size = rescored-length c.args.rounds.now new.place new.table new.score in
+    let below : i < length rounds = omega (arith, size, c.loop-at-test.true) in
+    let is : r ≡ get_or rounds i r = get_or_default rounds i (record { matches = [] }) r below in
+    let inv = c.loop-at.invariant in
+    elim c.match-games_at.branch [
+      | in-Some w ↦ record {
+        value = w.totals-is ∙ (w.with-totals.ensures.value
+            ∙ totals-more c.args.player rounds i r c.loop-at.totals (Some w.in-Some.games) below is inv.value (λ n. w.in-Some.ensures.value r is n));
+        over = rw w.totals-is (w.with-totals.ensures.more i inv.over);
+      }
+      | in_default w ↦ record {
+        value = w.totals-is ∙ totals-same c.args.player rounds i r c.loop-at.totals below is inv.value
+            (λ n. c.games_at.ensures.value r is n ∙ ap totals_of_games w.in_default.is);
+        over = rw w.totals-is (over-more i c.loop-at.totals inv.over);
+      }
+    ]

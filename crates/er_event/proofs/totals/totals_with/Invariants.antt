@@ -1,0 +1,11 @@
+use Rattle.std.proofs.Common.{◌≡◌, take}
+use Rattle.er_event.specs.Lines.{own, lines_from}
+use Rattle.er_event.specs.Seen.{AreOver, rescored}
+use Rattle.er_event.specs.Totals.{totals_of}
+use Rattle.er_event.proofs.totals.totals_with.Given as goal
+
+abbrev pub invariant-loop-at : goal.invariant-loop-at
+invariant-loop-at l = record {
+  value : l.totals ≡ totals_of (own l.player (lines_from 1 (take l.at (rescored l.rounds l.new.place l.new.table l.new.score))));
+  over : AreOver l.at l.totals;
+}

@@ -1,0 +1,292 @@
+ghost use Rattle.std.specs.Prelude.{◌≡◌, ◌≢◌, ℕ, List, [], ◌∷◌, ◌++◌, Some, ◌+◌, ◌<◌, ◌≤◌, ◌==◌, nat_lt, if◌then◌else◌, length, flat_map, slice_index_or, All, IfSome};
+ghost use Rattle.er_event.specs.declared.rounds.Round.{Round};
+ghost use Rattle.er_event.specs.Lines.{own, lines_of_match, counted_lines, lines_from};
+ghost use Rattle.er_event.specs.Totals.{totals_of, totals_of_games, plus, totals};
+ghost use Rattle.er_event.specs.Round.{is_counted};
+ghost use Rattle.er_event.specs.Change.{scored_slot, after, Fits};
+ghost use Rattle.er_event.specs.Seen.{AreSeen, AreFew, AreOver, IsSeatedOnce, HasTable, rescored};
+
+use crate::changes::Change;
+use crate::events::{Event, MAX_ROUNDS};
+use crate::players::PlayerNo;
+use crate::rounds::{Match, Round, is_complete};
+use crate::scores::{Games, Score};
+use std::cmp::Ordering;
+
+/// What a player's matches of the complete rounds come to.
+#[derive(Clone, Copy, Debug, PartialEq, Eq)]
+pub struct Totals {
+    /// Match points: 3 for a match won, 1 for one drawn.
+    pub points: u8,
+    /// The rounds that the player took part in.
+    pub rounds: u8,
+    /// Game points: 3 for a game won, 1 for one drawn.
+    pub game_points: u16,
+    /// The games that were played.
+    pub games: u16,
+}
+
+/// The match points of one who won and lost so many games.
+fn points(won: u8, lost: u8) -> u8
+    ensures value { result ≡ (if nat_lt lost won then 3 else if won == lost then 1 else 0) }
+    ensures few { result ≤ 3 }
+{
+    match won.cmp(&lost) {
+        Ordering::Greater => 3,
+        Ordering::Equal => 1,
+        Ordering::Less => 0,
+    }
+}
+
+impl Totals {
+    /// What no match comes to.
+    const fn none() -> Totals
+        ensures { result ≡ totals_of [] }
+    {
+        Totals {
+            points: 0,
+            rounds: 0,
+            game_points: 0,
+            games: 0,
+        }
+    }
+
+    /// With one match more, of which the player's own games come first.
+    fn with(self, games: Games) -> Totals
+        requires room { (rounds : ℕ) × (rounds < MAX_ROUNDS) × AreOver rounds self }
+        requires few { AreFew games }
+        ensures value { result ≡ plus self (totals_of_games (Some games)) }
+        ensures more { (rounds : ℕ) → AreOver rounds self → AreOver (rounds + 1) result }
+    {
+        Totals {
+            points: self.points + points(games.x, games.y),
+            rounds: self.rounds + 1,
+            game_points: self.game_points + u16::from(3 * games.x + games.d),
+            games: self.games + u16::from(games.x + games.y + games.d),
+        }
+    }
+}
+
+/// The games of a match as the player saw them.
+fn games_seen(played: &Match, player: u16) -> Option<Games>
+    requires apart { played.now.a ≢ played.now.b }
+    requires player { 0 < player }
+    ensures { AreSeen played.now player result }
+{
+    let games = played.score?.games();
+    if played.a == player {
+        Some(games)
+    } else if played.b == player {
+        Some(Games {
+            x: games.y,
+            y: games.x,
+            d: games.d,
+        })
+    } else {
+        None
+    }
+}
+
+/// The games of a round as the player saw them.
+fn games_of(matches: &[Match], player: u16) -> Option<Games>
+    requires seated { IsSeatedOnce matches.now }
+    requires player { 0 < player }
+    ensures value { (round : ℕ) → totals_of (own player (flat_map (lines_of_match round) matches.now)) ≡ totals_of_games result }
+    ensures few { IfSome result AreFew }
+{
+    for played in matches {
+        if let Some(games) = games_seen(played, player) {
+            return Some(games);
+        }
+    }
+    None
+}
+
+/// The games of a round as the player saw them, once it is complete.
+fn games_in(matches: &[Match], player: u16) -> Option<Games>
+    requires seated { IsSeatedOnce matches.now }
+    requires player { 0 < player }
+    ensures value { (number : ℕ) → totals_of (own player (counted_lines number (record { matches = matches.now }))) ≡ totals_of_games result }
+    ensures few { IfSome result AreFew }
+{
+    if is_complete(matches) {
+        games_of(matches, player)
+    } else {
+        None
+    }
+}
+
+/// What the player's matches of the complete rounds come to.
+fn totals_in(rounds: &[Round], player: u16) -> Totals
+    requires few { length rounds.now ≤ MAX_ROUNDS }
+    requires seated { All (λ round. IsSeatedOnce round.matches) rounds.now }
+    requires player { 0 < player }
+    ensures value { result ≡ totals_of (own player (lines_from 1 rounds.now)) }
+    ensures over { AreOver (length rounds.now) result }
+{
+    let mut totals = Totals::none();
+    for round in rounds {
+        if let Some(games) = games_in(round.matches.as_slice(), player) {
+            totals = totals.with(games);
+        }
+    }
+    totals
+}
+
+/// The match at a place of a round in which the match of a table has this score.
+fn match_with(matches: &[Match], at: usize, table: usize, score: Score) -> Match
+    requires within { at < length matches.now }
+    requires table { 1 ≤ table }
+    ensures { result ≡ slice_index_or (scored_slot matches.now table score) at result }
+{
+    let played = matches[at];
+    if at == table - 1 {
+        let score = Some(score);
+        Match { score, ..played }
+    } else {
+        played
+    }
+}
+
+/// Whether the round is complete once the match of a table has this score.
+fn is_complete_with(matches: &[Match], table: usize, score: Score) -> bool
+    requires table { (1 ≤ table) × (table ≤ length matches.now) }
+    ensures { result ≡ is_counted (scored_slot matches.now table score) }
+{
+    for at in 0..matches.len() {
+        if match_with(matches, at, table, score).score.is_none() {
+            return false;
+        }
+    }
+    true
+}
+
+/// The games of the round as the player saw them, once the match of a table has this score.
+fn games_with(matches: &[Match], table: usize, score: Score, player: u16) -> Option<Games>
+    requires table { (1 ≤ table) × (table ≤ length matches.now) }
+    requires seated { IsSeatedOnce (scored_slot matches.now table score) }
+    requires player { 0 < player }
+    ensures value { (round : ℕ) → totals_of (own player (flat_map (lines_of_match round) (scored_slot matches.now table score))) ≡ totals_of_games result }
+    ensures few { IfSome result AreFew }
+{
+    for at in 0..matches.len() {
+        if let Some(games) = games_seen(&match_with(matches, at, table, score), player) {
+            return Some(games);
+        }
+    }
+    None
+}
+
+/// The games of a round as the player saw them, once it is complete with this score of a table.
+fn games_in_with(matches: &[Match], table: usize, score: Score, player: u16) -> Option<Games>
+    requires table { (1 ≤ table) × (table ≤ length matches.now) }
+    requires seated { IsSeatedOnce (scored_slot matches.now table score) }
+    requires player { 0 < player }
+    ensures value { (number : ℕ) → totals_of (own player (counted_lines number (record { matches = scored_slot matches.now table score }))) ≡ totals_of_games result }
+    ensures few { IfSome result AreFew }
+{
+    if is_complete_with(matches, table, score) {
+        games_with(matches, table, score, player)
+    } else {
+        None
+    }
+}
+
+/// A score that the match of a table gets, of the round at this place.
+#[derive(Clone, Copy)]
+struct NewScore {
+    place: usize,
+    table: usize,
+    score: Score,
+}
+
+/// The games of one of the rounds as the player saw them, once it is complete with the new score.
+fn games_at(rounds: &[Round], at: usize, new: &NewScore, player: u16) -> Option<Games>
+    requires within { at < length rounds.now }
+    requires table { HasTable rounds.now new.now.place new.now.table }
+    requires seated { All (λ round. IsSeatedOnce round.matches) (rescored rounds.now new.now.place new.now.table new.now.score) }
+    requires player { 0 < player }
+    ensures value { (round : Round) → round ≡ slice_index_or (rescored rounds.now new.now.place new.now.table new.now.score) at round
+        → (number : ℕ) → totals_of (own player (counted_lines number round)) ≡ totals_of_games result }
+    ensures few { IfSome result AreFew }
+{
+    let matches = rounds[at].matches.as_slice();
+    if at == new.place {
+        games_in_with(matches, new.table, new.score, player)
+    } else {
+        games_in(matches, player)
+    }
+}
+
+/// What the player's matches of the complete rounds come to with the new score.
+fn totals_with(rounds: &[Round], new: &NewScore, player: u16) -> Totals
+    requires few { length rounds.now ≤ MAX_ROUNDS }
+    requires table { HasTable rounds.now new.now.place new.now.table }
+    requires seated { All (λ round. IsSeatedOnce round.matches) (rescored rounds.now new.now.place new.now.table new.now.score) }
+    requires player { 0 < player }
+    ensures { result ≡ totals_of (own player (lines_from 1 (rescored rounds.now new.now.place new.now.table new.now.score))) }
+{
+    let mut totals = Totals::none();
+    for at in 0..rounds.len() {
+        if let Some(games) = games_at(rounds, at, new, player) {
+            totals = totals.with(games);
+        }
+    }
+    totals
+}
+
+/// What the player's matches of the complete rounds come to with one round more.
+fn totals_with_round(rounds: &[Round], matches: &[Match], player: u16) -> Totals
+    requires few { length rounds.now < MAX_ROUNDS }
+    requires seated { All (λ round. IsSeatedOnce round.matches) rounds.now }
+    requires seated_now { IsSeatedOnce matches.now }
+    requires player { 0 < player }
+    ensures { result ≡ totals_of (own player (lines_from 1 (rounds.now ++ record { matches = matches.now } ∷ []))) }
+{
+    let totals = totals_in(rounds, player);
+    match games_in(matches, player) {
+        Some(games) => totals.with(games),
+        None => totals,
+    }
+}
+
+impl Event {
+    /// What the player's matches of the complete rounds come to. It takes no memory.
+    pub fn totals(&self, player: PlayerNo) -> Totals
+        ensures { result ≡ totals self.now player }
+    {
+        totals_in(self.stored(), player.get())
+    }
+
+    /// The same after a change. It takes no memory either.
+    pub fn totals_after(&self, change: &Change, player: PlayerNo) -> Totals
+        requires { Fits self.now change.now }
+        ensures { result ≡ totals (after self.now change.now) player }
+    {
+        let stored = self.stored();
+        match change {
+            Change::AddRound { matches } => totals_with_round(
+                stored,
+                matches.as_slice(),
+                player.get(),
+            ),
+            Change::SetScore {
+                round,
+                table,
+                score,
+            } => {
+                let new = NewScore {
+                    place: usize::from(*round) - 1,
+                    table: usize::from(*table),
+                    score: *score,
+                };
+                totals_with(stored, &new, player.get())
+            }
+            Change::AddPlayer { .. }
+            | Change::SetDropped { .. }
+            | Change::SetPhase { .. }
+            | Change::AddBracket { .. }
+            | Change::SetBracketScore { .. } => self.totals(player),
+        }
+    }
+}
