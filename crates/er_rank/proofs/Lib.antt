@@ -2,6 +2,9 @@ pub mod Examples
 pub mod LineLemmas
 pub mod TallyLemmas
 pub mod MeritLemmas
+pub mod OpponentLemmas
+pub mod MeetingLemmas
+pub mod EventLemmas
 pub mod PlacingLemmas
 pub mod SoundLemmas
 pub mod StandingLemmas

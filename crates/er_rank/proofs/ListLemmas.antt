@@ -1,6 +1,5 @@
 -- The ranked placings are the standings, and there are no others.
 use Rattle.std.proofs.Common.{◌≡◌, ◌≢◌, ℕ, ◌+◌, ◌*◌, ◌<◌, ◌&&◌, ◌||◌, nat_lt, Bool, true, false, List, map, length, get_or, count_by, All, AllPairs, Contains, IsTrue, refl, sym, ap, ap₂, subst, ◌∙◌, arith}
-use Rattle.std.specs.List.{range_with_len}
 use Rattle.std.specs.List.Sorted.{IsPermutation, IsSorted}
 use Rattle.std.specs.declared.cmp.Ordering.{Ordering}
 use Rattle.std.specs.declared.cmp.Ordering.TheVariants.{Less, Equal, Greater}
@@ -16,18 +15,17 @@ use Rattle.er_share.proofs.Shares.{IsShareOf-unique}
 use Rattle.er_event.specs.declared.players.Player.{Player}
 use Rattle.er_event.specs.Event.{EventValue}
 use Rattle.er_event.specs.Sound.{numbers, IsSoundButForSeeds}
-use Rattle.er_event.specs.Lines.{lines}
-use Rattle.er_event.specs.Totals.{Totals, totals}
-use Rattle.er_rank.specs.declared.lines.Line.{Line}
+use Rattle.er_event.specs.declared.tallies.Tally.{Tally}
+use Rattle.er_event.specs.Tallies.{tally_by, tallies, meetings}
+use Rattle.er_event.specs.Totals.{totals}
 use Rattle.er_rank.specs.declared.placings.Placing.{Placing}
 use Rattle.er_rank.specs.declared.rows.Row.{Row}
-use Rattle.er_rank.specs.Seen.{seen}
-use Rattle.er_rank.specs.Tally.{totals_in}
-use Rattle.er_rank.specs.Placing.{placing_cmp, ranked, ArePlacings, ArePlacingsInOrder}
+use Rattle.er_rank.specs.Meeting.{Encounter, encounters}
+use Rattle.er_rank.specs.Placing.{placing_cmp, ranked, ArePlacingsInOrder}
 use Rattle.er_rank.specs.Standings.{opponents_match_win, opponents_game_win, game_win, standing_cmp, is_better, is_listed_before, IsRowOf, AreStandings, OneStandings, OneTop, first_active}
 use Rattle.er_rank.proofs.PlacingLemmas.{row_in, sorted_apart}
 use Rattle.er_rank.proofs.OrderLemmas.{apart_from_range, one_order}
-use Rattle.er_rank.proofs.SoundLemmas.{AreWithin-sound, numbers_known}
+use Rattle.er_rank.proofs.SoundLemmas.{first_numbers, numbers_known}
 use Rattle.er_rank.proofs.StandingLemmas.{IsPlacing, ArePlacings-each, rank-standing, listed_before, map-map}
 
 -- ---- the ranked placings are the standings
@@ -72,19 +70,18 @@ AreStandings-ranked e by_number placings sound all same listed sorted =
     }
 
 -- the placings of an event in order
-pub AreStandings-placings : (e : EventValue) (ls : List Line) (tallies : List Totals) (players : List Player) (placings : List Placing) → IsSoundButForSeeds e → players ≡ e.players → ls ≡ map seen (lines e) → tallies ≡ map (totals_in (map seen (lines e))) (range_with_len 1 (length e.players)) → ArePlacingsInOrder ls tallies players placings → AreStandings e (ranked placings)
-AreStandings-placings e ls tallies players placings sound players_are lines_are tallies_are are =
-    let placed : ArePlacings (map seen (lines e)) tallies e.players are.by_number =
-    subst (λ (ps : List Player). ArePlacings (map seen (lines e)) tallies ps are.by_number) players_are
-    (subst (λ (xs : List Line). ArePlacings xs tallies players are.by_number) lines_are are.placed) in
-    let each = ArePlacings-each e tallies are.by_number (AreWithin-sound e sound) (numbers_known e sound) tallies_are placed in
-    AreStandings-ranked e are.by_number placings sound (All-permutation (IsPlacing e) are.by_number placings are.same each) are.same placed.numbers are.sorted
+pub AreStandings-placings : (e : EventValue) (placings : List Placing) → IsSoundButForSeeds e
+    → ArePlacingsInOrder (encounters (meetings e)) (tallies e) placings → AreStandings e (ranked placings)
+AreStandings-placings e placings sound are =
+    let each = ArePlacings-each e are.by_number sound (first_numbers e sound) (numbers_known e sound) are.placed in
+    let numbered = are.placed.numbers ∙ map-map (λ (t : Tally). t.no) (tally_by (totals e)) e.players in
+    AreStandings-ranked e are.by_number placings sound (All-permutation (IsPlacing e) are.by_number placings are.same each) are.same numbered are.sorted
 
-pub length-placings : (ls : List Line) (tallies : List Totals) (players : List Player) (placings : List Placing) → ArePlacingsInOrder ls tallies players placings → length placings ≡ length players
-length-placings ls tallies players placings are =
+pub length-placings : (met : List Encounter) (list : List Tally) (placings : List Placing) → ArePlacingsInOrder met list placings → length placings ≡ length list
+length-placings met list placings are =
     length_permutation are.by_number placings are.same
     ∙ (sym (length-map are.by_number (λ (p : Placing). p.player))
-    ∙ (ap length are.placed.numbers ∙ length-map players (λ (q : Player). q.no)))
+    ∙ (ap length are.placed.numbers ∙ length-map list (λ (t : Tally). t.no)))
 
 -- ---- the order is strict
 

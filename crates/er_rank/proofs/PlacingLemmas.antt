@@ -1,5 +1,5 @@
 -- Placings in order, and their ranks.
-use Rattle.std.proofs.Common.{◌≡◌, ℕ, ◌+◌, ◌-◌, ◌<◌, ◌≤◌, ◌==◌, ◌&&◌, suc, zero, Bool, true, false, cond, List, [], ◌∷◌, ◌++◌, map, length, take, get_or, count_by, refl, sym, ap, subst, ◌∙◌, arith}
+use Rattle.std.proofs.Common.{◌≡◌, ℕ, ◌+◌, ◌-◌, ◌<◌, ◌≤◌, ◌==◌, ◌&&◌, suc, zero, Bool, true, false, cond, List, [], ◌∷◌, ◌++◌, map, length, take, get_or, count_by, All, refl, sym, ap, subst, ◌∙◌, arith}
 use Rattle.std.specs.declared.cmp.Ordering.{Ordering}
 use Rattle.std.specs.declared.cmp.Ordering.TheVariants.{Less, Equal, Greater}
 use Rattle.std.specs.Cmp.{IsTotalOrder, bool_cmp_total, unsigned_ties}
@@ -7,15 +7,17 @@ use Rattle.std.specs.Ordering.{nat_cmp, ordering_then, ordering_reverse, is_lt, 
 use Rattle.std.specs.List.Sorted.{IsSorted}
 use Rattle.std.proofs.lemmas.Cmp.{nat_cmp_total, on_total, then_total, back_total, alike_right}
 use Rattle.std.proofs.lemmas.Bool.Decides.{nat_tests}
-use Rattle.std.proofs.lemmas.List.{map_more, map_push, get_or_default}
+use Rattle.std.specs.List.{range_with_len}
+use Rattle.std.proofs.lemmas.List.{map_more, map_push, take_all, get_or-map, get_or_default}
+use Rattle.std.proofs.lemmas.List.FromFn.{get_or-range_with_len}
 use Rattle.std.proofs.lemmas.List.Elements.{All-push}
 use Rattle.std.proofs.lemmas.List.Sorted.{sorted_far, ranks_by}
 use Rattle.std.proofs.lemmas.List.Sums.{sum_by-cons}
 use Rattle.er_share.specs.Order.{share_cmp, share_cmp-total, share_cmp-eq}
-use Rattle.er_event.specs.declared.players.Player.{Player}
-use Rattle.er_event.specs.Totals.{Totals}
-use Rattle.er_rank.specs.declared.lines.Line.{Line}
-use Rattle.er_rank.specs.Merit.{IsMeritOf}
+use Rattle.er_event.specs.declared.tallies.Tally.{Tally}
+use Rattle.er_rank.specs.Meeting.{Encounter, opponents_of, totals_of}
+use Rattle.er_rank.specs.Merit.{IsMerit}
+use Rattle.er_rank.specs.Tally.{no_totals}
 use Rattle.er_rank.specs.declared.merits.Merit.{Merit}
 use Rattle.er_rank.specs.declared.placings.Placing.{Placing}
 use Rattle.er_rank.specs.declared.rows.Row.{Row}
@@ -194,19 +196,53 @@ rank-kept placings i here d rank below is ranks =
 
 -- ---- one placing for each player
 
-pub ArePlacings-none : (lines : List Line) (tallies : List Totals) (players : List Player) (placings : List Placing) → placings ≡ [] → ArePlacings lines tallies (take 0 players) placings
-ArePlacings-none lines tallies players placings none = subst (ArePlacings lines tallies []) (sym none) (record { numbers = refl; dropped = refl; merits = λ k d below. absurd (omega arith) })
+-- so far
+pub record AreFirst (met : List Encounter) (tallies : List Tally) (i : ℕ) (placings : List Placing) : Type 0 where
+  pub numbers : map (λ (p : Placing). p.player) placings ≡ map (λ (t : Tally). t.no) (take i tallies)
+  pub dropped : map (λ (p : Placing). p.dropped) placings ≡ map (λ (t : Tally). t.dropped) (take i tallies)
+  pub merits : All (λ (p : Placing). IsMerit (totals_of tallies p.player) (opponents_of met p.player) p.merit) placings
 
-pub ArePlacings-more : (lines : List Line) (tallies : List Totals) (players : List Player) (i : ℕ) (player : Player) (placings after : List Placing) (placing : Placing) → i < length players → player ≡ get_or players i player → ArePlacings lines tallies (take i players) placings → placing.player ≡ player.no → placing.dropped ≡ player.dropped → IsMeritOf lines tallies placing.player placing.merit → after ≡ placings ++ placing ∷ [] → ArePlacings lines tallies (take (i + 1) players) after
-ArePlacings-more lines tallies players i player placings after placing below is are number dropped merit pushed =
-    subst (ArePlacings lines tallies (take (i + 1) players)) (sym pushed) (record {
+pub AreFirst-none : (met : List Encounter) (tallies : List Tally) (placings : List Placing) → placings ≡ [] → AreFirst met tallies 0 placings
+AreFirst-none met tallies placings none =
+    subst (AreFirst met tallies 0) (sym none) (record { numbers = refl; dropped = refl; merits = λ k d below. absurd (omega arith) })
+
+pub AreFirst-more : (met : List Encounter) (tallies : List Tally) (i : ℕ) (tally : Tally) (placings after : List Placing) (placing : Placing)
+    → i < length tallies → tally ≡ get_or tallies i tally → AreFirst met tallies i placings
+    → placing.player ≡ tally.no → placing.dropped ≡ tally.dropped → IsMerit (totals_of tallies placing.player) (opponents_of met placing.player) placing.merit
+    → after ≡ placings ++ placing ∷ [] → AreFirst met tallies (i + 1) after
+AreFirst-more met tallies i tally placings after placing below is are number dropped merit pushed =
+    subst (AreFirst met tallies (i + 1)) (sym pushed) (record {
       numbers = map_push (λ (p : Placing). p.player) placings placing
           ∙ (ap (λ ns. ns ++ placing.player ∷ []) are.numbers
-          ∙ (ap (λ (n : ℕ). map (λ (q : Player). q.no) (take i players) ++ n ∷ []) (number ∙ ap (λ (q : Player). q.no) is)
-          ∙ sym (map_more (λ (q : Player). q.no) players i player below)));
+          ∙ (ap (λ (n : ℕ). map (λ (t : Tally). t.no) (take i tallies) ++ n ∷ []) (number ∙ ap (λ (t : Tally). t.no) is)
+          ∙ sym (map_more (λ (t : Tally). t.no) tallies i tally below)));
       dropped = map_push (λ (p : Placing). p.dropped) placings placing
           ∙ (ap (λ ds. ds ++ placing.dropped ∷ []) are.dropped
-          ∙ (ap (λ (d : Bool). map (λ (q : Player). q.dropped) (take i players) ++ d ∷ []) (dropped ∙ ap (λ (q : Player). q.dropped) is)
-          ∙ sym (map_more (λ (q : Player). q.dropped) players i player below)));
-      merits = All-push (λ (p : Placing). IsMeritOf lines tallies p.player p.merit) placings placing are.merits merit;
+          ∙ (ap (λ (d : Bool). map (λ (t : Tally). t.dropped) (take i tallies) ++ d ∷ []) (dropped ∙ ap (λ (t : Tally). t.dropped) is)
+          ∙ sym (map_more (λ (t : Tally). t.dropped) tallies i tally below)));
+      merits = All-push (λ (p : Placing). IsMerit (totals_of tallies p.player) (opponents_of met p.player) p.merit) placings placing are.merits merit;
     })
+
+pub ArePlacings-first : (met : List Encounter) (tallies : List Tally) (i : ℕ) (placings : List Placing) → length tallies ≤ i → AreFirst met tallies i placings
+    → ArePlacings met tallies placings
+ArePlacings-first met tallies i placings all are = record {
+  numbers = are.numbers ∙ ap (map (λ (t : Tally). t.no)) (take_all i tallies all);
+  dropped = are.dropped ∙ ap (map (λ (t : Tally). t.dropped)) (take_all i tallies all);
+  merits = are.merits;
+}
+
+-- the player at a place
+pub number-here : (tallies : List Tally) (i : ℕ) (tally : Tally) → map (λ (t : Tally). t.no) tallies ≡ range_with_len 1 (length tallies)
+    → i < length tallies → tally ≡ get_or tallies i tally → tally.no ≡ 1 + i
+number-here tallies i tally numbered below is =
+    ap (λ (t : Tally). t.no) is
+    ∙ (sym (get_or-map (λ (t : Tally). t.no) tallies i tally 0 below)
+    ∙ (ap (λ (ns : List ℕ). get_or ns i 0) numbered ∙ get_or-range_with_len 1 (length tallies) i 0 below))
+
+-- what stands at a player's place
+pub totals-here : (tallies : List Tally) (i player : ℕ) (tally : Tally) → i ≡ player - 1 → i < length tallies → tally ≡ get_or tallies i tally
+    → tally.totals ≡ totals_of tallies player
+totals-here tallies i player tally at below is =
+    ap (λ (t : Tally). t.totals) is
+    ∙ (sym (get_or-map (λ (t : Tally). t.totals) tallies i tally no_totals below)
+    ∙ ap (λ n. get_or (map (λ (t : Tally). t.totals) tallies) n no_totals) at)

@@ -17,6 +17,7 @@ use Rattle.er_event.specs.Score.{is_swiss_score}
 use Rattle.er_event.specs.Sound.{numbers, IsRound, IsSoundButForSeeds}
 use Rattle.er_event.specs.Lines.{as_second, lines_of_score, lines_of_match, lines_from, lines}
 use Rattle.er_rank.specs.declared.lines.Line.{Line}
+use Rattle.er_rank.specs.Meeting.{AreKnownTo}
 use Rattle.er_rank.specs.Seen.{seen}
 use Rattle.er_rank.specs.Tally.{games_of, IsKnown, AreWithin}
 use Rattle.er_rank.proofs.LineLemmas.{counted_lines}
@@ -29,7 +30,7 @@ pub record IsWithin (players : ℕ) (l : Line) : Type 0 where
   pub opponent : l.opponent ≤ players
   pub short : games_of l ≤ 6
 
-known_number : (players q : ℕ) → Contains (range_with_len 1 players) q → IsKnown players q
+pub known_number : (players q : ℕ) → Contains (range_with_len 1 players) q → IsKnown players q
 known_number players q (k, below, is) =
     let within : k < players = omega (arith, length-range_with_len 1 players) in
     let at = get_or-range_with_len 1 players k q within in
@@ -168,3 +169,18 @@ numbers_known e sound = λ k d below.
     let at : get_or (numbers e.players) k 0 ≡ (get_or e.players k d).no = get_or-map (λ (p : Player). p.no) e.players k d 0 below in
     let is : get_or (numbers e.players) k 0 ≡ 1 + k = ap (λ ns. get_or ns k 0) sound.players.numbered ∙ get_or-range_with_len 1 (length e.players) k 0 below in
     (omega (arith, at, is), omega (arith, at, is))
+
+-- nobody sits first at a table without a number
+pub first_numbers : (e : EventValue) → IsSoundButForSeeds e → All (λ (r : Round). All (λ (m : Match). 0 < m.a) r.matches) e.stored
+first_numbers e sound = λ k d below j m within.
+    let known = subst (λ (ns : List ℕ). Contains ns (get_or (get_or e.stored k d).matches j m).a) sound.players.numbered ((sound.rounds.each k d below).first_known j m within) in
+    (known_number (length e.players) (get_or (get_or e.stored k d).matches j m).a known).0
+
+-- the two of each match are players of the event
+pub seats_known : (e : EventValue) → IsSoundButForSeeds e → All (λ (r : Round). AreKnownTo (length e.players) r.matches) e.stored
+seats_known e sound = λ k d below j m within seated.
+    let here = get_or (get_or e.stored k d).matches j m in
+    let each = sound.rounds.each k d below in
+    let known : (q : ℕ) → Contains (numbers e.players) q → IsKnown (length e.players) q =
+    λ q is. known_number (length e.players) q (subst (λ (ns : List ℕ). Contains ns q) sound.players.numbered is) in
+    (known here.a (each.first_known j m within), known here.b (each.second_known j m within seated))

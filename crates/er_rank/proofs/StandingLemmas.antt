@@ -14,20 +14,27 @@ use Rattle.er_share.specs.Fraction.{Fraction, average}
 use Rattle.er_share.specs.Share.{IsShareOf}
 use Rattle.er_share.proofs.Shares.{share_cmp-same}
 use Rattle.er_event.specs.declared.players.Player.{Player}
+use Rattle.er_event.specs.declared.rounds.Match.{Match}
+use Rattle.er_event.specs.declared.rounds.Round.{Round}
+use Rattle.er_event.specs.declared.tallies.Tally.{Tally}
 use Rattle.er_event.specs.Event.{EventValue}
+use Rattle.er_event.specs.Sound.{IsSoundButForSeeds}
+use Rattle.er_event.specs.Tallies.{tally_by, tallies, meetings}
 use Rattle.er_event.specs.Lines as event
 use Rattle.er_event.specs.Lines.{lines}
-use Rattle.er_event.specs.Totals.{Totals, totals}
+use Rattle.er_event.specs.declared.totals.Totals.{Totals}
+use Rattle.er_event.specs.Totals.{totals}
 use Rattle.er_event.specs.Totals as event_totals
 use Rattle.er_rank.specs.declared.lines.Line.{Line}
 use Rattle.er_rank.specs.declared.placings.Placing.{Placing}
 use Rattle.er_rank.specs.Seen.{seen}
-use Rattle.er_rank.specs.Tally.{games_of, points_of, own_lines, totals_in, totals_at, no_totals, IsKnown, AreWithin, opponents_in, match_win_of, game_win_of}
-use Rattle.er_rank.specs.Merit.{IsMeritOf}
+use Rattle.er_rank.specs.Tally.{games_of, points_of, own_lines, totals_in, no_totals, IsKnown, opponents_in, match_win_of, game_win_of}
+use Rattle.er_rank.specs.Meeting.{encounters, opponents_of, totals_of}
+use Rattle.er_rank.specs.Merit.{IsMerit}
 use Rattle.er_rank.specs.Placing.{merit_cmp, placing_cmp, is_above, ArePlacings}
-use Rattle.er_rank.specs.Standings.{match_win, game_win, opponents, opponents_match_win, opponents_game_win, standing_cmp, is_better, is_listed_before}
+use Rattle.er_rank.specs.Standings.{game_win, opponents, opponents_match_win, opponents_game_win, standing_cmp, is_better, is_listed_before}
 use Rattle.er_rank.proofs.PlacingLemmas.{merit_cmp-total, first_apart}
-use Rattle.er_rank.proofs.MeritLemmas.{opponents-known}
+use Rattle.er_rank.proofs.MeetingLemmas.{opponents-met}
 
 -- ---- the lines as they are seen come to the same
 
@@ -70,15 +77,8 @@ pub opponents_in-seen : (e : EventValue) (player : ℕ) → opponents_in (map se
 opponents_in-seen e player =
     ap (filter (λ q. nat_lt 0 q)) (ap (map (λ (l : Line). l.opponent)) (own_lines-seen (lines e) player) ∙ map-map (λ (l : Line). l.opponent) seen (filter (λ (l : event.Line). l.player == player) (lines e)))
 
--- what stands at the place of a known player
-pub totals_at-known : (e : EventValue) (player : ℕ) (tallies : List Totals) → tallies ≡ map (totals_in (map seen (lines e))) (range_with_len 1 (length e.players)) → IsKnown (length e.players) player → totals_at tallies player ≡ totals e player
-totals_at-known e player tallies are known =
-    ap (λ ts. get_or ts (player - 1) no_totals) are
-    ∙ (get_or-map-range_with_len (totals_in (map seen (lines e))) 1 (length e.players) (player - 1) player no_totals (omega arith) (omega arith)
-    ∙ totals_in-seen e player)
-
 -- two functions that agree at each element
-map-agree : {X Y : Type 0} (f g : X → Y) (P : X → Type 0) → ((x : X) → P x → f x ≡ g x) → (xs : List X) → All P xs → map f xs ≡ map g xs
+pub map-agree : {X Y : Type 0} (f g : X → Y) (P : X → Type 0) → ((x : X) → P x → f x ≡ g x) → (xs : List X) → All P xs → map f xs ≡ map g xs
 map-agree f g P same [] all = refl
 map-agree f g P same (x ∷ xs) all = ap₂ (λ y ys. y ∷ ys) (same x (all 0 x (omega arith))) (map-agree f g P same xs (λ k d below. all (suc k) d (omega arith)))
 
@@ -94,15 +94,31 @@ pub record IsPlacing (e : EventValue) (p : Placing) : Type 0 where
   pub gwp : IsShareOf p.merit.gwp.0 (game_win e p.player)
   pub ogw : IsShareOf p.merit.ogw.0 (opponents_game_win e p.player)
 
-IsPlacing-merit : (e : EventValue) (tallies : List Totals) (p : Placing) (listed : Player) → AreWithin (length e.players) (map seen (lines e)) → tallies ≡ map (totals_in (map seen (lines e))) (range_with_len 1 (length e.players)) → Contains e.players listed → IsKnown (length e.players) p.player → p.player ≡ listed.no → p.dropped ≡ listed.dropped → IsMeritOf (map seen (lines e)) tallies p.player p.merit → IsPlacing e p
-IsPlacing-merit e tallies p listed within are contains known number dropped merit =
-    let own = totals_at-known e p.player tallies are known in
-    let met = opponents_in-seen e p.player in
-    let known_all = opponents-known (length e.players) (map seen (lines e)) p.player within in
-    let match_wins : map (λ (q : ℕ). match_win_of (totals_at tallies q)) (opponents_in (map seen (lines e)) p.player) ≡ map (match_win e) (opponents e p.player) =
-    map-agree (λ (q : ℕ). match_win_of (totals_at tallies q)) (match_win e) (IsKnown (length e.players)) (λ q is. ap match_win_of (totals_at-known e q tallies are is)) _ known_all ∙ ap (map (match_win e)) met in
-    let game_wins : map (λ (q : ℕ). game_win_of (totals_at tallies q)) (opponents_in (map seen (lines e)) p.player) ≡ map (game_win e) (opponents e p.player) =
-    map-agree (λ (q : ℕ). game_win_of (totals_at tallies q)) (game_win e) (IsKnown (length e.players)) (λ q is. ap game_win_of (totals_at-known e q tallies are is)) _ known_all ∙ ap (map (game_win e)) met in
+-- the totals that the code adds up, player by player
+pub totals-numbered : (e : EventValue) → IsSoundButForSeeds e
+    → map (totals_in (map seen (lines e))) (range_with_len 1 (length e.players)) ≡ map (λ (p : Player). totals e p.no) e.players
+totals-numbered e sound =
+    let all = range_with_len 1 (length e.players) in
+    map-agree (totals_in (map seen (lines e))) (totals e) (λ q. q ≡ q) (λ q is. totals_in-seen e q) all (λ k d below. refl)
+    ∙ (ap (map (totals e)) (sym sound.players.numbered) ∙ map-map (totals e) (λ (p : Player). p.no) e.players)
+
+-- the tally at a known player's place
+pub totals_of-known : (e : EventValue) → IsSoundButForSeeds e → (player : ℕ) → IsKnown (length e.players) player → totals_of (tallies e) player ≡ totals e player
+totals_of-known e sound player known =
+    let all : map (λ (t : Tally). t.totals) (tallies e) ≡ map (totals e) (range_with_len 1 (length e.players)) =
+    map-map (λ (t : Tally). t.totals) (tally_by (totals e)) e.players
+    ∙ (sym (map-map (totals e) (λ (p : Player). p.no) e.players) ∙ ap (map (totals e)) sound.players.numbered) in
+    ap (λ (ts : List Totals). get_or ts (player - 1) no_totals) all
+    ∙ get_or-map-range_with_len (totals e) 1 (length e.players) (player - 1) player no_totals (omega (arith, known)) (omega (arith, known))
+
+IsPlacing-merit : (e : EventValue) (p : Placing) (listed : Player) → IsSoundButForSeeds e → All (λ (r : Round). All (λ (m : Match). 0 < m.a) r.matches) e.stored
+    → Contains e.players listed → IsKnown (length e.players) p.player → p.player ≡ listed.no → p.dropped ≡ listed.dropped
+    → IsMerit (totals_of (tallies e) p.player) (opponents_of (encounters (meetings e)) p.player) p.merit → IsPlacing e p
+IsPlacing-merit e p listed sound positive contains known number dropped merit =
+    let own = totals_of-known e sound p.player known in
+    let met = opponents-met e p.player positive in
+    let match_wins = ap (map match_win_of) met ∙ map-map match_win_of (totals e) (opponents e p.player) in
+    let game_wins = ap (map game_win_of) met ∙ map-map game_win_of (totals e) (opponents e p.player) in
     record {
       listed = listed;
       is_player = contains;
@@ -117,16 +133,19 @@ IsPlacing-merit e tallies p listed within are contains known number dropped meri
 nobody : Player
 nobody = record { no = 0; name = []; dropped = false }
 
-pub ArePlacings-each : (e : EventValue) (tallies : List Totals) (placings : List Placing) → AreWithin (length e.players) (map seen (lines e)) → All (λ (q : Player). IsKnown (length e.players) q.no) e.players → tallies ≡ map (totals_in (map seen (lines e))) (range_with_len 1 (length e.players)) → ArePlacings (map seen (lines e)) tallies e.players placings → All (IsPlacing e) placings
-ArePlacings-each e tallies placings within known are placed = λ k d below.
-    let count : length placings ≡ length e.players = sym (length-map placings (λ (p : Placing). p.player)) ∙ (ap length placed.numbers ∙ length-map e.players (λ (q : Player). q.no)) in
+pub ArePlacings-each : (e : EventValue) (placings : List Placing) → IsSoundButForSeeds e → All (λ (r : Round). All (λ (m : Match). 0 < m.a) r.matches) e.stored
+    → All (λ (q : Player). IsKnown (length e.players) q.no) e.players → ArePlacings (encounters (meetings e)) (tallies e) placings → All (IsPlacing e) placings
+ArePlacings-each e placings sound positive known placed = λ k d below.
+    let numbers : map (λ (p : Placing). p.player) placings ≡ map (λ (q : Player). q.no) e.players = placed.numbers ∙ map-map (λ (t : Tally). t.no) (tally_by (totals e)) e.players in
+    let gone : map (λ (p : Placing). p.dropped) placings ≡ map (λ (q : Player). q.dropped) e.players = placed.dropped ∙ map-map (λ (t : Tally). t.dropped) (tally_by (totals e)) e.players in
+    let count : length placings ≡ length e.players = sym (length-map placings (λ (p : Placing). p.player)) ∙ (ap length numbers ∙ length-map e.players (λ (q : Player). q.no)) in
     let inside : k < length e.players = omega arith in
     let listed = get_or e.players k nobody in
     let number : (get_or placings k d).player ≡ listed.no =
-    sym (get_or-map (λ (p : Placing). p.player) placings k d 0 below) ∙ (ap (λ ns. get_or ns k 0) placed.numbers ∙ get_or-map (λ (q : Player). q.no) e.players k nobody 0 inside) in
+    sym (get_or-map (λ (p : Placing). p.player) placings k d 0 below) ∙ (ap (λ ns. get_or ns k 0) numbers ∙ get_or-map (λ (q : Player). q.no) e.players k nobody 0 inside) in
     let dropped : (get_or placings k d).dropped ≡ listed.dropped =
-    sym (get_or-map (λ (p : Placing). p.dropped) placings k d false below) ∙ (ap (λ ds. get_or ds k false) placed.dropped ∙ get_or-map (λ (q : Player). q.dropped) e.players k nobody false inside) in
-    IsPlacing-merit e tallies (get_or placings k d) listed within are
+    sym (get_or-map (λ (p : Placing). p.dropped) placings k d false below) ∙ (ap (λ ds. get_or ds k false) gone ∙ get_or-map (λ (q : Player). q.dropped) e.players k nobody false inside) in
+    IsPlacing-merit e (get_or placings k d) listed sound positive
     (k, inside, get_or_default e.players k listed nobody inside)
     (subst (IsKnown (length e.players)) (sym number) (known k nobody inside)) number dropped (placed.merits k d below)
 

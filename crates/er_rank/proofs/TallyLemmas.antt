@@ -9,7 +9,7 @@ use Rattle.std.proofs.lemmas.List.FromFn.{length-map-range_with_len, get_or-map-
 use Rattle.std.proofs.lemmas.Bool.{cases_eq}
 use Rattle.std.proofs.lemmas.Bool.Decides.{nat_tests}
 use Rattle.er_event.specs.declared.events.TheConstants.{MAX_ROUNDS}
-use Rattle.er_event.specs.Totals.{Totals}
+use Rattle.er_event.specs.declared.totals.Totals.{Totals}
 use Rattle.er_rank.specs.declared.lines.Line.{Line}
 use Rattle.er_rank.specs.Tally.{games_of, points_of, own_lines, no_totals, with_line, totals_in, AreWithin}
 

@@ -3,10 +3,9 @@ use Rattle.std.specs.Prelude.{◌≡◌, ℕ, ◌+◌, Bool, List, All, map, cou
 use Rattle.std.specs.declared.cmp.Ordering.{Ordering}
 use Rattle.std.specs.Ordering.{nat_cmp, ordering_then, is_lt, is_eq, bool_cmp}
 use Rattle.er_share.specs.Order.{share_cmp}
-use Rattle.er_event.specs.declared.players.Player.{Player}
-use Rattle.er_event.specs.Totals.{Totals}
-use Rattle.er_rank.specs.declared.lines.Line.{Line}
-use Rattle.er_rank.specs.Merit.{IsMeritOf}
+use Rattle.er_event.specs.declared.tallies.Tally.{Tally}
+use Rattle.er_rank.specs.Meeting.{Encounter, opponents_of, totals_of}
+use Rattle.er_rank.specs.Merit.{IsMerit}
 use Rattle.er_rank.specs.declared.merits.Merit.{Merit}
 use Rattle.er_rank.specs.declared.placings.Placing.{Placing}
 use Rattle.er_rank.specs.declared.rows.Row.{Row}
@@ -41,15 +40,15 @@ row_of rank p = record {
 }
 
 -- one placing for each of the players, in their order
-pub record ArePlacings (lines : List Line) (tallies : List Totals) (players : List Player) (placings : List Placing) : Type 0 where
-  pub numbers : map (λ p. p.player) placings ≡ map (λ q. q.no) players
-  pub dropped : map (λ p. p.dropped) placings ≡ map (λ q. q.dropped) players
-  pub merits : All (λ p. IsMeritOf lines tallies p.player p.merit) placings
+pub record ArePlacings (met : List Encounter) (tallies : List Tally) (placings : List Placing) : Type 0 where
+  pub numbers : map (λ p. p.player) placings ≡ map (λ t. t.no) tallies
+  pub dropped : map (λ p. p.dropped) placings ≡ map (λ t. t.dropped) tallies
+  pub merits : All (λ p. IsMerit (totals_of tallies p.player) (opponents_of met p.player) p.merit) placings
 
 -- the same, sorted
-pub record ArePlacingsInOrder (lines : List Line) (tallies : List Totals) (players : List Player) (placings : List Placing) : Type 0 where
+pub record ArePlacingsInOrder (met : List Encounter) (tallies : List Tally) (placings : List Placing) : Type 0 where
   pub by_number : List Placing
-  pub placed : ArePlacings lines tallies players by_number
+  pub placed : ArePlacings met tallies by_number
   pub same : IsPermutation by_number placings
   pub sorted : IsSorted placing_cmp placings
 

@@ -1,7 +1,7 @@
 -- What a list of lines comes to for each player.
-use Rattle.std.specs.Prelude.{ℕ, ◌+◌, ◌-◌, ◌*◌, ◌≤◌, ◌==◌, nat_lt, if◌then◌else◌, List, length, filter, sum_by, count_by, map, All, slice_index_or}
+use Rattle.std.specs.Prelude.{ℕ, ◌+◌, ◌*◌, ◌≤◌, ◌==◌, nat_lt, if◌then◌else◌, List, length, filter, sum_by, count_by, map, All}
 use Rattle.er_share.specs.Fraction.{Fraction, percentage}
-use Rattle.er_event.specs.Totals.{Totals}
+use Rattle.er_event.specs.declared.totals.Totals.{Totals}
 use Rattle.er_event.specs.declared.events.TheConstants.{MAX_ROUNDS}
 use Rattle.er_rank.specs.declared.lines.Line.{Line}
 use Rattle.er_rank.specs.declared.lines.TheConstants.{MAX_GAMES_OF_MATCH}
@@ -44,10 +44,6 @@ pub record AreWithin (players : ℕ) (lines : List Line) : Type 0 where
   pub opponents : All (λ l. l.opponent ≤ players) lines
   pub few : (player : ℕ) → count_by (λ l. l.player == player) lines ≤ MAX_ROUNDS
   pub short : All (λ l. games_of l ≤ MAX_GAMES_OF_MATCH) lines
-
--- the totals of the player of this number
-abbrev pub totals_at : List Totals → ℕ → Totals
-totals_at tallies player = slice_index_or tallies (player - 1) no_totals
 
 abbrev pub match_win_of : Totals → Fraction
 match_win_of t = percentage t.points (3 * t.rounds)

@@ -2,17 +2,36 @@
 #![tactic(auto)]
 
 ghost use Rattle.std.specs.Prelude.{◌≡◌, IfOk, List};
+ghost use Rattle.er_event.specs.Event.{EventValue};
+ghost use Rattle.er_rank.specs.Meeting.{AreListsOf, AreOfOneEvent};
 ghost use Rattle.er_rank.specs.Standings.{AreStandings, IsTop, OneStandings, OneTop};
 
 mod lines;
+mod meetings;
 mod merits;
+mod opponents;
 mod placings;
 mod rows;
 mod tallies;
 
-use er_event::{Event, PlayerNo};
+use er_event::{Event, Meeting, PlayerNo, Tally};
 pub use rows::Row;
 use std::alloc::{AllocError, Global};
+
+/// The standings of the event that has these tallies and these meetings. They are those of one sound event.
+pub fn standings_of(
+    alloc: Global,
+    tallies: &[Tally],
+    meetings: &[Meeting],
+) -> Result<Vec<Row>, AllocError>
+    requires { AreOfOneEvent tallies.now meetings.now }
+    ensures value { (event : EventValue) → AreListsOf event tallies.now meetings.now → IfOk result (λ rows. AreStandings event rows.items) }
+    ensures only { (event : EventValue) → AreListsOf event tallies.now meetings.now → IfOk result (λ rows. OneStandings event rows.items) }
+{
+    let opponents = opponents::opponents_of(alloc, meetings, tallies.len())?;
+    let placings = placings::placings_of(alloc, tallies, opponents.as_slice())?;
+    placings::rows_of(alloc, placings.as_slice())
+}
 
 /// The standings: every player once, the better first, and players who are equal on match points and the three
 /// percentages by number. A round counts once it is complete. A dropped player stays listed, and stays an opponent.
@@ -20,11 +39,9 @@ pub fn standings(alloc: Global, event: &Event) -> Result<Vec<Row>, AllocError>
     ensures value { IfOk result (λ rows. AreStandings event.now rows.items) }
     ensures only { IfOk result (λ rows. OneStandings event.now rows.items) }
 {
-    let players = event.players();
-    let lines = lines::lines_of(alloc, event.stored())?;
-    let tallies = tallies::tallies_of(alloc, lines.as_slice(), players.len())?;
-    let placings = placings::placings_of(alloc, players, lines.as_slice(), tallies.as_slice())?;
-    placings::rows_of(alloc, placings.as_slice())
+    let tallies = tallies::tallies_of(alloc, event)?;
+    let meetings = meetings::meetings_of(alloc, event.stored(), tallies.as_slice())?;
+    standings_of(alloc, tallies.as_slice(), meetings.as_slice())
 }
 
 /// The first `k` players of the standings who have not dropped, or all of them where there are fewer.

@@ -70,7 +70,7 @@ fn push_matches(lines: &mut Vec<Line>, matches: &[Match]) -> Result<(), AllocErr
     Ok(())
 }
 
-fn is_complete(matches: &[Match]) -> bool
+pub fn is_complete(matches: &[Match]) -> bool
     ensures { result ≡ is_counted matches.now }
 {
     matches.iter().all(|m| m.score.is_some())

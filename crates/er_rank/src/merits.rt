@@ -1,14 +1,11 @@
-ghost use Rattle.std.specs.Prelude.{◌≡◌, ◌≤◌, All, IfOk, IfSome, length, map};
-ghost use Rattle.er_event.specs.declared.events.TheConstants.{MAX_ROUNDS};
-ghost use Rattle.er_share.specs.Fraction.{average};
-ghost use Rattle.er_share.specs.Share.{IsShareOf};
-ghost use Rattle.er_rank.specs.Tally.{AreWithin, totals_at, opponents_in, IsKnown, match_win_of, game_win_of};
-ghost use Rattle.er_rank.specs.Merit.{IsMeritOf};
+ghost use Rattle.std.specs.Prelude.{List};
+ghost use Rattle.er_event.specs.declared.totals.Totals.{Totals};
+ghost use Rattle.er_rank.specs.Meeting.{IsRecord};
+ghost use Rattle.er_rank.specs.Merit.{AreOpponents, IsMerit};
 
-use crate::lines::Line;
-use crate::tallies::Tally;
-use er_share::{Share, average};
-use std::alloc::{AllocError, Global};
+use crate::opponents::{Opponents, game_win};
+use er_event::Totals;
+use er_share::Share;
 use std::cmp::Reverse;
 
 /// What decides where a player stands, one after the other, the greater first: match points, opponents' match-win,
@@ -21,60 +18,15 @@ pub struct Merit {
     pub ogw: Reverse<Share>,
 }
 
-/// The opponents of a player, one entry for each match. A bye is nobody's opponent.
-fn opponents_of(alloc: Global, lines: &[Line], player: u16) -> Result<Vec<u16>, AllocError>
-    ensures { IfOk result (λ opponents. opponents.items ≡ opponents_in lines.now player) }
+/// The merit of a player whose matches come to this, and who met these opponents.
+pub fn merit_of(own: Totals, opponents: Opponents) -> Merit
+    requires { IsRecord own }
+    ensures { (met : List Totals) → AreOpponents opponents met → IsMerit own met result }
 {
-    lines
-        .iter()
-        .filter(|line| line.player == player)
-        .map(|line| line.opponent)
-        .filter(|opponent| *opponent > 0)
-        .collect(alloc)
-}
-
-fn average_match_win(alloc: Global, tallies: &[Tally], players: &[u16]) -> Result<Share, AllocError>
-    requires few { length players.now ≤ MAX_ROUNDS }
-    requires known { All (IsKnown (length tallies.now)) players.now }
-    ensures { IfOk result (λ share. IsShareOf share (average (map (λ q. match_win_of (totals_at tallies.now q)) players.now))) }
-{
-    let mut shares = Vec::with_capacity(alloc, players.len())?;
-    for player in players {
-        shares.push(tallies[usize::from(*player) - 1].match_win())?;
+    Merit {
+        points: Reverse(own.points),
+        omw: Reverse(opponents.match_win.average()),
+        gwp: Reverse(game_win(own)),
+        ogw: Reverse(opponents.game_win.average()),
     }
-    Ok(average(shares.as_slice()))
-}
-
-fn average_game_win(alloc: Global, tallies: &[Tally], players: &[u16]) -> Result<Share, AllocError>
-    requires few { length players.now ≤ MAX_ROUNDS }
-    requires known { All (IsKnown (length tallies.now)) players.now }
-    ensures { IfOk result (λ share. IsShareOf share (average (map (λ q. game_win_of (totals_at tallies.now q)) players.now))) }
-{
-    let mut shares = Vec::with_capacity(alloc, players.len())?;
-    for player in players {
-        shares.push(tallies[usize::from(*player) - 1].game_win())?;
-    }
-    Ok(average(shares.as_slice()))
-}
-
-/// The merit of a player.
-pub fn merit_of(
-    alloc: Global,
-    lines: &[Line],
-    tallies: &[Tally],
-    player: u16,
-) -> Result<Merit, AllocError>
-    requires within { AreWithin (length tallies.now) lines.now }
-    requires known { IsKnown (length tallies.now) player }
-    ensures { IfOk result (IsMeritOf lines.now tallies.now player) }
-{
-    let own = tallies[usize::from(player) - 1];
-    let opponents = opponents_of(alloc, lines, player)?;
-    let opponents = opponents.as_slice();
-    Ok(Merit {
-        points: Reverse(own.points()),
-        omw: Reverse(average_match_win(alloc, tallies, opponents)?),
-        gwp: Reverse(own.game_win()),
-        ogw: Reverse(average_game_win(alloc, tallies, opponents)?),
-    })
 }

@@ -1,14 +1,14 @@
-ghost use Rattle.std.specs.Prelude.{◌≡◌, ◌≤◌, All, IfOk, length};
+ghost use Rattle.std.specs.Prelude.{◌≡◌, ◌≤◌, IfOk, List, length};
 ghost use Rattle.std.specs.List.Sorted.{IsSorted};
 ghost use Rattle.er_event.specs.declared.players.TheConstants.{MAX_PLAYERS};
-ghost use Rattle.er_rank.specs.Tally.{AreWithin, IsKnown};
+ghost use Rattle.er_rank.specs.Meeting.{Encounter, AreTallies};
+ghost use Rattle.er_rank.specs.Opponents.{AreOpponentsOf};
 ghost use Rattle.er_rank.specs.Placing.{placing_cmp, is_level, row_of, ranked, ArePlacings, ArePlacingsInOrder};
 
-use crate::lines::Line;
 use crate::merits::{Merit, merit_of};
+use crate::opponents::Opponents;
 use crate::rows::Row;
-use crate::tallies::Tally;
-use er_event::{Player, PlayerNo};
+use er_event::{PlayerNo, Tally};
 use std::alloc::{AllocError, Global};
 
 /// Where a player stands: by merit, and then by number.
@@ -44,20 +44,19 @@ impl Placing {
 
 fn placings_by_number(
     alloc: Global,
-    players: &[Player],
-    lines: &[Line],
     tallies: &[Tally],
+    opponents: &[Opponents],
 ) -> Result<Vec<Placing>, AllocError>
-    requires within { AreWithin (length tallies.now) lines.now }
-    requires known { All (λ p. IsKnown (length tallies.now) p.no) players.now }
-    ensures { IfOk result (λ placings. ArePlacings lines.now tallies.now players.now placings.items) }
+    requires tallies { AreTallies tallies.now }
+    requires each { length opponents.now ≡ length tallies.now }
+    ensures { (met : List Encounter) → AreOpponentsOf met opponents.now → IfOk result (λ placings. ArePlacings met tallies.now placings.items) }
 {
-    let mut placings = Vec::with_capacity(alloc, players.len())?;
-    for player in players {
+    let mut placings = Vec::with_capacity(alloc, tallies.len())?;
+    for (at, tally) in tallies.iter().enumerate() {
         placings.push(Placing {
-            merit: merit_of(alloc, lines, tallies, player.no.get())?,
-            player: player.no,
-            dropped: player.dropped,
+            merit: merit_of(tally.totals, opponents[at]),
+            player: tally.no,
+            dropped: tally.dropped,
         })?;
     }
     Ok(placings)
@@ -66,15 +65,14 @@ fn placings_by_number(
 /// The placings of the players, in order.
 pub fn placings_of(
     alloc: Global,
-    players: &[Player],
-    lines: &[Line],
     tallies: &[Tally],
+    opponents: &[Opponents],
 ) -> Result<Vec<Placing>, AllocError>
-    requires within { AreWithin (length tallies.now) lines.now }
-    requires known { All (λ p. IsKnown (length tallies.now) p.no) players.now }
-    ensures { IfOk result (λ placings. ArePlacingsInOrder lines.now tallies.now players.now placings.items) }
+    requires tallies { AreTallies tallies.now }
+    requires each { length opponents.now ≡ length tallies.now }
+    ensures { (met : List Encounter) → AreOpponentsOf met opponents.now → IfOk result (λ placings. ArePlacingsInOrder met tallies.now placings.items) }
 {
-    let mut placings = placings_by_number(alloc, players, lines, tallies)?;
+    let mut placings = placings_by_number(alloc, tallies, opponents)?;
     placings.sort_unstable();
     Ok(placings)
 }

@@ -1,23 +1,29 @@
-use Rattle.std.proofs.Common.{sym, subst, refl}
-use Rattle.std.proofs.lemmas.List.{take_all}
-use Rattle.er_rank.specs.Placing.{ArePlacings}
-use Rattle.er_rank.proofs.PlacingLemmas.{ArePlacings-none, ArePlacings-more}
+use Rattle.std.proofs.Common.{◌+◌, ◌<◌, ℕ, length, subst, sym, arith, refl}
+use Rattle.er_event.specs.declared.totals.Totals.{Totals}
+use Rattle.er_rank.specs.declared.opponents.Opponents.{Opponents}
+use Rattle.er_rank.specs.Meeting.{opponents_of}
+use Rattle.er_rank.specs.Merit.{AreOpponents, IsMerit}
+use Rattle.er_rank.proofs.PlacingLemmas.{AreFirst-none, AreFirst-more, ArePlacings-first, number-here, totals-here}
 use Rattle.er_rank.proofs.placings.placings_by_number.Goals as goal
 
-pub loop-player-init : goal.loop-player-init
-loop-player-init c = ArePlacings-none c.args.lines.now c.args.tallies.now c.args.players.now _ c.in_ok-placings.ensures.items
+pub loop-at-init : goal.loop-at-init
+loop-at-init c = λ met are. AreFirst-none met c.args.tallies.now _ c.in_ok-placings.ensures.items
 
-pub merit_of-requires-clause-known : goal.merit_of-requires-clause-known
-merit_of-requires-clause-known c =
-    let known = c.requires.known c.loop-player.player-index c.player-item.result c.loop-player-test.true in
-    rw c.get.ensures.value (rw (sym c.player-item.is) at known)
-
-pub loop-player-preserved : goal.loop-player-preserved
-loop-player-preserved c =
-    let lines = c.args.lines.now in
+pub loop-at-preserved : goal.loop-at-preserved
+loop-at-preserved c = λ met are.
     let tallies = c.args.tallies.now in
-    let merit = rw c.get.ensures.value at c.in_ok-merit_of.ensures in
-    ArePlacings-more lines tallies c.args.players.now c.loop-player.player-index c.player-item.result c.loop-player.placings.items c.push.new.self.items _ c.loop-player-test.true c.player-item.is c.loop-player.invariant refl refl merit c.in_ok-push.ensures.items
+    let at = c.loop-at.at in
+    let tally = c.index-tallies-at.result in
+    let opponents = c.index-opponents-at in
+    let below = c.loop-at-test.true in
+    let number = number-here tallies at tally c.requires.tallies.numbered below c.index-tallies-at.is in
+    let own = totals-here tallies at tally.no tally (omega (arith, number)) below c.index-tallies-at.is in
+    let place : at < length c.args.opponents.now = omega (arith, c.requires.each, below) in
+    let here : AreOpponents opponents.result (opponents_of met tally.no) =
+    subst (λ (n : ℕ). AreOpponents opponents.result (opponents_of met n)) (sym number)
+    (subst (λ (o : Opponents). AreOpponents o (opponents_of met (1 + at))) (sym opponents.is) (are at opponents.result place)) in
+    let merit = subst (λ (t : Totals). IsMerit t (opponents_of met tally.no) c.merit_of.result) own (c.merit_of.ensures (opponents_of met tally.no) here) in
+    AreFirst-more met tallies at tally c.loop-at.placings.items c.push.new.self.items _ below c.index-tallies-at.is (c.loop-at.invariant met are) refl refl merit c.in_ok-push.ensures.items
 
 pub returns : goal.returns
-returns c = subst (λ ps. ArePlacings c.args.lines.now c.args.tallies.now ps c.loop-player.placings.items) (take_all c.loop-player.player-index c.args.players.now c.loop-player-test.false) c.loop-player.invariant
+returns c = λ met are. ArePlacings-first met c.args.tallies.now c.loop-at.at c.loop-at.placings.items c.loop-at-test.false (c.loop-at.invariant met are)

@@ -1,6 +1,8 @@
-use Rattle.std.proofs.Common.{take}
-use Rattle.er_rank.specs.Placing.{ArePlacings}
+use Rattle.std.proofs.Common.{List}
+use Rattle.er_rank.specs.Meeting.{Encounter}
+use Rattle.er_rank.specs.Opponents.{AreOpponentsOf}
+use Rattle.er_rank.proofs.PlacingLemmas.{AreFirst}
 use Rattle.er_rank.proofs.placings.placings_by_number.Given as goal
 
-abbrev pub invariant-loop-player : goal.invariant-loop-player
-invariant-loop-player l = ArePlacings l.lines l.tallies (take l.player-index l.players) l.placings.items
+abbrev pub invariant-loop-at : goal.invariant-loop-at
+invariant-loop-at l = (met : List Encounter) → AreOpponentsOf met l.opponents → AreFirst met l.tallies l.at l.placings.items

@@ -1,39 +1,32 @@
-use Rattle.std.proofs.Common.{◌≡◌, ◌+◌, ◌-◌, ◌<◌, get_or, replicate, ap, ◌∙◌, arith}
-use Rattle.std.proofs.lemmas.List.{get_or_default}
-use Rattle.er_rank.specs.declared.lines.Line.{Line}
-use Rattle.er_rank.specs.Tally.{with_line}
-use Rattle.er_rank.proofs.TallyLemmas.{totals-none, totals-more, totals-here, room-here}
+use Rattle.std.proofs.Common.{◌≡◌, List, map, length, ap, sym, ◌∙◌}
+use Rattle.std.specs.List.{range_with_len}
+use Rattle.std.proofs.lemmas.Result.{IfOk-weaker}
+use Rattle.er_event.specs.declared.players.Player.{Player}
+use Rattle.er_event.specs.Lines.{lines, lines_from}
+use Rattle.er_event.specs.Tallies.{tally_by}
+use Rattle.er_event.specs.Totals.{totals}
+use Rattle.er_rank.specs.Seen.{seen}
+use Rattle.er_rank.specs.Tally.{totals_in}
+use Rattle.er_rank.proofs.SoundLemmas.{AreWithin-sound}
+use Rattle.er_rank.proofs.StandingLemmas.{totals-numbered}
 use Rattle.er_rank.proofs.tallies.tallies_of.Goals as goal
 
-no_line : Line
-no_line = record { player = 0; opponent = 0; won = 0; lost = 0; drawn = 0 }
+pub sums_of-requires : goal.sums_of-requires
+sums_of-requires c =
+    let event = c.args.event.now in
+    let lines_are = c.as_slice.ensures.value ∙ (c.in_ok-lines.ensures ∙ ap (λ rounds. map seen (lines_from 1 rounds)) c.stored.ensures.value) in
+    rw (c.players-players.ensures.value, lines_are) (AreWithin-sound event c.players-players.ensures.sound)
 
-pub loop-line-init : goal.loop-line-init
-loop-line-init c =
-    c.in_ok-tallies.ensures.items_if_clones_equal (λ y e. e) ∙ (ap (replicate c.args.players) c.new.ensures ∙ totals-none c.args.players)
-
-pub with-requires-clause-room : goal.with-requires-clause-room
-unfolding no_line
-with-requires-clause-room c =
-    let lines = c.args.lines.now in
-    let at = c.loop-line.line-index in
-    let line = get_or lines at no_line in
-    let is : line ≡ get_or lines at line = get_or_default lines at no_line line c.loop-line-test.true in
-    let known = c.requires.known at no_line c.loop-line-test.true in
-    let number : 1 + (c.from-own.result - 1) ≡ line.player = omega (arith, c.from-own.ensures) in
-    let within : c.from-own.result - 1 < c.args.players = omega (arith, c.from-own.ensures) in
-    let here = totals-here lines at c.args.players (c.from-own.result - 1) line c.loop-line.tallies.items c.index.result.now number within c.loop-line.invariant c.index.ensures in
-    room-here lines at c.args.players line c.index.result.now c.requires c.loop-line-test.true is here
-
-pub loop-line-preserved : goal.loop-line-preserved
-unfolding no_line
-loop-line-preserved c =
-    let lines = c.args.lines.now in
-    let at = c.loop-line.line-index in
-    let line = get_or lines at no_line in
-    let is : line ≡ get_or lines at line = get_or_default lines at no_line line c.loop-line-test.true in
-    let known = c.requires.known at no_line c.loop-line-test.true in
-    let number : 1 + (c.from-own.result - 1) ≡ line.player = omega (arith, c.from-own.ensures) in
-    let within : c.from-own.result - 1 < c.args.players = omega (arith, c.from-own.ensures) in
-    let here = totals-here lines at c.args.players (c.from-own.result - 1) line c.loop-line.tallies.items c.index.result.now number within c.loop-line.invariant c.index.ensures in
-    totals-more lines at line c.args.players (c.from-own.result - 1) c.loop-line.tallies.items c.with.result c.loop-line-test.true is number within c.loop-line.invariant (c.with.ensures ∙ ap (λ t. with_line t line) here)
+pub returns : goal.returns
+returns c =
+    let event = c.args.event.now in
+    let players_are = c.players-players.ensures.value in
+    let lines_are = c.as_slice.ensures.value ∙ (c.in_ok-lines.ensures ∙ ap (λ rounds. map seen (lines_from 1 rounds)) c.stored.ensures.value) in
+    let sums : c.as_slice-2.result.now ≡ map (λ (p : Player). totals event p.no) c.players-players.result.now =
+    c.as_slice-2.ensures.value
+    ∙ (c.in_ok-sums.ensures
+    ∙ (ap (λ ls. map (totals_in ls) (range_with_len 1 (length c.players-players.result.now))) lines_are
+    ∙ (ap (λ (ps : List Player). map (totals_in (map seen (lines event))) (range_with_len 1 (length ps))) players_are
+    ∙ (totals-numbered event c.players-players.ensures.sound
+    ∙ ap (map (λ (p : Player). totals event p.no)) (sym players_are))))) in
+    IfOk-weaker c.tallies_with.result _ _ (λ list is. is ∙ ap (map (tally_by (totals event))) players_are) (c.tallies_with.ensures (totals event) sums)

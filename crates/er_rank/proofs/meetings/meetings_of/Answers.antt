@@ -1,0 +1,41 @@
+use Rattle.std.proofs.Common.{◌≡◌, ◌++◌, [], List, Bool, if◌then◌else◌, map, filter, ap, sym, ◌∙◌, append-nil}
+use Rattle.std.proofs.lemmas.List.{take_all}
+use Rattle.er_event.specs.declared.rounds.Match.{Match}
+use Rattle.er_event.specs.declared.rounds.Round.{Round}
+use Rattle.er_event.specs.Round.{is_counted}
+use Rattle.er_event.specs.Tallies.{counted_matches, meeting_by}
+use Rattle.er_rank.specs.Meeting.{totals_of}
+use Rattle.er_rank.proofs.MeetingLemmas.{is_met, counted-more}
+use Rattle.er_rank.proofs.meetings.meetings_of.Goals as goal
+use Rattle.er_rank.proofs.meetings.meetings_of.Goals.{then-is_complete+in_ok-push_meetings, else-is_complete}
+
+pub loop-round-init : goal.loop-round-init
+loop-round-init c = c.new-meetings.ensures.items
+
+pub loop-round-preserved : goal.loop-round-preserved
+loop-round-preserved c =
+    let come_to = totals_of c.args.tallies.now in
+    let round = c.round-item.result in
+    let list = c.loop-round.meetings.items in
+    let counted : c.is_complete.result ≡ is_counted round.matches = c.is_complete.ensures ∙ ap is_counted c.as_slice-matches.ensures in
+    let made : List Match → List _ = λ ms. list ++ map (meeting_by come_to) (filter is_met ms) in
+    let pushed : c.if-is_complete.meetings.items ≡ made (if is_counted round.matches then round.matches else []) =
+    elim c.if-is_complete.branch [
+      | then-is_complete+in_ok-push_meetings w ↦
+          ap (λ v. v.items) w.meetings-is
+          ∙ (w.in_ok-push_meetings.ensures
+          ∙ (ap made c.as_slice-matches.ensures
+          ∙ ap (λ (b : Bool). made (if b then round.matches else [])) (sym (sym counted ∙ w.if-is_complete.true))))
+      | else-is_complete w ↦
+          ap (λ v. v.items) w.meetings-is
+          ∙ (sym (append-nil list)
+          ∙ ap (λ (b : Bool). made (if b then round.matches else [])) (sym (sym counted ∙ w.if-is_complete.false)))
+    ] in
+    counted-more come_to list c.if-is_complete.meetings.items c.args.rounds.now c.loop-round.round-index round
+    c.loop-round-test.true c.round-item.is c.loop-round.invariant pushed
+
+pub returns : goal.returns
+returns c =
+    let come_to = totals_of c.args.tallies.now in
+    c.loop-round.invariant
+    ∙ ap (λ (rs : List Round). map (meeting_by come_to) (filter is_met (counted_matches rs))) (take_all c.loop-round.round-index c.args.rounds.now c.loop-round-test.false)
