@@ -5,6 +5,8 @@ import sqlite3
 import subprocess
 import tempfile
 
+from plain_event import Event
+
 STATUSES = {24: 4, 25: 3, 26: 3}
 
 
@@ -25,6 +27,23 @@ def due(answer):
 def run(program, words):
     ran = subprocess.run([program, *words], stdin=subprocess.DEVNULL, capture_output=True, timeout=60)
     return ran.returncode, ran.stdout, ran.stderr
+
+
+def make_four(program, file):
+    """Has the program make an event of four players, whose first round is paired."""
+    enrolments = [["enrol", file, f"P{it}"] for it in range(1, 5)]
+    for words in [["init", file, "E", "3", "0"], *enrolments, ["start", file], ["pair", file, "1", "0" * 64]]:
+        run(program, words)
+
+
+def event_of_four():
+    """The same event."""
+    event = Event(3, 0)
+    for number in range(1, 5):
+        event.enrol(f"P{number}")
+    event.start()
+    event.pair(1, bytes(32))
+    return event
 
 
 def pairing_rows(event):

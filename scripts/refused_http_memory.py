@@ -5,12 +5,10 @@ event before the score or after it.
 A score that is handed in grows some hundreds of times, so that of a request's growths each STRIDE-th is refused, and then each of the last 60.
 """
 import os
-import shutil
 import sys
 import tempfile
 
-from event_files import rows_of_copy, run
-from plain_event import Event
+from event_files import copied, event_of_four, make_four, rows_of_copy
 from plain_http import refusal, served as served_plainly
 from serving import Serving, served
 
@@ -29,25 +27,12 @@ REQUESTS = [
     b"DELETE /nope HTTP/1.1\r\n\r\n",
 ]
 MEMORY, NEEDS_REOPEN = refusal("refused 24 Memory"), refusal("refused 26 NeedsReopen")
-LINES = [["init", "E", "3", "0"], *(["enrol", f"P{it}"] for it in range(1, 5)), ["start"], ["pair", "1", "0" * 64]]
-
-
-def event_of_lines():
-    event = Event(3, 0)
-    for number in range(1, 5):
-        event.enrol(f"P{number}")
-    event.start()
-    event.pair(1, bytes(32))
-    return event
 
 
 def served_with(template, nth, *requests):
     """The answers, how it ended, and the rows of the file then, with this growth refused."""
     with tempfile.TemporaryDirectory() as room:
-        file = f"{room}/e.event"
-        for more in ("", "-wal"):
-            if os.path.exists(template + more):
-                shutil.copy(template + more, file + more)
+        file = copied(template, room)
         with Serving(program, file, len(requests), env={**os.environ, "LD_PRELOAD": library, "REFUSE_NTH": str(nth)}) as serving:
             answers = [serving.ask(sent) for sent in requests]
             return answers, serving.end(), rows_of_copy(file)
@@ -61,7 +46,7 @@ def growths(template, sent):
 
 def tries(template, sent):
     """How many growths of the request were refused, how many times it was answered so, and what was wrong."""
-    event = event_of_lines()
+    event = event_of_four()
     slip_before, _ = served_plainly(event, SLIP)
     due, _ = served_plainly(event, sent)
     slip_after, _ = served_plainly(event, SLIP)
@@ -83,8 +68,7 @@ def main():
     count, wanting, wrong = 0, 0, []
     with tempfile.TemporaryDirectory() as room:
         template = f"{room}/e.event"
-        for name, *words in LINES:
-            run(program, [name, template, *words])
+        make_four(program, template)
         for sent in REQUESTS:
             tried, told, faults = tries(template, sent)
             count, wanting, wrong = count + tried, wanting + told, wrong + faults

@@ -8,31 +8,20 @@ import os
 import sys
 import tempfile
 
-from event_files import copied, due, rows_of, rows_of_copy, run
-from plain_event import Event
+from event_files import copied, due, event_of_four, make_four, rows_of, rows_of_copy, run
 from plain_http import refusal, served as served_plainly
 from serving import Serving
 
 STOPS, FAULTS = ("before", "half"), ("EIO", "ENOSPC")
-LINES = [["init", "E", "3", "0"], *(["enrol", f"P{it}"] for it in range(1, 5)), ["start"], ["pair", "1", "0" * 64]]
 POSTS = [b'POST /rounds/1/tables/%d HTTP/1.1\r\nContent-Length: 19\r\n\r\n{"a":2,"b":1,"d":0}' % it for it in (1, 2)]
 REQUESTS = [*POSTS, b"GET /rounds/1/tables/1 HTTP/1.1\r\n\r\n"]
 STORE, NEEDS_REOPEN = refusal("refused 25 Store"), refusal("refused 26 NeedsReopen")
 
 
-def event_of_lines():
-    event = Event(3, 0)
-    for number in range(1, 5):
-        event.enrol(f"P{number}")
-    event.start()
-    event.pair(1, bytes(32))
-    return event
-
-
 class Meddling:
     def __init__(self, program, library, file):
         self.program, self.library, self.file = os.path.abspath(program), library, file
-        event, self.events, self.due = event_of_lines(), [], []
+        event, self.events, self.due = event_of_four(), [], []
         for sent in REQUESTS:
             self.events.append(copy.deepcopy(event))
             self.due.append(served_plainly(event, sent)[0])
@@ -75,8 +64,7 @@ class Meddling:
 def main(program, library):
     with tempfile.TemporaryDirectory() as folder, concurrent.futures.ThreadPoolExecutor(len(os.sched_getaffinity(0))) as pool:
         file = f"{folder}/e.event"
-        for name, *words in LINES:
-            run(program, [name, file, *words])
+        make_four(program, file)
         meddling = Meddling(program, library, file)
         tries = [(nth, how) for nth in range(1, meddling.count() + 1) for how in STOPS + FAULTS]
         wrong = [*filter(None, pool.map(lambda it: meddling.tried(*it), tries))]
