@@ -6,7 +6,11 @@ pub mod Settling
 pub mod Bounds
 pub mod Entries
 pub mod Meeting
-pub mod Turning
+pub mod Bits
+pub mod Ahead
+pub mod Passing
+pub mod Trying
+pub mod Sharing
 pub mod Answering
 pub mod Pointing
 pub mod Placing
@@ -14,3 +18,4 @@ pub mod Ordering
 pub mod Uniqueness
 pub mod Seating
 pub mod Examples
+pub mod Ends

@@ -1,5 +1,7 @@
--- A table in which no cell is set, and one that the stored matches fill.
-use Rattle.std.proofs.Common.{◌==◌, ◌||◌, ◌++◌, take, Contains, subst, ap, not-suc-le-zero, append-nil, append_assoc, add-one, ◌≡◌, ℕ, zero, suc, ◌+◌, ◌*◌, ◌<◌, ◌≤◌, ◌&&◌, nat_lt, Bool, true, false, IsFalse, List, [], ◌∷◌, length, get_or, All, refl, sym, ◌∙◌, arith}
+-- A table in which no place is set, one in which two more have met, and one that the stored matches fill.
+use Rattle.std.proofs.Common.{◌/◌, ◌%◌, ◌==◌, ◌||◌, ◌++◌, take, Contains, subst, ap, not-suc-le-zero, append-nil, append_assoc, add-one, ◌≡◌, ℕ, zero, suc, ◌+◌, ◌<◌, ◌≤◌, Bool, true, false, IsFalse, List, [], ◌∷◌, length, get_or, All, refl, sym, ◌∙◌, arith}
+use Rattle.std.proofs.lemmas.List.{get_or_past}
+use Rattle.std.proofs.lemmas.Nat.Bits.{bit_at-zero}
 use Rattle.std.proofs.lemmas.List.Elements.{All-head, All-tail}
 use Rattle.std.specs.List.{list_any, range_with_len}
 use Rattle.std.proofs.lemmas.Bool.Decides.{nat_tests}
@@ -12,24 +14,24 @@ use Rattle.er_event.specs.Event.{EventValue}
 use Rattle.er_event.specs.Round.{is_bye, matches_of}
 use Rattle.er_event.specs.Sound.{IsSoundButForSeeds, IsRound, numbers}
 use mathlib.Core.Path.{fun_ext}
-use Rattle.er_pair.specs.Met.{are_pair, have_met, has_met, IsTable}
-use Rattle.er_pair.specs.declared.meetings.TheConstants.{NUMBERS}
+use Rattle.er_pair.specs.Met.{are_pair, have_met, has_met}
+use Rattle.er_pair.specs.declared.rows.Row.{Row}
+use Rattle.er_pair.specs.Rows.{is_set, has_place, row_at}
 
-unset : (cells : List Bool) (at : ℕ) → All (λ (cell : Bool). IsFalse cell) cells → get_or cells at false ≡ false
-unset [] at none = refl
-unset (cell ∷ cells) zero none = All-head (λ (c : Bool). IsFalse c) cell cells none
-unset (cell ∷ cells) (suc at) none = unset cells at (All-tail (λ (c : Bool). IsFalse c) cell cells none)
+-- a row without a word has no place
+pub no_word : (place : ℕ) → has_place (record { words = [] }) place ≡ false
+unfolding has_place
+no_word place =
+    let word : get_or [] (place / 64) 0 ≡ 0 = get_or_past [] (place / 64) 0 (omega arith) in
+    ap (λ (n : ℕ). is_set n (place % 64)) word ∙ ap (λ (n : ℕ). n == 1) (bit_at-zero (place % 64))
 
-and_false : (a b c : Bool) → c ≡ false → (a && b && c) ≡ false
-and_false true true c h = h
-and_false true false c h = refl
-and_false false b c h = refl
-
-pub none_met : (cells : List Bool) → All (λ (cell : Bool). IsFalse cell) cells → (p q : ℕ) → has_met cells p q ≡ false
-none_met cells none p q = and_false (nat_lt p NUMBERS) (nat_lt q NUMBERS) (get_or cells (p * NUMBERS + q) false) (unset cells (p * NUMBERS + q) none)
-
-pub table_of_none : (cells : List Bool) → length cells ≡ NUMBERS * NUMBERS → All (λ (cell : Bool). IsFalse cell) cells → IsTable cells
-table_of_none cells size none = record { size = size; symmetric = λ p q. none_met cells none p q ∙ sym (none_met cells none q p) }
+-- nor has one of rows without places
+pub unset : (rows : List Row) (at place : ℕ) → All (λ (row : Row). (p : ℕ) → IsFalse (has_place row p)) rows → has_place (row_at rows at) place ≡ false
+unset [] at place none =
+    let row : row_at [] at ≡ record { words = [] } = get_or_past [] at (record { words = [] }) (omega arith) in
+    ap (λ (r : Row). has_place r place) row ∙ no_word place
+unset (row ∷ rows) zero place none = All-head (λ (r : Row). (p : ℕ) → IsFalse (has_place r p)) row rows none place
+unset (row ∷ rows) (suc at) place none = unset rows at place (All-tail (λ (r : Row). (p : ℕ) → IsFalse (has_place r p)) row rows none)
 
 -- ---- the stored matches
 
@@ -109,7 +111,7 @@ met_after p q met rounds i r matches k below is own all old =
     ∙ (ap (list_any same) (sym (matches_more rounds i r below is)) ∙ ap (λ (n : ℕ). list_any same (matches_of (take n rounds))) (sym (add-one i)))))
 
 -- all rounds
-pub met_all : (met : List Bool) (event : EventValue) (rounds : List Round) (i : ℕ) → rounds ≡ event.stored → length rounds ≤ i
+pub met_all : (met : List Row) (event : EventValue) (rounds : List Round) (i : ℕ) → rounds ≡ event.stored → length rounds ≤ i
     → ((p q : ℕ) → has_met met p q ≡ list_any (λ (n : Match). are_pair n.a n.b p q) (matches_of (take i rounds))) → has_met met ≡ have_met event
 met_all met event rounds i stored all old =
     let each : (p q : ℕ) → has_met met p q ≡ have_met event p q = λ p q. old p q ∙ ap (λ (l : List Round). list_any (λ (n : Match). are_pair n.a n.b p q) (matches_of l)) (take_all i rounds all ∙ stored) in

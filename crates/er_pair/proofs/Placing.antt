@@ -1,6 +1,7 @@
 -- The active players by number, with their keys.
 use Rattle.std.proofs.Common.{◌≡◌, ℕ, zero, suc, ◌+◌, ◌<◌, ◌≤◌, Bool, true, false, not, cond, List, [], ◌∷◌, ◌++◌, length, take, map, filter, get_or, All, refl, sym, ap, ◌∙◌, arith, not-suc-le-zero, add-one, length-append, append-nil}
 use Rattle.std.proofs.lemmas.List.Elements.{All-weaker}
+use Rattle.er_event.specs.declared.events.TheConstants.{MAX_ROUNDS}
 use Rattle.er_event.specs.declared.players.Player.{Player}
 use Rattle.er_event.specs.declared.rounds.Round.{Round}
 use Rattle.er_event.specs.Event.{EventValue}
@@ -63,7 +64,7 @@ placed-push event [] (key ∷ keys) n below = refl
 placed-push event (m ∷ ns) [] n below = absurd (not-suc-le-zero below)
 placed-push event (m ∷ ns) (key ∷ keys) n below = ap (λ (l : List Place). place_of event m key ∷ l) (placed-push event ns keys n (omega arith))
 
-pub rounds_few : (event : EventValue) → IsSoundButForSeeds event → length event.stored ≤ 9
+pub rounds_few : (event : EventValue) → IsSoundButForSeeds event → length event.stored ≤ MAX_ROUNDS
 rounds_few event sound = let a = sound.rounds.few in let b = sound.set_up.rounds.1 in omega arith
 
 pub rounds_seated : (event : EventValue) → IsSoundButForSeeds event → All (λ (round : Round). IsSeatedOnce round.matches) event.stored

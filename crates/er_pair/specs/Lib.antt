@@ -1,8 +1,10 @@
 pub mod Points
 pub mod Order
 pub mod Place
+pub mod Rows
 pub mod Met
 pub mod Pairing
 pub mod Steps
 pub mod Search
 pub mod Fault
+pub mod Seats

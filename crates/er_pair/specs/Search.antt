@@ -1,8 +1,13 @@
 -- The search as a function of what is left to pair: laws in proofs/ tie it to the earliest legal pairing and to the steps needed.
-use Rattle.std.specs.Prelude.{◌≡◌, ℕ, zero, suc, ◌+◌, ◌<◌, Bool, if◌then◌else◌, List, [], ◌∷◌, ◌++◌, length, Option, Some, None}
+use Rattle.std.specs.Prelude.{◌≡◌, ℕ, zero, suc, ◌+◌, ◌<◌, Bool, if◌then◌else◌, List, [], ◌∷◌, ◌++◌, length, filter, All, Option, Some, None}
+use Rattle.std.specs.List.{range_with_len}
+use Rattle.er_pair.specs.declared.dead_ends.KnownDeadEnd.{KnownDeadEnd}
+use Rattle.er_pair.specs.declared.rows.Cursor.{Cursor}
+use Rattle.er_pair.specs.declared.rows.Row.{Row}
 use Rattle.er_pair.specs.declared.search.Outcome.{Outcome}
 use Rattle.er_pair.specs.declared.search.Outcome.TheVariants.{Paired, DeadEnd, OutOfSteps}
-use Rattle.er_pair.specs.Pairing.{Pair, positions}
+use Rattle.er_pair.specs.Pairing.{Pair}
+use Rattle.er_pair.specs.Rows.{has_place, ahead_of, row_at}
 
 -- the pairs that were found, if any, and how many steps were made
 abbrev pub Answer : Type 0
@@ -29,8 +34,32 @@ search_within met (suc bound) (first ∷ rest) = tries met (search_within met bo
 unfoldable pub search_of : (ℕ → ℕ → Bool) → List ℕ → Answer
 search_of met list = search_within met (length list) list
 
--- what a search that may make so many steps leaves
-abbrev pub Answers : Answer → List ℕ → ℕ → List ℕ → ℕ → Outcome → Type 0
-Answers answer list steps after left Paired = (pairs : List Pair) × (answer.0 ≡ Some pairs) × (after ≡ positions pairs) × (left + answer.1 ≡ steps)
-Answers answer list steps after left DeadEnd = (answer.0 ≡ None) × (after ≡ list) × (left + answer.1 ≡ steps)
-Answers answer list steps after left OutOfSteps = steps < answer.1
+-- what a search that may make so many steps leaves: the pairs found, and the steps that are left
+abbrev pub Answers : Answer → ℕ → List Pair → ℕ → Outcome → Type 0
+Answers answer steps found left Paired = (answer.0 ≡ Some found) × (left + answer.1 ≡ steps)
+Answers answer steps found left DeadEnd = (answer.0 ≡ None) × (left + answer.1 ≡ steps)
+Answers answer steps found left OutOfSteps = steps < answer.1
+
+-- the two positions have met, by the row of the first
+abbrev pub met_in : List Row → ℕ → ℕ → Bool
+met_in rows p q = has_place (row_at rows p) q
+
+-- the positions before the end that the row leaves free, and that are ahead of a cursor
+unfoldable pub free_ahead : Row → Cursor → ℕ → List ℕ
+free_ahead used cursor end = filter (ahead_of used used cursor) (range_with_len 0 end)
+
+-- the search of what is ahead
+abbrev pub answer_ahead : List Row → Row → Cursor → Answer
+answer_ahead rows used ahead = search_of (met_in rows) (free_ahead used ahead (length rows))
+
+-- what is ahead can't be paired, and a search finds that after so many steps
+abbrev pub IsDeadAhead : List Row → Row → Cursor → ℕ → Type 0
+IsDeadAhead rows used ahead steps = ((answer_ahead rows used ahead).0 ≡ None) × ((answer_ahead rows used ahead).1 ≡ steps)
+
+-- what is kept of a dead end, but where no place is left, is so whatever is used
+abbrev pub IsKnown : List Row → KnownDeadEnd → Type 0
+IsKnown rows known = 0 < known.left → (used : Row) → IsDeadAhead rows used (record { index = known.index; left = known.left }) known.steps
+
+pub record AreDeadEnds (rows : List Row) (kept : List KnownDeadEnd) : Type 0 where
+  pub some : 0 < length kept
+  pub each : All (λ known. IsKnown rows known) kept

@@ -2,12 +2,15 @@
 //! opponent, or the bye, again.
 #![tactic(auto)]
 
+mod dead_ends;
 mod meetings;
 mod orders;
 mod pairings;
 mod places;
 mod points;
+mod rows;
 mod search;
+mod seats;
 mod words;
 
 pub use meetings::Met;

@@ -1,35 +1,32 @@
-ghost use Rattle.std.specs.Prelude.{◌≡◌, ℕ, ◌≤◌, ◌+◌, ◌*◌, ◌||◌, ◌&&◌, nat_lt, length, All, IsFalse, IsOk, IfOk};
+ghost use Rattle.std.specs.Prelude.{◌≡◌, ℕ, ◌<◌, ◌≤◌, ◌||◌, length, IsFalse, IsOk, IfOk, MatchOption};
 ghost use Rattle.er_pair.specs.Met.{are_pair, have_met, has_met};
+ghost use Rattle.er_pair.specs.Rows.{has_place};
 
+use crate::rows::{Row, empty_rows};
 use er_event::{Event, MAX_PLAYERS};
 use std::alloc::{AllocError, Global};
 use std::marker::Model;
 
 /// How many numbers there are: 0 for the bye, and those of 512 players.
-const NUMBERS: usize = MAX_PLAYERS as usize + 1;
+pub const NUMBERS: usize = MAX_PLAYERS as usize + 1;
 
 /// Who has met whom, by number; 0 stands for the bye.
 #[derive(Debug, Drop)]
 pub struct Met {
-    cells: Vec<bool>,
+    /// For each number, those that it has met.
+    rows: Vec<Row>,
 }
 
 impl Model for Met {
-    ghost use Rattle.std.specs.Prelude.{List, Bool};
+    ghost use Rattle.std.specs.Prelude.{List};
+    ghost use Rattle.er_pair.specs.declared.rows.Row.{Row};
     ghost use Rattle.er_pair.specs.Met.{IsTable};
 
-    ghost Value = { List Bool };
+    ghost Value = { List Row };
 
-    ghost view = { λ m. m.cells.items };
+    ghost view = { λ m. m.rows.items };
 
-    ghost invariant = { λ m. IsTable m.cells.items };
-}
-
-fn unmet(alloc: Global, count: usize) -> Result<Vec<bool>, AllocError>
-    ensures count { IfOk result (λ cells. length cells.items ≡ count) }
-    ensures unmet { IfOk result (λ cells. All (λ cell. IsFalse cell) cells.items) }
-{
-    vec![in alloc; false; count]
+    ghost invariant = { λ m. IsTable m.rows.items };
 }
 
 impl Met {
@@ -38,7 +35,7 @@ impl Met {
         ensures { IfOk result (λ met. (p q : ℕ) → IsFalse (has_met met p q)) }
     {
         Ok(Met {
-            cells: unmet(alloc, NUMBERS * NUMBERS)?,
+            rows: empty_rows(alloc, NUMBERS)?,
         })
     }
 
@@ -63,7 +60,7 @@ impl Met {
         ensures symmetric { result ≡ has_met self.now other one }
     {
         let (row, column) = (usize::from(one), usize::from(other));
-        row < NUMBERS && column < NUMBERS && self.cells[row * NUMBERS + column]
+        row < NUMBERS && column < NUMBERS && self.rows[row].has(column)
     }
 
     /// From now on the two have met. It takes no memory.
@@ -74,8 +71,15 @@ impl Met {
         ensures added { (p q : ℕ) → has_met self.new p q ≡ (has_met self.old p q || are_pair one other p q) }
     {
         let (row, column) = (usize::from(one), usize::from(other));
-        self.cells[row * NUMBERS + column] = true;
-        self.cells[column * NUMBERS + row] = true;
+        self.rows[row].insert(column);
+        self.rows[column].insert(row);
         Ok(())
+    }
+
+    /// Those that a number has met, where it is at most 512.
+    pub(crate) fn row(&self, number: u16) -> Option<&Row>
+        ensures { MatchOption result (NUMBERS ≤ number) (λ row. (p : ℕ) → p < NUMBERS → has_met self.now p number ≡ has_place row.now p) }
+    {
+        self.rows.get(usize::from(number))
     }
 }

@@ -3,8 +3,11 @@ ghost use Rattle.er_pair.specs.Met.{has_met};
 ghost use Rattle.er_pair.specs.Pairing.{Pair, positions, all_positions, IsLegal, IsEarliest, entries};
 ghost use Rattle.er_pair.specs.Steps.{Needs, NeedsMore};
 
+use crate::dead_ends::no_dead_ends;
 use crate::meetings::Met;
+use crate::rows::{Cursor, Row};
 use crate::search::{Outcome, search};
+use crate::seats::by_position;
 use er_event::{MAX_PLAYERS, Refusal};
 use std::alloc::{AllocError, Global};
 
@@ -48,16 +51,20 @@ impl From<PairFault> for Refusal {
     }
 }
 
-/// The neighbours of a list, two by two from the front on.
-fn neighbours(alloc: Global, list: &[u16]) -> Result<Vec<(u16, u16)>, AllocError>
-    requires even { length list.now % 2 ≡ 0 }
-    ensures { IfOk result (λ pairs. positions pairs.items ≡ list.now) }
+/// The entries at the positions.
+fn entries_at(
+    alloc: Global,
+    order: &[u16],
+    pairs: &[(usize, usize)],
+) -> Result<Vec<(u16, u16)>, AllocError>
+    requires { All (λ pair. (pair.0 < length order.now) × (pair.1 < length order.now)) pairs.now }
+    ensures { IfOk result (λ found. found.items ≡ entries order.now pairs.now) }
 {
-    let mut pairs = Vec::with_capacity(alloc, list.len() / 2)?;
-    for pair in list.chunks_exact(2) {
-        pairs.push((pair[0], pair[1]))?;
+    let mut found = Vec::with_capacity(alloc, pairs.len())?;
+    for (first, second) in pairs {
+        found.push((order[*first], order[*second]))?;
     }
-    Ok(pairs)
+    Ok(found)
 }
 
 /// The earliest legal pairing of an order: its pairs of entries, in their order. In a legal pairing each place stands once, each
@@ -79,11 +86,22 @@ pub fn first_pairing(alloc: Global, order: &[u16], met: &Met) -> Result<Vec<(u16
     ensures short { (steps : ℕ) → length order.now ≤ 14 → result ≢ Err (PairFault.Budget steps) }
     ensures fresh { (fault : PairFault) → AllPairs (λ p q. IsFalse (has_met met.now p q)) order.now → result ≡ Err fault → fault ≡ PairFault.Memory }
 {
-    let mut entries = Vec::from_slice(alloc, order)?;
-    let list = entries.as_mut_slice();
+    let rows = by_position(alloc, order, met)?;
+    let mut pairs = vec![in alloc; (0, 0); order.len() / 2]?;
+    let list = pairs.as_mut_slice();
+    let mut kept = no_dead_ends(alloc)?;
+    let mut used = Row::empty();
     let mut steps = MAX_STEPS;
-    match search(list, met, &mut steps) {
-        Outcome::Paired => Ok(neighbours(alloc, list)?),
+    let ahead = Cursor::before_all(&used);
+    match search(
+        rows.as_slice(),
+        &mut used,
+        ahead,
+        list,
+        &mut steps,
+        kept.as_mut_slice(),
+    ) {
+        Outcome::Paired => Ok(entries_at(alloc, order, list)?),
         Outcome::DeadEnd => Err(PairFault::NoPairing),
         Outcome::OutOfSteps => Err(PairFault::Budget { steps: MAX_STEPS }),
     }

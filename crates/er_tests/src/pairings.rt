@@ -2,7 +2,7 @@ ghost use Rattle.std.specs.Prelude.{◌≡◌, not, count_by};
 
 use crate::helpers::{changed, drop, started};
 use er_event::{Event, MAX_PLAYERS};
-use er_pair::{Met, PairFault, first_pairing, keys, order};
+use er_pair::{MAX_STEPS, Met, PairFault, first_pairing, keys, order};
 use std::alloc::{AllocError, Global};
 use std::process::Abort;
 use std::test::Fail;
@@ -279,5 +279,113 @@ fn nobody_is_paired_with_nobody(rt: HostRuntime) -> Result<(), Fail> {
     let met = Met::empty(rt.alloc())?;
     let found = first_pairing(rt.alloc(), &[], &met)?;
     assert!(rt; found.is_empty());
+    Ok(())
+}
+
+/// Brings the list into its earliest legal pairing, two by two, entry by entry: a plain search, which the other one is compared with.
+/// `None` where there is no legal pairing, and the list is then as it was.
+fn paired_plainly(list: &mut [u16], met: &Met, steps: &mut u32) -> Option<()> {
+    if list.len() < 2 {
+        return Some(());
+    }
+    for passed in 0..list.len() - 1 {
+        list.swap(1, passed + 1);
+        if met.has(list[0], list[1]) {
+            continue;
+        }
+        *steps = steps.saturating_add(1);
+        if let Some(()) = paired_plainly(&mut list[2..], met, steps) {
+            return Some(());
+        }
+    }
+    list[1..].rotate_left(1);
+    None
+}
+
+/// The pairs that the plain search finds, laid out one after the other, or why there are none.
+fn plain_pairing_of(alloc: Global, list: &[u16], met: &Met) -> Result<Vec<u16>, PairFault> {
+    let mut entries = Vec::from_slice(alloc, list)?;
+    let mut steps = 0;
+    let found = paired_plainly(entries.as_mut_slice(), met, &mut steps);
+    if steps > MAX_STEPS {
+        return Err(PairFault::Budget { steps: MAX_STEPS });
+    }
+    match found {
+        Some(()) => Ok(entries),
+        None => Err(PairFault::NoPairing),
+    }
+}
+
+/// The next of a run of numbers that look drawn by lot (a linear congruential generator).
+fn draw(state: &mut u64) -> u64 {
+    *state = state
+        .wrapping_mul(6_364_136_223_846_793_005)
+        .wrapping_add(1_442_695_040_888_963_407);
+    *state >> 33
+}
+
+/// Meetings of the numbers up to the last: of a hundred pairs so many have met.
+fn drawn_meetings(
+    rt: &impl Abort,
+    alloc: Global,
+    state: &mut u64,
+    last: u16,
+    percent: u64,
+) -> Result<Met, Fail> {
+    let mut met = Met::empty(alloc)?;
+    for one in 0..=last {
+        for other in 0..one {
+            assert!(rt; one <= MAX_PLAYERS && other <= MAX_PLAYERS);
+            if draw(state) % 100 < percent {
+                met.add(one, other)?;
+            }
+        }
+    }
+    Ok(met)
+}
+
+/// The numbers up to the last in an order that is drawn by lot, and 0 behind them where their count is odd.
+fn drawn_order(
+    rt: &impl Abort,
+    alloc: Global,
+    state: &mut u64,
+    last: u16,
+) -> Result<Vec<u16>, Fail> {
+    let mut order = numbers(alloc, last)?;
+    let list = order.as_mut_slice();
+    for at in 0..list.len() {
+        let other = usize::try_from(draw(state))?;
+        assert!(rt; at < list.len() && !list.is_empty());
+        let other = other % list.len();
+        list.swap(at, other);
+    }
+    if last % 2 == 1 {
+        order.push(0)?;
+    }
+    Ok(order)
+}
+
+/// Two hundred orders of up to fourteen numbers, with few and with many meetings.
+#[test]
+fn agrees_with_a_plain_search(rt: HostRuntime) -> Result<(), Fail> {
+    let alloc = rt.alloc();
+    let mut state = 1;
+    for case in 0..200_u16 {
+        let last = case % 13 + 1;
+        let met = drawn_meetings(&rt, alloc, &mut state, last, u64::from(case / 13) * 5)?;
+        let order = drawn_order(&rt, alloc, &mut state, last)?;
+        let found = pairing_of(&rt, alloc, order.as_slice(), &met);
+        let plain = plain_pairing_of(alloc, order.as_slice(), &met);
+        assert_eq!(rt; found.as_ref().err(), plain.as_ref().err(), "case {case}");
+        if let (Ok(found), Ok(plain)) = (found, plain) {
+            assert_eq!(rt; found.len() * 2, plain.len(), "case {case}");
+            for (pair, two) in found.iter().zip(plain.chunks_exact(2)) {
+                assert!(rt;
+                    two.len() == 2 && pair.0 == two[0] && pair.1 == two[1],
+                    "case {case}"
+                );
+            }
+        }
+    }
     Ok(())
 }

@@ -1,0 +1,47 @@
+-- Rows to which a position is added.
+use Rattle.std.proofs.Common.{◌≡◌, inl, inr, ℕ, ◌<◌, ◌≤◌, ◌==◌, ◌||◌, ◌&&◌, not, nat_lt, Bool, true, false, List, [], length, slice_index, sym, ap, ◌∙◌, arith}
+use Rattle.std.proofs.lemmas.Bool.{cases_lt, le-ltb}
+use Rattle.std.proofs.lemmas.List.{get_or_past}
+use Rattle.er_pair.specs.declared.meetings.TheConstants.{NUMBERS}
+use Rattle.er_pair.specs.declared.rows.TheConstants.{WORDS}
+use Rattle.er_pair.specs.declared.rows.Cursor.{Cursor}
+use Rattle.er_pair.specs.Met.{has_met}
+use Rattle.er_pair.specs.Seats.{AreByNumber, CountsAll, AreByPosition}
+use Rattle.er_pair.proofs.Meeting.{no_word}
+use Rattle.er_pair.specs.declared.rows.Row.{Row}
+use Rattle.er_pair.specs.Rows.{has_place, is_ahead, row_at}
+
+-- the position stands with those of the numbers that the walk has passed
+pub record IsSeating (before rows : List Row) (numbers absent : Row) (walk : Cursor) (position : ℕ) : Type 0 where
+  pub word : walk.index < WORDS
+  pub size : length rows ≡ length before
+  pub ahead : (number : ℕ) → number < length before → is_ahead absent absent walk.index walk.left number ≡ true
+      → has_place numbers number ≡ true
+  pub seated : (number p : ℕ) → number < length before
+      → has_place (row_at rows number) p
+      ≡ ((has_place numbers number && not (is_ahead absent absent walk.index walk.left number) && p == position) || has_place
+      (row_at before number) p)
+
+-- the positions before this one stand with those whom their entries have met, and no other position does
+pub record IsShared (rows met : List Row) (order : List ℕ) (position : ℕ) : Type 0 where
+  pub before : (number p : ℕ) → number < length rows → number < NUMBERS → p < position
+      → has_place (row_at rows number) p ≡ has_met met number (slice_index order p)
+  pub later : (number p : ℕ) → number < length rows → number < NUMBERS → position ≤ p → has_place (row_at rows number) p ≡ false
+
+-- ---- the rows by position
+
+pub record IsGathered (rows table : List Row) (order : List ℕ) (position : ℕ) : Type 0 where
+  pub size : length rows ≡ position
+  pub same : (p q : ℕ) → p < position → has_place (row_at rows p) q ≡ has_place (row_at table (slice_index order p)) q
+
+-- whom the entries have met, by position
+pub gathered_all : (rows table met : List Row) (order : List ℕ) (position : ℕ) → length table ≤ NUMBERS
+    → CountsAll order (length table) → length order ≤ position → IsGathered rows table order position
+    → AreByNumber met order table → AreByPosition met order rows
+gathered_all rows table met order position size enough all h shared p q here there = elim (cases_lt (slice_index order p) NUMBERS) [
+  | inl small ↦ h.same p q (omega arith) ∙ shared (slice_index order p) q (enough p here small) small there
+  | inr above ↦ h.same p q (omega arith)
+      ∙ (ap (λ (r : Row). has_place r q) (get_or_past table (slice_index order p) (record { words = [] }) (omega arith))
+      ∙ (no_word q ∙ sym (ap (λ (b : Bool). b && nat_lt (slice_index order q) NUMBERS && has_place (row_at met (slice_index order p))
+      (slice_index order q)) (le-ltb (slice_index order p) NUMBERS above))))
+]
