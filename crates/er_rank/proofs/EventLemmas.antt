@@ -5,6 +5,7 @@ use Rattle.std.proofs.lemmas.List.{length-map}
 use Rattle.std.proofs.lemmas.List.Elements.{All-map, All-filter, filter_passes}
 use Rattle.std.proofs.lemmas.List.Sums.{sum_by-cons, length-filter}
 use Rattle.er_event.specs.declared.rounds.Match.{Match}
+use Rattle.er_event.specs.declared.tallies.Meeting.{Meeting}
 use Rattle.er_event.specs.declared.tallies.Tally.{Tally}
 use Rattle.er_event.specs.Event.{EventValue}
 use Rattle.er_event.specs.Lines.{lines}
@@ -14,7 +15,7 @@ use Rattle.er_event.specs.Tallies.{tally_by, tallies, counted_matches, meeting_b
 use Rattle.er_event.specs.Totals.{totals}
 use Rattle.er_rank.specs.declared.lines.Line.{Line}
 use Rattle.er_rank.specs.declared.lines.TheConstants.{MAX_GAMES_OF_MATCH}
-use Rattle.er_rank.specs.Meeting.{encounters, totals_of, IsRecord, AreTallies, AreEncounters, IsKnownTo}
+use Rattle.er_rank.specs.Meeting.{encounters, totals_of, IsRecord, AreTallies, AreEncounters, IsKnownTo, AreListsOf, AreLists}
 use Rattle.er_rank.specs.Seen.{seen}
 use Rattle.er_rank.specs.Standings.{opponents}
 use Rattle.er_rank.specs.Tally.{games_of, points_of, own_lines, IsKnown}
@@ -92,6 +93,12 @@ AreEncounters-event e sound =
           omega (arith, met-count (encounters (meetings e)) player, met, ap length (opponents_in-seen e player), lines_few);
       records = λ k d below. (lawful k d below).recorded;
     })
+
+pub AreLists-event : (e : EventValue) (list : List Tally) (met : List Meeting) → AreListsOf e list met → AreLists list met
+AreLists-event e list met are = record {
+  tallies = rw are.tallies (AreTallies-event e are.sound);
+  encounters = rw (are.tallies, are.meetings) (AreEncounters-event e are.sound);
+}
 
 -- the meetings that the code makes of the tallies
 pub meetings-known : (e : EventValue) → IsSoundButForSeeds e → map (meeting_by (totals_of (tallies e))) (filter is_met (counted_matches e.stored)) ≡ meetings e

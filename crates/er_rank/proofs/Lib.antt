@@ -10,3 +10,4 @@ pub mod SoundLemmas
 pub mod StandingLemmas
 pub mod OrderLemmas
 pub mod ListLemmas
+pub mod CountLemmas

@@ -112,7 +112,7 @@ encounters-split (n ∷ met) (suc i) m below is =
     let later = encounters-split met i m (omega arith) is in
     (later.0, ap (λ (es : List Encounter). first_of n ∷ second_of n ∷ es) later.1)
 
-All-here : {X : Type 0} (P : X → Type 0) (xs : List X) (x : X) (ys : List X) → All P (xs ++ x ∷ ys) → P x
+pub All-here : {X : Type 0} (P : X → Type 0) (xs : List X) (x : X) (ys : List X) → All P (xs ++ x ∷ ys) → P x
 All-here P [] x ys all = all 0 x (omega arith)
 All-here P (z ∷ xs) x ys all = All-here P xs x ys (λ k d below. all (suc k) d (omega arith))
 

@@ -1,3 +1,4 @@
+pub mod Counting
 pub mod Seen
 pub mod Standings
 pub mod Tally

@@ -67,7 +67,7 @@ pub record AreListsOf (event : EventValue) (list : List Tally) (met : List Meeti
   pub tallies : list ≡ tallies event
   pub meetings : met ≡ meetings event
 
--- or of some event
-pub record AreOfOneEvent (list : List Tally) (met : List Meeting) : Type 0 where
-  pub event : EventValue
-  pub are : AreListsOf event list met
+-- lists by which standings can be worked out, as those of each event are
+pub record AreLists (list : List Tally) (met : List Meeting) : Type 0 where
+  pub tallies : AreTallies list
+  pub encounters : AreEncounters (length list) (encounters met)

@@ -3,10 +3,11 @@
 
 ghost use Rattle.std.specs.Prelude.{◌≡◌, IfOk, List};
 ghost use Rattle.er_event.specs.Event.{EventValue};
-ghost use Rattle.er_rank.specs.Meeting.{AreListsOf, AreOfOneEvent};
+ghost use Rattle.er_rank.specs.Meeting.{AreListsOf, AreLists};
 ghost use Rattle.er_rank.specs.Standings.{AreStandings, IsTop, OneStandings, OneTop};
 
 mod lines;
+mod lists;
 mod meetings;
 mod merits;
 mod opponents;
@@ -15,16 +16,18 @@ mod rows;
 mod tallies;
 
 use er_event::{Event, Meeting, PlayerNo, Tally};
+pub use lists::are_lists;
 pub use rows::Row;
 use std::alloc::{AllocError, Global};
 
-/// The standings of the event that has these tallies and these meetings. They are those of one sound event.
+/// The standings by these tallies and meetings, of which `are_lists` is the test. By those of an event they are the
+/// standings of the event.
 pub fn standings_of(
     alloc: Global,
     tallies: &[Tally],
     meetings: &[Meeting],
 ) -> Result<Vec<Row>, AllocError>
-    requires { AreOfOneEvent tallies.now meetings.now }
+    requires { AreLists tallies.now meetings.now }
     ensures value { (event : EventValue) → AreListsOf event tallies.now meetings.now → IfOk result (λ rows. AreStandings event rows.items) }
     ensures only { (event : EventValue) → AreListsOf event tallies.now meetings.now → IfOk result (λ rows. OneStandings event rows.items) }
 {

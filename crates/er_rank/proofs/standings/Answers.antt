@@ -8,7 +8,7 @@ use Rattle.er_event.specs.Sound.{IsSoundButForSeeds}
 use Rattle.er_event.specs.Tallies.{tally_by, tallies, counted_matches, meeting_by}
 use Rattle.er_event.specs.Totals.{totals}
 use Rattle.er_rank.specs.Meeting.{totals_of, AreListsOf}
-use Rattle.er_rank.proofs.EventLemmas.{AreTallies-event, meetings-known}
+use Rattle.er_rank.proofs.EventLemmas.{AreTallies-event, AreLists-event, meetings-known}
 use Rattle.er_rank.proofs.MeetingLemmas.{is_met}
 use Rattle.er_rank.proofs.SoundLemmas.{seats_known}
 use Rattle.er_rank.proofs.standings.Goals as goal
@@ -39,11 +39,9 @@ lists-are event sound list same rounds met list_is same_is rounds_are made = rec
 pub standings_of-requires : goal.standings_of-requires
 standings_of-requires c =
     let event = c.args.event.now in
-    record {
-      event = event;
-      are = lists-are event c.stored.ensures.sound c.as_slice.result.now c.as_slice-2.result.now c.stored.result.now c.as_slice-3.result.now
-          (c.as_slice.ensures.value ∙ c.in_ok-tallies.ensures) (c.as_slice-2.ensures.value ∙ c.in_ok-tallies.ensures) c.stored.ensures.value (c.as_slice-3.ensures.value ∙ c.in_ok-meetings.ensures);
-    }
+    AreLists-event event c.as_slice-2.result.now c.as_slice-3.result.now
+    (lists-are event c.stored.ensures.sound c.as_slice.result.now c.as_slice-2.result.now c.stored.result.now c.as_slice-3.result.now
+    (c.as_slice.ensures.value ∙ c.in_ok-tallies.ensures) (c.as_slice-2.ensures.value ∙ c.in_ok-tallies.ensures) c.stored.ensures.value (c.as_slice-3.ensures.value ∙ c.in_ok-meetings.ensures))
 
 pub returns-clause-value : goal.returns-clause-value
 returns-clause-value c =

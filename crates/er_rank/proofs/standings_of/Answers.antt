@@ -7,23 +7,21 @@ use Rattle.er_rank.specs.Meeting.{encounters}
 use Rattle.er_rank.specs.Opponents.{AreOpponentsOf}
 use Rattle.er_rank.specs.Placing.{ranked, ArePlacingsInOrder}
 use Rattle.er_rank.specs.Standings.{AreStandings}
-use Rattle.er_rank.proofs.EventLemmas.{AreTallies-event, AreEncounters-event}
 use Rattle.er_rank.proofs.ListLemmas.{AreStandings-placings, length-placings, OneStandings-sound}
 use Rattle.er_rank.proofs.standings_of.Goals as goal
 
 pub opponents_of-requires : goal.opponents_of-requires
-opponents_of-requires c = rw (c.requires.are.tallies, c.requires.are.meetings) (AreEncounters-event c.requires.event c.requires.are.sound)
+opponents_of-requires c = c.requires.encounters
 
 pub placings_of-requires-clause-tallies : goal.placings_of-requires-clause-tallies
-placings_of-requires-clause-tallies c = rw c.requires.are.tallies (AreTallies-event c.requires.event c.requires.are.sound)
+placings_of-requires-clause-tallies c = c.requires.tallies
 
 pub rows_of-requires-clause-few : goal.rows_of-requires-clause-few
 rows_of-requires-clause-few c =
     let met = encounters c.args.meetings.now in
     let opponents : AreOpponentsOf met c.as_slice.result.now = rw c.as_slice.ensures.value c.in_ok-opponents.ensures.value in
     let placed = length-placings met c.args.tallies.now c.in_ok-placings.placings.items (c.in_ok-placings.ensures met opponents) in
-    let few = (AreTallies-event c.requires.event c.requires.are.sound).few in
-    omega (arith, ap length c.as_slice-2.ensures.value, placed, ap length c.requires.are.tallies, few)
+    omega (arith, ap length c.as_slice-2.ensures.value, placed, c.requires.tallies.few)
 
 pub rows_of-requires-clause-sorted : goal.rows_of-requires-clause-sorted
 rows_of-requires-clause-sorted c =

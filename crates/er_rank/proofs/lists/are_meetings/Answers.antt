@@ -1,0 +1,50 @@
+use Rattle.std.proofs.Common.{◌≡◌, List, [], ◌∷◌, ◌++◌, length, take, true≢false, sym, subst, ◌∙◌, append_assoc, arith}
+use Rattle.er_rank.specs.Counting.{AreCountsOf}
+use Rattle.er_rank.specs.Meeting.{Encounter, encounters, AreEncounters}
+use Rattle.er_rank.proofs.CountLemmas.{AreEncounters-front}
+use Rattle.er_rank.proofs.OpponentLemmas.{first_of, second_of, encounters-more, encounters-split}
+use Rattle.er_rank.proofs.lists.are_meetings.Goals.{then-not-count-via-then-not-count, then-not-count-via-else-not-count+then-not-count-2}
+use Rattle.er_rank.proofs.lists.are_meetings.Goals as goal
+
+pub returns-then-not-count : goal.returns-then-not-count
+returns-then-not-count c = (
+  λ never. absurd (true≢false (sym never)),
+  λ all.
+      let players = c.args.players in
+      let m = c.meeting-item.result in
+      let so_far = c.loop-meeting.invariant in
+      let before = encounters (take c.loop-meeting.meeting-index c.args.meetings.now) in
+      let with_first = before ++ first_of m ∷ [] in
+      let with_both = with_first ++ second_of m ∷ [] in
+      let split = encounters-split c.args.meetings.now c.loop-meeting.meeting-index m c.loop-meeting-test.true c.meeting-item.is in
+      let all_but_later : AreEncounters players (with_both ++ split.0) =
+      subst (AreEncounters players) (split.1 ∙ (sym (append_assoc before (first_of m ∷ []) (second_of m ∷ split.0)) ∙ sym (append_assoc with_first (second_of m ∷ []) split.0))) all in
+      let both = AreEncounters-front players with_both split.0 all_but_later in
+      let first = AreEncounters-front players with_first (second_of m ∷ []) both in
+      elim c.then-not-count.branch [
+        | then-not-count-via-then-not-count w ↦
+            sym w.if-not-count.true ∙ (c.count.ensures.may before so_far.counts (rw so_far.players so_far.are)).1 (rw so_far.players first)
+        | then-not-count-via-else-not-count+then-not-count-2 w ↦
+            (let long : length c.count.new.counts ≡ players = omega (arith, c.count.auto.counts, so_far.players) in
+            sym w.if-not-count-2.true ∙ (w.count-else-not-count.ensures.may with_first (c.count.ensures.counted before so_far.counts w.if-not-count.false) (rw long first)).1 (rw long both))
+      ],
+)
+
+pub loop-meeting-preserved : goal.loop-meeting-preserved
+loop-meeting-preserved c =
+    let players = c.args.players in
+    let m = c.meeting-item.result in
+    let so_far = c.loop-meeting.invariant in
+    let before = encounters (take c.loop-meeting.meeting-index c.args.meetings.now) in
+    let with_first = before ++ first_of m ∷ [] in
+    let with_both = with_first ++ second_of m ∷ [] in
+    let more = encounters-more c.args.meetings.now c.loop-meeting.meeting-index m c.loop-meeting-test.true c.meeting-item.is in
+    let long : length c.count.new.counts ≡ players = omega (arith, c.count.auto.counts, so_far.players) in
+    let one_more = c.count.ensures.counted before so_far.counts c.if-not-count.false in
+    let first : AreEncounters players with_first = rw so_far.players at (c.count.ensures.may before so_far.counts (rw so_far.players so_far.are)).0 c.if-not-count.false in
+    let both : AreEncounters players with_both = rw long at (c.count-else-not-count.ensures.may with_first one_more (rw long first)).0 c.if-not-count-2.false in
+    record {
+      players = omega (arith, c.count-else-not-count.auto.counts, long);
+      are = rw more both;
+      counts = subst (λ (es : List Encounter). AreCountsOf es c.count-else-not-count.new.counts) (sym more) (c.count-else-not-count.ensures.counted with_first one_more c.if-not-count-2.false);
+    }
