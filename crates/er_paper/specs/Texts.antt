@@ -28,10 +28,14 @@ row_name event row = 32 ∷ (mark row.dropped ++ (32 ∷ (name_of event row.play
 abbrev pub row_line : EventValue → Row → List ℕ
 row_line event row = row_numbers row ++ (percent row.omw ++ (percent row.gwp ++ (percent row.ogw ++ row_name event row)))
 
+-- a heading, and a line for each of these rows
+abbrev pub rows_text : EventValue → List Row → List ℕ
+rows_text event rows = codes "Rank   No Pts    OMW    GWP    OGW D Name" ++ (10 ∷ flat_map (row_line event) rows)
+
 pub record IsStandingsText (event : EventValue) (bytes : List ℕ) : Type 0 where
   pub rows : List Row
   pub standings : AreStandings event rows
-  pub lines : bytes ≡ codes "Rank   No Pts    OMW    GWP    OGW D Name" ++ (10 ∷ flat_map (row_line event) rows)
+  pub lines : bytes ≡ rows_text event rows
 
 -- there is one such text
 abbrev pub OneStandingsText : EventValue → List ℕ → Type 0

@@ -20,4 +20,4 @@ pub use pairings::pairings_text;
 pub use players::players_text;
 pub use short::{ROOM, ShortText};
 pub use slips::{SlipFault, read_slip, slip_json};
-pub use standings::standings_text;
+pub use standings::{rows_text, standings_text};

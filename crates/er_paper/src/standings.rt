@@ -1,6 +1,6 @@
 ghost use Rattle.std.specs.Prelude.{◌≡◌, ◌++◌, OnOk, IfOk, string_bytes};
 ghost use Rattle.er_paper.specs.Column.{percent};
-ghost use Rattle.er_paper.specs.Texts.{row_line, IsStandingsText, OneStandingsText};
+ghost use Rattle.er_paper.specs.Texts.{row_line, rows_text, IsStandingsText, OneStandingsText};
 
 use crate::columns::{mark_of, name_of};
 use er_event::Event;
@@ -34,15 +34,22 @@ fn push_row(text: &mut String, event: &Event, row: &Row) -> Result<(), AllocErro
     writeln!(text, " {mark} {name}")
 }
 
+/// A heading, and a line for each of these rows.
+pub fn rows_text(alloc: Global, rows: &[Row], event: &Event) -> Result<Vec<u8>, AllocError>
+    ensures { IfOk result (λ text. text.items ≡ rows_text event.now rows.now) }
+{
+    let mut text = String::from_str(alloc, "Rank   No Pts    OMW    GWP    OGW D Name\n")?;
+    for row in rows {
+        push_row(&mut text, event, row)?;
+    }
+    Ok(text.into_bytes())
+}
+
 /// The standings: a heading, and a line for each row.
 pub fn standings_text(alloc: Global, event: &Event) -> Result<Vec<u8>, AllocError>
     ensures value { IfOk result (λ text. IsStandingsText event.now text.items) }
     ensures only { IfOk result (λ text. OneStandingsText event.now text.items) }
 {
     let rows = standings(alloc, event)?;
-    let mut text = String::from_str(alloc, "Rank   No Pts    OMW    GWP    OGW D Name\n")?;
-    for row in rows.as_slice() {
-        push_row(&mut text, event, row)?;
-    }
-    Ok(text.into_bytes())
+    rows_text(alloc, rows.as_slice(), event)
 }
