@@ -7,6 +7,8 @@ import tempfile
 
 from plain_event import Event
 
+TABLES = ("event", "player", "pairing", "bracket", "tally")
+
 STATUSES = {24: 4, 25: 3, 26: 3}
 
 
@@ -59,14 +61,15 @@ def bracket_rows(event):
 
 
 def rows_of(event):
-    """The rows of the four tables that stand for an event named E."""
+    """The rows of the five tables that stand for an event named E."""
     players = [(it, event.names[it - 1], int(it in event.dropped)) for it in event.numbers()]
     first = (1, 1, event.serial, "E", event.rounds, event.cut, event.phase)
-    return [first], players, sorted(pairing_rows(event)), sorted(bracket_rows(event))
+    tallies = [(it, *event.totals(it)) for it in event.numbers()]
+    return [first], players, sorted(pairing_rows(event)), sorted(bracket_rows(event)), tallies
 
 
 def rows_read(file):
-    """The rows of the four tables, or None where there is no event. The database has to be whole."""
+    """The rows of the five tables, or None where there is no event. The database has to be whole."""
     base = sqlite3.connect(file)
     try:
         whole = base.execute("PRAGMA integrity_check").fetchall()
@@ -74,7 +77,7 @@ def rows_read(file):
             raise ValueError(f"{file}: {whole}")
         if not base.execute("SELECT 1 FROM sqlite_schema WHERE name = 'event'").fetchall():
             return None
-        return tuple(sorted(base.execute(f"SELECT * FROM {table}").fetchall()) for table in ("event", "player", "pairing", "bracket"))
+        return tuple(sorted(base.execute(f"SELECT * FROM {table}").fetchall()) for table in TABLES)
     finally:
         base.close()
 

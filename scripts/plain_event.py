@@ -70,13 +70,17 @@ class Event:
     def points(self, player):
         return sum(3 if x > y else 1 if x == y else 0 for _, (x, y, _) in self.played(player))
 
+    def totals(self, player):
+        """What the player's matches come to: points, rounds, game points and games."""
+        scores = [score for _, score in self.played(player)]
+        return self.points(player), len(scores), sum(3 * x + d for x, _, d in scores), sum(map(sum, scores))
+
     def match_wins(self, player):
-        rounds = len([*self.played(player)])
-        return max(LEAST, Fraction(self.points(player), 3 * rounds)) if rounds else LEAST
+        points, rounds, _, _ = self.totals(player)
+        return max(LEAST, Fraction(points, 3 * rounds)) if rounds else LEAST
 
     def game_wins(self, player):
-        points = sum(3 * x + d for _, (x, _, d) in self.played(player))
-        games = sum(x + y + d for _, (x, y, d) in self.played(player))
+        _, _, points, games = self.totals(player)
         return max(LEAST, Fraction(points, 3 * games)) if games else LEAST
 
     def merit(self, player):

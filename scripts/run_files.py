@@ -14,7 +14,7 @@ import subprocess
 import sys
 import tempfile
 
-from event_files import due
+from event_files import due, make_four
 from tally import check, end
 from transcripts import parts_of
 
@@ -134,6 +134,35 @@ def run_after_sqlite(room):
         check(f"a pairing again, {words[0]}", run(*words), refused(29, "Damaged"))
 
 
+def totals_in(file):
+    base = sqlite3.connect(file)
+    rows = base.execute("SELECT no, points, rounds, gamepoints, games FROM tally ORDER BY no").fetchall()
+    base.close()
+    return rows
+
+
+def run_totals(room):
+    """What players' matches come to, as another program reads it; and where that is not what it should be."""
+    file = f"{room}/e.event"
+    make_four(program, file)
+    check("totals before a round is complete", totals_in(file), [(it, 0, 0, 0, 0) for it in range(1, 5)])
+    run("result", file, "1", "1", "2", "0", "0")
+    check("totals of an open round", totals_in(file), [(it, 0, 0, 0, 0) for it in range(1, 5)])
+    run("result", file, "1", "2", "2", "1", "0")
+    check("totals of a complete round", totals_in(file), [(1, 3, 1, 6, 3), (2, 0, 1, 0, 2), (3, 0, 1, 3, 3), (4, 3, 1, 6, 2)])
+    players = run("players", file)
+    wrong = by_sqlite(shutil.copy(file, f"{room}/wrong"), "UPDATE tally SET points = 4 WHERE no = 4")
+    older = by_sqlite(shutil.copy(file, f"{room}/older"), "DROP TABLE tally")
+    for name, other in (("a wrong total", wrong), ("no totals", older)):
+        rows = bytes_of(other)
+        for words in (("players", other), ("standings", other), ("correct", other, "1", "2", "0", "2", "0"), ("export", other, "results")):
+            check(f"{name}, {words[0]}", run(*words), refused(29, "Damaged"))
+        check(f"{name}, the file stays", bytes_of(other), rows)
+    check("the right total again", run("players", by_sqlite(wrong, "UPDATE tally SET points = 3 WHERE no = 4")), players)
+    run("correct", file, "1", "2", "0", "2", "0")
+    check("totals after a correction", totals_in(file), [(1, 0, 1, 0, 2), (2, 0, 1, 0, 2), (3, 3, 1, 6, 2), (4, 3, 1, 6, 2)])
+
+
 def run_locked(room):
     """A file that another program holds, and commands that come at once."""
     file = made(f"{room}/e.event")
@@ -199,7 +228,7 @@ def run_rights(room):
 
 
 run_transcripts()
-for part in (run_paths, run_contents, run_after_sqlite, run_locked, run_full_disk, run_rights, run_terminal):
+for part in (run_paths, run_contents, run_after_sqlite, run_totals, run_locked, run_full_disk, run_rights, run_terminal):
     with tempfile.TemporaryDirectory() as room:
         part(room)
 end("files, as the program is built")

@@ -11,6 +11,7 @@ import sys
 import tempfile
 import time
 
+from plain_event import Event
 from serving import Serving, received, sent_whole
 
 program = sys.argv[1]
@@ -37,11 +38,23 @@ def pairings(is_open):
             yield number, table, min(a, b), max(a, b), int(a > b), *score
 
 
+def tallies(is_open):
+    """What each player's matches of the complete rounds come to: points, rounds, game points and games."""
+    event = Event(ROUNDS, 0)
+    event.names = [f"N{it}" for it in range(1, PLAYERS + 1)]
+    event.stored = [[] for _ in range(ROUNDS)]
+    for number, _, low, high, is_swapped, is_done, *games in pairings(is_open):
+        first, second = (high, low) if is_swapped else (low, high)
+        event.stored[number - 1].append([first, second, tuple(games) if is_done else None])
+    return [(it, *event.totals(it)) for it in event.numbers()]
+
+
 def made(file, is_open):
     subprocess.run([program, "init", file, "Friday", str(ROUNDS), "0"], check=True, stdout=subprocess.DEVNULL)
     base = sqlite3.connect(file)
     base.executemany("INSERT INTO player VALUES (?, ?, 0)", ((it, f"N{it}") for it in range(1, PLAYERS + 1)))
     base.executemany("INSERT INTO pairing VALUES (?, ?, ?, ?, ?, ?, ?, ?, ?)", pairings(is_open))
+    base.executemany("INSERT INTO tally VALUES (?, ?, ?, ?, ?)", tallies(is_open))
     base.execute("UPDATE event SET phase = 1, serial = 5000")
     base.commit()
     base.execute("PRAGMA wal_checkpoint(TRUNCATE)").fetchall()

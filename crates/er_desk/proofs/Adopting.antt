@@ -25,7 +25,7 @@ point_is point e n event serial = ap₂ (λ (x : EventValue) (k : ℕ). (let p :
 pub shows_as : (s : State) (e f : EventValue) (m n : ℕ) → f ≡ e → n ≡ m → Shows s e m → Shows s f n
 shows_as s e f m n event serial shows = subst (λ (k : ℕ). Shows s f k) (sym serial) (subst (λ (x : EventValue). Shows s x m) (sym event) shows)
 
--- the event's rows are read where the four tables are
+-- the event's rows are read where the tables are
 pub read_whole : (db : Database) (parts : Parts) → ReadsParts db parts → ReadsEvent db.schema
 read_whole db parts reads = ap is_ok reads.event.1.is
 

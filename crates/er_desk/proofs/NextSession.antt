@@ -1,5 +1,6 @@
 -- A session goes on from where a history has ended.
-use Rattle.std.proofs.Common.{◌≡◌, List, [], ◌∷◌, ◌++◌, Bool, Result, Ok, Err, IfOk, IfErr, MatchResult, IsFalse, Vec, Global, inl, refl, sym, subst, ap₂, arith}
+use Rattle.std.proofs.Common.{◌≡◌, List, [], ◌∷◌, ◌++◌, Bool, Result, Ok, Err, IfOk, IfErr, MatchResult, IsFalse}
+use Rattle.std.proofs.Common.{Vec, Global, inl, refl, sym, subst, ap₂, arith}
 use Rattle.sqlite_disk.specs.declared.Disk as disk
 use Rattle.sqlite_trees.specs.declared.store.Store.{Ghosts}
 use Rattle.sqlite.specs.State.{HasCleanDisk}
@@ -19,7 +20,8 @@ use Rattle.er_desk.specs.Run.{Session, MayEnd, IsRun, IsStoredEnd, session_of, n
 use Rattle.er_desk.specs.History.{Ended, IsHistory}
 use Rattle.er_desk.specs.Headline.{Histories, IsEndOf, FindsAgain, LeavesEnd, NextBegins, WasLeftBy, and_then}
 
-history_more : (new first : Point) (ends : List Ended) (it : Ended) → IsHistory new ends first → MayEnd first it.session it.last → IsHistory new (ends ++ it ∷ []) it.last
+history_more : (new first : Point) (ends : List Ended) (it : Ended) → IsHistory new ends first → MayEnd first it.session it.last
+    → IsHistory new (ends ++ it ∷ []) it.last
 history_more new first [] it is may = (subst (λ (p : Point). MayEnd p it.session it.last) is may, refl)
 history_more new first (before ∷ more) it (ended, rest) may = (ended, history_more before.last first more it rest may)
 
@@ -55,10 +57,12 @@ module _ (law : Histories) (image : Image) (new first : Point) (ends : List Ende
 
   -- a desk before the commands and after them
   module _ {S E : Type 0} (g : Ghosts S) (old now : Desk S g) (commands : List Command) where
-    pub run_begins : (r : Result (Vec Reply Global) E) → IsFalse (standing old).stopped → (HasCleanDisk (state g old) → FindsAgain g old first)
+    pub run_begins : (r : Result (Vec Reply Global) E) → IsFalse (standing old).stopped
+        → (HasCleanDisk (state g old) → FindsAgain g old first)
         → (HasCleanDisk (state g now) → HasCleanDisk (state g old))
         → (IsFalse (standing old).stopped → ShowsOwn g old
-        → IfOk r (λ replies. LeavesEnd (state g now) (point_of (standing old)) (session_of commands replies.items (standing now).stopped)))
+        → IfOk r (λ replies.
+        LeavesEnd (state g now) (point_of (standing old)) (session_of commands replies.items (standing now).stopped)))
         → IfErr r (λ _. now ≡ old)
         → MatchResult r
         (λ replies. Leaves (state g now) (NextBegins new ends (session_of commands replies.items (standing now).stopped)))
@@ -66,15 +70,19 @@ module _ (law : Histories) (image : Image) (new first : Point) (ends : List Ende
     run_begins (Ok replies) ready found before crash same = λ clean trees may.
         let again = found (before clean) in
         let session = session_of commands replies.items (standing now).stopped in
-        next_begins session trees (subst (λ (p : Point). IsStoredEnd p session trees) again.found (crash ready again.shows clean trees may))
+        next_begins session trees
+        (subst (λ (p : Point). IsStoredEnd p session trees) again.found (crash ready again.shows clean trees may))
     run_begins (Err e) ready found before crash same = λ clean trees may.
-        quiet_begins trees ((found (before clean)).leaves (before clean) trees (subst (λ (d : Desk S g). (state g d).may_leave trees) same may))
+        quiet_begins trees
+        ((found (before clean)).leaves (before clean) trees (subst (λ (d : Desk S g). (state g d).may_leave trees) same may))
 
 standing_is : (s : Standing) (point : Point) → IsFalse s.stopped → point_of s ≡ point → s ≡ running_at point
 standing_is s point runs is =
     ap₂ (λ (p : Point) (b : Bool). (let at : Standing = record { event = p.event; serial = p.serial; stopped = b } in at)) is runs
 
-pub runs_from : {E : Type 0} (r : Result (Vec Reply Global) E) (commands : List Command) (old now : Standing) (point : Point) → IsFalse old.stopped → point_of old ≡ point
-    → IfOk r (λ replies. IsRun old commands replies.items now) → IfOk r (λ replies. IsRun (running_at point) commands replies.items now)
-runs_from (Ok replies) commands old now point runs is ran = subst (λ (s : Standing). IsRun s commands replies.items now) (standing_is old point runs is) ran
+pub runs_from : {E : Type 0} (r : Result (Vec Reply Global) E) (commands : List Command) (old now : Standing) (point : Point)
+    → IsFalse old.stopped → point_of old ≡ point → IfOk r (λ replies. IsRun old commands replies.items now)
+    → IfOk r (λ replies. IsRun (running_at point) commands replies.items now)
+runs_from (Ok replies) commands old now point runs is ran =
+    subst (λ (s : Standing). IsRun s commands replies.items now) (standing_is old point runs is) ran
 runs_from (Err e) commands old now point runs is ran = tt

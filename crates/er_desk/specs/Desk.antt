@@ -12,8 +12,7 @@ use Rattle.er_event.specs.declared.slips.SlipRow.{SlipRow}
 use Rattle.er_event.specs.Event.{EventValue}
 use Rattle.er_rules.specs.Refusing.{IsOfRules}
 use Rattle.er_rules.specs.Step.{Answers}
-use Rattle.er_store.specs.Fault.{IsFault}
-use Rattle.er_store.specs.Slip.{IsSlipFault}
+use Rattle.er_store.specs.Fault.{IsFault, IsReadFault}
 use Rattle.er_store.specs.Standing as tables
 use Rattle.er_store.specs.Store as store
 use Rattle.er_desk.specs.Reply.{Reply, receipt, IsDue}
@@ -101,9 +100,16 @@ module _ (old : Standing) (command : Command) (reply : Reply) (new : Standing) w
   abbrev pub Turn : Type 0
   Turn = Accepts ⊎ Declines ⊎ Stops ⊎ Waits
 
+-- Reading what the tables keep. Success and want of memory beside the store leave the desk as it is. A fault of the store stops it, and a desk that was stopped asks for reopening.
+abbrev pub ReadsRows : {A : Type 0} → Standing → Result A Refusal → Standing → Type 0
+ReadsRows old result new =
+    (IsFalse old.stopped × (new ≡ old) × (IsOk result ⊎ (result ≡ Err Memory)))
+    ⊎ (IsFalse old.stopped × (new ≡ record old { stopped = true }) × (why : Refusal) × IsReadFault why × (result ≡ Err why))
+    ⊎ (IsTrue old.stopped × (new ≡ old) × (result ≡ Err NeedsReopen))
+
 -- Reading a slip. A slip, or no such match, leaves the desk as it is. A fault of the store stops it, and a desk that was stopped asks for reopening.
 abbrev pub ReadsSlip : Standing → Result SlipRow Refusal → Standing → Type 0
 ReadsSlip old result new =
     (IsFalse old.stopped × (new ≡ old) × (IsOk result ⊎ (result ≡ Err NoSuchMatch)))
-    ⊎ (IsFalse old.stopped × (new ≡ record old { stopped = true }) × (why : Refusal) × IsSlipFault why × (result ≡ Err why))
+    ⊎ (IsFalse old.stopped × (new ≡ record old { stopped = true }) × (why : Refusal) × IsReadFault why × (result ≡ Err why))
     ⊎ (IsTrue old.stopped × (new ≡ old) × (result ≡ Err NeedsReopen))

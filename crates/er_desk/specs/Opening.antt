@@ -14,16 +14,17 @@ use Rattle.er_event.specs.declared.refusals.Place.{Place}
 use Rattle.er_event.specs.declared.refusals.Place.TheVariants.{BracketTable}
 use Rattle.er_event.specs.Event.{EventValue}
 use Rattle.er_event.specs.Parts.{parts_of}
+use Rattle.er_event.specs.Rows.{tally_rows}
 use Rattle.er_event.specs.Sound.{IsSoundButForSeeds}
 use Rattle.er_rules.specs.Sound.{HasSeeds}
-use Rattle.er_store.specs.Damage.{ReadsParts, IsAtFault, IfDamaged}
+use Rattle.er_store.specs.Damage.{ReadsParts, ReadsTallies, IsAtFault, IfDamaged}
 use Rattle.er_store.specs.Standing.{ReadsEvent}
 use Rattle.er_desk.specs.declared.opening.OpenFault.{OpenFault}
 use Rattle.er_desk.specs.declared.opening.OpenFault.TheVariants.{Unopened, Refused}
 
 -- the tables are read as those of an event whose playoff has other seeds than its standings
 abbrev pub HasOtherSeeds : Database → Type 0
-HasOtherSeeds db = (event : EventValue) × (serial : ℕ) × ReadsParts db (parts_of event serial) × IsSoundButForSeeds event × (HasSeeds event → ⊥)
+HasOtherSeeds db = (event : EventValue) × (serial : ℕ) × ReadsParts db (parts_of event serial) × ReadsTallies db (tally_rows event) × IsSoundButForSeeds event × (HasSeeds event → ⊥)
 
 -- this table is the first at fault, where seeds are looked at last
 abbrev pub IsFirstAtFault : Database → Place → Type 0

@@ -1,10 +1,10 @@
-ghost use Rattle.std.specs.Prelude.{◌≡◌, IfOk, IfErr};
-ghost use Rattle.std.specs.Prelude.{◌≤◌};
+ghost use Rattle.std.specs.Prelude.{◌≡◌, ◌≤◌, IfOk, IfErr};
 ghost use Rattle.er_event.specs.Change.{after, Fits};
 ghost use Rattle.er_event.specs.declared.refusals.TheConstants.{MAX_SERIAL};
 ghost use Rattle.er_rules.specs.Sound.{IsSound};
 ghost use Rattle.er_store.specs.Store as tables;
 
+use crate::stored::read_standings;
 use er_event::{Change, Command, Event, MAX_SERIAL, Name, Place, Receipt, Refusal, SlipRow};
 use er_rank::{Row, standings};
 use er_rules::laws::budget_searches;
@@ -61,7 +61,7 @@ impl<S: Alter> Desk<S> {
     ghost use Rattle.er_store.specs.Loading.{ShowsEvent};
     ghost use Rattle.er_store.specs.Slip.{FindsSlip};
     ghost use Rattle.er_store.specs.Reading.{KeepsTables};
-    ghost use Rattle.er_desk.specs.Desk.{Point, Turn, Stops, ReadsSlip, ShowsOwn, AreLimits, point_of, state, standing};
+    ghost use Rattle.er_desk.specs.Desk.{Point, Turn, Stops, ReadsRows, ReadsSlip, ShowsOwn, AreLimits, point_of, state, standing};
     ghost use Rattle.er_desk.specs.Run.{Runs, IsRun, session_of};
     ghost use Rattle.er_desk.specs.Headline.{IsEmptyFile, LeavesJust, LeavesEither, LeavesEnd, FindsAgain, RepeatsNobody, AreTheStandings};
     ghost use Rattle.er_desk.specs.History.{new_point};
@@ -203,6 +203,34 @@ impl<S: Alter> Desk<S> {
             Ok(rows) => Ok(rows),
             Err(_error) => Err(Refusal::Memory),
         }
+    }
+
+    /// The standings of the event, by the totals and the meetings that its tables keep. It changes no table. Standings, and want of memory to work them out, leave the desk as it is.
+    pub fn stored_standings(&mut self, alloc: Global) -> Result<Vec<Row>, Refusal>
+        ensures turn { ReadsRows (standing self.old) result (standing self.new) }
+        ensures waits { IsTrue (standing self.old).stopped → self.new ≡ self.old }
+
+        // Where the tables stand for the event, they are its standings, or memory or the store fails.
+        ensures found { IsFalse (standing self.old).stopped → HasCleanDisk (state S.Store self.new) → ShowsOwn S.Store self.old
+            → MatchResult result (λ rows. AreTheStandings self.old.event rows.items) IsFault }
+
+        // The tables stand for the event, and those of others stay.
+        ensures clean { HasCleanDisk (state S.Store self.new) → HasCleanDisk (state S.Store self.old) }
+        ensures stands { HasCleanDisk (state S.Store self.new) → ShowsOwn S.Store self.old → IsFalse (standing self.new).stopped → ShowsOwn S.Store self.new }
+        ensures kept { HasCleanDisk (state S.Store self.new) → OnErr result (KeepsTables (state S.Store self.old) (state S.Store self.new)) }
+        ensures others { HasCleanDisk (state S.Store self.new) → ShowsOwn S.Store self.old → IsTrue (state S.Store self.new).is_open
+            → KeepsOthers (state S.Store self.old).now (state S.Store self.new).now }
+        ensures crash { ShowsOwn S.Store self.old → LeavesJust (state S.Store self.new) (point_of (standing self.old)) }
+    {
+        // What the tables stand for, a crash leaves, and an event is always sound: these tell the proof.
+        shown_is_stored(&self.store);
+        let _ = self.event.phase();
+        if self.needs_reopen {
+            return Err(Refusal::NeedsReopen);
+        }
+        let read = read_standings(alloc, &mut self.store);
+        self.needs_reopen = self.store.needs_reopen();
+        read
     }
 
     /// Reads the slip of a match. It changes no table. A slip, or no such match, leaves the desk as it is.

@@ -6,6 +6,7 @@ mod desk;
 pub mod laws;
 mod opening;
 mod sessions;
+mod stored;
 
 pub use desk::{Desk, Reply};
 pub use opening::{OpenFault, open, opening_refusal};

@@ -23,4 +23,6 @@ pub mod SlotScoreLemmas
 pub mod EndLemmas
 pub mod Examples
 pub mod TotalLemmas
+pub mod OverLemmas
 pub mod RescoredLemmas
+pub mod RecountedLemmas

@@ -1,5 +1,5 @@
 -- The rounds of an event in which a match gets a score are those of the event after it.
-use Rattle.std.proofs.Common.{◌≡◌, ℕ, ◌-◌, ◌≤◌, List, [], length, map, get_or, All, Option, Some, None, sym, ap, subst, ◌∙◌, arith}
+use Rattle.std.proofs.Common.{◌≡◌, ℕ, ◌-◌, ◌<◌, ◌≤◌, List, [], length, map, get_or, All, Option, Some, None, sym, ap, subst, ◌∙◌, arith}
 use Rattle.std.proofs.Math.ListN.{set}
 use Rattle.std.specs.List.{slice_get}
 use Rattle.std.proofs.lemmas.Option.{get_or_from_slice_get}
@@ -52,3 +52,10 @@ module _ (e : EventValue) (k t : ℕ) (s : Games) (fits : Fits e (SetScore k t s
 
   pub seated-after : All (λ (r : Round). IsSeatedOnce r.matches) (rescored e.stored (k - 1) t s)
   seated-after = subst (λ (rs : List Round). All (λ (r : Round). IsSeatedOnce r.matches) rs) (sym as-scored) (λ i d below. (fits.sound.rounds.each i d below).seated_once)
+
+  pub table-within : (r : Round) → r ≡ get_or e.stored (k - 1) r → (1 ≤ t) × (t ≤ length r.matches)
+  table-within r is = subst (λ (q : Round). (1 ≤ t) × (t ≤ length q.matches)) (sym (is ∙ get_or_from_slice_get e.stored (k - 1) it.round r it.stored)) (has-table it.round it.stored)
+
+  -- the round is there
+  pub round-within : k - 1 < length e.stored
+  round-within = within-get e.stored (k - 1) it.round it.stored

@@ -20,7 +20,7 @@ use Rattle.er_event.specs.Seen.{IsSeatedOnce, AreOver, rescored}
 zero-right : (n : ℕ) → n + 0 ≡ n
 zero-right n = omega arith
 
-own-append : (player : ℕ) (xs ys : List Line) → own player (xs ++ ys) ≡ own player xs ++ own player ys
+pub own-append : (player : ℕ) (xs ys : List Line) → own player (xs ++ ys) ≡ own player xs ++ own player ys
 own-append player xs ys = filter-append (λ (l : Line). l.player == player) xs ys
 
 pub totals_of-append : (xs ys : List Line) → totals_of (xs ++ ys) ≡ plus (totals_of xs) (totals_of ys)
@@ -32,8 +32,8 @@ other_line player l rest other =
     let no : (l.player == player) ≡ false = grind (arith, nat_tests, other) in
     ap (λ (b : Bool). cond b (l ∷ own player rest) (own player rest)) no
 
-absent_second : (player round a b : ℕ) (s : Games) → b ≢ player → own player (as_second round a b s) ≡ []
-absent_second player round a b s other = by_test (b == 0)
+pub absent-second : (player round a b : ℕ) (s : Games) → b ≢ player → own player (as_second round a b s) ≡ []
+absent-second player round a b s other = by_test (b == 0)
   where
     by_test : (test : Bool) → own player (if test then [] else record { round = round; player = b; opponent = a; won = s.y; lost = s.x; drawn = s.d } ∷ []) ≡ []
     by_test true = refl
@@ -42,7 +42,7 @@ absent_second player round a b s other = by_test (b == 0)
 absent_score : (player round a b : ℕ) (score : Option Games) → a ≢ player → b ≢ player → own player (lines_of_score round a b score) ≡ []
 absent_score player round a b None first second = refl
 absent_score player round a b (Some s) first second =
-    other_line player (record { round = round; player = a; opponent = b; won = s.x; lost = s.y; drawn = s.d }) (as_second round a b s) first ∙ absent_second player round a b s second
+    other_line player (record { round = round; player = a; opponent = b; won = s.x; lost = s.y; drawn = s.d }) (as_second round a b s) first ∙ absent-second player round a b s second
 
 pub absent : (player round : ℕ) (m : Match) → m.a ≢ player → m.b ≢ player → own player (lines_of_match round m) ≡ []
 absent player round m first second = absent_score player round m.a m.b m.score first second
@@ -108,7 +108,7 @@ slot-length matches table score = length-set matches (table - 1) (scored score (
 
 -- ---- rounds
 
-lines_from-push : (n : ℕ) (rs : List Round) (r : Round) → lines_from n (rs ++ r ∷ []) ≡ lines_from n rs ++ counted_lines (n + length rs) r
+pub lines_from-push : (n : ℕ) (rs : List Round) (r : Round) → lines_from n (rs ++ r ∷ []) ≡ lines_from n rs ++ counted_lines (n + length rs) r
 lines_from-push n [] r = append-nil (counted_lines n r) ∙ ap (λ (k : ℕ). counted_lines k r) (omega arith)
 lines_from-push n (first ∷ rs) r =
     let next : n + 1 + length rs ≡ n + suc (length rs) = omega arith in

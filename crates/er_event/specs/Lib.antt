@@ -18,3 +18,4 @@ pub mod Totals
 pub mod Slip
 pub mod Seen
 pub mod Tallies
+pub mod Recounted

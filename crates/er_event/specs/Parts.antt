@@ -2,7 +2,7 @@
 use Rattle.std.specs.Prelude.{◌≡◌, ◌≢◌, ◌≤◌, ℕ, List, [], ◌∷◌, length, All, IsTrue, IsFalse}
 use Rattle.er_event.specs.declared.refusals.TheConstants.{MAX_SERIAL}
 use Rattle.er_event.specs.declared.refusals.Place.{Place}
-use Rattle.er_event.specs.declared.refusals.Place.TheVariants.{EventTable, PlayerTable, PairingTable, BracketTable}
+use Rattle.er_event.specs.declared.refusals.Place.TheVariants.{EventTable, PlayerTable, PairingTable, BracketTable, TallyTable}
 use Rattle.er_event.specs.declared.events.Phase.{Phase}
 use Rattle.er_event.specs.declared.events.Phase.TheVariants.{Enrolling}
 use Rattle.er_event.specs.declared.players.Player.{Player}
@@ -73,3 +73,5 @@ IsFirstFault parts EventTable = (e : EventValue) → IsEventRow parts.event e �
 IsFirstFault parts PlayerTable = ((e : EventValue) × IsEventRow parts.event e) × ((e : EventValue) → HasPlayerRows parts e → ⊥)
 IsFirstFault parts PairingTable = ((e : EventValue) × HasPlayerRows parts e) × ((e : EventValue) → HasRoundRows parts e → ⊥)
 IsFirstFault parts BracketTable = ((e : EventValue) × HasRoundRows parts e) × ((e : EventValue) → HasAllRows parts e → ⊥)
+-- the totals are no part of these rows
+IsFirstFault parts TallyTable = ⊥

@@ -1,4 +1,4 @@
--- The rows of the four tables that an event has.
+-- The rows of the five tables that an event has.
 use Rattle.std.specs.Prelude.{ℕ, ℤ, pos, ◌+◌, min, max, nat_lt, Bool, not, if◌then◌else◌, List, [], ◌∷◌, ◌++◌, map, filter, Option, Some, None, is_some}
 use Rattle.er_event.specs.declared.events.Phase.{Phase}
 use Rattle.er_event.specs.declared.events.Phase.TheVariants.{Enrolling, Swiss, Playoff, Finished}
@@ -9,9 +9,12 @@ use Rattle.er_event.specs.declared.rows.EventRow.{EventRow}
 use Rattle.er_event.specs.declared.rows.PlayerRow.{PlayerRow}
 use Rattle.er_event.specs.declared.rows.PairingRow.{PairingRow}
 use Rattle.er_event.specs.declared.rows.BracketRow.{BracketRow}
+use Rattle.er_event.specs.declared.rows.TallyRow.{TallyRow}
 use Rattle.er_event.specs.declared.scores.Games.{Games}
+use Rattle.er_event.specs.declared.totals.Totals.{Totals}
 use Rattle.er_event.specs.Event.{EventValue}
 use Rattle.er_event.specs.Round.{is_bye, numbered_from, table_of}
+use Rattle.er_event.specs.Totals.{totals}
 
 abbrev pub flag : Bool → ℤ
 flag b = if b then pos 1 else pos 0
@@ -101,3 +104,14 @@ bracket_rows_from stage (matches ∷ later) = stage_rows stage matches ++ bracke
 
 abbrev pub bracket_rows : EventValue → List BracketRow
 bracket_rows e = bracket_rows_from 1 e.bracket.stages
+
+abbrev pub tally_row : ℕ → Totals → TallyRow
+tally_row number t = record { no = pos number; points = pos t.points; rounds = pos t.rounds; gamepoints = pos t.game_points; games = pos t.games }
+
+-- of these players, by what their matches come to
+abbrev pub tally_rows_by : (ℕ → Totals) → List Player → List TallyRow
+tally_rows_by come_to players = map (λ (p : Player). tally_row p.no (come_to p.no)) players
+
+-- by number
+abbrev pub tally_rows : EventValue → List TallyRow
+tally_rows e = tally_rows_by (totals e) e.players

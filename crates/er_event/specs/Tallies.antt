@@ -1,5 +1,5 @@
 -- The totals of each player, and who met whom.
-use Rattle.std.specs.Prelude.{ℕ, min, max, not, if◌then◌else◌, List, [], map, filter, flat_map}
+use Rattle.std.specs.Prelude.{ℕ, ◌<◌, min, max, not, if◌then◌else◌, List, [], map, filter, flat_map}
 use Rattle.er_event.specs.declared.players.Player.{Player}
 use Rattle.er_event.specs.declared.rounds.Match.{Match}
 use Rattle.er_event.specs.declared.rounds.Round.{Round}
@@ -33,3 +33,10 @@ meeting_by come_to m = record {
 -- one for each match of the counted rounds, by round and table; a bye is no meeting
 abbrev pub meetings : EventValue → List Meeting
 meetings event = map (meeting_by (totals event)) (filter (λ m. not (is_bye m)) (counted_matches event.stored))
+
+-- what a row of totals can be read as
+pub record AreReadable (t : Totals) : Type 0 where
+  pub points : t.points < 256
+  pub rounds : t.rounds < 256
+  pub game_points : t.game_points < 65536
+  pub games : t.games < 65536

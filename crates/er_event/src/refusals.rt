@@ -11,6 +11,7 @@ pub enum Place {
     PlayerTable,
     PairingTable,
     BracketTable,
+    TallyTable,
 }
 
 /// Why the store could not serve a call.

@@ -34,6 +34,16 @@ pub struct PairingRow {
     pub d: i64,
 }
 
+/// A row of the table `tally`.
+#[derive(Clone, Copy, PartialEq, Eq)]
+pub struct TallyRow {
+    pub no: i64,
+    pub points: i64,
+    pub rounds: i64,
+    pub gamepoints: i64,
+    pub games: i64,
+}
+
 /// A row of the table `bracket`.
 #[derive(Clone, Copy, PartialEq, Eq)]
 pub struct BracketRow {

@@ -149,7 +149,7 @@ fn match_with(matches: &[Match], at: usize, table: usize, score: Score) -> Match
 }
 
 /// Whether the round is complete once the match of a table has this score.
-fn is_complete_with(matches: &[Match], table: usize, score: Score) -> bool
+pub(crate) fn is_complete_with(matches: &[Match], table: usize, score: Score) -> bool
     requires table { (1 ≤ table) × (table ≤ length matches.now) }
     ensures { result ≡ is_counted (scored_slot matches.now table score) }
 {

@@ -31,7 +31,8 @@ use Rattle.er_slips.specs.declared.serve.Served.TheVariants.{Answered, ReadFault
 use Rattle.er_slips.specs.Request.{Asks, TellsAsked}
 use Rattle.er_slips.specs.Answer.{AnswerValue, shown, fault_answer, refusal_answer, slip_answer, status_of}
 use Rattle.er_slips.specs.Whole.{ShowsStandings, ShowsPairings, row_answer, reply_answer, IsAnswered, submitted, IsAnswerUnless503}
-use Rattle.er_store.specs.Slip.{IsSlipFault, FindsSlip}
+use Rattle.er_store.specs.Fault.{IsReadFault}
+use Rattle.er_store.specs.Slip.{FindsSlip}
 use Rattle.er_slips.specs.Serving.{IsShown, IsSlipAnswer, Answers, IsServed, IsUnserved, Writes, Ends, IsWritten}
 
 pub reopening : (desk : Standing) (Shows : EventValue → AnswerValue → Type 0) (answer : AnswerValue) (why : Refusal)
@@ -98,7 +99,7 @@ module _ (old new : Standing) (input : List ℕ) (answer : AnswerValue) (runs : 
   shown-by asked Shows is to (inl (running, inr memory)) = hindered Memory refl memory
   shown-by asked Shows is to (inr (stopped, e)) = runs-on stopped
 
-  fault-status : (why : Refusal) → IsSlipFault why → status_of why ≡ 503
+  fault-status : (why : Refusal) → IsReadFault why → status_of why ≡ 503
   fault-status why (inl (inl e)) = rw e refl
   fault-status why (inl (inr e)) = rw e refl
   fault-status why (inr e) = rw e refl

@@ -17,10 +17,10 @@ use Rattle.er_event.specs.declared.refusals.Refusal.{Refusal}
 use Rattle.er_event.specs.declared.refusals.Refusal.TheVariants.{Memory, Damaged}
 use Rattle.er_event.specs.declared.refusals.Place.{Place}
 use Rattle.er_event.specs.declared.parts.Parts.{Parts}
-use Rattle.er_event.specs.Parts.{IsFirstFault}
+use Rattle.er_event.specs.declared.rows.TallyRow.{TallyRow}
 use Rattle.er_store.specs.Reading.{out_of_memory}
 use Rattle.er_store.specs.Fault.{reading_refusal}
-use Rattle.er_store.specs.Damage.{Answered, IsUnread, IsRefused, IsMisreadAs, MayRead, IsMisread, ReadsBefore, IsFirstMisread, IfDamaged}
+use Rattle.er_store.specs.Damage.{Answered, IsUnread, IsRefused, IsMisreadAs, MayRead, IsMisread, ReadsBefore, IsRowFault, IsFirstMisread, IfDamaged}
 use Rattle.er_store.specs.Reading.{first_columns}
 use Rattle.er_store.proofs.Selecting.{begins_select, never_returns}
 
@@ -136,6 +136,8 @@ no_place : (place : Place) → ◌≡◌ {A = Refusal} Memory (Damaged place) �
 no_place place h = cc
 
 -- they were all read, and their rows are checked
-pub first_of : (parts : Parts) (why : Refusal) → (why ≡ Memory) ⊎ ((place : Place) × (why ≡ Damaged place) × IsFirstFault parts place) → (place : Place) → why ≡ Damaged place → IsFirstFault parts place
-first_of parts why (inl memory) place h = absurd (no_place place (sym memory ∙ h))
-first_of parts why (inr (at, is, fault)) place h = subst (IsFirstFault parts) (same_place at place (sym is ∙ h)) fault
+pub first_of : (parts : Parts) (rows given : List TallyRow) → given ≡ rows → (why : Refusal) → (why ≡ Memory) ⊎ ((place : Place) × (why ≡ Damaged place) × IsRowFault parts given place)
+    → (place : Place) → why ≡ Damaged place → IsRowFault parts rows place
+first_of parts rows given same why (inl memory) place h = absurd (no_place place (sym memory ∙ h))
+first_of parts rows given same why (inr (at, is, fault)) place h =
+    subst (λ (them : List TallyRow). IsRowFault parts them place) same (subst (IsRowFault parts given) (same_place at place (sym is ∙ h)) fault)

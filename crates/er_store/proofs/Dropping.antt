@@ -24,10 +24,11 @@ use Rattle.er_event.specs.declared.players.Player.{Player}
 use Rattle.er_event.specs.Event.{EventValue}
 use Rattle.er_event.specs.Sound.{numbers}
 use Rattle.er_event.specs.Change.{with_dropped, dropped_at}
+use Rattle.er_event.specs.declared.rows.TallyRow.{TallyRow}
 use Rattle.er_store.specs.Tables.{player, set_dropped}
 use Rattle.er_store.specs.Rows.{number, player_places, stored_player, shown}
-use Rattle.er_store.specs.Standing.{HasTables, StandsFor}
-use Rattle.er_store.specs.Steps.{Goes, Makes}
+use Rattle.er_store.specs.Standing.{HasTables, StandsWith}
+use Rattle.er_store.specs.Steps.{Goes, MakesWith}
 use Rattle.er_store.proofs.Picking.{picks, is_another, row_of, rows_of, dropped, picks_one}
 use Rattle.er_store.proofs.Values.{cast_int, cast_null}
 use Rattle.er_store.proofs.Inserts.{first_fresh}
@@ -82,8 +83,8 @@ sets_dropped old new n ps q count has same one is inside h =
     let applied = one_step schema (mode_of old).keys trees new.now.trees edit (sets_off_nothing schema (mode_of old).keys 1 (taken_by trees edit) edit.news has (λ x other. other.1)) wrote in
     (record { was = inside; shows = h.1; sound = w.sound; schema = u.2; others = applied.tables }, replaced n q (trees 1) (new.now.trees 1) ps same is applied.rows (first_fresh _ applied.fresh))
 
-pub player_dropped : (old new : State) (e : EventValue) (s n count : ℕ) → StandsFor old.now e s → numbers e.players ≡ range_with_len 1 (length e.players) → Contains (numbers e.players) n
-    → IsTrue old.in_transaction → ExecutesInside 0 set_dropped (number n ∷ []) old new (Ok count) → Makes old new (with_dropped e n) s
+pub player_dropped : (old new : State) (e : EventValue) (s n count : ℕ) → {kept : List TallyRow} → StandsWith old.now e s kept → numbers e.players ≡ range_with_len 1 (length e.players) → Contains (numbers e.players) n
+    → IsTrue old.in_transaction → ExecutesInside 0 set_dropped (number n ∷ []) old new (Ok count) → MakesWith old new (with_dropped e n) s kept
 player_dropped old new e s n count stands numbered known inside h =
     let one = picks_one e.players n numbered known in
     let set = sets_dropped old new n e.players one.it count stands.tables stands.players one.alone one.is inside h in

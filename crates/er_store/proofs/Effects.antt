@@ -29,14 +29,15 @@ use Rattle.er_event.specs.declared.rows.BracketRow.{BracketRow}
 use Rattle.er_event.specs.Event.{EventValue}
 use Rattle.er_event.specs.Change.{with_phase}
 use Rattle.er_event.specs.Rows.{flag, phase_code, event_row}
-use Rattle.er_store.specs.Tables.{event, player, pairing, bracket, insert_event, insert_player, insert_pairing, insert_slot, set_serial, set_phase}
-use Rattle.er_store.specs.Rows.{number, event_columns, pairing_columns, bracket_columns, event_places, stored_event, stored_player, stored_pairing, stored_slot, shown}
-use Rattle.er_store.specs.Standing.{HasTables, StandsFor, CanRead}
+use Rattle.er_event.specs.declared.rows.TallyRow.{TallyRow}
+use Rattle.er_store.specs.Tables.{event, player, pairing, bracket, tally, insert_event, insert_player, insert_pairing, insert_slot, insert_tally, set_serial, set_phase}
+use Rattle.er_store.specs.Rows.{number, event_columns, pairing_columns, bracket_columns, tally_columns, event_places, stored_event, stored_player, stored_pairing, stored_slot, stored_tally, shown}
+use Rattle.er_store.specs.Standing.{HasTables, StandsWith, CanRead}
 use Rattle.er_store.specs.Steps.{Goes, Puts}
 use Rattle.er_store.proofs.Values.{cast_int, cast_null}
 use Rattle.er_store.proofs.Inserts.{puts_one}
 use Rattle.er_store.proofs.Updates.{update_goes, sets_off_nothing, event_rows}
-use Rattle.er_store.proofs.Meaning.{full, event_terms, event_is, event_plain, player_terms, player_is, player_plain, pairing_terms, pairing_is, pairing_plain, slot_terms, slot_is, slot_plain, event_query, serial_terms, serial_is, serial_plain, phase_terms, phase_is, phase_plain, readable}
+use Rattle.er_store.proofs.Meaning.{full, event_terms, event_is, event_plain, player_terms, player_is, player_plain, pairing_terms, pairing_is, pairing_plain, slot_terms, slot_is, slot_plain, tally_terms, tally_is, tally_plain, event_query, serial_terms, serial_is, serial_plain, phase_terms, phase_is, phase_plain, readable}
 
 -- what holds of each schema with the four tables in front holds of this one
 pub at_ours : (schema : Schema) (has : HasTables schema) (P : Schema → Type 0) → P (full has.others schema.indexes schema.views) → P schema
@@ -107,6 +108,19 @@ puts_slot old new r count has inside h =
     (at_ours old.now.schema has (λ s. IsPlain (understood s insert_slot)) (slot_plain _ _ _))
     (ap (λ ts. slice_get ts 3) has.are) refl (slot_news r (old.now.trees 6)) inside h
 
+-- ---- a row of totals
+
+tally_news : (r : TallyRow) (rows : List Row) → numbered Chosen rows (cast_row (tally 8) (stored_tally r) ∷ []) ≡ stored_tally r ∷ []
+tally_news r rows = rw (cast_int r.no, cast_null, cast_int r.points, cast_int r.rounds, cast_int r.gamepoints, cast_int r.games)
+
+pub puts_tally : (old new : State) (r : TallyRow) (count : ℕ) → HasTables old.now.schema → IsTrue old.in_transaction
+    → ExecutesInside 0 insert_tally (tally_columns r) old new (Ok count) → Puts 8 (stored_tally r) old new
+puts_tally old new r count has inside h =
+    puts_one insert_tally (tally_columns r) old new 4 6 (tally 8) tally_terms (stored_tally r) count
+    (at_ours old.now.schema has (λ s. command_of (understood s insert_tally) ≡ Insert 4 (Values tally_terms 6)) (tally_is _ _ _))
+    (at_ours old.now.schema has (λ s. IsPlain (understood s insert_tally)) (tally_plain _ _ _))
+    (ap (λ ts. slice_get ts 4) has.are) refl (tally_news r (old.now.trees 8)) inside h
+
 -- ---- the row of the event
 
 pub one_of : (places : List ℕ) (rows : List Row) (row : Row) → shown places rows ≡ row ∷ [] → (r : Row) × (rows ≡ r ∷ []) × (map (column r) places ≡ row)
@@ -131,7 +145,7 @@ sets_event : (sql : List ℕ) (terms : List Term) (v : Value) (old new : State) 
     → ((others : List Table) (indexes : List Index) (views : List View) → command_of (understood (full others indexes views) sql) ≡ Update 0 (record { lets = []; body = event_query terms }))
     → ((others : List Table) (indexes : List Index) (views : List View) → IsPlain (understood (full others indexes views) sql))
     → ((r : Row) → map (column r) event_places ≡ event_columns (event_row e s) → eval_all terms ((v ∷ []) ∷ r ∷ []) ≡ number 1 ∷ stored_event e' t)
-    → StandsFor old.now e s → IsTrue old.in_transaction → ExecutesInside 0 sql (v ∷ []) old new (Ok count) → Goes 0 old new × (new.now.trees 0 ≡ stored_event e' t ∷ [])
+    → {kept : List TallyRow} → StandsWith old.now e s kept → IsTrue old.in_transaction → ExecutesInside 0 sql (v ∷ []) old new (Ok count) → Goes 0 old new × (new.now.trees 0 ≡ stored_event e' t ∷ [])
 sets_event sql terms v old new e e' s t count is plain shows stands inside h =
     let has = stands.tables in
     let schema = old.now.schema in
@@ -159,7 +173,7 @@ serial_shows r e s t h =
     let c7 : column r 7 ≡ number (phase_code e.phase) = cc in
     cc
 
-pub sets_serial : (old new : State) (e : EventValue) (s t count : ℕ) → StandsFor old.now e s → IsTrue old.in_transaction
+pub sets_serial : (old new : State) (e : EventValue) (s t count : ℕ) → {kept : List TallyRow} → StandsWith old.now e s kept → IsTrue old.in_transaction
     → ExecutesInside 0 set_serial (number t ∷ []) old new (Ok count) → Goes 0 old new × (new.now.trees 0 ≡ stored_event e t ∷ [])
 sets_serial old new e s t count = sets_event set_serial serial_terms (number t) old new e e s t count serial_is serial_plain (λ r h. serial_shows r e s t h)
 
@@ -173,6 +187,6 @@ phase_shows r e s phase h =
     let c6 : column r 6 ≡ number e.cut = cc in
     cc
 
-pub sets_phase : (old new : State) (e : EventValue) (s : ℕ) (phase : Phase) (count : ℕ) → StandsFor old.now e s → IsTrue old.in_transaction
+pub sets_phase : (old new : State) (e : EventValue) (s : ℕ) (phase : Phase) (count : ℕ) → {kept : List TallyRow} → StandsWith old.now e s kept → IsTrue old.in_transaction
     → ExecutesInside 0 set_phase (number (phase_code phase) ∷ []) old new (Ok count) → Goes 0 old new × (new.now.trees 0 ≡ stored_event (with_phase e phase) s ∷ [])
 sets_phase old new e s phase count = sets_event set_phase phase_terms (number (phase_code phase)) old new e (with_phase e phase) s s count phase_is phase_plain (λ r h. phase_shows r e s phase h)

@@ -31,8 +31,11 @@ use Rattle.er_event.specs.Name.{is_lawful_name}
 use Rattle.er_event.specs.Sound.{numbers, names, IsSoundButForSeeds}
 use Rattle.std.proofs.lemmas.Str.{IsUtf8-from_is_utf8}
 use Rattle.er_event.specs.Round.{numbered_from}
-use Rattle.er_event.specs.Rows.{event_row, player_row, player_rows, bracket_row, bracket_rows, bracket_rows_from}
-use Rattle.er_store.specs.Rows.{event_columns, player_columns, pairing_columns, bracket_columns, shown, event_places, player_places, bracket_places}
+use Rattle.er_event.specs.declared.rows.TallyRow.{TallyRow}
+use Rattle.er_event.specs.declared.totals.Totals.{Totals}
+use Rattle.er_event.specs.Rows.{event_row, player_row, player_rows, bracket_row, bracket_rows, bracket_rows_from, tally_row, tally_rows, tally_rows_by}
+use Rattle.er_event.specs.Totals.{totals}
+use Rattle.er_store.specs.Rows.{event_columns, player_columns, pairing_columns, bracket_columns, tally_columns, shown, event_places, player_places, bracket_places, tally_places}
 use Rattle.er_store.specs.Standing.{StandsFor}
 use Rattle.er_store.specs.Reading.{by_first, by_first_two, Lists, out_of_memory}
 
@@ -67,13 +70,13 @@ bracket_columns-same r s h =
     let of_columns : Row → BracketRow = λ row. record { stage = int_of (column row 0); slot = int_of (column row 1); a = int_of (column row 2); b = int_of (column row 3); done = int_of (column row 4); x = int_of (column row 5); y = int_of (column row 6); d = int_of (column row 7) } in
     ap of_columns h
 
-first_same : (x y : Row) (xs ys : List Row) → x ∷ xs ≡ y ∷ ys → x ≡ y
+first_same : {S : Type 0} (x y : S) (xs ys : List S) → x ∷ xs ≡ y ∷ ys → x ≡ y
 first_same x y xs ys h = cc
 
-rest_same : (x y : Row) (xs ys : List Row) → x ∷ xs ≡ y ∷ ys → xs ≡ ys
+rest_same : {S : Type 0} (x y : S) (xs ys : List S) → x ∷ xs ≡ y ∷ ys → xs ≡ ys
 rest_same x y xs ys h = cc
 
-pub map-same : {T : Type 0} (columns : T → Row) → ((r s : T) → columns r ≡ columns s → r ≡ s) → (xs ys : List T) → map columns xs ≡ map columns ys → xs ≡ ys
+pub map-same : {T S : Type 0} (columns : T → S) → ((r s : T) → columns r ≡ columns s → r ≡ s) → (xs ys : List T) → map columns xs ≡ map columns ys → xs ≡ ys
 map-same columns inj [] [] h = refl
 map-same columns inj [] (y ∷ ys) h = absurd (cc)
 map-same columns inj (x ∷ xs) [] h = absurd (cc)
@@ -128,6 +131,38 @@ players_exact db e s listed stands numbered h =
 
 pub players_typed : (typed : List PlayerRow) (e : EventValue) → map player_columns typed ≡ map player_columns (player_rows e) → typed ≡ player_rows e
 players_typed typed e = map-same player_columns player_columns-same typed (player_rows e)
+
+-- ---- the totals
+
+tally_columns-same : (r s : TallyRow) → tally_columns r ≡ tally_columns s → r ≡ s
+tally_columns-same r s h =
+    let of_columns : Row → TallyRow = λ row.
+    record { no = int_of (column row 0); points = int_of (column row 1); rounds = int_of (column row 2); gamepoints = int_of (column row 3); games = int_of (column row 4) } in
+    ap of_columns h
+
+tally_below : (come_to : ℕ → Totals) (m : ℕ) (n : ℕ) (ps : List Player) → m < n → numbers ps ≡ range_with_len n (length ps)
+    → AllByRecursion (λ b. by_first (tally_columns (tally_row m (come_to m))) b ≡ Less) (map tally_columns (tally_rows_by come_to ps))
+tally_below come_to m n [] low all = tt
+tally_below come_to m n (q ∷ ps) low all =
+    let both = first_number q ps n all in
+    let less : m < q.no = omega (arith, both.0) in
+    (value_cmp-Int (pos m) (pos q.no) ∙ lower m q.no less, tally_below come_to m (n + 1) ps (omega arith) both.1)
+
+tallies_rise : (come_to : ℕ → Totals) (n : ℕ) (ps : List Player) → numbers ps ≡ range_with_len n (length ps)
+    → IsAscending (λ a b. by_first a b ≡ Less) (map tally_columns (tally_rows_by come_to ps))
+tallies_rise come_to n [] all = tt
+tallies_rise come_to n (p ∷ ps) all =
+    let both = first_number p ps n all in
+    (tally_below come_to p.no (n + 1) ps (omega (arith, both.0)) both.1, tallies_rise come_to (n + 1) ps both.1)
+
+pub tallies_exact : (db : Database) (e : EventValue) (s : ℕ) (listed : List Row) → StandsFor db e s → numbers e.players ≡ range_with_len 1 (length e.players)
+    → Lists by_first (shown tally_places (db.trees 8)) listed → listed ≡ map tally_columns (tally_rows e)
+tallies_exact db e s listed stands numbered h =
+    sorted_unique by_first (on_total (λ (r : Row). column r 0) value_cmp_total) (map tally_columns (tally_rows e)) listed (tallies_rise (totals e) 1 e.players numbered)
+    (IsPermutation-trans _ _ _ (IsPermutation-sym _ _ stands.tallies) h.same) h.sorted
+
+pub tallies_typed : (typed : List TallyRow) (e : EventValue) → map tally_columns typed ≡ map tally_columns (tally_rows e) → typed ≡ tally_rows e
+tallies_typed typed e = map-same tally_columns tally_columns-same typed (tally_rows e)
 
 -- ---- the matches of the playoff
 

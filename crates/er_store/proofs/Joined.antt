@@ -74,7 +74,7 @@ abbrev Known : EventValue → ℕ → Type 0
 Known e n = (n ≡ 0) ⊎ Contains (numbers e.players) n
 
 module _ (e : EventValue) (sound : IsSoundButForSeeds e) where
-  some_number : (n : ℕ) → Contains (numbers e.players) n → (1 ≤ n) × (n ≤ 512)
+  pub some_number : (n : ℕ) → Contains (numbers e.players) n → (1 ≤ n) × (n ≤ 512)
   some_number n known =
       let it = within (length e.players) n (subst (λ (ns : List ℕ). Contains ns n) sound.players.numbered known) in
       let few = sound.players.few in
@@ -152,7 +152,7 @@ round_matches n ms few h = All-from_get_or (IsMatch (range_with_len 1 n)) ms no_
       apart = seats-apart ms i m no_match low refl h.seated_once;
     })
 
-all_matches : (e : EventValue) → IsSoundButForSeeds e → All (λ (r : Round). All (IsMatch (numbers e.players)) r.matches) e.stored
+pub all_matches : (e : EventValue) → IsSoundButForSeeds e → All (λ (r : Round). All (IsMatch (numbers e.players)) r.matches) e.stored
 all_matches e sound =
     All-weaker (λ (r : Round). IsRound (numbers e.players) r.matches) (λ (r : Round). All (IsMatch (numbers e.players)) r.matches)
     (λ r h. subst (λ known. All (IsMatch known) r.matches) (sym sound.players.numbered) (round_matches (length e.players) r.matches sound.players.few (subst (λ known. IsRound known r.matches) sound.players.numbered h)))

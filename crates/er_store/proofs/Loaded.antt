@@ -1,14 +1,17 @@
 -- What the rows of a sound event tell.
-use Rattle.std.proofs.Common.{◌≡◌, ◌≤◌, ℕ, ap, subst}
+use Rattle.std.proofs.Common.{◌≡◌, ◌≤◌, inl, inr, ℕ, List, ap, subst}
 use Rattle.std.proofs.lemmas.List.Sorted.{IsPermutation-sym, IsPermutation-trans}
 use Rattle.sqlite.specs.Effect.{Database}
 use Rattle.er_event.specs.declared.parts.Parts.{Parts}
 use Rattle.er_event.specs.declared.refusals.Place.{Place}
-use Rattle.er_event.specs.declared.refusals.Place.TheVariants.{EventTable, PlayerTable, PairingTable, BracketTable}
+use Rattle.er_event.specs.declared.refusals.Place.TheVariants.{EventTable, PlayerTable, PairingTable, BracketTable, TallyTable}
+use Rattle.er_event.specs.declared.rows.TallyRow.{TallyRow}
 use Rattle.er_event.specs.Event.{EventValue}
+use Rattle.er_event.specs.Rows.{tally_rows}
 use Rattle.er_event.specs.Parts.{HasRoundRows, IsFirstFault, parts_of}
 use Rattle.er_event.specs.Sound.{IsSoundButForSeeds}
-use Rattle.er_store.specs.Loading.{ListsParts, ShowsEvent}
+use Rattle.er_store.specs.Loading.{ListsParts, ListsTallies, ShowsEvent}
+use Rattle.er_store.specs.Damage.{IsRowFault}
 use Rattle.er_store.proofs.Keyed.{keyed_permutes}
 
 pub no_fault : (parts : Parts) (e : EventValue) (s : ℕ) → s ≤ 999999 → IsSoundButForSeeds e → parts ≡ parts_of e s → (place : Place) → IsFirstFault parts place → ⊥
@@ -31,10 +34,17 @@ no_fault parts e s low sound are = at_fault
     at_fault PlayerTable h = h.1 e rounds.players
     at_fault PairingTable h = h.1 e rounds
     at_fault BracketTable h = h.1 e (record { rounds = rounds; rows = ap (λ (p : Parts). p.bracket) are; bracket = sound.bracket })
+    at_fault TallyTable h = h
+
+-- nor are the totals of another
+pub no_row_fault : (parts : Parts) (e : EventValue) (s : ℕ) → s ≤ 999999 → IsSoundButForSeeds e → parts ≡ parts_of e s
+    → (rows : List TallyRow) → rows ≡ tally_rows e → (place : Place) → IsRowFault parts rows place → ⊥
+no_row_fault parts e s low sound are rows counted place (inl fault) = no_fault parts e s low sound are place fault
+no_row_fault parts e s low sound are rows counted place (inr totals) = totals.1.other e s low are sound counted
 
 -- in any order, they are the rows that the tables show
-pub shows_event : (db : Database) (parts : Parts) (e : EventValue) (s : ℕ) → s ≤ 999999 → IsSoundButForSeeds e → parts ≡ parts_of e s → ListsParts db parts → ShowsEvent db e s
-shows_event db parts e s low sound are lists =
+pub shows_event : (db : Database) (parts : Parts) (e : EventValue) (s : ℕ) → s ≤ 999999 → IsSoundButForSeeds e → parts ≡ parts_of e s → ListsParts db parts → (rows : List TallyRow) → rows ≡ tally_rows e → ListsTallies db rows → ShowsEvent db e s
+shows_event db parts e s low sound are lists rows counted totals =
     let whole = subst (ListsParts db) are lists in
     record {
       low = low;
@@ -43,4 +53,5 @@ shows_event db parts e s low sound are lists =
       players = whole.players.same;
       pairings = IsPermutation-trans _ _ _ whole.pairings.same (IsPermutation-sym _ _ (keyed_permutes e));
       bracket = whole.bracket.same;
+      tallies = (subst (ListsTallies db) counted totals).same;
     }

@@ -12,7 +12,7 @@ use Rattle.sqlite.specs.Collation.TheVariants.{Binary}
 use Rattle.sqlite_schema.specs.declared.schema.Index.{Index}
 use Rattle.sqlite_schema.specs.declared.schema.View.{View}
 use Rattle.sqlite_sql.specs.declared.ops.BinaryOp.TheVariants.{Compare}
-use Rattle.sqlite_sql.specs.declared.ops.CompareOp.TheVariants.{Eq}
+use Rattle.sqlite_sql.specs.declared.ops.CompareOp.TheVariants.{Eq, Gt}
 use Rattle.sqlite_sql.specs.declared.ops.UnaryOp.TheVariants.{ToNumeric}
 use Rattle.sqlite_typing.specs.Types.{accepts_program}
 use Rattle.sqlite_resolve.specs.declared.compiled.Compiled.{Compiled}
@@ -22,8 +22,8 @@ use Rattle.sqlite.specs.Listing.{understood, listing_schema, reads_listing}
 use Rattle.sqlite.proofs.Callers.{IsPlain, command_of}
 use Rattle.er_store.specs.Standing.{with_ours, CanRead}
 use Rattle.sqlite.specs.Order.{Row}
-use Rattle.er_store.specs.Rows.{number, event_places, player_places, pairing_places, bracket_places}
-use Rattle.er_store.specs.Tables.{no_schema, event_text, player_text, pairing_text, bracket_text, event, player, pairing, bracket, insert_event, insert_player, set_serial, set_phase, set_dropped, set_score, insert_pairing, insert_slot, set_slot_score, find_event, read_event, read_players, read_pairings, read_bracket, read_slip}
+use Rattle.er_store.specs.Rows.{number, event_places, player_places, pairing_places, bracket_places, tally_places}
+use Rattle.er_store.specs.Tables.{no_schema, event_text, player_text, pairing_text, bracket_text, tally_text, event, player, pairing, bracket, tally, insert_event, insert_player, set_serial, set_phase, set_dropped, set_score, insert_pairing, insert_slot, set_slot_score, insert_tally, set_tally, find_event, read_event, read_players, read_pairings, read_bracket, read_tallies, read_meetings, read_slip}
 
 pub event_defined : table_defined_by event_text ≡ Ok (event 0)
 unfolding understood everything
@@ -41,6 +41,10 @@ pub bracket_defined : table_defined_by bracket_text ≡ Ok (bracket 0)
 unfolding understood everything
 bracket_defined = refl
 
+pub tally_defined : table_defined_by tally_text ≡ Ok (tally 0)
+unfolding understood everything
+tally_defined = refl
+
 abbrev pub player_terms : List Term
 player_terms = col 0 0 ∷ lit Null ∷ col 0 1 ∷ col 0 2 ∷ []
 
@@ -52,6 +56,9 @@ pairing_terms = lit Null ∷ col 0 0 ∷ col 0 1 ∷ col 0 2 ∷ col 0 3 ∷ col
 
 abbrev pub slot_terms : List Term
 slot_terms = lit Null ∷ col 0 0 ∷ col 0 1 ∷ col 0 2 ∷ col 0 3 ∷ col 0 4 ∷ col 0 5 ∷ col 0 6 ∷ col 0 7 ∷ []
+
+abbrev pub tally_terms : List Term
+tally_terms = col 0 0 ∷ lit Null ∷ col 0 1 ∷ col 0 2 ∷ col 0 3 ∷ col 0 4 ∷ []
 
 abbrev plain_query : Join → List Term → List Term → Query
 plain_query from filter project = record { from = from; filter = filter; group = None; project = project; distinct = false; collations = []; order = []; limit = lit (Int (negsuc 0)); offset = lit (Int (pos 0)) }
@@ -81,6 +88,14 @@ dropped_tests = op2 (Compare Eq Binary) (col 1 0) (col 0 0) ∷ []
 
 abbrev pub dropped_query : Query
 dropped_query = rows_query 1 dropped_tests dropped_terms
+
+-- the old rowid, and then the row with other totals
+abbrev pub totals_terms : List Term
+totals_terms = col 1 0 ∷ col 1 0 ∷ lit Null ∷ col 0 1 ∷ col 0 2 ∷ col 0 3 ∷ col 0 4 ∷ []
+
+-- only the player whose number is given passes
+abbrev pub totals_query : Query
+totals_query = rows_query 8 dropped_tests totals_terms
 
 -- the old rowid, and then the row with another score
 abbrev pub score_terms : List Term
@@ -137,6 +152,24 @@ slip_terms = col 1 1 ∷ col 1 2 ∷ col 1 3 ∷ col 1 4 ∷ col 1 5 ∷ col 1 6
 abbrev pub slip_query : Query
 slip_query = plain_query slip_from score_tests slip_terms
 
+-- the pairings, each with the totals of `lo`, if there are any, and of `hi`
+abbrev pub meeting_from : Join
+meeting_from = inner 3 (left 8 (equals (col 2 0) (col 1 3) ∷ []) (left 8 (equals (col 3 0) (col 1 4) ∷ []) end))
+
+abbrev pub meeting_terms : List Term
+meeting_terms =
+    col 1 1 ∷ col 1 2 ∷ col 1 6 ∷ col 2 0 ∷ col 2 2 ∷ col 2 3 ∷ col 2 4 ∷ col 2 5 ∷ col 3 0 ∷ col 3 2 ∷ col 3 3 ∷ col 3 4 ∷ col 3 5 ∷ []
+
+-- no bye passes
+abbrev pub meeting_tests : List Term
+meeting_tests = op2 (Compare Gt Binary) (col 1 3) (lit (Int (pos 0))) ∷ []
+
+-- by round and table
+abbrev pub meeting_query : Query
+meeting_query = record (plain_query meeting_from meeting_tests meeting_terms) {
+  order = map (λ place. (col 1 place, record { collation = Binary; descending = false })) (1 ∷ 2 ∷ []);
+}
+
 module _ (others : List Table) (indexes : List Index) (views : List View) where
   abbrev pub full : Schema
   full = record { tables = with_ours others; indexes = indexes; views = views }
@@ -164,6 +197,22 @@ module _ (others : List Table) (indexes : List Index) (views : List View) where
   pub pairing_plain : IsPlain (understood full insert_pairing)
   unfolding understood everything
   pairing_plain = (refl, refl)
+
+  pub tally_is : command_of (understood full insert_tally) ≡ Insert 4 (Values tally_terms 6)
+  unfolding understood everything
+  tally_is = refl
+
+  pub tally_plain : IsPlain (understood full insert_tally)
+  unfolding understood everything
+  tally_plain = (refl, refl)
+
+  pub totals_is : command_of (understood full set_tally) ≡ Update 4 (record { lets = []; body = totals_query })
+  unfolding understood everything
+  totals_is = refl
+
+  pub totals_plain : IsPlain (understood full set_tally)
+  unfolding understood everything
+  totals_plain = (refl, refl)
 
   pub serial_is : command_of (understood full set_serial) ≡ Update 0 (record { lets = []; body = event_query serial_terms })
   unfolding understood everything
@@ -221,6 +270,17 @@ module _ (others : List Table) (indexes : List Index) (views : List View) where
   unfolding understood everything
   players_selected = record { names = codes "no" ∷ codes "name" ∷ codes "dropped" ∷ []; is = refl; plain = (refl, refl); unlisted = refl; whole = (lit≤ tt, refl); typed = refl }
 
+  pub tallies_selected : Selects read_tallies (table_query 8 tally_places (0 ∷ [])) full
+  unfolding understood everything
+  tallies_selected = record {
+    names = codes "no" ∷ codes "points" ∷ codes "rounds" ∷ codes "gamepoints" ∷ codes "games" ∷ [];
+    is = refl;
+    plain = (refl, refl);
+    unlisted = refl;
+    whole = (lit≤ tt, refl);
+    typed = refl;
+  }
+
   pub pairings_selected : Selects read_pairings (table_query 3 pairing_places (1 ∷ 2 ∷ [])) full
   unfolding understood everything
   pairings_selected = record { names = codes "round" ∷ codes "tab" ∷ codes "lo" ∷ codes "hi" ∷ codes "swapped" ∷ codes "done" ∷ codes "x" ∷ codes "y" ∷ codes "d" ∷ []; is = refl; plain = (refl, refl); unlisted = refl; whole = (lit≤ tt, refl); typed = refl }
@@ -232,6 +292,18 @@ module _ (others : List Table) (indexes : List Index) (views : List View) where
   pub slip_selected : (round table : ℕ) → SelectsWith (number round ∷ number table ∷ []) read_slip slip_query full
   unfolding understood everything
   slip_selected round table = record { names = codes "round" ∷ codes "tab" ∷ codes "lo" ∷ codes "hi" ∷ codes "swapped" ∷ codes "done" ∷ codes "x" ∷ codes "y" ∷ codes "d" ∷ codes "name" ∷ codes "name" ∷ []; is = refl; plain = (refl, refl); unlisted = refl; whole = (lit≤ tt, refl); typed = refl }
+
+  pub meetings_selected : Selects read_meetings meeting_query full
+  unfolding understood everything
+  meetings_selected = record {
+    names = codes "round" ∷ codes "tab" ∷ codes "done" ∷ codes "no" ∷ codes "points" ∷ codes "rounds" ∷ codes "gamepoints" ∷ codes "games"
+        ∷ codes "no" ∷ codes "points" ∷ codes "rounds" ∷ codes "gamepoints" ∷ codes "games" ∷ [];
+    is = refl;
+    plain = (refl, refl);
+    unlisted = refl;
+    whole = (lit≤ tt, refl);
+    typed = refl;
+  }
 
   -- the table can be read
   pub readable : CanRead full

@@ -17,9 +17,10 @@ use Rattle.er_event.specs.Event.{EventValue}
 use Rattle.er_event.specs.Change.{with_round}
 use Rattle.er_event.specs.Round.{numbered_from}
 use Rattle.er_event.specs.Rows.{pairing_row, round_rows, pairing_rows_from, pairing_rows}
+use Rattle.er_event.specs.declared.rows.TallyRow.{TallyRow}
 use Rattle.er_store.specs.Rows.{pairing_columns, stored_pairing, shown, pairing_places}
-use Rattle.er_store.specs.Standing.{StandsFor, IsKeyed, KeepsOthers}
-use Rattle.er_store.specs.Steps.{Puts, Moves, Makes}
+use Rattle.er_store.specs.Standing.{StandsWith, IsKeyed, KeepsOthers}
+use Rattle.er_store.specs.Steps.{Puts, Moves, MakesWith}
 use Rattle.er_store.proofs.Together.{shows_more, pairings_set, moves_then}
 
 -- ---- the rows of one more round
@@ -81,8 +82,8 @@ keyed_put id columns rows keyed = record { rise = IsTable-put_row (Int id ∷ co
 -- ---- the tables
 
 -- The round has one match more.
-pub pairing_added : (old new : State) (e : EventValue) (before : List Match) (m : Match) (s : ℕ) (id : ℤ) → StandsFor old.now (with_round e before) s → Puts 3 (stored_pairing id (next_row e before m)) old new
-    → Makes old new (with_round e (before ++ m ∷ [])) s
+pub pairing_added : (old new : State) (e : EventValue) (before : List Match) (m : Match) (s : ℕ) (id : ℤ) → {kept : List TallyRow} → StandsWith old.now (with_round e before) s kept → Puts 3 (stored_pairing id (next_row e before m)) old new
+    → MakesWith old new (with_round e (before ++ m ∷ [])) s kept
 pairing_added old new e before m s id stands put =
     let row = stored_pairing id (next_row e before m) in
     let more = with_round e (before ++ m ∷ []) in
@@ -95,7 +96,7 @@ pairing_added old new e before m s id stands put =
     (subst IsKeyed (sym put.rows) (keyed_put id (pairing_columns (next_row e before m)) (old.now.trees 3) stands.pairings_keyed))
 
 -- a round of no match has no row
-none_added : (db : Database) (e : EventValue) (s : ℕ) → StandsFor db e s → StandsFor db (with_round e []) s
+none_added : (db : Database) (e : EventValue) (s : ℕ) → {kept : List TallyRow} → StandsWith db e s kept → StandsWith db (with_round e []) s kept
 none_added db e s stands = record {
   low = stands.low;
   tables = stands.tables;
@@ -104,6 +105,7 @@ none_added db e s stands = record {
   pairings = subst (λ rows. IsPermutation (shown pairing_places (db.trees 3)) (map pairing_columns rows)) (sym (pairing_none e)) stands.pairings;
   bracket = stands.bracket;
   pairings_keyed = stands.pairings_keyed;
+  tallies = stands.tallies;
   bracket_keyed = stands.bracket_keyed;
 }
 
@@ -125,15 +127,15 @@ same_moves old mid new same moves = record {
 }
 
 -- so many matches of a round are stored
-pub record Adds (e : EventValue) (count : ℕ) (matches : List Match) (serial : ℕ) (old new : State) : Type 0 where
+pub record Adds (e : EventValue) (count : ℕ) (matches : List Match) (serial : ℕ) (kept : List TallyRow) (old new : State) : Type 0 where
   pub none : count ≡ 0 → Same old new
   pub some : 0 < count → Moves old new
-  pub stands : StandsFor new.now (with_round e matches) serial
+  pub stands : StandsWith new.now (with_round e matches) serial kept
 
-pub adds_none : (s : State) (e : EventValue) (serial : ℕ) → StandsFor s.now e serial → Adds e 0 [] serial s s
+pub adds_none : (s : State) (e : EventValue) (serial : ℕ) → {kept : List TallyRow} → StandsWith s.now e serial kept → Adds e 0 [] serial kept s s
 adds_none s e serial stands = record { none = λ _. record { is_open = refl; mode = refl; now_is = refl; committed_is = refl }; some = λ never. absurd (not-suc-le-zero never); stands = none_added s.now e serial stands }
 
-pub adds_one : (old mid new : State) (e : EventValue) (count : ℕ) (before after : List Match) (serial : ℕ) → Adds e count before serial old mid → Makes mid new (with_round e after) serial → Adds e (count + 1) after serial old new
+pub adds_one : (old mid new : State) (e : EventValue) (count : ℕ) (before after : List Match) (serial : ℕ) {kept : List TallyRow} → Adds e count before serial kept old mid → MakesWith mid new (with_round e after) serial kept → Adds e (count + 1) after serial kept old new
 adds_one old mid new e count before after serial was made = record { none = λ never. absurd (omega (arith, never)); some = λ _. moves count was.none was.some; stands = made.stands }
   where
     moves : (n : ℕ) → (n ≡ 0 → Same old mid) → (0 < n → Moves old mid) → Moves old new

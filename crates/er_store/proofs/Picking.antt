@@ -75,7 +75,7 @@ filter-none test r rows fails = rw fails
 
 -- ---- among players who are numbered
 
-first_number : (p : Player) (ps : List Player) (a : ℕ) → numbers (p ∷ ps) ≡ range_with_len a (length (p ∷ ps)) → (p.no ≡ a) × (numbers ps ≡ range_with_len (a + 1) (length ps))
+pub first_number : (p : Player) (ps : List Player) (a : ℕ) → numbers (p ∷ ps) ≡ range_with_len a (length (p ∷ ps)) → (p.no ≡ a) × (numbers ps ≡ range_with_len (a + 1) (length ps))
 first_number p ps a e = (ap (λ (ns : List ℕ). get_or ns 0 0) e, ap (Rattle.std.specs.Prelude.drop 1) e)
 
 -- a number below them all picks none
@@ -152,7 +152,7 @@ no-dropped_at : (b : Bool) (p : Player) → (cond b (dropped p) p).no ≡ p.no
 no-dropped_at true p = refl
 no-dropped_at false p = refl
 
-numbers-dropped_at : (k : ℕ) (ps : List Player) → numbers (map (dropped_at k) ps) ≡ numbers ps
+pub numbers-dropped_at : (k : ℕ) (ps : List Player) → numbers (map (dropped_at k) ps) ≡ numbers ps
 numbers-dropped_at k [] = refl
 numbers-dropped_at k (p ∷ ps) = ap₂ ◌∷◌ (no-dropped_at (p.no == k) p) (numbers-dropped_at k ps)
 

@@ -28,7 +28,7 @@ neither : (b : Bool) (rows : List Row) → unwrap_or (cond b None None) rows ≡
 neither true rows = refl
 neither false rows = refl
 
-bare : (trees : Trees) (tree : ℕ) → overlay trees [] tree ≡ trees tree
+pub bare : (trees : Trees) (tree : ℕ) → overlay trees [] tree ≡ trees tree
 bare trees tree = neither _ (trees tree)
 
 terms_shown : (r : Row) (places : List ℕ) → eval_all (map (col 1) places) ([] ∷ r ∷ []) ≡ map (column r) places
@@ -41,7 +41,7 @@ pub record IsSortedByKeys (tree : ℕ) (places keys : List ℕ) (order : Row →
   pub keyed : (r : Row) → Keyed (output (table_query tree places keys) ([] ∷ r ∷ []))
   pub agrees : (o p : Output) → Keyed o → Keyed p → is_lt (order o.1 p.1) ≡ is_lt (output_cmp (table_query tree places keys) o p)
 
-sorted_rows : (Keyed : Output → Type 0) (cmp : Output → Output → Ordering) (order : Row → Row → Ordering) → ((o p : Output) → Keyed o → Keyed p → is_lt (order o.1 p.1) ≡ is_lt (cmp o p))
+pub sorted_rows : (Keyed : Output → Type 0) (cmp : Output → Output → Ordering) (order : Row → Row → Ordering) → ((o p : Output) → Keyed o → Keyed p → is_lt (order o.1 p.1) ≡ is_lt (cmp o p))
     → (outs : List Output) → All Keyed outs → IsSorted cmp outs → IsSorted order (map (λ (o : Output). o.1) outs)
 sorted_rows Keyed cmp order agrees outs keyed sorted k d low high =
     let e : Output = (d, d) in
@@ -84,7 +84,7 @@ module _ (tree : ℕ) (places keys : List ℕ) (order : Row → Row → Ordering
 first_agrees : (o p : Output) → column o.0 0 ≡ column o.1 0 → column p.0 0 ≡ column p.1 0 → is_lt (by_first o.1 p.1) ≡ is_lt (ordering_then (value_cmp (column o.0 0) (column p.0 0)) Rattle.std.proofs.Common.Equal)
 first_agrees o p a b = ap₂ (λ x y. is_lt (value_cmp x y)) (sym a) (sym b) ∙ ap is_lt (sym (then-Equal (value_cmp (column o.0 0) (column p.0 0))))
 
-two_agree : (o p : Output) → (column o.0 0 ≡ column o.1 0) × (column o.0 1 ≡ column o.1 1) → (column p.0 0 ≡ column p.1 0) × (column p.0 1 ≡ column p.1 1)
+pub two_agree : (o p : Output) → (column o.0 0 ≡ column o.1 0) × (column o.0 1 ≡ column o.1 1) → (column p.0 0 ≡ column p.1 0) × (column p.0 1 ≡ column p.1 1)
     → is_lt (by_first_two o.1 p.1) ≡ is_lt (ordering_then (value_cmp (column o.0 0) (column p.0 0)) (ordering_then (value_cmp (column o.0 1) (column p.0 1)) Rattle.std.proofs.Common.Equal))
 two_agree o p a b =
     ap₂ (λ x y. is_lt (ordering_then (value_cmp x y) (value_cmp (column o.1 1) (column p.1 1)))) (sym a.0) (sym b.0)

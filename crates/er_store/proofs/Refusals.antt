@@ -14,7 +14,7 @@ use Rattle.sqlite.specs.Listing.{understood, IsSourceOf}
 use Rattle.sqlite.specs.State.{State, FailsToQuery, FailsToShow, IsNotRun, IsNoStatement}
 use Rattle.sqlite.proofs.Callers.{IsPlain, command_of}
 use Rattle.er_store.specs.Reading.{IsReadRefused}
-use Rattle.er_store.proofs.Meaning.{Takes, Selects, SelectsWith, table_query, slip_query}
+use Rattle.er_store.proofs.Meaning.{Takes, Selects, SelectsWith, table_query, meeting_query, slip_query}
 
 -- a text that is one statement, with as many parameters as are given, is a statement
 is_statement : (old : State) (sql : List ℕ) (params : Row) (e : Error) → IsPlain (understood old.now.schema sql) → Takes (length params) sql (understood old.now.schema sql) → ¬ IsNoStatement old sql params e
@@ -61,6 +61,14 @@ read_refused tree places keys sql old new e it = query_refused (table_query tree
 slip_sums : (params : Row) (trees : Trees) → ¬ ProgramOverflows trees params [] [] slip_query
 slip_sums params trees (inl sum) = sum
 slip_sums params trees (inr fold) = fold.4.4.4
+
+-- nor that of the meetings
+meeting_sums : (trees : Trees) → ¬ ProgramOverflows trees [] [] [] meeting_query
+meeting_sums trees (inl sum) = sum
+meeting_sums trees (inr fold) = fold.4.4.4
+
+pub meetings_refused : (sql : List ℕ) (old new : State) (e : Error) → Selects sql meeting_query old.now.schema → FailsToQuery sql [] old new e → IsReadRefused old new e
+meetings_refused sql old new e it = query_refused meeting_query [] meeting_sums sql old new e it
 
 pub slip_refused : (sql : List ℕ) (params : Row) (old new : State) (e : Error) → SelectsWith params sql slip_query old.now.schema → FailsToQuery sql params old new e → IsReadRefused old new e
 slip_refused sql params old new e it = query_refused slip_query params (slip_sums params) sql old new e it

@@ -46,6 +46,7 @@ stands_again db e s sound it = record {
   players = it.stands.players;
   pairings = it.stands.pairings;
   bracket = it.stands.bracket;
+  tallies = it.stands.tallies;
   pairings_keyed = it.stands.pairings_keyed;
   bracket_keyed = it.stands.bracket_keyed;
 }

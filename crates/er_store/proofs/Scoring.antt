@@ -39,10 +39,11 @@ use Rattle.er_event.specs.Round.{is_bye, match_at}
 use Rattle.er_event.specs.Bracket.{slot_at}
 use Rattle.er_event.specs.Change.{scored, with_score, with_slot_score}
 use Rattle.er_event.specs.Rows.{pairing_row, pairing_rows, bracket_row, bracket_rows}
+use Rattle.er_event.specs.declared.rows.TallyRow.{TallyRow}
 use Rattle.er_store.specs.Tables.{pairing, bracket, set_score, set_slot_score}
 use Rattle.er_store.specs.Rows.{number, pairing_columns, bracket_columns, pairing_places, bracket_places, stored_pairing, stored_slot, shown}
-use Rattle.er_store.specs.Standing.{HasTables, StandsFor, IsKeyed, IsOther}
-use Rattle.er_store.specs.Steps.{Goes, Makes}
+use Rattle.er_store.specs.Standing.{HasTables, StandsWith, IsKeyed, IsOther}
+use Rattle.er_store.specs.Steps.{Goes, MakesWith}
 use Rattle.er_store.proofs.PickingTable.{picks_table, is_elsewhere, picks_one_table}
 use Rattle.er_store.proofs.Values.{cast_int}
 use Rattle.er_store.proofs.Inserts.{first_fresh}
@@ -194,8 +195,8 @@ score_cast r id = rw (cast_int id, cast_int r.round, cast_int r.tab, cast_int r.
 abbrev pairing_rest : List ℕ
 pairing_rest = 3 ∷ 4 ∷ 5 ∷ 6 ∷ 7 ∷ 8 ∷ 9 ∷ []
 
-pub pairing_scored : (old new : State) (e : EventValue) (s k t : ℕ) (score : Games) (m : Match) (count : ℕ) → StandsFor old.now e s → match_at e k t ≡ Some m → is_bye m ≡ false
-    → IsTrue old.in_transaction → ExecutesInside 0 set_score (scores k t score) old new (Ok count) → Makes old new (with_score e k t score) s
+pub pairing_scored : (old new : State) (e : EventValue) (s k t : ℕ) (score : Games) (m : Match) (count : ℕ) → {kept : List TallyRow} → StandsWith old.now e s kept → match_at e k t ≡ Some m → is_bye m ≡ false
+    → IsTrue old.in_transaction → ExecutesInside 0 set_score (scores k t score) old new (Ok count) → MakesWith old new (with_score e k t score) s kept
 pairing_scored old new e s k t score m count stands found seat inside h =
     let has = stands.tables in
     let schema = old.now.schema in
@@ -231,8 +232,8 @@ slot_cast r id = rw (cast_int id, cast_int r.stage, cast_int r.slot, cast_int r.
 abbrev bracket_rest : List ℕ
 bracket_rest = 3 ∷ 4 ∷ 5 ∷ 6 ∷ 7 ∷ 8 ∷ []
 
-pub slot_scored : (old new : State) (e : EventValue) (s k t : ℕ) (score : Games) (m : Match) (count : ℕ) → StandsFor old.now e s → slot_at e k t ≡ Some m
-    → IsTrue old.in_transaction → ExecutesInside 0 set_slot_score (scores k t score) old new (Ok count) → Makes old new (with_slot_score e k t score) s
+pub slot_scored : (old new : State) (e : EventValue) (s k t : ℕ) (score : Games) (m : Match) (count : ℕ) → {kept : List TallyRow} → StandsWith old.now e s kept → slot_at e k t ≡ Some m
+    → IsTrue old.in_transaction → ExecutesInside 0 set_slot_score (scores k t score) old new (Ok count) → MakesWith old new (with_slot_score e k t score) s kept
 slot_scored old new e s k t score m count stands found inside h =
     let has = stands.tables in
     let schema = old.now.schema in

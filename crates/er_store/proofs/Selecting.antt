@@ -16,7 +16,7 @@ use Rattle.sqlite.specs.State.{State, Survives, CommitsShowing, Shown, ShowsRows
 use Rattle.sqlite.proofs.StateLemmas.{survives_weaker}
 use Rattle.sqlite_tied.specs.Compute.{everything}
 use Rattle.er_store.specs.Reading.{KeepsTables}
-use Rattle.er_store.specs.Tables.{read_event, read_players, read_pairings, read_bracket, read_slip}
+use Rattle.er_store.specs.Tables.{read_event, read_players, read_pairings, read_bracket, read_tallies, read_meetings, read_slip}
 use Rattle.er_store.proofs.LoadLemmas.{unchanged_keeps, refused_keeps}
 
 abbrev is_select_by : Statement → Bool
@@ -36,6 +36,10 @@ pub players_select : begins_select (first read_players) ≡ true
 unfolding understood everything
 players_select = refl
 
+pub tallies_select : begins_select (first read_tallies) ≡ true
+unfolding understood everything
+tallies_select = refl
+
 pub pairings_select : begins_select (first read_pairings) ≡ true
 unfolding understood everything
 pairings_select = refl
@@ -43,6 +47,10 @@ pairings_select = refl
 pub bracket_selects : begins_select (first read_bracket) ≡ true
 unfolding understood everything
 bracket_selects = refl
+
+pub meetings_select : begins_select (first read_meetings) ≡ true
+unfolding understood everything
+meetings_select = refl
 
 pub slip_selects : begins_select (first read_slip) ≡ true
 unfolding understood everything

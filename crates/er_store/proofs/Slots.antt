@@ -11,9 +11,10 @@ use Rattle.er_event.specs.Event.{EventValue}
 use Rattle.er_event.specs.Change.{with_stage}
 use Rattle.er_event.specs.Round.{numbered_from}
 use Rattle.er_event.specs.Rows.{bracket_row, stage_rows, bracket_rows_from, bracket_rows}
+use Rattle.er_event.specs.declared.rows.TallyRow.{TallyRow}
 use Rattle.er_store.specs.Rows.{bracket_columns, stored_slot, shown, bracket_places}
-use Rattle.er_store.specs.Standing.{StandsFor, IsKeyed}
-use Rattle.er_store.specs.Steps.{Puts, Moves, Makes}
+use Rattle.er_store.specs.Standing.{StandsWith, IsKeyed}
+use Rattle.er_store.specs.Steps.{Puts, Moves, MakesWith}
 use Rattle.er_store.proofs.Together.{shows_more, bracket_set, moves_then}
 use Rattle.er_store.proofs.Pairing.{keyed_put, Same, same_moves}
 
@@ -56,8 +57,8 @@ slots_none e = rows_more 1 e.bracket.stages [] ∙ append-nil (bracket_rows e)
 -- ---- the tables
 
 -- The stage has one match more.
-pub slot_added : (old new : State) (e : EventValue) (before : List Match) (m : Match) (s : ℕ) (id : ℤ) → StandsFor old.now (with_stage e before) s → Puts 6 (stored_slot id (next_slot e before m)) old new
-    → Makes old new (with_stage e (before ++ m ∷ [])) s
+pub slot_added : (old new : State) (e : EventValue) (before : List Match) (m : Match) (s : ℕ) (id : ℤ) → {kept : List TallyRow} → StandsWith old.now (with_stage e before) s kept → Puts 6 (stored_slot id (next_slot e before m)) old new
+    → MakesWith old new (with_stage e (before ++ m ∷ [])) s kept
 slot_added old new e before m s id stands put =
     let row = stored_slot id (next_slot e before m) in
     let more = with_stage e (before ++ m ∷ []) in
@@ -70,7 +71,7 @@ slot_added old new e before m s id stands put =
     (subst IsKeyed (sym put.rows) (keyed_put id (bracket_columns (next_slot e before m)) (old.now.trees 6) stands.bracket_keyed))
 
 -- a stage of no match has no row
-none_added : (db : Database) (e : EventValue) (s : ℕ) → StandsFor db e s → StandsFor db (with_stage e []) s
+none_added : (db : Database) (e : EventValue) (s : ℕ) → {kept : List TallyRow} → StandsWith db e s kept → StandsWith db (with_stage e []) s kept
 none_added db e s stands = record {
   low = stands.low;
   tables = stands.tables;
@@ -79,21 +80,22 @@ none_added db e s stands = record {
   pairings = stands.pairings;
   bracket = subst (λ rows. IsPermutation (shown bracket_places (db.trees 6)) (map bracket_columns rows)) (sym (slots_none e)) stands.bracket;
   pairings_keyed = stands.pairings_keyed;
+  tallies = stands.tallies;
   bracket_keyed = stands.bracket_keyed;
 }
 
 -- ---- matches, one after the other
 
 -- so many matches of a stage are stored
-pub record AddsSlots (e : EventValue) (count : ℕ) (matches : List Match) (serial : ℕ) (old new : State) : Type 0 where
+pub record AddsSlots (e : EventValue) (count : ℕ) (matches : List Match) (serial : ℕ) (kept : List TallyRow) (old new : State) : Type 0 where
   pub none : count ≡ 0 → Same old new
   pub some : 0 < count → Moves old new
-  pub stands : StandsFor new.now (with_stage e matches) serial
+  pub stands : StandsWith new.now (with_stage e matches) serial kept
 
-pub slots_start : (s : State) (e : EventValue) (serial : ℕ) → StandsFor s.now e serial → AddsSlots e 0 [] serial s s
+pub slots_start : (s : State) (e : EventValue) (serial : ℕ) → {kept : List TallyRow} → StandsWith s.now e serial kept → AddsSlots e 0 [] serial kept s s
 slots_start s e serial stands = record { none = λ _. record { is_open = refl; mode = refl; now_is = refl; committed_is = refl }; some = λ never. absurd (not-suc-le-zero never); stands = none_added s.now e serial stands }
 
-pub slots_next : (old mid new : State) (e : EventValue) (count : ℕ) (before after : List Match) (serial : ℕ) → AddsSlots e count before serial old mid → Makes mid new (with_stage e after) serial → AddsSlots e (count + 1) after serial old new
+pub slots_next : (old mid new : State) (e : EventValue) (count : ℕ) (before after : List Match) (serial : ℕ) {kept : List TallyRow} → AddsSlots e count before serial kept old mid → MakesWith mid new (with_stage e after) serial kept → AddsSlots e (count + 1) after serial kept old new
 slots_next old mid new e count before after serial was made = record { none = λ never. absurd (omega (arith, never)); some = λ _. moves count was.none was.some; stands = made.stands }
   where
     moves : (n : ℕ) → (n ≡ 0 → Same old mid) → (0 < n → Moves old mid) → Moves old new

@@ -7,18 +7,23 @@ use Rattle.sqlite.specs.Effect.{Database, Reads, RefusesToRead}
 use Rattle.sqlite.specs.Listing.{understood, reads_listing, IsSourceOf}
 use Rattle.sqlite_resolve.specs.declared.compiled.Compiled.{Compiled}
 use Rattle.sqlite_resolve.specs.declared.error.CompileError.{CompileError}
+use Rattle.er_event.specs.declared.refusals.TheConstants.{MAX_SERIAL}
 use Rattle.er_event.specs.declared.refusals.Refusal.{Refusal}
 use Rattle.er_event.specs.declared.refusals.Refusal.TheVariants.{Damaged}
 use Rattle.er_event.specs.declared.refusals.Place.{Place}
-use Rattle.er_event.specs.declared.refusals.Place.TheVariants.{EventTable, PlayerTable, PairingTable, BracketTable}
+use Rattle.er_event.specs.declared.refusals.Place.TheVariants.{EventTable, PlayerTable, PairingTable, BracketTable, TallyTable}
 use Rattle.er_event.specs.declared.parts.Parts.{Parts}
 use Rattle.er_event.specs.declared.rows.EventRow.{EventRow}
 use Rattle.er_event.specs.declared.rows.PlayerRow.{PlayerRow}
 use Rattle.er_event.specs.declared.rows.PairingRow.{PairingRow}
 use Rattle.er_event.specs.declared.rows.BracketRow.{BracketRow}
-use Rattle.er_event.specs.Parts.{IsFirstFault}
-use Rattle.er_store.specs.Tables.{read_event, read_players, read_pairings, read_bracket}
-use Rattle.er_store.specs.Rows.{event_columns, player_columns, pairing_columns, bracket_columns}
+use Rattle.er_event.specs.declared.rows.TallyRow.{TallyRow}
+use Rattle.er_event.specs.Event.{EventValue}
+use Rattle.er_event.specs.Parts.{IsFirstFault, parts_of}
+use Rattle.er_event.specs.Rows.{tally_rows}
+use Rattle.er_event.specs.Sound.{IsSoundButForSeeds}
+use Rattle.er_store.specs.Tables.{read_event, read_players, read_pairings, read_bracket, read_tallies}
+use Rattle.er_store.specs.Rows.{event_columns, player_columns, pairing_columns, bracket_columns, tally_columns}
 use Rattle.er_store.specs.Reading.{first_columns}
 
 -- rows that the statement may answer
@@ -59,6 +64,7 @@ IsMisread db EventTable = IsMisreadAs event_columns (λ (r : EventRow). IsUtf8 r
 IsMisread db PlayerTable = IsMisreadAs player_columns (λ (r : PlayerRow). IsUtf8 r.name) db read_players
 IsMisread db PairingTable = IsMisreadAs pairing_columns (λ (r : PairingRow). ⊤) db read_pairings
 IsMisread db BracketTable = IsMisreadAs bracket_columns (λ (r : BracketRow). ⊤) db read_bracket
+IsMisread db TallyTable = IsMisreadAs tally_columns (λ (r : TallyRow). ⊤) db read_tallies
 
 -- the statement may answer these rows, which have so many columns
 abbrev pub MayRead : {R : Type 0} → ℕ → (R → Row) → Database → List ℕ → List R → Type 0
@@ -76,12 +82,17 @@ ReadsPairings db = MayRead 9 pairing_columns db read_pairings
 abbrev pub ReadsBracket : Database → List BracketRow → Type 0
 ReadsBracket db = MayRead 8 bracket_columns db read_bracket
 
+abbrev pub ReadsTallies : Database → List TallyRow → Type 0
+ReadsTallies db = MayRead 5 tally_columns db read_tallies
+
 -- the tables before this one are read
 abbrev pub ReadsBefore : Database → Place → Type 0
 ReadsBefore db EventTable = ⊤
 ReadsBefore db PlayerTable = (rows : List EventRow) × ReadsEvents db rows
 ReadsBefore db PairingTable = ((rows : List EventRow) × ReadsEvents db rows) × ((rows : List PlayerRow) × ReadsPlayers db rows)
 ReadsBefore db BracketTable = ((rows : List EventRow) × ReadsEvents db rows) × ((rows : List PlayerRow) × ReadsPlayers db rows) × ((rows : List PairingRow) × ReadsPairings db rows)
+ReadsBefore db TallyTable = ((rows : List EventRow) × ReadsEvents db rows) × ((rows : List PlayerRow) × ReadsPlayers db rows) × ((rows : List PairingRow) × ReadsPairings db rows)
+    × ((rows : List BracketRow) × ReadsBracket db rows)
 
 pub record ReadsParts (db : Database) (parts : Parts) : Type 0 where
   pub event : ReadsEvents db parts.event
@@ -93,9 +104,17 @@ pub record ReadsParts (db : Database) (parts : Parts) : Type 0 where
 abbrev pub IsFirstMisread : Database → Place → Type 0
 IsFirstMisread db place = ReadsBefore db place × IsMisread db place
 
+-- the first four tables are those of a sound event, and the totals are of no such event
+pub record HasOtherTotals (parts : Parts) (rows : List TallyRow) : Type 0 where
+  pub some : (event : EventValue) × (serial : ℕ) × (serial ≤ MAX_SERIAL) × (parts ≡ parts_of event serial) × IsSoundButForSeeds event
+  pub other : (event : EventValue) (serial : ℕ) → serial ≤ MAX_SERIAL → parts ≡ parts_of event serial → IsSoundButForSeeds event → rows ≢ tally_rows event
+
+abbrev pub IsRowFault : Parts → List TallyRow → Place → Type 0
+IsRowFault parts rows place = IsFirstFault parts place ⊎ ((place ≡ TallyTable) × HasOtherTotals parts rows)
+
 -- The first fault: the tables are read in their order, and then their rows are checked in that order.
 abbrev pub IsAtFault : Database → Place → Type 0
-IsAtFault db place = IsFirstMisread db place ⊎ ((parts : Parts) × ReadsParts db parts × IsFirstFault parts place)
+IsAtFault db place = IsFirstMisread db place ⊎ ((parts : Parts) × (rows : List TallyRow) × ReadsParts db parts × ReadsTallies db rows × IsRowFault parts rows place)
 
 -- if it is damage, this table is the first at fault
 abbrev pub IfDamaged : (Place → Type 0) → Refusal → Type 0

@@ -8,3 +8,5 @@ pub mod Fault
 pub mod Store
 pub mod Damage
 pub mod Slip
+pub mod Totals
+pub mod Meetings

@@ -7,7 +7,9 @@ use Rattle.er_event.specs.declared.rows.EventRow.{EventRow}
 use Rattle.er_event.specs.declared.rows.PlayerRow.{PlayerRow}
 use Rattle.er_event.specs.declared.rows.PairingRow.{PairingRow}
 use Rattle.er_event.specs.declared.rows.BracketRow.{BracketRow}
+use Rattle.er_event.specs.declared.rows.TallyRow.{TallyRow}
 use Rattle.er_event.specs.Event.{EventValue}
+use Rattle.er_store.specs.declared.rows.MeetingRow.{MeetingRow}
 use Rattle.er_store.specs.declared.rows.NamedPairing.{NamedPairing}
 use Rattle.er_event.specs.Rows.{flag, phase_code}
 
@@ -29,6 +31,14 @@ pairing_columns r = Int r.round ∷ Int r.tab ∷ Int r.lo ∷ Int r.hi ∷ Int 
 -- stage, slot, a, b, done, x, y, d
 abbrev pub bracket_columns : BracketRow → Row
 bracket_columns r = Int r.stage ∷ Int r.slot ∷ Int r.a ∷ Int r.b ∷ Int r.done ∷ Int r.x ∷ Int r.y ∷ Int r.d ∷ []
+
+-- no, points, rounds, gamepoints, games
+abbrev pub tally_columns : TallyRow → Row
+tally_columns r = Int r.no ∷ Int r.points ∷ Int r.rounds ∷ Int r.gamepoints ∷ Int r.games ∷ []
+
+-- round, tab, done, and the totals of lo and hi
+abbrev pub meeting_columns : MeetingRow → Row
+meeting_columns r = Int r.round ∷ Int r.tab ∷ Int r.done ∷ tally_columns r.lo ++ tally_columns r.hi
 
 abbrev pub text_or_null : Option (List ℕ) → Value
 text_or_null None = Null
@@ -54,12 +64,18 @@ pairing_places = 1 ∷ 2 ∷ 3 ∷ 4 ∷ 5 ∷ 6 ∷ 7 ∷ 8 ∷ 9 ∷ []
 abbrev pub bracket_places : List ℕ
 bracket_places = 1 ∷ 2 ∷ 3 ∷ 4 ∷ 5 ∷ 6 ∷ 7 ∷ 8 ∷ []
 
+abbrev pub tally_places : List ℕ
+tally_places = 0 ∷ 2 ∷ 3 ∷ 4 ∷ 5 ∷ []
+
 -- the row of the event as it is stored, with NULL in the column that is the rowid
 abbrev pub stored_event : EventValue → ℕ → Row
 stored_event e serial = number 1 ∷ Null ∷ number 1 ∷ number serial ∷ Text e.name ∷ number e.rounds ∷ number e.cut ∷ number (phase_code e.phase) ∷ []
 
 abbrev pub stored_player : ℕ → List ℕ → Bool → Row
 stored_player number name dropped = Int (pos number) ∷ Null ∷ Text name ∷ Int (flag dropped) ∷ []
+
+abbrev pub stored_tally : TallyRow → Row
+stored_tally r = Int r.no ∷ Null ∷ Int r.points ∷ Int r.rounds ∷ Int r.gamepoints ∷ Int r.games ∷ []
 
 -- a pairing has a rowid that no column shows
 abbrev pub stored_pairing : ℤ → PairingRow → Row

@@ -1,9 +1,8 @@
 -- The slip of a match, as the tables show it.
 use Rattle.std.specs.Prelude.{◌≡◌, ◌⊎◌, ℕ, ◌≤◌, nat_lt, Bool, if◌then◌else◌, IsTrue, List, map, Option, Some, None, option_map, option_to_list, unwrap_or, IfSome, Result, Ok, Err}
 use Rattle.er_event.specs.declared.players.TheConstants.{MAX_PLAYERS}
-use Rattle.er_event.specs.declared.refusals.Cause.TheVariants.{BadRow}
 use Rattle.er_event.specs.declared.refusals.Refusal.{Refusal}
-use Rattle.er_event.specs.declared.refusals.Refusal.TheVariants.{NoSuchMatch, Store}
+use Rattle.er_event.specs.declared.refusals.Refusal.TheVariants.{NoSuchMatch}
 use Rattle.er_event.specs.declared.rounds.Match.{Match}
 use Rattle.er_event.specs.declared.slips.SlipRow.{SlipRow}
 use Rattle.er_event.specs.Event.{EventValue}
@@ -11,7 +10,6 @@ use Rattle.er_event.specs.Name.{is_lawful_name}
 use Rattle.er_event.specs.Match.{MayStand}
 use Rattle.er_event.specs.Rows.{pairing_row}
 use Rattle.er_event.specs.Slip.{slip_of}
-use Rattle.er_store.specs.Fault.{IsFault}
 use Rattle.er_store.specs.declared.rows.NamedPairing.{NamedPairing}
 
 -- a number with its name, or nobody
@@ -53,10 +51,6 @@ pub record IsLawful (slip : SlipRow) : Type 0 where
   pub played : MayStand slip.table (match_of slip)
   pub first : IsPlayer slip.first
   pub second : IfSome slip.second IsPlayer
-
--- a row that the formats don't allow is a fault too
-abbrev pub IsSlipFault : Refusal → Type 0
-IsSlipFault why = IsFault why ⊎ (why ≡ Store BadRow)
 
 -- the slip of the event's match, or no such match
 abbrev pub FindsSlip : EventValue → ℕ → ℕ → Result SlipRow Refusal → Type 0

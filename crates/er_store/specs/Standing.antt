@@ -15,22 +15,23 @@ use Rattle.sqlite_trees.specs.Tree.{IsTable}
 use Rattle.sqlite_rules.specs.Edit.{have_rowids}
 use Rattle.er_event.specs.declared.refusals.TheConstants.{MAX_SERIAL}
 use Rattle.er_event.specs.Event.{EventValue}
-use Rattle.er_event.specs.Rows.{event_row, player_rows, pairing_rows, bracket_rows}
-use Rattle.er_store.specs.Tables.{event, player, pairing, bracket, find_event, read_event}
-use Rattle.er_store.specs.Rows.{event_columns, player_columns, pairing_columns, bracket_columns, shown, event_places, player_places, pairing_places, bracket_places}
+use Rattle.er_event.specs.declared.rows.TallyRow.{TallyRow}
+use Rattle.er_event.specs.Rows.{event_row, player_rows, pairing_rows, bracket_rows, tally_rows}
+use Rattle.er_store.specs.Tables.{event, player, pairing, bracket, tally, find_event, read_event}
+use Rattle.er_store.specs.Rows.{event_columns, player_columns, pairing_columns, bracket_columns, tally_columns, shown, event_places, player_places, pairing_places, bracket_places, tally_places}
 
 abbrev pub with_ours : List Table → List Table
-with_ours others = event 0 ∷ player 1 ∷ pairing 3 ∷ bracket 6 ∷ others
+with_ours others = event 0 ∷ player 1 ∷ pairing 3 ∷ bracket 6 ∷ tally 8 ∷ others
 
--- the tree is of none of the four tables
+-- the tree is of none of the five tables
 abbrev pub IsOther : ℕ → Type 0
-IsOther tree = (tree ≢ 0) × (tree ≢ 1) × (tree ≢ 3) × (tree ≢ 6)
+IsOther tree = (tree ≢ 0) × (tree ≢ 1) × (tree ≢ 3) × (tree ≢ 6) × (tree ≢ 8)
 
--- a foreign key of another table that does not lead to one of the four
+-- a foreign key of another table that does not lead to one of the five
 abbrev pub LeadsElsewhere : List Table → Reference → Type 0
 LeadsElsewhere tables ref = (key : ParentKey) → parent_key tables ref ≡ Some key → IsOther key.0
 
--- the four tables stand first, and no other table refers to them
+-- the five tables stand first, and no other table refers to them
 pub record HasTables (schema : Schema) : Type 0 where
   pub others : List Table
   pub are : schema.tables ≡ with_ours others
@@ -46,17 +47,22 @@ pub record AreKeyed (db : Database) : Type 0 where
   pub pairings : IsKeyed (db.trees 3)
   pub bracket : IsKeyed (db.trees 6)
 
--- the tables have the schema, and their rows are the event's, in any order
-pub record StandsFor (db : Database) (e : EventValue) (serial : ℕ) : Type 0 where
+-- the tables have the schema, and their rows are the event's, in any order, with these rows of totals
+pub record StandsWith (db : Database) (e : EventValue) (serial : ℕ) (totals : List TallyRow) : Type 0 where
   pub low : serial ≤ MAX_SERIAL
   pub tables : HasTables db.schema
   pub event : IsPermutation (shown event_places (db.trees 0)) (event_columns (event_row e serial) ∷ [])
   pub players : IsPermutation (shown player_places (db.trees 1)) (map player_columns (player_rows e))
   pub pairings : IsPermutation (shown pairing_places (db.trees 3)) (map pairing_columns (pairing_rows e))
   pub bracket : IsPermutation (shown bracket_places (db.trees 6)) (map bracket_columns (bracket_rows e))
+  pub tallies : IsPermutation (shown tally_places (db.trees 8)) (map tally_columns totals)
   -- the rowids of these two are shown by no column
   pub pairings_keyed : IsKeyed (db.trees 3)
   pub bracket_keyed : IsKeyed (db.trees 6)
+
+-- and the rows of totals are the event's too
+abbrev pub StandsFor : Database → EventValue → ℕ → Type 0
+StandsFor db e serial = StandsWith db e serial (tally_rows e)
 
 -- nobody is enrolled, and nothing is paired
 pub record IsNew (e : EventValue) : Type 0 where

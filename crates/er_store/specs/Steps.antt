@@ -9,9 +9,11 @@ use Rattle.sqlite.specs.Effect.{IsDatabase}
 use Rattle.sqlite.specs.State.{State, Shows}
 use Rattle.sqlite_rules.specs.Edit.{is_taken}
 use Rattle.er_event.specs.declared.rounds.Match.{Match}
+use Rattle.er_event.specs.declared.rows.TallyRow.{TallyRow}
 use Rattle.er_event.specs.Event.{EventValue}
+use Rattle.er_event.specs.Rows.{tally_rows}
 use Rattle.er_store.specs.Tables.{our_schema}
-use Rattle.er_store.specs.Standing.{StandsFor, KeepsOthers}
+use Rattle.er_store.specs.Standing.{StandsWith, KeepsOthers}
 
 -- the transaction goes on, and no other table has changed
 pub record Goes (tree : ℕ) (old new : State) : Type 0 where
@@ -34,10 +36,14 @@ pub record Moves (old new : State) : Type 0 where
   pub sound : IsDatabase new.now
   pub keeps : KeepsOthers old.now new.now
 
--- what a step makes of tables that stand for an event
-pub record Makes (old new : State) (e : EventValue) (serial : ℕ) : Type 0 where
+-- what a step makes of tables that stand for an event, with these rows of totals
+pub record MakesWith (old new : State) (e : EventValue) (serial : ℕ) (totals : List TallyRow) : Type 0 where
   pub moves : Moves old new
-  pub stands : StandsFor new.now e serial
+  pub stands : StandsWith new.now e serial totals
+
+-- and with those of the event
+abbrev pub Makes : State → State → EventValue → ℕ → Type 0
+Makes old new e serial = MakesWith old new e serial (tally_rows e)
 
 -- a stage of the playoff: at most four matches, and at least one
 abbrev pub IsStage : List Match → Type 0
@@ -52,7 +58,7 @@ pub record Creates (before after : Schema) (old new : State) : Type 0 where
   pub empty : new.now.trees (next_tree before) ≡ []
   pub others : KeepsRows before.tables old.now.trees new.now.trees
 
--- the four tables were made in an empty schema
+-- the five tables were made in an empty schema
 pub record CreatesAll (old new : State) : Type 0 where
   pub was : IsTrue old.in_transaction
   pub shows : Shows old new new.now old.committed true
@@ -62,3 +68,4 @@ pub record CreatesAll (old new : State) : Type 0 where
   pub player : new.now.trees 1 ≡ []
   pub pairing : new.now.trees 3 ≡ []
   pub bracket : new.now.trees 6 ≡ []
+  pub tally : new.now.trees 8 ≡ []

@@ -1,4 +1,4 @@
--- The four tables of an event, as the texts that make them say.
+-- The five tables of an event, as the texts that make them say.
 use Rattle.std.specs.Prelude.{ℕ, pos, Bool, true, false, List, [], ◌∷◌, Some, None, codes}
 use Rattle.sqlite.specs.declared.types.Value.TheVariants.{Null, Int}
 use Rattle.sqlite.specs.Collation.TheVariants.{Binary}
@@ -23,6 +23,9 @@ pairing_text = codes "CREATE TABLE pairing(round INTEGER NOT NULL, tab INTEGER N
 
 abbrev pub bracket_text : List ℕ
 bracket_text = codes "CREATE TABLE bracket(stage INTEGER NOT NULL, slot INTEGER NOT NULL, a INTEGER NOT NULL, b INTEGER NOT NULL, done INTEGER NOT NULL, x INTEGER NOT NULL, y INTEGER NOT NULL, d INTEGER NOT NULL, PRIMARY KEY(stage, slot))"
+
+abbrev pub tally_text : List ℕ
+tally_text = codes "CREATE TABLE tally(no INTEGER PRIMARY KEY, points INTEGER NOT NULL, rounds INTEGER NOT NULL, gamepoints INTEGER NOT NULL, games INTEGER NOT NULL)"
 
 abbrev pub plain : List ℕ → Kind → Bool → Column
 plain name kind not_null = record { name = name; kind = kind; is_strict = false; not_null = not_null; default = Null; collation = Binary }
@@ -95,6 +98,22 @@ bracket tree = record {
   is_counted = false;
 }
 
+abbrev pub tally : ℕ → Table
+tally tree = record {
+  name = codes "tally";
+  tree = tree;
+  columns = plain (codes "no") Integer false ∷ number (codes "points") ∷ number (codes "rounds") ∷ number (codes "gamepoints") ∷ number (codes "games") ∷ [];
+  key = Some 0;
+  primary = 0 ∷ [];
+  uniques = [];
+  orders = [];
+  checks = [];
+  references = [];
+  computed = [];
+  stamps = record { places = []; terms = []; formats = [] };
+  is_counted = false;
+}
+
 -- the indexes that SQLite makes for the keys
 abbrev pub key : List ℕ → ℕ → ℕ → List ℕ → Index
 key name tree table columns = record { name = name; tree = tree; table = table; columns = columns; order = record { digits = 0 }; is_unique = true }
@@ -115,9 +134,16 @@ pairing_schema = record {
   views = [];
 }
 
+abbrev pub bracket_schema : Schema
+bracket_schema = record {
+  tables = event 0 ∷ player 1 ∷ pairing 3 ∷ bracket 6 ∷ [];
+  indexes = key (codes "sqlite_autoindex_player_1") 2 1 (2 ∷ []) ∷ key (codes "sqlite_autoindex_pairing_1") 4 3 (1 ∷ 2 ∷ []) ∷ key (codes "sqlite_autoindex_pairing_2") 5 3 (3 ∷ 4 ∷ []) ∷ key (codes "sqlite_autoindex_bracket_1") 7 6 (1 ∷ 2 ∷ []) ∷ [];
+  views = [];
+}
+
 abbrev pub our_schema : Schema
 our_schema = record {
-  tables = event 0 ∷ player 1 ∷ pairing 3 ∷ bracket 6 ∷ [];
+  tables = event 0 ∷ player 1 ∷ pairing 3 ∷ bracket 6 ∷ tally 8 ∷ [];
   indexes = key (codes "sqlite_autoindex_player_1") 2 1 (2 ∷ []) ∷ key (codes "sqlite_autoindex_pairing_1") 4 3 (1 ∷ 2 ∷ []) ∷ key (codes "sqlite_autoindex_pairing_2") 5 3 (3 ∷ 4 ∷ []) ∷ key (codes "sqlite_autoindex_bracket_1") 7 6 (1 ∷ 2 ∷ []) ∷ [];
   views = [];
 }
@@ -149,6 +175,12 @@ insert_slot = codes "INSERT INTO bracket (stage, slot, a, b, done, x, y, d) VALU
 abbrev pub set_slot_score : List ℕ
 set_slot_score = codes "UPDATE bracket SET done = 1, x = ?3, y = ?4, d = ?5 WHERE stage = ?1 AND slot = ?2"
 
+abbrev pub insert_tally : List ℕ
+insert_tally = codes "INSERT INTO tally (no, points, rounds, gamepoints, games) VALUES (?1, ?2, ?3, ?4, ?5)"
+
+abbrev pub set_tally : List ℕ
+set_tally = codes "UPDATE tally SET points = ?2, rounds = ?3, gamepoints = ?4, games = ?5 WHERE no = ?1"
+
 -- whether a table `event` can be read
 abbrev pub find_event : List ℕ
 find_event = codes "SELECT 1 FROM event"
@@ -164,6 +196,13 @@ read_pairings = codes "SELECT round, tab, lo, hi, swapped, done, x, y, d FROM pa
 
 abbrev pub read_bracket : List ℕ
 read_bracket = codes "SELECT stage, slot, a, b, done, x, y, d FROM bracket ORDER BY stage, slot"
+
+abbrev pub read_tallies : List ℕ
+read_tallies = codes "SELECT no, points, rounds, gamepoints, games FROM tally ORDER BY no"
+
+-- the matches of two players, with the totals of the two
+abbrev pub read_meetings : List ℕ
+read_meetings = codes "SELECT p.round, p.tab, p.done, l.no, l.points, l.rounds, l.gamepoints, l.games, h.no, h.points, h.rounds, h.gamepoints, h.games FROM pairing AS p LEFT JOIN tally AS l ON l.no = p.lo LEFT JOIN tally AS h ON h.no = p.hi WHERE p.lo > 0 ORDER BY p.round, p.tab"
 
 -- the match of a round and a table, with the names of its players; a bye has none for the missing one
 abbrev pub read_slip : List ℕ

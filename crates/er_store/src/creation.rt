@@ -1,7 +1,7 @@
 ghost use Rattle.std.specs.Prelude.{◌≡◌, OnOk};
 ghost use Rattle.sqlite.specs.State.{HasCleanDisk, KeepsCommit, Survives};
 ghost use Rattle.sqlite.specs.Held.{state};
-ghost use Rattle.er_store.specs.Tables.{no_schema, event_schema, player_schema, pairing_schema, our_schema};
+ghost use Rattle.er_store.specs.Tables.{no_schema, event_schema, player_schema, pairing_schema, bracket_schema, our_schema};
 ghost use Rattle.er_store.specs.Steps.{Creates, CreatesAll};
 
 use sqlite::{Alter, Error, Transaction};
@@ -58,7 +58,7 @@ pub const CREATE_BRACKET: &str =
 fn create_bracket<S: Alter>(tx: &mut Transaction<'_, S>) -> Result<(), Error>
     ensures same_reference { tx.new.conn.ghost_name ≡ tx.old.conn.ghost_name }
     ensures creates { HasCleanDisk (state S.Store tx.new.conn.now) → (state S.Store tx.old.conn.now).now.schema ≡ pairing_schema
-        → OnOk result (Creates pairing_schema our_schema (state S.Store tx.old.conn.now) (state S.Store tx.new.conn.now)) }
+        → OnOk result (Creates pairing_schema bracket_schema (state S.Store tx.old.conn.now) (state S.Store tx.new.conn.now)) }
     ensures committed { HasCleanDisk (state S.Store tx.new.conn.now) → KeepsCommit (state S.Store tx.old.conn.now) (state S.Store tx.new.conn.now) }
     ensures survives { Survives (state S.Store tx.old.conn.now) (state S.Store tx.new.conn.now) (λ _. ⊥) }
 {
@@ -66,7 +66,22 @@ fn create_bracket<S: Alter>(tx: &mut Transaction<'_, S>) -> Result<(), Error>
     Ok(())
 }
 
-/// Makes the four tables.
+pub const CREATE_TALLY: &str =
+    "CREATE TABLE tally(no INTEGER PRIMARY KEY, points INTEGER NOT NULL, rounds INTEGER NOT NULL, gamepoints INTEGER NOT NULL, games INTEGER NOT NULL)";
+
+/// Makes the table `tally`. A crash in it leaves what it could leave before.
+fn create_tally<S: Alter>(tx: &mut Transaction<'_, S>) -> Result<(), Error>
+    ensures same_reference { tx.new.conn.ghost_name ≡ tx.old.conn.ghost_name }
+    ensures creates { HasCleanDisk (state S.Store tx.new.conn.now) → (state S.Store tx.old.conn.now).now.schema ≡ bracket_schema
+        → OnOk result (Creates bracket_schema our_schema (state S.Store tx.old.conn.now) (state S.Store tx.new.conn.now)) }
+    ensures committed { HasCleanDisk (state S.Store tx.new.conn.now) → KeepsCommit (state S.Store tx.old.conn.now) (state S.Store tx.new.conn.now) }
+    ensures survives { Survives (state S.Store tx.old.conn.now) (state S.Store tx.new.conn.now) (λ _. ⊥) }
+{
+    tx.execute(CREATE_TALLY, &[])?;
+    Ok(())
+}
+
+/// Makes the five tables.
 pub fn create_all<S: Alter>(tx: &mut Transaction<'_, S>) -> Result<(), Error>
     ensures same_reference { tx.new.conn.ghost_name ≡ tx.old.conn.ghost_name }
     ensures creates { HasCleanDisk (state S.Store tx.new.conn.now) → (state S.Store tx.old.conn.now).now.schema ≡ no_schema
@@ -77,5 +92,6 @@ pub fn create_all<S: Alter>(tx: &mut Transaction<'_, S>) -> Result<(), Error>
     create_event(tx)?;
     create_player(tx)?;
     create_pairing(tx)?;
-    create_bracket(tx)
+    create_bracket(tx)?;
+    create_tally(tx)
 }

@@ -4,6 +4,11 @@ ghost use Rattle.er_store.specs.Fault.{refusal_of, IsFault};
 use er_event::{Cause, Refusal};
 use sqlite::{Error, ErrorCode};
 
+/// A row that the format does not allow.
+pub const BAD_ROW: Refusal = Refusal::Store {
+    cause: Cause::BadRow,
+};
+
 /// What a refusal of the database means to a caller.
 pub fn refusal_of(error: Error) -> Refusal
     ensures value { result ≡ refusal_of error }

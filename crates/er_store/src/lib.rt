@@ -1,4 +1,4 @@
-//! An event kept in four tables of one SQLite database. Each change is one transaction.
+//! An event kept in five tables of one SQLite database. Each change is one transaction.
 #![tactic(auto)]
 
 ghost use Rattle.std.specs.Prelude.{◌≡◌, false};
@@ -11,15 +11,17 @@ mod reading;
 mod rows;
 mod slips;
 mod statements;
+mod tallies;
 mod transactions;
 
 pub use creation::{CREATE_BRACKET, CREATE_EVENT, CREATE_PAIRING, CREATE_PLAYER};
-use er_event::{Change, Event, Refusal, SlipRow};
+use er_event::{Change, Event, Meeting, Refusal, SlipRow, Tally};
 use faults::refusal_of;
 use loading::load_tables;
 use slips::find_slip;
 use sqlite::{Alter, Connection};
 use std::alloc::Global;
+use tallies::{find_meetings, find_tallies};
 use transactions::{create_tables, has_event, reads_event, write_tables};
 
 /// The tables of one event. After a fault each call but `into_connection` is refused, and touches no table.
@@ -41,15 +43,17 @@ impl<S: Alter> Store<S> {
     ghost use Rattle.er_event.specs.Sound.{IsSoundButForSeeds};
     ghost use Rattle.er_event.specs.Change.{after, Fits};
     ghost use Rattle.er_event.specs.Parts.{parts_of};
+    ghost use Rattle.er_event.specs.Rows.{tally_rows};
+    ghost use Rattle.er_event.specs.Tallies.{tallies, meetings};
     ghost use Rattle.er_store.specs.Tables.{no_schema};
     ghost use Rattle.er_store.specs.Standing.{HasTables, AreKeyed, StandsFor, IsNew, IsStored, Shows, Leaves, Either, KeepsOthers, CanRead, ReadsEvent};
     ghost use Rattle.er_store.specs.Store as store;
     ghost use Rattle.er_store.specs.Store.{connection, is_stopped};
-    ghost use Rattle.er_store.specs.Fault.{IsFault, IsLoadFault, FaultOrDamage};
+    ghost use Rattle.er_store.specs.Fault.{IsFault, IsReadFault, IsLoadFault, FaultOrDamage};
     ghost use Rattle.er_store.specs.Loading.{ShowsEvent};
     ghost use Rattle.er_store.specs.Reading.{KeepsTables};
-    ghost use Rattle.er_store.specs.Slip.{IsLawful, IsSlipFault, FindsSlip};
-    ghost use Rattle.er_store.specs.Damage.{ReadsParts, IsAtFault, IfDamaged};
+    ghost use Rattle.er_store.specs.Slip.{IsLawful, FindsSlip};
+    ghost use Rattle.er_store.specs.Damage.{ReadsParts, ReadsTallies, IsAtFault, IfDamaged};
 
     /// Makes the tables of a new event, with serial 0. A refusal gives the connection back.
     pub fn create(
@@ -109,7 +113,7 @@ impl<S: Alter> Store<S> {
         // Whatever the tables hold, what is found is what they show.
         ensures shows { IfOk result (λ it. HasCleanDisk (store.state S.Store it.0) → HasTables (state S.Store conn).now.schema
             → ShowsEvent (state S.Store conn).now it.1 it.2) }
-        ensures reads { IfOk result (λ it. HasCleanDisk (store.state S.Store it.0) → ReadsParts (state S.Store conn).now (parts_of it.1 it.2)) }
+        ensures reads { IfOk result (λ it. HasCleanDisk (store.state S.Store it.0) → ReadsParts (state S.Store conn).now (parts_of it.1 it.2) × ReadsTallies (state S.Store conn).now (tally_rows it.1)) }
 
         // Where the tables are ours, they stand for what is found, and a change can be written to them.
         ensures stands { IfOk result (λ it. HasCleanDisk (store.state S.Store it.0) → HasTables (state S.Store conn).now.schema → AreKeyed (state S.Store conn).now
@@ -175,7 +179,7 @@ impl<S: Alter> Store<S> {
         match write_tables(&mut self.conn, event, change, serial) {
             Ok(()) => Ok(()),
             Err(error) => {
-                self.needs_reopen = true;
+                self.stop();
                 Err(refusal_of(error))
             }
         }
@@ -195,7 +199,7 @@ impl<S: Alter> Store<S> {
         // Whatever the tables hold, what is found is what they show.
         ensures shows { HasCleanDisk (store.state S.Store self.new) → HasTables (store.state S.Store self.old).now.schema
             → IfOk result (λ it. ShowsEvent (store.state S.Store self.old).now it.0 it.1) }
-        ensures reads { HasCleanDisk (store.state S.Store self.new) → IfOk result (λ it. ReadsParts (store.state S.Store self.old).now (parts_of it.0 it.1)) }
+        ensures reads { HasCleanDisk (store.state S.Store self.new) → IfOk result (λ it. ReadsParts (store.state S.Store self.old).now (parts_of it.0 it.1) × ReadsTallies (store.state S.Store self.old).now (tally_rows it.0)) }
 
         // A damaged table that is named is the first at fault. So it is the event's where the event's rows can't be read, which `adopt` answers by `NoEvent`.
         ensures first { HasCleanDisk (store.state S.Store self.new) → IfErr result (IfDamaged (IsAtFault (store.state S.Store self.old).now)) }
@@ -225,7 +229,7 @@ impl<S: Alter> Store<S> {
         ensures stopped { IsTrue (is_stopped self.old) → (result ≡ Err Refusal.NeedsReopen) × (self.new ≡ self.old) }
         ensures asks { IsFalse (is_stopped self.old) → IfErr result (λ why. why ≢ Refusal.NeedsReopen) }
         ensures stops { IsFalse (is_stopped self.old)
-            → MatchResult result (λ _. IsFalse (is_stopped self.new)) (λ why. ((why ≡ Refusal.NoSuchMatch) × IsFalse (is_stopped self.new)) ⊎ (IsSlipFault why × IsTrue (is_stopped self.new))) }
+            → MatchResult result (λ _. IsFalse (is_stopped self.new)) (λ why. ((why ≡ Refusal.NoSuchMatch) × IsFalse (is_stopped self.new)) ⊎ (IsReadFault why × IsTrue (is_stopped self.new))) }
         ensures clean { HasCleanDisk (store.state S.Store self.new) → HasCleanDisk (store.state S.Store self.old) }
 
         // Where the tables stand for a sound event, its slip is found, or there is no such match, or memory or the store fails.
@@ -247,6 +251,67 @@ impl<S: Alter> Store<S> {
         let slip = find_slip(alloc, &mut self.conn, round, table);
         self.needs_reopen = matches!(slip, Err(Refusal::Memory | Refusal::Store { .. }));
         slip
+    }
+
+    /// Reads what each player's matches of the complete rounds come to, by number. It changes no table. Want of memory, a failing store and a row that the format does not allow end it as any fault does.
+    pub fn tallies(&mut self, alloc: Global) -> Result<Vec<Tally>, Refusal>
+        ensures stopped { IsTrue (is_stopped self.old) → (result ≡ Err Refusal.NeedsReopen) × (self.new ≡ self.old) }
+        ensures stops { IsFalse (is_stopped self.old) → MatchResult result (λ _. IsFalse (is_stopped self.new)) (λ why. IsReadFault why × IsTrue (is_stopped self.new)) }
+        ensures clean { HasCleanDisk (store.state S.Store self.new) → HasCleanDisk (store.state S.Store self.old) }
+
+        // Where the tables stand for a sound event, they are its tallies, or memory or the store fails.
+        ensures found { IsFalse (is_stopped self.old) → HasCleanDisk (store.state S.Store self.new) → (e : EventValue) (s : ℕ) → StandsFor (store.state S.Store self.old).now e s → IsSoundButForSeeds e
+            → MatchResult result (λ list. list.items ≡ tallies e) IsFault }
+
+        // Whatever the schema is, nothing is written.
+        ensures same { HasCleanDisk (store.state S.Store self.new) → OnOk result (IsUnchanged (store.state S.Store self.old) (store.state S.Store self.new)) }
+        ensures kept { HasCleanDisk (store.state S.Store self.new) → OnErr result (KeepsTables (store.state S.Store self.old) (store.state S.Store self.new)) }
+        ensures crash { Leaves (store.state S.Store self.new) (store.state S.Store self.old).may_leave }
+    {
+        if self.needs_reopen {
+            return Err(Refusal::NeedsReopen);
+        }
+        let read = find_tallies(alloc, &mut self.conn);
+        self.needs_reopen = read.is_err();
+        read
+    }
+
+    /// Reads who met whom in the complete rounds, by round and table, with what the matches of the two come to. It changes no table. Its faults are those of `tallies`.
+    pub fn meetings(&mut self, alloc: Global) -> Result<Vec<Meeting>, Refusal>
+        ensures stopped { IsTrue (is_stopped self.old) → (result ≡ Err Refusal.NeedsReopen) × (self.new ≡ self.old) }
+        ensures stops { IsFalse (is_stopped self.old) → MatchResult result (λ _. IsFalse (is_stopped self.new)) (λ why. IsReadFault why × IsTrue (is_stopped self.new)) }
+        ensures clean { HasCleanDisk (store.state S.Store self.new) → HasCleanDisk (store.state S.Store self.old) }
+
+        // Where the tables stand for a sound event, they are its meetings, or memory or the store fails.
+        ensures found { IsFalse (is_stopped self.old) → HasCleanDisk (store.state S.Store self.new) → (e : EventValue) (s : ℕ) → StandsFor (store.state S.Store self.old).now e s → IsSoundButForSeeds e
+            → MatchResult result (λ list. list.items ≡ meetings e) IsFault }
+
+        // Whatever the schema is, nothing is written.
+        ensures same { HasCleanDisk (store.state S.Store self.new) → OnOk result (IsUnchanged (store.state S.Store self.old) (store.state S.Store self.new)) }
+        ensures kept { HasCleanDisk (store.state S.Store self.new) → OnErr result (KeepsTables (store.state S.Store self.old) (store.state S.Store self.new)) }
+        ensures crash { Leaves (store.state S.Store self.new) (store.state S.Store self.old).may_leave }
+    {
+        if self.needs_reopen {
+            return Err(Refusal::NeedsReopen);
+        }
+        let read = find_meetings(alloc, &mut self.conn);
+        self.needs_reopen = read.is_err();
+        read
+    }
+
+    /// Whether a fault has ended it.
+    pub fn needs_reopen(&self) -> bool
+        ensures { result ≡ is_stopped self.now }
+    {
+        self.needs_reopen
+    }
+
+    /// Ends it as a fault does, where its rows say what no event's do.
+    pub fn stop(&mut self)
+        ensures stopped { IsTrue (is_stopped self.new) }
+        ensures same { connection self.new ≡ connection self.old }
+    {
+        self.needs_reopen = true;
     }
 
     /// Gives the connection back as it is.

@@ -5,16 +5,18 @@ ghost use Rattle.er_event.specs.declared.refusals.TheConstants.{MAX_SERIAL};
 ghost use Rattle.er_event.specs.declared.refusals.Place.{Place};
 ghost use Rattle.er_event.specs.Event.{EventValue};
 ghost use Rattle.er_event.specs.Sound.{IsSoundButForSeeds};
-ghost use Rattle.er_event.specs.Rows.{event_row};
+ghost use Rattle.er_event.specs.Rows.{event_row, tally_rows};
 ghost use Rattle.er_event.specs.Parts.{IsFirstFault, parts_of};
 ghost use Rattle.er_store.specs.Standing.{HasTables, StandsFor};
-ghost use Rattle.er_store.specs.Loading.{ListsParts, ShowsEvent};
-ghost use Rattle.er_store.specs.Damage.{ReadsParts, IsFirstMisread, IsAtFault, IfDamaged};
+ghost use Rattle.er_store.specs.Loading.{ListsParts, ListsTallies, ShowsEvent};
+ghost use Rattle.er_store.specs.Damage.{ReadsParts, ReadsTallies, IsRowFault, IsFirstMisread, IsAtFault, IfDamaged};
 ghost use Rattle.er_store.specs.Fault.{IsFault, IsLoadFault, reading_refusal};
 ghost use Rattle.er_store.specs.Reading.{KeepsTables};
 
-use crate::reading::{read_bracket, read_event, read_pairings, read_players, reading_refusal};
-use er_event::{Event, EventRow, Items, Parts, PartsFault, Place, Refusal};
+use crate::reading::{
+    read_bracket, read_event, read_pairings, read_players, read_tallies, reading_refusal,
+};
+use er_event::{Event, EventRow, Items, Parts, PartsFault, Place, Refusal, TallyRow};
 use sqlite::{Alter, Connection, Error};
 use std::alloc::Global;
 
@@ -58,6 +60,30 @@ fn read_parts<S: Alter>(alloc: Global, conn: &mut Connection<S>) -> Result<Parts
     })
 }
 
+/// The rows of the five tables, those of the totals apart.
+fn read_tables<S: Alter>(
+    alloc: Global,
+    conn: &mut Connection<S>,
+) -> Result<(Parts, Items<TallyRow>), Refusal>
+    ensures clean { HasCleanDisk (state S.Store conn.new) → HasCleanDisk (state S.Store conn.old) }
+    ensures mode { conn.old.in_transaction ≡ false → conn.new.in_transaction ≡ false }
+    ensures lists { HasCleanDisk (state S.Store conn.new) → HasTables (state S.Store conn.old).now.schema
+        → IfOk result (λ it. ListsParts (state S.Store conn.old).now it.0 × ListsTallies (state S.Store conn.old).now it.1) }
+    ensures reads { HasCleanDisk (state S.Store conn.new) → IfOk result (λ it. ReadsParts (state S.Store conn.old).now it.0 × ReadsTallies (state S.Store conn.old).now it.1) }
+    ensures misread { HasCleanDisk (state S.Store conn.new) → IfErr result (IfDamaged (IsFirstMisread (state S.Store conn.old).now)) }
+    ensures exact { HasCleanDisk (state S.Store conn.new) → (e : EventValue) (s : ℕ) → StandsFor (state S.Store conn.old).now e s → IsSoundButForSeeds e
+        → IfOk result (λ it. (it.0 ≡ parts_of e s) × (it.1 ≡ tally_rows e)) }
+    ensures refused { HasCleanDisk (state S.Store conn.new) → (e : EventValue) (s : ℕ) → StandsFor (state S.Store conn.old).now e s → IsSoundButForSeeds e → IfErr result IsFault }
+    ensures fault { IfErr result IsLoadFault }
+    ensures same { HasCleanDisk (state S.Store conn.new) → OnOk result (IsUnchanged (state S.Store conn.old) (state S.Store conn.new)) }
+    ensures kept { HasCleanDisk (state S.Store conn.new) → OnErr result (KeepsTables (state S.Store conn.old) (state S.Store conn.new)) }
+    ensures survives { Survives (state S.Store conn.old) (state S.Store conn.new) (λ _. ⊥) }
+{
+    let parts = read_parts(alloc, conn)?;
+    let tallies = rows_of(Place::TallyTable, read_tallies(alloc, conn))?;
+    Ok((parts, tallies))
+}
+
 /// The serial in the event's row, where it is one.
 fn serial_of(rows: &[EventRow]) -> Option<u32>
     ensures { (e : EventValue) (s : ℕ) → s ≤ MAX_SERIAL → rows.now ≡ event_row e s ∷ [] → result ≡ Some s }
@@ -86,6 +112,25 @@ fn event_of(alloc: Global, parts: Parts) -> Result<(Event, u32), Refusal>
     Ok((event, serial))
 }
 
+/// The event that the rows are of, with its serial, where the totals are the event's.
+fn counted_event_of(
+    alloc: Global,
+    parts: Parts,
+    tallies: &[TallyRow],
+) -> Result<(Event, u32), Refusal>
+    ensures value { IfOk result (λ it. (parts ≡ parts_of it.0 it.1) × (tallies.now ≡ tally_rows it.0) × (it.1 ≤ MAX_SERIAL) × IsSoundButForSeeds it.0) }
+    ensures only { (e : EventValue) (s : ℕ) → s ≤ MAX_SERIAL → parts ≡ parts_of e s → tallies.now ≡ tally_rows e → IsSoundButForSeeds e → IfOk result (λ it. (it.0 ≡ e) × (it.1 ≡ s)) }
+    ensures refused { IfErr result (λ why. (why ≡ Refusal.Memory) ⊎ ((place : Place) × (why ≡ Refusal.Damaged place) × IsRowFault parts tallies.now place)) }
+{
+    let (event, serial) = event_of(alloc, parts)?;
+    if event.has_tallies(tallies) {
+        Ok((event, serial))
+    } else {
+        let table = Place::TallyTable;
+        Err(Refusal::Damaged { table })
+    }
+}
+
 /// Reads the event and its serial.
 pub fn load_tables<S: Alter>(
     alloc: Global,
@@ -99,12 +144,12 @@ pub fn load_tables<S: Alter>(
     ensures found { HasCleanDisk (state S.Store conn.new) → (e : EventValue) (s : ℕ) → StandsFor (state S.Store conn.old).now e s → IsSoundButForSeeds e
         → MatchResult result (λ it. (it.0 ≡ e) × (it.1 ≡ s)) IsFault }
     ensures fault { IfErr result IsLoadFault }
-    ensures reads { HasCleanDisk (state S.Store conn.new) → IfOk result (λ it. ReadsParts (state S.Store conn.old).now (parts_of it.0 it.1)) }
+    ensures reads { HasCleanDisk (state S.Store conn.new) → IfOk result (λ it. ReadsParts (state S.Store conn.old).now (parts_of it.0 it.1) × ReadsTallies (state S.Store conn.old).now (tally_rows it.0)) }
     ensures first { HasCleanDisk (state S.Store conn.new) → IfErr result (IfDamaged (IsAtFault (state S.Store conn.old).now)) }
     ensures same { HasCleanDisk (state S.Store conn.new) → OnOk result (IsUnchanged (state S.Store conn.old) (state S.Store conn.new)) }
     ensures kept { HasCleanDisk (state S.Store conn.new) → OnErr result (KeepsTables (state S.Store conn.old) (state S.Store conn.new)) }
     ensures survives { Survives (state S.Store conn.old) (state S.Store conn.new) (λ _. ⊥) }
 {
-    let parts = read_parts(alloc, conn)?;
-    event_of(alloc, parts)
+    let (parts, tallies) = read_tables(alloc, conn)?;
+    counted_event_of(alloc, parts, tallies.as_slice())
 }

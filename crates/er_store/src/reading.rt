@@ -3,18 +3,19 @@ ghost use Rattle.sqlite.specs.State.{HasCleanDisk, Survives, IsUnchanged};
 ghost use Rattle.sqlite.specs.Held.{state};
 ghost use Rattle.er_event.specs.Event.{EventValue};
 ghost use Rattle.er_event.specs.Sound.{IsSoundButForSeeds};
-ghost use Rattle.er_event.specs.Rows.{event_row, player_rows, keyed_pairing_rows, bracket_rows};
-ghost use Rattle.er_store.specs.Rows.{event_columns, player_columns, pairing_columns, bracket_columns, shown, event_places, player_places, pairing_places, bracket_places};
+ghost use Rattle.er_event.specs.Rows.{event_row, player_rows, keyed_pairing_rows, bracket_rows, tally_rows};
+ghost use Rattle.er_store.specs.Rows.{event_columns, player_columns, pairing_columns, bracket_columns, tally_columns, shown, event_places, player_places, pairing_places, bracket_places, tally_places};
 ghost use Rattle.er_store.specs.Standing.{HasTables, StandsFor};
 ghost use Rattle.er_event.specs.declared.refusals.Place.{Place};
 ghost use Rattle.er_event.specs.declared.refusals.Refusal.{Refusal};
-ghost use Rattle.er_store.specs.Damage.{ReadsEvents, ReadsPlayers, ReadsPairings, ReadsBracket, IsMisread};
+ghost use Rattle.er_store.specs.Damage.{ReadsEvents, ReadsPlayers, ReadsPairings, ReadsBracket, ReadsTallies, IsMisread};
 ghost use Rattle.er_store.specs.Fault.{reading_refusal, IsLoadFault};
 ghost use Rattle.er_store.specs.Reading.{Lists, by_first, by_first_two, out_of_memory, IsReadRefused, KeepsTables};
+ghost use Rattle.er_store.specs.Meetings.{meeting_rows};
 ghost use Rattle.er_store.specs.Slip.{named_pairings};
 
-use crate::rows::{NamedPairing, typed};
-use er_event::{BracketRow, Cause, EventRow, PairingRow, Place, PlayerRow, Refusal};
+use crate::rows::{MeetingRow, NamedPairing, push_row, typed};
+use er_event::{BracketRow, Cause, EventRow, PairingRow, Place, PlayerRow, Refusal, TallyRow};
 use sqlite::{Alter, Connection, Error, ErrorCode, params};
 use std::alloc::Global;
 
@@ -116,6 +117,58 @@ pub fn read_bracket<S: Alter>(
 {
     let rows = conn.query_all(READ_BRACKET, &[])?;
     typed(alloc, &rows)
+}
+
+pub const READ_TALLIES: &str =
+    "SELECT no, points, rounds, gamepoints, games FROM tally ORDER BY no";
+
+/// The players' totals by number. A crash in it leaves what it could leave before.
+pub fn read_tallies<S: Alter>(
+    alloc: Global,
+    conn: &mut Connection<S>,
+) -> Result<Vec<TallyRow>, Error>
+    ensures clean { HasCleanDisk (state S.Store conn.new) → HasCleanDisk (state S.Store conn.old) }
+    ensures mode { conn.old.in_transaction ≡ false → conn.new.in_transaction ≡ false }
+    ensures lists { HasCleanDisk (state S.Store conn.new) → HasTables (state S.Store conn.old).now.schema
+        → IfOk result (λ rows. Lists by_first (shown tally_places ((state S.Store conn.old).now.trees 8)) (map tally_columns rows.items)) }
+    ensures exact { HasCleanDisk (state S.Store conn.new) → (e : EventValue) (s : ℕ) → StandsFor (state S.Store conn.old).now e s → IsSoundButForSeeds e
+        → IfOk result (λ rows. rows.items ≡ tally_rows e) }
+    ensures refused { HasCleanDisk (state S.Store conn.new) → (e : EventValue) (s : ℕ) → StandsFor (state S.Store conn.old).now e s → IsSoundButForSeeds e
+        → IfErr result (λ why. (why ≡ out_of_memory) ⊎ IsReadRefused (state S.Store conn.old) (state S.Store conn.new) why) }
+    ensures reads { HasCleanDisk (state S.Store conn.new) → IfOk result (λ rows. ReadsTallies (state S.Store conn.old).now rows.items) }
+    ensures misread { HasCleanDisk (state S.Store conn.new) → IfErr result (λ why. (at : Place) → reading_refusal Place.TallyTable why ≡ Refusal.Damaged at → IsMisread (state S.Store conn.old).now Place.TallyTable) }
+    ensures same { HasCleanDisk (state S.Store conn.new) → OnOk result (IsUnchanged (state S.Store conn.old) (state S.Store conn.new)) }
+    ensures kept { HasCleanDisk (state S.Store conn.new) → OnErr result (KeepsTables (state S.Store conn.old) (state S.Store conn.new)) }
+    ensures survives { Survives (state S.Store conn.old) (state S.Store conn.new) (λ _. ⊥) }
+{
+    let rows = conn.query_all(READ_TALLIES, &[])?;
+    typed(alloc, &rows)
+}
+
+pub const READ_MEETINGS: &str =
+    "SELECT p.round, p.tab, p.done, l.no, l.points, l.rounds, l.gamepoints, l.games, h.no, h.points, h.rounds, h.gamepoints, h.games FROM pairing AS p LEFT JOIN tally AS l ON l.no = p.lo LEFT JOIN tally AS h ON h.no = p.hi WHERE p.lo > 0 ORDER BY p.round, p.tab";
+
+/// The matches of two players by round and table, with the totals of the two, read one row at a time. A crash in it leaves what it could leave before.
+pub fn read_meetings<S: Alter>(
+    alloc: Global,
+    conn: &mut Connection<S>,
+) -> Result<Vec<MeetingRow>, Error>
+    ensures clean { HasCleanDisk (state S.Store conn.new) → HasCleanDisk (state S.Store conn.old) }
+    ensures mode { conn.old.in_transaction ≡ false → conn.new.in_transaction ≡ false }
+    ensures exact { HasCleanDisk (state S.Store conn.new) → (e : EventValue) (s : ℕ) → StandsFor (state S.Store conn.old).now e s → IsSoundButForSeeds e
+        → IfOk result (λ rows. rows.items ≡ meeting_rows e) }
+    ensures refused { HasCleanDisk (state S.Store conn.new) → (e : EventValue) (s : ℕ) → StandsFor (state S.Store conn.old).now e s → IsSoundButForSeeds e
+        → IfErr result (λ why. (why ≡ out_of_memory) ⊎ IsReadRefused (state S.Store conn.old) (state S.Store conn.new) why) }
+    ensures same { HasCleanDisk (state S.Store conn.new) → OnOk result (IsUnchanged (state S.Store conn.old) (state S.Store conn.new)) }
+    ensures kept { HasCleanDisk (state S.Store conn.new) → OnErr result (KeepsTables (state S.Store conn.old) (state S.Store conn.new)) }
+    ensures survives { Survives (state S.Store conn.old) (state S.Store conn.new) (λ _. ⊥) }
+{
+    let mut meetings = Vec::new(alloc);
+    let mut rows = conn.query(READ_MEETINGS, &[])?;
+    while let Some(row) = rows.next()? {
+        push_row(&mut meetings, row)?;
+    }
+    Ok(meetings)
 }
 
 pub const READ_SLIP: &str =

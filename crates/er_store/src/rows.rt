@@ -1,10 +1,10 @@
-ghost use Rattle.std.specs.Prelude.{◌≡◌, ◌≢◌, ◌<◌, ℕ, List, All, IfOk, IfErr, IfSome, Option, map, length, ⊤, IsUtf8};
+ghost use Rattle.std.specs.Prelude.{◌≡◌, ◌≢◌, ◌<◌, ◌++◌, ◌∷◌, [], ℕ, List, All, IfOk, IfErr, OnOk, IfSome, Option, map, length, ⊤, IsUtf8};
 ghost use Rattle.sqlite.specs.declared.types.Value.TheVariants.{Text};
 ghost use Rattle.sqlite.specs.Order.{Row, column};
-ghost use Rattle.er_store.specs.Rows.{event_columns, player_columns, pairing_columns, bracket_columns, named_columns, text_or_null};
+ghost use Rattle.er_store.specs.Rows.{event_columns, player_columns, pairing_columns, bracket_columns, tally_columns, meeting_columns, named_columns, text_or_null};
 ghost use Rattle.er_store.specs.Reading.{first_columns, out_of_memory};
 
-use er_event::{BracketRow, EventRow, Items, PairingRow, PlayerRow};
+use er_event::{BracketRow, EventRow, Items, PairingRow, PlayerRow, TallyRow};
 use sqlite::{Error, Row as SqlRow};
 use std::alloc::Global;
 
@@ -15,6 +15,16 @@ pub struct NamedPairing {
     /// None where no player has the number.
     pub lo_name: Option<Items<u8>>,
     pub hi_name: Option<Items<u8>>,
+}
+
+/// A stored match of two players, with the totals of each.
+#[derive(Drop)]
+pub struct MeetingRow {
+    pub round: i64,
+    pub tab: i64,
+    pub done: i64,
+    pub lo: TallyRow,
+    pub hi: TallyRow,
 }
 
 /// A typed row of a table.
@@ -110,6 +120,54 @@ impl FromRow for BracketRow {
     }
 }
 
+impl FromRow for TallyRow {
+    ghost columns = { tally_columns };
+
+    ghost width = { 5 };
+
+    ghost is_text = { λ _. ⊤ };
+
+    fn from_row(row: &SqlRow) -> Result<TallyRow, Error> {
+        Ok(TallyRow {
+            no: row.get(0)?,
+            points: row.get(1)?,
+            rounds: row.get(2)?,
+            gamepoints: row.get(3)?,
+            games: row.get(4)?,
+        })
+    }
+}
+
+impl FromRow for MeetingRow {
+    ghost columns = { meeting_columns };
+
+    ghost width = { 13 };
+
+    ghost is_text = { λ _. ⊤ };
+
+    fn from_row(row: &SqlRow) -> Result<MeetingRow, Error> {
+        Ok(MeetingRow {
+            round: row.get(0)?,
+            tab: row.get(1)?,
+            done: row.get(2)?,
+            lo: TallyRow {
+                no: row.get(3)?,
+                points: row.get(4)?,
+                rounds: row.get(5)?,
+                gamepoints: row.get(6)?,
+                games: row.get(7)?,
+            },
+            hi: TallyRow {
+                no: row.get(8)?,
+                points: row.get(9)?,
+                rounds: row.get(10)?,
+                gamepoints: row.get(11)?,
+                games: row.get(12)?,
+            },
+        })
+    }
+}
+
 impl FromRow for NamedPairing {
     ghost columns = { named_columns };
 
@@ -155,6 +213,15 @@ fn bytes_of(row: &SqlRow, at: usize) -> Result<Items<u8>, Error>
 {
     let text: String = row.get(at)?;
     Ok(Items::from(text.into_bytes()))
+}
+
+/// Appends the row as a typed row.
+pub fn push_row<T: FromRow>(typed: &mut Vec<T>, row: &SqlRow) -> Result<(), Error>
+    ensures value { OnOk result (map T.columns typed.new.items ≡ map T.columns typed.old.items ++ first_columns T.width row.now ∷ []) }
+    ensures refused { IfErr result (λ e. e ≢ out_of_memory → (r : T) → T.is_text r → row.now ≢ T.columns r) }
+{
+    typed.push(T::from_row(row)?)?;
+    Ok(())
 }
 
 /// The rows as typed rows.

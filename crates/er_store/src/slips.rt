@@ -1,26 +1,21 @@
 ghost use Rattle.std.specs.Prelude.{◌≡◌, ◌⊎◌, ℕ, Some, None, [], ◌∷◌, false, IfSome, IfOk, IfErr, OnErr, MatchResult};
 ghost use Rattle.sqlite.specs.State.{HasCleanDisk, Survives, IsUnchanged};
 ghost use Rattle.sqlite.specs.Held.{state};
-ghost use Rattle.er_event.specs.declared.refusals.Cause.{Cause};
 ghost use Rattle.er_event.specs.declared.slips.SlipRow.{SlipRow};
 ghost use Rattle.er_event.specs.Event.{EventValue};
 ghost use Rattle.er_event.specs.Slip.{slip_of};
 ghost use Rattle.er_event.specs.Sound.{IsSoundButForSeeds};
-ghost use Rattle.er_store.specs.Fault.{IsFault};
+ghost use Rattle.er_store.specs.Fault.{IsFault, IsReadFault};
 ghost use Rattle.er_store.specs.Reading.{KeepsTables};
-ghost use Rattle.er_store.specs.Slip.{Side, number_in, name_in, named_pairing, IsPlayer, IsLawful, IsSlipFault};
+ghost use Rattle.er_store.specs.Slip.{Side, number_in, name_in, named_pairing, IsPlayer, IsLawful};
 ghost use Rattle.er_store.specs.Standing.{StandsFor};
 
-use crate::faults::refusal_of;
+use crate::faults::{BAD_ROW, refusal_of};
 use crate::reading::read_slip;
 use crate::rows::NamedPairing;
-use er_event::{Cause, Items, Name, PlayerNo, Refusal, SlipRow, match_at_table};
+use er_event::{Items, Name, PlayerNo, Refusal, SlipRow, match_at_table};
 use sqlite::{Alter, Connection};
 use std::alloc::Global;
-
-const BAD_ROW: Refusal = Refusal::Store {
-    cause: Cause::BadRow,
-};
 
 /// Who has this number and this name: nobody has 0 and no name.
 fn side(number: u16, name: &Option<Items<u8>>) -> Option<Option<(PlayerNo, Name)>>
@@ -71,7 +66,7 @@ pub fn find_slip<S: Alter>(
     ensures found { HasCleanDisk (state S.Store conn.new) → (e : EventValue) (s : ℕ) → StandsFor (state S.Store conn.old).now e s → IsSoundButForSeeds e
         → MatchResult result (λ row. slip_of e round table ≡ Some row) (λ why. IsFault why ⊎ ((why ≡ Refusal.NoSuchMatch) × (slip_of e round table ≡ None))) }
     ensures allowed { IfOk result (λ slip. (slip.round ≡ round) × (slip.table ≡ table) × IsLawful slip) }
-    ensures fault { IfErr result (λ why. (why ≡ Refusal.NoSuchMatch) ⊎ IsSlipFault why) }
+    ensures fault { IfErr result (λ why. (why ≡ Refusal.NoSuchMatch) ⊎ IsReadFault why) }
     ensures same { HasCleanDisk (state S.Store conn.new) → MatchResult result (λ _. IsUnchanged (state S.Store conn.old) (state S.Store conn.new)) (λ why. why ≡ Refusal.NoSuchMatch → IsUnchanged (state S.Store conn.old) (state S.Store conn.new)) }
     ensures kept { HasCleanDisk (state S.Store conn.new) → OnErr result (KeepsTables (state S.Store conn.old) (state S.Store conn.new)) }
     ensures survives { Survives (state S.Store conn.old) (state S.Store conn.new) (λ _. ⊥) }

@@ -3,17 +3,20 @@ ghost use Rattle.std.specs.List.{range_with_len};
 ghost use Rattle.sqlite.specs.State.{HasCleanDisk, KeepsCommit, Survives};
 ghost use Rattle.sqlite.specs.Held.{state};
 ghost use Rattle.er_event.specs.declared.refusals.TheConstants.{MAX_SERIAL};
+ghost use Rattle.er_event.specs.declared.rows.TallyRow.{TallyRow};
 ghost use Rattle.er_event.specs.Event.{EventValue};
 ghost use Rattle.er_event.specs.Sound.{numbers};
 ghost use Rattle.er_event.specs.Round.{is_bye, match_at};
 ghost use Rattle.er_event.specs.Bracket.{slot_at};
 ghost use Rattle.er_event.specs.Change.{with_phase, with_dropped, with_round, with_score, with_stage, with_slot_score};
 ghost use Rattle.er_store.specs.Rows.{stored_player, stored_event};
-ghost use Rattle.er_event.specs.Rows.{phase_code, games_of};
-ghost use Rattle.er_store.specs.Standing.{HasTables, StandsFor};
-ghost use Rattle.er_store.specs.Steps.{Puts, Makes};
+ghost use Rattle.er_event.specs.Rows.{phase_code, games_of, tally_row, tally_rows_by};
+ghost use Rattle.er_store.specs.Totals.{set_for};
+ghost use Rattle.er_event.specs.declared.totals.Totals.{Totals};
+ghost use Rattle.er_store.specs.Standing.{HasTables, StandsWith};
+ghost use Rattle.er_store.specs.Steps.{Puts, MakesWith};
 
-use er_event::{Event, Games, Match, Phase, Score};
+use er_event::{Event, Games, Match, Phase, Score, Totals};
 use sqlite::{Alter, Error, Transaction, params};
 
 pub const INSERT_PLAYER: &str = "INSERT INTO player (no, name, dropped) VALUES (?1, ?2, ?3)";
@@ -78,8 +81,8 @@ pub const SET_SERIAL: &str = "UPDATE event SET serial = ?1";
 pub fn set_serial<S: Alter>(tx: &mut Transaction<'_, S>, serial: u32) -> Result<(), Error>
     requires { serial ≤ MAX_SERIAL }
     ensures same_reference { tx.new.conn.ghost_name ≡ tx.old.conn.ghost_name }
-    ensures makes { HasCleanDisk (state S.Store tx.new.conn.now) → (e : EventValue) (s : ℕ) → StandsFor (state S.Store tx.old.conn.now).now e s
-        → OnOk result (Makes (state S.Store tx.old.conn.now) (state S.Store tx.new.conn.now) e serial) }
+    ensures makes { HasCleanDisk (state S.Store tx.new.conn.now) → (e : EventValue) (s : ℕ) (t : List TallyRow) → StandsWith (state S.Store tx.old.conn.now).now e s t
+        → OnOk result (MakesWith (state S.Store tx.old.conn.now) (state S.Store tx.new.conn.now) e serial t) }
     ensures inside { HasCleanDisk (state S.Store tx.new.conn.now) → OnOk result (IsTrue (state S.Store tx.new.conn.now).in_transaction) }
     ensures committed { HasCleanDisk (state S.Store tx.new.conn.now) → KeepsCommit (state S.Store tx.old.conn.now) (state S.Store tx.new.conn.now) }
     ensures survives { Survives (state S.Store tx.old.conn.now) (state S.Store tx.new.conn.now) (λ _. ⊥) }
@@ -93,8 +96,8 @@ pub const SET_PHASE: &str = "UPDATE event SET phase = ?1";
 /// Sets the phase of the event's row.
 pub fn set_phase<S: Alter>(tx: &mut Transaction<'_, S>, phase: Phase) -> Result<(), Error>
     ensures same_reference { tx.new.conn.ghost_name ≡ tx.old.conn.ghost_name }
-    ensures makes { HasCleanDisk (state S.Store tx.new.conn.now) → (e : EventValue) (s : ℕ) → StandsFor (state S.Store tx.old.conn.now).now e s
-        → OnOk result (Makes (state S.Store tx.old.conn.now) (state S.Store tx.new.conn.now) (with_phase e phase) s) }
+    ensures makes { HasCleanDisk (state S.Store tx.new.conn.now) → (e : EventValue) (s : ℕ) (t : List TallyRow) → StandsWith (state S.Store tx.old.conn.now).now e s t
+        → OnOk result (MakesWith (state S.Store tx.old.conn.now) (state S.Store tx.new.conn.now) (with_phase e phase) s t) }
     ensures committed { HasCleanDisk (state S.Store tx.new.conn.now) → KeepsCommit (state S.Store tx.old.conn.now) (state S.Store tx.new.conn.now) }
     ensures survives { Survives (state S.Store tx.old.conn.now) (state S.Store tx.new.conn.now) (λ _. ⊥) }
 {
@@ -107,9 +110,9 @@ pub const SET_DROPPED: &str = "UPDATE player SET dropped = 1 WHERE no = ?1";
 /// Drops the player of this number.
 pub fn set_dropped<S: Alter>(tx: &mut Transaction<'_, S>, number: u32) -> Result<(), Error>
     ensures same_reference { tx.new.conn.ghost_name ≡ tx.old.conn.ghost_name }
-    ensures makes { HasCleanDisk (state S.Store tx.new.conn.now) → (e : EventValue) (s : ℕ) → StandsFor (state S.Store tx.old.conn.now).now e s
+    ensures makes { HasCleanDisk (state S.Store tx.new.conn.now) → (e : EventValue) (s : ℕ) (t : List TallyRow) → StandsWith (state S.Store tx.old.conn.now).now e s t
         → numbers e.players ≡ range_with_len 1 (length e.players) → Contains (numbers e.players) number
-        → OnOk result (Makes (state S.Store tx.old.conn.now) (state S.Store tx.new.conn.now) (with_dropped e number) s) }
+        → OnOk result (MakesWith (state S.Store tx.old.conn.now) (state S.Store tx.new.conn.now) (with_dropped e number) s t) }
     ensures committed { HasCleanDisk (state S.Store tx.new.conn.now) → KeepsCommit (state S.Store tx.old.conn.now) (state S.Store tx.new.conn.now) }
     ensures survives { Survives (state S.Store tx.old.conn.now) (state S.Store tx.new.conn.now) (λ _. ⊥) }
 {
@@ -128,9 +131,9 @@ pub fn set_score<S: Alter>(
     score: Score,
 ) -> Result<(), Error>
     ensures same_reference { tx.new.conn.ghost_name ≡ tx.old.conn.ghost_name }
-    ensures makes { HasCleanDisk (state S.Store tx.new.conn.now) → (e : EventValue) (s : ℕ) → StandsFor (state S.Store tx.old.conn.now).now e s
+    ensures makes { HasCleanDisk (state S.Store tx.new.conn.now) → (e : EventValue) (s : ℕ) (t : List TallyRow) → StandsWith (state S.Store tx.old.conn.now).now e s t
         → (m : Match) → match_at e round table ≡ Some m → IsFalse (is_bye m)
-        → OnOk result (Makes (state S.Store tx.old.conn.now) (state S.Store tx.new.conn.now) (with_score e round table score) s) }
+        → OnOk result (MakesWith (state S.Store tx.old.conn.now) (state S.Store tx.new.conn.now) (with_score e round table score) s t) }
     ensures committed { HasCleanDisk (state S.Store tx.new.conn.now) → KeepsCommit (state S.Store tx.old.conn.now) (state S.Store tx.new.conn.now) }
     ensures survives { Survives (state S.Store tx.old.conn.now) (state S.Store tx.new.conn.now) (λ _. ⊥) }
 {
@@ -163,9 +166,9 @@ pub fn insert_pairing<S: Alter>(
     played: &Match,
 ) -> Result<(), Error>
     ensures same_reference { tx.new.conn.ghost_name ≡ tx.old.conn.ghost_name }
-    ensures makes { HasCleanDisk (state S.Store tx.new.conn.now) → (e : EventValue) (before : List Match) (s : ℕ) → StandsFor (state S.Store tx.old.conn.now).now (with_round e before) s
+    ensures makes { HasCleanDisk (state S.Store tx.new.conn.now) → (e : EventValue) (before : List Match) (s : ℕ) (t : List TallyRow) → StandsWith (state S.Store tx.old.conn.now).now (with_round e before) s t
         → round ≡ length e.stored + 1 → place ≡ length before + 1
-        → OnOk result (Makes (state S.Store tx.old.conn.now) (state S.Store tx.new.conn.now) (with_round e (before ++ played.now ∷ [])) s) }
+        → OnOk result (MakesWith (state S.Store tx.old.conn.now) (state S.Store tx.new.conn.now) (with_round e (before ++ played.now ∷ [])) s t) }
     ensures committed { HasCleanDisk (state S.Store tx.new.conn.now) → KeepsCommit (state S.Store tx.old.conn.now) (state S.Store tx.new.conn.now) }
     ensures survives { Survives (state S.Store tx.old.conn.now) (state S.Store tx.new.conn.now) (λ _. ⊥) }
 {
@@ -202,9 +205,9 @@ pub fn insert_slot<S: Alter>(
     played: &Match,
 ) -> Result<(), Error>
     ensures same_reference { tx.new.conn.ghost_name ≡ tx.old.conn.ghost_name }
-    ensures makes { HasCleanDisk (state S.Store tx.new.conn.now) → (e : EventValue) (before : List Match) (s : ℕ) → StandsFor (state S.Store tx.old.conn.now).now (with_stage e before) s
+    ensures makes { HasCleanDisk (state S.Store tx.new.conn.now) → (e : EventValue) (before : List Match) (s : ℕ) (t : List TallyRow) → StandsWith (state S.Store tx.old.conn.now).now (with_stage e before) s t
         → stage ≡ length e.bracket.stages + 1 → slot ≡ length before + 1
-        → OnOk result (Makes (state S.Store tx.old.conn.now) (state S.Store tx.new.conn.now) (with_stage e (before ++ played.now ∷ [])) s) }
+        → OnOk result (MakesWith (state S.Store tx.old.conn.now) (state S.Store tx.new.conn.now) (with_stage e (before ++ played.now ∷ [])) s t) }
     ensures committed { HasCleanDisk (state S.Store tx.new.conn.now) → KeepsCommit (state S.Store tx.old.conn.now) (state S.Store tx.new.conn.now) }
     ensures survives { Survives (state S.Store tx.old.conn.now) (state S.Store tx.new.conn.now) (λ _. ⊥) }
 {
@@ -236,9 +239,9 @@ pub fn set_slot_score<S: Alter>(
     score: Score,
 ) -> Result<(), Error>
     ensures same_reference { tx.new.conn.ghost_name ≡ tx.old.conn.ghost_name }
-    ensures makes { HasCleanDisk (state S.Store tx.new.conn.now) → (e : EventValue) (s : ℕ) → StandsFor (state S.Store tx.old.conn.now).now e s
+    ensures makes { HasCleanDisk (state S.Store tx.new.conn.now) → (e : EventValue) (s : ℕ) (t : List TallyRow) → StandsWith (state S.Store tx.old.conn.now).now e s t
         → (m : Match) → slot_at e stage slot ≡ Some m
-        → OnOk result (Makes (state S.Store tx.old.conn.now) (state S.Store tx.new.conn.now) (with_slot_score e stage slot score) s) }
+        → OnOk result (MakesWith (state S.Store tx.old.conn.now) (state S.Store tx.new.conn.now) (with_slot_score e stage slot score) s t) }
     ensures committed { HasCleanDisk (state S.Store tx.new.conn.now) → KeepsCommit (state S.Store tx.old.conn.now) (state S.Store tx.new.conn.now) }
     ensures survives { Survives (state S.Store tx.old.conn.now) (state S.Store tx.new.conn.now) (λ _. ⊥) }
 {
@@ -246,6 +249,59 @@ pub fn set_slot_score<S: Alter>(
     tx.execute(
         SET_SLOT_SCORE,
         params![stage, slot, u32::from(x), u32::from(y), u32::from(d)],
+    )?;
+    Ok(())
+}
+
+pub const INSERT_TALLY: &str =
+    "INSERT INTO tally (no, points, rounds, gamepoints, games) VALUES (?1, ?2, ?3, ?4, ?5)";
+
+/// Inserts the totals of a player.
+pub fn insert_tally<S: Alter>(
+    tx: &mut Transaction<'_, S>,
+    number: u32,
+    totals: Totals,
+) -> Result<(), Error>
+    ensures same_reference { tx.new.conn.ghost_name ≡ tx.old.conn.ghost_name }
+    ensures makes { HasCleanDisk (state S.Store tx.new.conn.now) → (e : EventValue) (s : ℕ) (t : List TallyRow) → StandsWith (state S.Store tx.old.conn.now).now e s t
+        → OnOk result (MakesWith (state S.Store tx.old.conn.now) (state S.Store tx.new.conn.now) e s (t ++ tally_row number totals ∷ [])) }
+    ensures committed { HasCleanDisk (state S.Store tx.new.conn.now) → KeepsCommit (state S.Store tx.old.conn.now) (state S.Store tx.new.conn.now) }
+    ensures survives { Survives (state S.Store tx.old.conn.now) (state S.Store tx.new.conn.now) (λ _. ⊥) }
+{
+    let points = u32::from(totals.points);
+    let rounds = u32::from(totals.rounds);
+    let game_points = u32::from(totals.game_points);
+    let games = u32::from(totals.games);
+    tx.execute(
+        INSERT_TALLY,
+        params![number, points, rounds, game_points, games],
+    )?;
+    Ok(())
+}
+
+pub const SET_TALLY: &str =
+    "UPDATE tally SET points = ?2, rounds = ?3, gamepoints = ?4, games = ?5 WHERE no = ?1";
+
+/// Sets the totals of the player of this number.
+pub fn set_tally<S: Alter>(
+    tx: &mut Transaction<'_, S>,
+    number: u32,
+    totals: Totals,
+) -> Result<(), Error>
+    ensures same_reference { tx.new.conn.ghost_name ≡ tx.old.conn.ghost_name }
+    ensures makes { HasCleanDisk (state S.Store tx.new.conn.now) → (e : EventValue) (s : ℕ) (come_to : ℕ → Totals) → StandsWith (state S.Store tx.old.conn.now).now e s (tally_rows_by come_to e.players)
+        → numbers e.players ≡ range_with_len 1 (length e.players) → Contains (numbers e.players) number
+        → OnOk result (MakesWith (state S.Store tx.old.conn.now) (state S.Store tx.new.conn.now) e s (tally_rows_by (set_for number totals come_to) e.players)) }
+    ensures committed { HasCleanDisk (state S.Store tx.new.conn.now) → KeepsCommit (state S.Store tx.old.conn.now) (state S.Store tx.new.conn.now) }
+    ensures survives { Survives (state S.Store tx.old.conn.now) (state S.Store tx.new.conn.now) (λ _. ⊥) }
+{
+    let points = u32::from(totals.points);
+    let rounds = u32::from(totals.rounds);
+    let game_points = u32::from(totals.game_points);
+    let games = u32::from(totals.games);
+    tx.execute(
+        SET_TALLY,
+        params![number, points, rounds, game_points, games],
     )?;
     Ok(())
 }

@@ -1,26 +1,35 @@
-ghost use Rattle.std.specs.Prelude.{◌≡◌, ◌+◌, ◌<◌, ◌≤◌, length, false, ℕ, Some, option_map, OnOk, OnErr, IfOk, IsOk, IfSome, ◌↔◌, IsTrue};
+ghost use Rattle.std.specs.Prelude.{◌≡◌, ◌+◌, ◌<◌, ◌≤◌, length, false, ℕ, List, [], ◌∷◌, ◌++◌, Contains, Some, option_map, OnOk, OnErr, IfOk, IsOk, IfSome, ◌↔◌, IsTrue};
+ghost use Rattle.std.specs.List.{range_with_len};
 ghost use Rattle.sqlite.specs.State.{HasCleanDisk, KeepsCommit, Survives, IsUnchanged};
 ghost use Rattle.sqlite.specs.Held.{state};
 ghost use Rattle.sqlite.specs.Listing.{understood};
 ghost use Rattle.sqlite.specs.Tree.{Trees};
 ghost use Rattle.er_event.specs.declared.refusals.TheConstants.{MAX_SERIAL};
+ghost use Rattle.er_event.specs.declared.rows.TallyRow.{TallyRow};
 ghost use Rattle.er_event.specs.Event.{EventValue};
 ghost use Rattle.er_event.specs.Change.{after, with_round, with_stage, with_bracket, with_bracket_score, Fits};
 ghost use Rattle.er_event.specs.Bracket.{slot_at};
+ghost use Rattle.er_event.specs.declared.players.TheConstants.{MAX_PLAYERS};
+ghost use Rattle.er_event.specs.declared.totals.Totals.{Totals};
+ghost use Rattle.er_event.specs.Recounted.{AreOf};
+ghost use Rattle.er_event.specs.Rows.{tally_row, tally_rows_by};
+ghost use Rattle.er_event.specs.Sound.{numbers};
+ghost use Rattle.er_event.specs.Totals.{totals};
+ghost use Rattle.er_store.specs.Totals.{set_for, set_for_all};
 ghost use Rattle.er_event.specs.declared.rounds.Match.{Match};
 ghost use Rattle.er_store.specs.Steps.{IsStage};
 ghost use Rattle.er_store.specs.Tables.{no_schema};
-ghost use Rattle.er_store.specs.Standing.{StandsFor, IsStored, IsNew, Shows, Leaves, Either, KeepsOthers, CanRead, ReadsEvent};
-ghost use Rattle.er_store.specs.Steps.{Makes};
+ghost use Rattle.er_store.specs.Standing.{StandsFor, StandsWith, IsStored, IsNew, Shows, Leaves, Either, KeepsOthers, CanRead, ReadsEvent};
+ghost use Rattle.er_store.specs.Steps.{Moves, Makes, MakesWith};
 ghost use Rattle.er_store.specs.Reading.{KeepsTables};
 
 use crate::creation::create_all;
 use crate::reading::READ_EVENT;
 use crate::statements::{
-    insert_event, insert_pairing, insert_player, insert_slot, set_dropped, set_phase, set_score,
-    set_serial, set_slot_score,
+    insert_event, insert_pairing, insert_player, insert_slot, insert_tally, set_dropped, set_phase,
+    set_score, set_serial, set_slot_score, set_tally,
 };
-use er_event::{Change, Event, Items, Match, Phase, Score};
+use er_event::{Change, Event, Items, Match, Phase, PlayerNo, Score};
 use sqlite::{Alter, Connection, Error, Transaction};
 
 /// Inserts the matches of one more round.
@@ -31,8 +40,8 @@ fn insert_round<S: Alter>(
 ) -> Result<(), Error>
     requires fits { Fits event.now (Change.AddRound matches.now) }
     ensures same_reference { tx.new.conn.ghost_name ≡ tx.old.conn.ghost_name }
-    ensures makes { HasCleanDisk (state S.Store tx.new.conn.now) → (s : ℕ) → StandsFor (state S.Store tx.old.conn.now).now event.now s
-        → OnOk result (Makes (state S.Store tx.old.conn.now) (state S.Store tx.new.conn.now) (with_round event.now matches.now) s) }
+    ensures makes { HasCleanDisk (state S.Store tx.new.conn.now) → (s : ℕ) (t : List TallyRow) → StandsWith (state S.Store tx.old.conn.now).now event.now s t
+        → OnOk result (MakesWith (state S.Store tx.old.conn.now) (state S.Store tx.new.conn.now) (with_round event.now matches.now) s t) }
     ensures committed { HasCleanDisk (state S.Store tx.new.conn.now) → KeepsCommit (state S.Store tx.old.conn.now) (state S.Store tx.new.conn.now) }
     ensures survives { Survives (state S.Store tx.old.conn.now) (state S.Store tx.new.conn.now) (λ _. ⊥) }
 {
@@ -51,8 +60,8 @@ fn insert_stage<S: Alter>(
 ) -> Result<(), Error>
     requires { IsStage matches.now }
     ensures same_reference { tx.new.conn.ghost_name ≡ tx.old.conn.ghost_name }
-    ensures makes { HasCleanDisk (state S.Store tx.new.conn.now) → (e : EventValue) (s : ℕ) → StandsFor (state S.Store tx.old.conn.now).now e s → stage ≡ length e.bracket.stages + 1
-        → OnOk result (Makes (state S.Store tx.old.conn.now) (state S.Store tx.new.conn.now) (with_stage e matches.now) s) }
+    ensures makes { HasCleanDisk (state S.Store tx.new.conn.now) → (e : EventValue) (s : ℕ) (t : List TallyRow) → StandsWith (state S.Store tx.old.conn.now).now e s t → stage ≡ length e.bracket.stages + 1
+        → OnOk result (MakesWith (state S.Store tx.old.conn.now) (state S.Store tx.new.conn.now) (with_stage e matches.now) s t) }
     ensures committed { HasCleanDisk (state S.Store tx.new.conn.now) → KeepsCommit (state S.Store tx.old.conn.now) (state S.Store tx.new.conn.now) }
     ensures survives { Survives (state S.Store tx.old.conn.now) (state S.Store tx.new.conn.now) (λ _. ⊥) }
 {
@@ -77,8 +86,8 @@ fn begin_playoff<S: Alter>(
 ) -> Result<(), Error>
     requires fits { Fits event.now (Change.AddBracket matches.now) }
     ensures same_reference { tx.new.conn.ghost_name ≡ tx.old.conn.ghost_name }
-    ensures makes { HasCleanDisk (state S.Store tx.new.conn.now) → (s : ℕ) → StandsFor (state S.Store tx.old.conn.now).now event.now s
-        → OnOk result (Makes (state S.Store tx.old.conn.now) (state S.Store tx.new.conn.now) (with_bracket event.now matches.now) s) }
+    ensures makes { HasCleanDisk (state S.Store tx.new.conn.now) → (s : ℕ) (t : List TallyRow) → StandsWith (state S.Store tx.old.conn.now).now event.now s t
+        → OnOk result (MakesWith (state S.Store tx.old.conn.now) (state S.Store tx.new.conn.now) (with_bracket event.now matches.now) s t) }
     ensures committed { HasCleanDisk (state S.Store tx.new.conn.now) → KeepsCommit (state S.Store tx.old.conn.now) (state S.Store tx.new.conn.now) }
     ensures survives { Survives (state S.Store tx.old.conn.now) (state S.Store tx.new.conn.now) (λ _. ⊥) }
 {
@@ -98,8 +107,8 @@ fn score_stages<S: Alter>(
     requires found { (m : Match) × (slot_at event.now stage slot ≡ Some m) }
     requires few { IfSome next (λ matches. IsStage matches.now) }
     ensures same_reference { tx.new.conn.ghost_name ≡ tx.old.conn.ghost_name }
-    ensures makes { HasCleanDisk (state S.Store tx.new.conn.now) → (s : ℕ) → StandsFor (state S.Store tx.old.conn.now).now event.now s
-        → OnOk result (Makes (state S.Store tx.old.conn.now) (state S.Store tx.new.conn.now) (with_bracket_score event.now stage slot score (option_map (λ m. m.now) next.entry) false) s) }
+    ensures makes { HasCleanDisk (state S.Store tx.new.conn.now) → (s : ℕ) (t : List TallyRow) → StandsWith (state S.Store tx.old.conn.now).now event.now s t
+        → OnOk result (MakesWith (state S.Store tx.old.conn.now) (state S.Store tx.new.conn.now) (with_bracket_score event.now stage slot score (option_map (λ m. m.now) next.entry) false) s t) }
     ensures committed { HasCleanDisk (state S.Store tx.new.conn.now) → KeepsCommit (state S.Store tx.old.conn.now) (state S.Store tx.new.conn.now) }
     ensures survives { Survives (state S.Store tx.old.conn.now) (state S.Store tx.new.conn.now) (λ _. ⊥) }
 {
@@ -110,16 +119,16 @@ fn score_stages<S: Alter>(
     }
 }
 
-/// Makes the change, and leaves the serial.
-fn change_tables<S: Alter>(
+/// Makes the change, and leaves the totals and the serial.
+fn change_rows<S: Alter>(
     tx: &mut Transaction<'_, S>,
     event: &Event,
     change: &Change,
 ) -> Result<(), Error>
     requires fits { Fits event.now change.now }
     ensures same_reference { tx.new.conn.ghost_name ≡ tx.old.conn.ghost_name }
-    ensures makes { HasCleanDisk (state S.Store tx.new.conn.now) → (s : ℕ) → StandsFor (state S.Store tx.old.conn.now).now event.now s
-        → OnOk result (Makes (state S.Store tx.old.conn.now) (state S.Store tx.new.conn.now) (after event.now change.now) s) }
+    ensures makes { HasCleanDisk (state S.Store tx.new.conn.now) → (s : ℕ) (t : List TallyRow) → StandsWith (state S.Store tx.old.conn.now).now event.now s t
+        → OnOk result (MakesWith (state S.Store tx.old.conn.now) (state S.Store tx.new.conn.now) (after event.now change.now) s t) }
     ensures committed { HasCleanDisk (state S.Store tx.new.conn.now) → KeepsCommit (state S.Store tx.old.conn.now) (state S.Store tx.new.conn.now) }
     ensures survives { Survives (state S.Store tx.old.conn.now) (state S.Store tx.new.conn.now) (λ _. ⊥) }
 {
@@ -150,6 +159,116 @@ fn change_tables<S: Alter>(
             }
             Ok(())
         }
+    }
+}
+
+/// Sets the totals of one player to what the matches come to after the change.
+fn recount_player<S: Alter>(
+    tx: &mut Transaction<'_, S>,
+    event: &Event,
+    change: &Change,
+    number: u16,
+) -> Result<(), Error>
+    requires fits { Fits event.now change.now }
+    requires number { (1 ≤ number) × (number ≤ MAX_PLAYERS) }
+    ensures same_reference { tx.new.conn.ghost_name ≡ tx.old.conn.ghost_name }
+    ensures makes { HasCleanDisk (state S.Store tx.new.conn.now) → (e : EventValue) (s : ℕ) (before : ℕ → Totals) → StandsWith (state S.Store tx.old.conn.now).now e s (tally_rows_by before e.players)
+        → numbers e.players ≡ range_with_len 1 (length e.players) → Contains (numbers e.players) number
+        → OnOk result (MakesWith (state S.Store tx.old.conn.now) (state S.Store tx.new.conn.now) e s (tally_rows_by (set_for number (totals (after event.now change.now) number) before) e.players)) }
+    ensures committed { HasCleanDisk (state S.Store tx.new.conn.now) → KeepsCommit (state S.Store tx.old.conn.now) (state S.Store tx.new.conn.now) }
+    ensures survives { Survives (state S.Store tx.old.conn.now) (state S.Store tx.new.conn.now) (λ _. ⊥) }
+{
+    let Some(player) = PlayerNo::try_new(number) else {
+        unreachable!()
+    };
+    set_tally(tx, u32::from(number), event.totals_after(change, player))
+}
+
+/// Sets the totals of those who sit at a match.
+fn recount_match<S: Alter>(
+    tx: &mut Transaction<'_, S>,
+    event: &Event,
+    change: &Change,
+    played: &Match,
+) -> Result<(), Error>
+    requires fits { Fits event.now change.now }
+    requires numbered { numbers event.now.players ≡ range_with_len 1 (length event.now.players) }
+    requires few { length event.now.players ≤ MAX_PLAYERS }
+    requires known { AreOf event.now (played.now ∷ []) }
+    ensures same_reference { tx.new.conn.ghost_name ≡ tx.old.conn.ghost_name }
+    ensures makes { HasCleanDisk (state S.Store tx.new.conn.now) → (e : EventValue) (s : ℕ) (before : ℕ → Totals) → numbers e.players ≡ numbers event.now.players
+        → StandsWith (state S.Store tx.old.conn.now).now e s (tally_rows_by before e.players)
+        → OnOk result (MakesWith (state S.Store tx.old.conn.now) (state S.Store tx.new.conn.now) e s (tally_rows_by (set_for_all (played.now ∷ []) (totals (after event.now change.now)) before) e.players)) }
+    ensures committed { HasCleanDisk (state S.Store tx.new.conn.now) → KeepsCommit (state S.Store tx.old.conn.now) (state S.Store tx.new.conn.now) }
+    ensures survives { Survives (state S.Store tx.old.conn.now) (state S.Store tx.new.conn.now) (λ _. ⊥) }
+{
+    recount_player(tx, event, change, played.a)?;
+    if played.b != 0 {
+        recount_player(tx, event, change, played.b)?;
+    }
+    Ok(())
+}
+
+/// Sets the totals of those whose matches the change counts anew.
+fn recount<S: Alter>(
+    tx: &mut Transaction<'_, S>,
+    event: &Event,
+    change: &Change,
+) -> Result<(), Error>
+    requires fits { Fits event.now change.now }
+    ensures same_reference { tx.new.conn.ghost_name ≡ tx.old.conn.ghost_name }
+    ensures makes { HasCleanDisk (state S.Store tx.new.conn.now) → (e : EventValue) (s : ℕ) → numbers e.players ≡ numbers event.now.players
+        → Moves (state S.Store tx.old.conn.now) (state S.Store tx.old.conn.now) → StandsWith (state S.Store tx.old.conn.now).now e s (tally_rows_by (totals event.now) e.players)
+        → OnOk result (MakesWith (state S.Store tx.old.conn.now) (state S.Store tx.new.conn.now) e s (tally_rows_by (totals (after event.now change.now)) e.players)) }
+    ensures committed { HasCleanDisk (state S.Store tx.new.conn.now) → KeepsCommit (state S.Store tx.old.conn.now) (state S.Store tx.new.conn.now) }
+    ensures survives { Survives (state S.Store tx.old.conn.now) (state S.Store tx.new.conn.now) (λ _. ⊥) }
+{
+    // An event's players are always numbered, as this tells the proof.
+    let _ = event.players();
+    for played in event.recounted(change) {
+        recount_match(tx, event, change, played)?;
+    }
+    Ok(())
+}
+
+/// Inserts the totals of the player whom the change adds.
+fn count_player<S: Alter>(
+    tx: &mut Transaction<'_, S>,
+    event: &Event,
+    change: &Change,
+) -> Result<(), Error>
+    requires fits { Fits event.now change.now }
+    requires few { length event.now.players < MAX_PLAYERS }
+    ensures same_reference { tx.new.conn.ghost_name ≡ tx.old.conn.ghost_name }
+    ensures makes { HasCleanDisk (state S.Store tx.new.conn.now) → (e : EventValue) (s : ℕ) (t : List TallyRow) → StandsWith (state S.Store tx.old.conn.now).now e s t
+        → OnOk result (MakesWith (state S.Store tx.old.conn.now) (state S.Store tx.new.conn.now) e s (t ++ tally_row (length event.now.players + 1) (totals (after event.now change.now) (length event.now.players + 1)) ∷ [])) }
+    ensures committed { HasCleanDisk (state S.Store tx.new.conn.now) → KeepsCommit (state S.Store tx.old.conn.now) (state S.Store tx.new.conn.now) }
+    ensures survives { Survives (state S.Store tx.old.conn.now) (state S.Store tx.new.conn.now) (λ _. ⊥) }
+{
+    let number = event.players().len() as u16 + 1;
+    let Some(player) = PlayerNo::try_new(number) else {
+        unreachable!()
+    };
+    insert_tally(tx, u32::from(number), event.totals_after(change, player))
+}
+
+/// Makes the change with the totals that come of it, and leaves the serial.
+fn change_tables<S: Alter>(
+    tx: &mut Transaction<'_, S>,
+    event: &Event,
+    change: &Change,
+) -> Result<(), Error>
+    requires fits { Fits event.now change.now }
+    ensures same_reference { tx.new.conn.ghost_name ≡ tx.old.conn.ghost_name }
+    ensures makes { HasCleanDisk (state S.Store tx.new.conn.now) → (s : ℕ) → StandsFor (state S.Store tx.old.conn.now).now event.now s
+        → OnOk result (Makes (state S.Store tx.old.conn.now) (state S.Store tx.new.conn.now) (after event.now change.now) s) }
+    ensures committed { HasCleanDisk (state S.Store tx.new.conn.now) → KeepsCommit (state S.Store tx.old.conn.now) (state S.Store tx.new.conn.now) }
+    ensures survives { Survives (state S.Store tx.old.conn.now) (state S.Store tx.new.conn.now) (λ _. ⊥) }
+{
+    change_rows(tx, event, change)?;
+    match change {
+        Change::AddPlayer { .. } => count_player(tx, event, change),
+        _ => recount(tx, event, change),
     }
 }
 

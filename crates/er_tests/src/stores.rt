@@ -4,7 +4,8 @@ ghost use Rattle.std.specs.Prelude.{◌≡◌, false, IfSome};
 
 use crate::helpers::{FOUR, desk_after};
 use er_desk::Desk;
-use er_event::{Event, Place, Refusal};
+use er_event::{Event, Meeting, Place, PlayerNo, Refusal, Tally, Totals};
+use er_paper::rows_text;
 use er_store::Store;
 use sqlite::{Connection, MemStore};
 use std::alloc::Global;
@@ -107,7 +108,8 @@ SELECT sql FROM sqlite_schema WHERE name = 'event' -> CREATE TABLE event(id INTE
 SELECT sql FROM sqlite_schema WHERE name = 'player' -> CREATE TABLE player(no INTEGER PRIMARY KEY, name TEXT NOT NULL UNIQUE, dropped INTEGER NOT NULL)
 SELECT sql FROM sqlite_schema WHERE name = 'pairing' -> CREATE TABLE pairing(round INTEGER NOT NULL, tab INTEGER NOT NULL, lo INTEGER NOT NULL, hi INTEGER NOT NULL, swapped INTEGER NOT NULL, done INTEGER NOT NULL, x INTEGER NOT NULL, y INTEGER NOT NULL, d INTEGER NOT NULL, PRIMARY KEY(round, tab), UNIQUE(lo, hi), CHECK(lo < hi))
 SELECT sql FROM sqlite_schema WHERE name = 'bracket' -> CREATE TABLE bracket(stage INTEGER NOT NULL, slot INTEGER NOT NULL, a INTEGER NOT NULL, b INTEGER NOT NULL, done INTEGER NOT NULL, x INTEGER NOT NULL, y INTEGER NOT NULL, d INTEGER NOT NULL, PRIMARY KEY(stage, slot))
-SELECT '' || (SELECT count(*) FROM sqlite_schema WHERE type = 'table') -> 4
+SELECT sql FROM sqlite_schema WHERE name = 'tally' -> CREATE TABLE tally(no INTEGER PRIMARY KEY, points INTEGER NOT NULL, rounds INTEGER NOT NULL, gamepoints INTEGER NOT NULL, games INTEGER NOT NULL)
+SELECT '' || (SELECT count(*) FROM sqlite_schema WHERE type = 'table') -> 5
 ";
 
 #[test]
@@ -497,6 +499,143 @@ fn a_pairing_again_is_damage(rt: HostRuntime) -> Result<(), Fail> {
     });
     assert_eq!(rt; refused_after(alloc, 3, 0, TWO_ROUNDS, MET_AGAIN), damaged);
     assert_eq!(rt; refused_after(alloc, 3, 0, TWO_ROUNDS, BYE_AGAIN), damaged);
+    Ok(())
+}
+
+/// What the matches come to once both have a score: points, rounds, game points and games.
+const COUNTED: &str = "\
+SELECT points || ' ' || rounds || ' ' || gamepoints || ' ' || games FROM tally WHERE no = 1 -> 3 1 6 3
+SELECT points || ' ' || rounds || ' ' || gamepoints || ' ' || games FROM tally WHERE no = 2 -> 0 1 0 2
+SELECT points || ' ' || rounds || ' ' || gamepoints || ' ' || games FROM tally WHERE no = 3 -> 0 1 3 3
+SELECT points || ' ' || rounds || ' ' || gamepoints || ' ' || games FROM tally WHERE no = 4 -> 3 1 6 2
+SELECT '' || (SELECT count(*) FROM tally) -> 4
+";
+
+const UNCOUNTED: &str = "\
+SELECT points || ' ' || rounds || ' ' || gamepoints || ' ' || games FROM tally WHERE no = 2 -> 0 0 0 0
+SELECT points || ' ' || rounds || ' ' || gamepoints || ' ' || games FROM tally WHERE no = 4 -> 0 0 0 0
+SELECT '' || (SELECT count(*) FROM tally) -> 4
+";
+
+/// The second match, corrected.
+const COUNTED_ANEW: &str = "\
+SELECT points || ' ' || rounds || ' ' || gamepoints || ' ' || games FROM tally WHERE no = 1 -> 0 1 0 2
+SELECT points || ' ' || rounds || ' ' || gamepoints || ' ' || games FROM tally WHERE no = 2 -> 0 1 0 2
+SELECT points || ' ' || rounds || ' ' || gamepoints || ' ' || games FROM tally WHERE no = 3 -> 3 1 6 2
+SELECT points || ' ' || rounds || ' ' || gamepoints || ' ' || games FROM tally WHERE no = 4 -> 3 1 6 2
+";
+
+#[test]
+fn totals_are_kept(rt: HostRuntime) -> Result<(), Fail> {
+    let alloc = rt.alloc();
+    let open = format!(in alloc; "{FOUR}result 1 1 2 0 0")?;
+    assert!(rt; holds(desk_after(alloc, 3, 0, open.as_str()), UNCOUNTED));
+    assert!(rt; holds(desk_after(alloc, 3, 0, TWO_ROUNDS), COUNTED));
+    let corrected = format!(in alloc; "{TWO_ROUNDS}correct 1 2 0 2 0")?;
+    assert!(rt; holds(desk_after(alloc, 3, 0, corrected.as_str()), COUNTED_ANEW));
+    Ok(())
+}
+
+/// After the first round; the second counts for nothing while it is open.
+const STANDINGS: &str = "\
+Rank   No Pts    OMW    GWP    OGW D Name
+   1    4   3  33.00 100.00  33.00   Di
+   2    1   3  33.00  66.67  33.33   Ana
+   3    3   0 100.00  33.33  66.67   Cy
+   4    2   0 100.00  33.00 100.00   Bo
+";
+
+fn totals(points: u8, rounds: u8, game_points: u16, games: u16) -> Totals {
+    Totals {
+        points,
+        rounds,
+        game_points,
+        games,
+    }
+}
+
+fn player(number: u16) -> Option<PlayerNo> {
+    PlayerNo::try_new(number)
+}
+
+fn is_tally(tally: &Tally, number: u16, totals: Totals) -> bool {
+    Some(tally.no) == player(number) && tally.totals == totals && !tally.dropped
+}
+
+/// Whether these are the tallies after the first round.
+fn are_tallies(list: &[Tally]) -> bool {
+    match list {
+        [ana, bo, cy, di] => {
+            is_tally(ana, 1, totals(3, 1, 6, 3))
+                && is_tally(bo, 2, totals(0, 1, 0, 2))
+                && is_tally(cy, 3, totals(0, 1, 3, 3))
+                && is_tally(di, 4, totals(3, 1, 6, 2))
+        }
+        _ => false,
+    }
+}
+
+/// Whether these are the meetings of the first round.
+fn are_meetings(list: &[Meeting]) -> bool {
+    match list {
+        [first, second] => {
+            Some(first.lo) == player(2)
+                && Some(first.hi) == player(4)
+                && first.lo_totals == totals(0, 1, 0, 2)
+                && first.hi_totals == totals(3, 1, 6, 2)
+                && Some(second.lo) == player(1)
+                && Some(second.hi) == player(3)
+                && second.lo_totals == totals(3, 1, 6, 3)
+                && second.hi_totals == totals(0, 1, 3, 3)
+        }
+        _ => false,
+    }
+}
+
+fn shows_lists(alloc: Global, desk: Desk<MemStore>) -> Option<bool> {
+    let (mut store, _event, _serial) = Store::adopt(alloc, desk.close()).ok()?;
+    let tallies = store.tallies(alloc).ok()?;
+    let meetings = store.meetings(alloc).ok()?;
+    Some(are_tallies(tallies.as_slice()) && are_meetings(meetings.as_slice()))
+}
+
+/// The standings by the totals in the tables, as text.
+fn stored_text(alloc: Global, desk: &mut Desk<MemStore>) -> Option<Vec<u8>> {
+    let rows = desk.stored_standings(alloc).ok()?;
+    rows_text(alloc, rows.as_slice(), desk.event().ok()?).ok()
+}
+
+fn gives_the_standings(alloc: Global) -> Option<bool> {
+    let mut desk = desk_after(alloc, 3, 0, TWO_ROUNDS)?;
+    let text = stored_text(alloc, &mut desk)?;
+    Some(text.as_slice() == STANDINGS.as_bytes() && shows_lists(alloc, desk)?)
+}
+
+#[test]
+fn totals_give_the_standings(rt: HostRuntime) -> Result<(), Fail> {
+    assert_eq!(rt; gives_the_standings(rt.alloc()), Some(true));
+    Ok(())
+}
+
+const BROKEN_TOTALS: &str = "\
+UPDATE tally SET points = 4 WHERE no = 4
+UPDATE tally SET points = 259 WHERE no = 4
+UPDATE tally SET points = x'03' WHERE no = 4
+UPDATE tally SET rounds = 2 WHERE no = 1
+UPDATE tally SET gamepoints = 7 WHERE no = 1
+UPDATE tally SET games = 65539 WHERE no = 3
+UPDATE tally SET no = 5 WHERE no = 4
+DELETE FROM tally WHERE no = 4
+INSERT INTO tally VALUES (5, 0, 0, 0, 0)
+UPDATE pairing SET d = 1 WHERE round = 1 AND tab = 1
+DROP TABLE tally
+";
+
+/// No event of these matches has such totals. An event of an earlier program has none.
+#[test]
+fn broken_totals_are_damage(rt: HostRuntime) -> Result<(), Fail> {
+    let alloc = rt.alloc();
+    assert!(rt; are_damage(alloc, 3, 0, TWO_ROUNDS, BROKEN_TOTALS, Place::TallyTable));
     Ok(())
 }
 

@@ -13,7 +13,8 @@ use Rattle.er_store.proofs.Meaning.{Takes, event_selected}
 use Rattle.er_store.proofs.Effects.{at_ours}
 use Rattle.er_store.proofs.Crash.{shows_leaves}
 use Rattle.er_store.proofs.LoadLemmas.{kept_tables, kept_stands}
-use Rattle.er_store.specs.Damage.{ReadsParts, IsAtFault}
+use Rattle.er_store.specs.Damage.{ReadsParts, ReadsTallies, IsAtFault}
+use Rattle.er_event.specs.Rows.{tally_rows}
 use Rattle.er_event.specs.Parts.{parts_of}
 use Rattle.er_store.proofs.Store.adopt.Goals as goal
 
@@ -65,6 +66,7 @@ shown_stands db e s has keyed shows = record {
   players = shows.players;
   pairings = shows.pairings;
   bracket = shows.bracket;
+  tallies = shows.tallies;
   pairings_keyed = keyed.pairings;
   bracket_keyed = keyed.bracket;
 }
@@ -96,4 +98,4 @@ returns-in-Err-load_tables-clause-readable g c clean place is = (c.in-Ok-true.en
 pub returns-in-Ok-clause-reads : goal.returns-in-Ok-clause-reads
 returns-in-Ok-clause-reads g c clean =
     let same = (c.in-Ok-true.ensures.found (c.in-Ok.ensures.clean clean)).1 in
-    subst (λ (d : Database). ReadsParts d (parts_of c.in-Ok.event c.in-Ok.serial)) same.0.now_is (c.in-Ok.ensures.reads clean)
+    subst (λ (d : Database). ReadsParts d (parts_of c.in-Ok.event c.in-Ok.serial) × ReadsTallies d (tally_rows c.in-Ok.event)) same.0.now_is (c.in-Ok.ensures.reads clean)

@@ -29,7 +29,7 @@ d : (g : _) (c : goal.In_ok-execute g) → c.from-3.result ≡ (games_of c.args.
 d g c = search rules
 
 pub returns-clause-makes : goal.returns-clause-makes
-returns-clause-makes g c clean e before s stands round place =
+returns-clause-makes g c clean e before s rows stands round place =
     let old = state g.S.Store c.args.tx.now.conn.now in
     let new = state g.S.Store c.execute.new.self.conn.now in
     let inside = inside_ok _ c.in_ok-execute.field-0 _ (λ e. (c.in_ok-execute.ensures.ended e).0) in

@@ -5,7 +5,7 @@ use Rattle.er_store.proofs.Committed.{step_keeps}
 use Rattle.er_store.proofs.statements.set_dropped.Goals as goal
 
 pub returns-clause-makes : goal.returns-clause-makes
-returns-clause-makes g c clean e s stands numbered known =
+returns-clause-makes g c clean e s rows stands numbered known =
     let inside = inside_ok _ c.in_ok-execute.field-0 _ (λ e. (c.in_ok-execute.ensures.ended e).0) in
     player_dropped (state g.S.Store c.args.tx.now.conn.now) (state g.S.Store c.execute.new.self.conn.now) e s c.args.number c.in_ok-execute.field-0 stands numbered known inside
     (rw c.params-to_sql.ensures at (c.in_ok-execute.ensures.runs clean inside))

@@ -5,7 +5,7 @@ use Rattle.er_store.proofs.Committed.{step_keeps}
 use Rattle.er_store.proofs.statements.set_phase.Goals as goal
 
 pub returns-clause-makes : goal.returns-clause-makes
-returns-clause-makes g c clean e s stands =
+returns-clause-makes g c clean e s rows stands =
     let old = state g.S.Store c.args.tx.now.conn.now in
     let new = state g.S.Store c.execute.new.self.conn.now in
     let inside = inside_ok _ c.in_ok-execute.field-0 _ (λ e. (c.in_ok-execute.ensures.ended e).0) in

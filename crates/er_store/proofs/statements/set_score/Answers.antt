@@ -15,7 +15,7 @@ d : (g : _) (c : goal.In_ok-execute g) → c.from-3.result ≡ c.args.score.d
 d g c = search rules
 
 pub returns-clause-makes : goal.returns-clause-makes
-returns-clause-makes g c clean e s stands m found seat =
+returns-clause-makes g c clean e s rows stands m found seat =
     let old = state g.S.Store c.args.tx.now.conn.now in
     let new = state g.S.Store c.execute.new.self.conn.now in
     let inside = inside_ok _ c.in_ok-execute.field-0 _ (λ e. (c.in_ok-execute.ensures.ended e).0) in

@@ -5,8 +5,8 @@ use Rattle.sqlite.proofs.InsideLemmas.{keeps_then}
 use Rattle.sqlite.proofs.StateLemmas.{survives_then}
 use Rattle.er_event.specs.declared.rounds.Match.{Match}
 use Rattle.er_event.specs.Change.{with_round}
-use Rattle.er_store.specs.Standing.{StandsFor}
-use Rattle.er_store.specs.Steps.{Makes}
+use Rattle.er_store.specs.Standing.{StandsWith}
+use Rattle.er_store.specs.Steps.{MakesWith}
 use Rattle.er_store.proofs.Committed.{commit_stays}
 use Rattle.er_store.proofs.Crash.{was_clean, survives_self}
 use Rattle.er_store.proofs.Pairing.{adds_none, adds_one}
@@ -16,7 +16,7 @@ use Rattle.er_store.proofs.transactions.insert_round.Goals as goal
 pub loop-place-init : goal.loop-place-init
 loop-place-init g c =
     let old = state g.S.Store c.args.tx.now.conn.now in
-    (refl, survives_self old, λ clean s stands. adds_none old c.args.event.now s stands, λ _. commit_stays old)
+    (refl, survives_self old, λ clean s rows stands. adds_none old c.args.event.now s stands, λ _. commit_stays old)
 
 pub overflow_cast-place : goal.overflow_cast-place
 overflow_cast-place g c =
@@ -44,22 +44,22 @@ loop-place-preserved g c =
     let more : take (at + 1) matches ≡ take at matches ++ m ∷ [] = take_more matches at m c.loop-place-test.true ∙ ap (λ x. take at matches ++ x ∷ []) (sym c.index-matches-place.is) in (
       c.insert_pairing.ensures.same_reference ∙ kept.0,
       survives_then old mid new _ _ (λ _. ⊥) (λ _ db none. none) (λ _ db none. none) kept.1 c.insert_pairing.ensures.survives,
-      λ clean s stands.
-          let was = kept.2 (was_clean mid new _ c.insert_pairing.ensures.survives clean) s stands in
-          let made = c.in_ok-insert_pairing.ensures.makes clean e (take at matches) s was.stands (ap (λ rounds. length rounds + 1) c.stored.ensures.value) (sym (ap (λ n. n + 1) stored)) in
-          adds_one old mid new e at (take at matches) (take (at + 1) matches) s was (subst (λ (ms : List Match). Makes mid new (with_round e ms) s) (sym more) made),
+      λ clean s rows stands.
+          let was = kept.2 (was_clean mid new _ c.insert_pairing.ensures.survives clean) s rows stands in
+          let made = c.in_ok-insert_pairing.ensures.makes clean e (take at matches) s rows was.stands (ap (λ rounds. length rounds + 1) c.stored.ensures.value) (sym (ap (λ n. n + 1) stored)) in
+          adds_one old mid new e at (take at matches) (take (at + 1) matches) s was (subst (λ (ms : List Match). MakesWith mid new (with_round e ms) s rows) (sym more) made),
       λ clean. keeps_then old mid new (kept.3 (was_clean mid new _ c.insert_pairing.ensures.survives clean)) (c.insert_pairing.ensures.committed clean),
     )
 
 pub returns-clause-makes : goal.returns-clause-makes
-returns-clause-makes g c clean s stands =
+returns-clause-makes g c clean s rows stands =
     let e = c.args.event.now in
     let new = state g.S.Store c.loop-place.tx.conn.now in
-    let adds = c.loop-place.invariant.2 clean s stands in
+    let adds = c.loop-place.invariant.2 clean s rows stands in
     let some = some_matches e c.args.matches.now c.requires.fits.sound in
     let past = c.loop-place-test.false in
     let whole = take_all c.loop-place.place c.args.matches.now past in
-    record { moves = adds.some (omega arith); stands = subst (λ (ms : List Match). StandsFor new.now (with_round e ms) s) whole adds.stands }
+    record { moves = adds.some (omega arith); stands = subst (λ (ms : List Match). StandsWith new.now (with_round e ms) s rows) whole adds.stands }
 
 pub returns-clause-committed : goal.returns-clause-committed
 returns-clause-committed g c clean = c.loop-place.invariant.3 clean

@@ -5,6 +5,7 @@ use Rattle.er_event.specs.Change.{after}
 use Rattle.sqlite.proofs.InsideLemmas.{keeps_then}
 use Rattle.er_store.specs.Standing.{Shows, KeepsOthers}
 use Rattle.er_store.specs.Reading.{KeepsTables}
+use Rattle.er_event.specs.Rows.{tally_rows}
 use Rattle.er_store.specs.Steps.{Makes}
 use Rattle.er_store.proofs.Together.{on_ok}
 use Rattle.er_store.proofs.LoadLemmas.{all_err, each_err}
@@ -24,7 +25,7 @@ steps g c late was =
     let clean_mid = was_clean mid last _ c.set_serial.ensures.survives clean_last in
     let begins = rw c.transaction-tx.ensures.begun at (c.in_ok-change_tables.ensures.makes clean_mid c.args.serial) in
     let one = begins was.stands in
-    (one, c.in_ok-set_serial.ensures.makes clean_last _ c.args.serial one.stands)
+    (one, c.in_ok-set_serial.ensures.makes clean_last _ c.args.serial (tally_rows (after c.args.event.now c.args.change.now)) one.stands)
 
 pub returns-clause-written : goal.returns-clause-written
 returns-clause-written g c clean was =

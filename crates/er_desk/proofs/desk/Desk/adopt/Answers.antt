@@ -88,8 +88,8 @@ returns-in-Ok-false-clause-first g c clean =
     let reads = c.in_ok-store.ensures.reads (back_clean g.S.Store (state g.S.Store c.args.conn) c.into_connection.result c.in_ok-store.store c.into_connection.ensures.same clean) in
     record {
       no_event = λ is. absurd (cc);
-      readable = λ place is. read_whole (state g.S.Store c.args.conn).now _ reads;
-      first = λ place is. inr (let same : place ≡ BracketTable = cc in same, (c.in_ok-store.event, c.in_ok-store.serial, reads, c.phase.ensures.sound, λ has. true≢false (sym (c.in-Ok-false.ensures.1 has) ∙ c.in-Ok-false.field-0-test)));
+      readable = λ place is. read_whole (state g.S.Store c.args.conn).now _ reads.0;
+      first = λ place is. inr (let same : place ≡ BracketTable = cc in same, (c.in_ok-store.event, c.in_ok-store.serial, reads.0, reads.1, c.phase.ensures.sound, λ has. true≢false (sym (c.in-Ok-false.ensures.1 has) ∙ c.in-Ok-false.field-0-test)));
     }
 
 pub returns-in-Ok-false-clause-other_seeds : goal.returns-in-Ok-false-clause-other_seeds

@@ -1,6 +1,6 @@
 use Rattle.std.proofs.Common.{sym, ◌∙◌}
 use Rattle.er_store.specs.Store as tables
-use Rattle.er_desk.proofs.Slips.{slip_others}
+use Rattle.er_desk.proofs.Slips.{read_others}
 use Rattle.er_desk.proofs.desk.Desk.slip.Goals as goal
 
 pub returns-clause-found : goal.returns-clause-found
@@ -9,5 +9,5 @@ returns-clause-found g c clean shows = c.slip-read.ensures.found clean c.args.se
 pub returns-clause-others : goal.returns-clause-others
 returns-clause-others g c clean shows is_open =
     let desk = c.args.self.now in
-    slip_others c.slip-read.result (tables.is_stopped c.slip-read.new.self) (tables.state g.S.Store desk.store) (tables.state g.S.Store c.slip-read.new.self) shows.settled is_open
+    read_others _ c.slip-read.result (tables.is_stopped c.slip-read.new.self) (tables.state g.S.Store desk.store) (tables.state g.S.Store c.slip-read.new.self) shows.settled is_open
     (c.slip-read.ensures.stops (sym desk.told ∙ c.if-self.false)) (c.slip-read.ensures.same clean) (c.slip-read.ensures.kept clean)

@@ -1,0 +1,134 @@
+-- What the matches of one player can come to at most.
+use Rattle.std.proofs.Common.{◌≡◌, ◌≢◌, ◌⊎◌, inl, inr, ℕ, zero, suc, ◌+◌, ◌*◌, ◌<◌, ◌≤◌, ◌==◌, nat_lt, Bool, true, false, cond, if◌then◌else◌, List, [], ◌∷◌, ◌++◌, length, get_or, flat_map, All, IfSome, IsTrue, Option, Some, None, refl, sym, ap, ap₂, subst, ◌∙◌, arith}
+use Rattle.std.proofs.lemmas.Bool.{cases_eq}
+use Rattle.std.proofs.lemmas.Bool.Decides.{nat_tests}
+use Rattle.er_event.specs.declared.players.TheConstants.{MAX_PLAYERS}
+use Rattle.er_event.specs.declared.rounds.Match.{Match}
+use Rattle.er_event.specs.declared.rounds.Round.{Round}
+use Rattle.er_event.specs.declared.scores.Games.{Games}
+use Rattle.er_event.specs.declared.totals.Totals.{Totals}
+use Rattle.er_event.specs.Event.{EventValue}
+use Rattle.er_event.specs.Lines.{Line, own, as_second, lines_of_score, lines_of_match, counted_lines, lines_from}
+use Rattle.er_event.specs.Round.{seats, is_counted}
+use Rattle.er_event.specs.Score.{is_swiss_score}
+use Rattle.er_event.specs.Seen.{IsSeatedOnce, AreFew, AreOver}
+use Rattle.er_event.specs.Sound.{IsRound, IsSoundButForSeeds}
+use Rattle.er_event.specs.Tallies.{AreReadable}
+use Rattle.er_event.specs.Totals.{points_of, game_points_of, games_of, totals_of, totals, plus}
+use Rattle.er_event.proofs.TotalLemmas.{own-append, totals_of-append, absent-second, absent, apart_at, one_match, over-more}
+
+-- no more than so many games of each kind
+abbrev HasFew : Match → Type 0
+HasFew m = IfSome m.score AreFew
+
+swiss-few : (s : Games) → IsTrue (is_swiss_score s) → AreFew s
+swiss-few s h = (grind (arith, nat_tests), grind (arith, nat_tests), grind (arith, nat_tests))
+
+round-few : (known : List ℕ) (ms : List Match) → IsRound known ms → All HasFew ms
+round-few known ms round k d below = by_score (get_or ms k d).score (round.scores k d below)
+  where
+    by_score : (o : Option Games) → IfSome o (λ s. IsTrue (is_swiss_score s)) → IfSome o AreFew
+    by_score None h = tt
+    by_score (Some s) h = swiss-few s h
+
+none-over : (n : ℕ) → AreOver n (totals_of [])
+none-over n = record { points = omega arith; rounds_are = omega arith; game_points = omega arith; games = omega arith }
+
+points-few : (l : Line) → points_of l ≤ 3
+points-few l = by_tests (nat_lt l.lost l.won) (l.won == l.lost)
+  where
+    by_tests : (won drawn : Bool) → (if won then 3 else if drawn then 1 else 0) ≤ 3
+    by_tests true drawn = omega arith
+    by_tests false true = omega arith
+    by_tests false false = omega arith
+
+line-over : (l : Line) → l.won ≤ 3 → l.lost ≤ 3 → l.drawn ≤ 3 → AreOver 1 (totals_of (l ∷ []))
+line-over l won lost drawn =
+    let points = points-few l in
+    record { points = omega (arith, points); rounds_are = omega arith; game_points = omega (arith, won, drawn); games = omega (arith, won, lost, drawn) }
+
+-- the lines of one of the two
+own-second : (player round a b : ℕ) (s : Games) → AreFew s → AreOver 1 (totals_of (own player (as_second round a b s)))
+own-second player round a b s few = by_bye (b == 0)
+  where
+    line : Line
+    line = record { round = round; player = b; opponent = a; won = s.y; lost = s.x; drawn = s.d }
+
+    by_player : (own_line : Bool) → AreOver 1 (totals_of (cond own_line (line ∷ []) []))
+    by_player true = line-over line few.1 few.0 few.2
+    by_player false = none-over 1
+
+    by_bye : (alone : Bool) → AreOver 1 (totals_of (own player (if alone then [] else line ∷ [])))
+    by_bye true = none-over 1
+    by_bye false = by_player (b == player)
+
+-- a match gives a player one line at most
+score-over : (player round a b : ℕ) (o : Option Games) → IfSome o AreFew → a ≢ b → AreOver 1 (totals_of (own player (lines_of_score round a b o)))
+score-over player round a b None few apart = none-over 1
+score-over player round a b (Some s) few apart = by_first (a == player) refl
+  where
+    line : Line
+    line = record { round = round; player = a; opponent = b; won = s.x; lost = s.y; drawn = s.d }
+
+    by_first : (own_line : Bool) → (a == player) ≡ own_line → AreOver 1 (totals_of (cond own_line (line ∷ own player (as_second round a b s)) (own player (as_second round a b s))))
+    by_first false other = own-second player round a b s few
+    by_first true same =
+        let other : b ≢ player = λ is. apart (grind (arith, nat_tests)) in
+        let none : own player (as_second round a b s) ≡ [] = absent-second player round a b s other in
+        rw none (line-over line few.0 few.1 few.2)
+
+pub round-over : (player round : ℕ) (ms : List Match) → IsSeatedOnce ms → All HasFew ms → AreOver 1 (totals_of (own player (flat_map (lines_of_match round) ms)))
+round-over player round [] once few = none-over 1
+round-over player round (m ∷ rest) once few =
+    let more = round-over player round rest (λ i j d before within. once (suc (suc i)) (suc (suc j)) d (omega arith) (omega arith)) (λ k d below. few (suc k) d (omega arith)) in
+    elim (cases_eq m.a player) [
+      | inl first ↦ here (inl (sym first))
+      | inr not_first ↦ elim (cases_eq m.b player) [ inl second ↦ here (inr (sym second)) | inr not_second ↦ later not_first not_second more ]
+    ]
+  where
+    apart : m.a ≢ m.b
+    apart = apart_at (m ∷ rest) once 0 m (omega arith) refl
+
+    here : (player ≡ m.a) ⊎ (player ≡ m.b) → AreOver 1 (totals_of (own player (flat_map (lines_of_match round) (m ∷ rest))))
+    here sits = subst (λ (ls : List Line). AreOver 1 (totals_of ls)) (sym (one_match (m ∷ rest) once 0 m player (omega arith) refl sits round)) (score-over player round m.a m.b m.score (few 0 m (omega arith)) apart)
+
+    later : m.a ≢ player → m.b ≢ player → AreOver 1 (totals_of (own player (flat_map (lines_of_match round) rest))) → AreOver 1 (totals_of (own player (flat_map (lines_of_match round) (m ∷ rest))))
+    later first second more =
+        let none = absent player round m first second in
+        subst (λ (ls : List Line). AreOver 1 (totals_of ls))
+        (sym (own-append player (lines_of_match round m) (flat_map (lines_of_match round) rest) ∙ ap (λ (ls : List Line). ls ++ own player (flat_map (lines_of_match round) rest)) none)) more
+
+counted-over : (player round : ℕ) (r : Round) → IsSeatedOnce r.matches → All HasFew r.matches → AreOver 1 (totals_of (own player (counted_lines round r)))
+counted-over player round r once few = by_counted (is_counted r.matches)
+  where
+    by_counted : (counted : Bool) → AreOver 1 (totals_of (own player (if counted then flat_map (lines_of_match round) r.matches else [])))
+    by_counted true = round-over player round r.matches once few
+    by_counted false = none-over 1
+
+plus-over : (n : ℕ) (t u : Totals) → AreOver 1 t → AreOver n u → AreOver (suc n) (plus t u)
+plus-over n t u one more =
+    record {
+      points = omega (arith, one.points, more.points);
+      rounds_are = omega (arith, one.rounds_are, more.rounds_are);
+      game_points = omega (arith, one.game_points, more.game_points);
+      games = omega (arith, one.games, more.games);
+    }
+
+rounds-over : (player n : ℕ) (rounds : List Round) → All (λ (r : Round). IsSeatedOnce r.matches × All HasFew r.matches) rounds → AreOver (length rounds) (totals_of (own player (lines_from n rounds)))
+rounds-over player n [] all = none-over 0
+rounds-over player n (r ∷ later) all =
+    let here = all 0 r (omega arith) in
+    let more = rounds-over player (n + 1) later (λ k d below. all (suc k) d (omega arith)) in
+    subst (AreOver (suc (length later)))
+    (sym (ap totals_of (own-append player (counted_lines n r) (lines_from (n + 1) later)) ∙ totals_of-append (own player (counted_lines n r)) (own player (lines_from (n + 1) later))))
+    (plus-over (length later) (totals_of (own player (counted_lines n r))) (totals_of (own player (lines_from (n + 1) later))) (counted-over player n r here.0 here.1) more)
+
+pub totals-over : (e : EventValue) → IsSoundButForSeeds e → (player : ℕ) → AreOver (length e.stored) (totals e player)
+totals-over e sound player = rounds-over player 1 e.stored (λ k d below. let round = sound.rounds.each k d below in (round.seated_once, round-few _ _ round))
+
+-- so they fit in a row
+pub totals-readable : (e : EventValue) → IsSoundButForSeeds e → (player : ℕ) → AreReadable (totals e player)
+totals-readable e sound player =
+    let over = totals-over e sound player in
+    let few : length e.stored ≤ 9 = omega (arith, sound.rounds.few, sound.set_up.rounds) in
+    record { points = omega (arith, over.points, few); rounds = omega (arith, over.rounds_are, few); game_points = omega (arith, over.game_points, few); games = omega (arith, over.games, few) }

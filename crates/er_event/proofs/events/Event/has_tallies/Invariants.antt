@@ -1,0 +1,8 @@
+use Rattle.std.proofs.Common.{◌≡◌, map, take}
+use Rattle.er_event.specs.declared.players.Player.{Player}
+use Rattle.er_event.specs.Rows.{tally_row}
+use Rattle.er_event.specs.Totals.{totals}
+use Rattle.er_event.proofs.events.Event.has_tallies.Given as goal
+
+abbrev pub invariant-loop-at : goal.invariant-loop-at
+invariant-loop-at l = take l.at l.rows ≡ map (λ (p : Player). tally_row p.no (totals l.self p.no)) (take l.at l.players)

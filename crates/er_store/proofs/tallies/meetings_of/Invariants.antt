@@ -1,0 +1,6 @@
+use Rattle.std.proofs.Common.{◌≡◌, take, map, filter}
+use Rattle.er_store.specs.Meetings.{is_over, sides_in, sides_of}
+use Rattle.er_store.proofs.tallies.meetings_of.Given as goal
+
+abbrev pub invariant-loop-row : goal.invariant-loop-row
+invariant-loop-row l = map sides_of l.meetings.items ≡ map sides_in (filter (is_over l.unfinished) (take l.row-index l.rows))

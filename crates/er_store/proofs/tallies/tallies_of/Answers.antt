@@ -1,0 +1,28 @@
+use Rattle.std.proofs.Common.{rules, ◌≡◌, ◌∙◌, ◌++◌, ◌∷◌, [], Some, None, map, List, sym, ap, ap₂, arith}
+use Rattle.er_event.specs.declared.tallies.Tally.{Tally}
+use Rattle.er_event.specs.Rows.{tally_row}
+use Rattle.er_event.specs.Tallies.{tally_by}
+use Rattle.er_event.specs.Totals.{totals}
+use Rattle.er_event.proofs.PairingLemmas.{never_none, some_same}
+use Rattle.er_store.proofs.TallyLists.{player-at, rows-more}
+use Rattle.er_store.proofs.tallies.tallies_of.Goals as goal
+
+pub returns-in_default-clause-event : goal.returns-in_default-clause-event
+returns-in_default-clause-event c e sound players rows =
+    let it = player-at e sound c.args.players.now c.args.rows.now c.loop-at.at c.index-players-at.result _ players rows c.loop-at-test.true in
+    never_none c.tally_of.result _ c.in_default.is (c.tally_of.ensures.event e it.it sound it.low it.high (c.index-players-at.is ∙ it.player_is) it.row_is)
+
+pub loop-at-preserved : goal.loop-at-preserved
+loop-at-preserved c =
+    let inv = c.loop-at.invariant in
+    let pushed : c.push.new.self.items ≡ c.loop-at.tallies.items ++ c.in-Some.tally ∷ [] = search rules in
+    record {
+      many = inv.many;
+      rows = ap (map (λ (t : Tally). tally_row t.no t.totals)) pushed
+          ∙ rows-more c.loop-at.tallies.items c.args.rows.now c.loop-at.at _ c.in-Some.tally (omega (arith, inv.many, c.loop-at-test.true)) c.in-Some.ensures.value.0 inv.rows;
+      event = λ e sound players rows.
+          let it = player-at e sound c.args.players.now c.args.rows.now c.loop-at.at c.index-players-at.result _ players rows c.loop-at-test.true in
+          let found = c.tally_of.ensures.event e it.it sound it.low it.high (c.index-players-at.is ∙ it.player_is) it.row_is in
+          let same : c.in-Some.tally ≡ tally_by (totals e) it.it = some_same _ _ (sym c.in-Some.is ∙ found) in
+          pushed ∙ (ap₂ (λ (xs : List Tally) (x : Tally). xs ++ x ∷ []) (inv.event e sound players rows) same ∙ sym it.more);
+    }
