@@ -1,5 +1,5 @@
 -- What reading the tables leaves of the tables of others.
-use Rattle.std.proofs.Common.{◌≡◌, Bool, Result, Ok, Err, OnErr, MatchResult, IsTrue, IsFalse, sym, subst}
+use Rattle.std.proofs.Common.{◌≡◌, Bool, Result, Ok, Err, IfOk, IfErr, OnErr, MatchResult, IsTrue, IsFalse, sym, subst}
 use Rattle.sqlite.specs.Effect.{Database}
 use Rattle.sqlite.specs.State.{State, IsUnchanged}
 use Rattle.er_event.specs.declared.refusals.Refusal.{Refusal}
@@ -14,3 +14,13 @@ pub read_others : {A : Type 0} (Fails : Refusal → Type 0) (read : Result A Ref
     → MatchResult read (λ _. IsFalse stopped) Fails → (IsFalse stopped → IsUnchanged old new) → OnErr read (KeepsTables old new) → KeepsOthers old.now new.now
 read_others Fails (Ok row) stopped old new settled is_open still same kept = keeps_same old.now new.now (same still).0.now_is
 read_others Fails (Err why) stopped old new settled is_open stops same kept = keeps_same old.now new.now (kept settled is_open).0
+
+-- what is known of either outcome, of one of them
+module _ {A E : Type 0} (P : A → Type 0) (Q : E → Type 0) where
+  pub if_ok : (read : Result A E) → MatchResult read P Q → IfOk read P
+  if_ok (Ok it) either = either
+  if_ok (Err why) either = tt
+
+  pub if_err : (read : Result A E) → MatchResult read P Q → IfErr read Q
+  if_err (Ok it) either = tt
+  if_err (Err why) either = either

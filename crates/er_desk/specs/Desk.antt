@@ -100,16 +100,17 @@ module _ (old : Standing) (command : Command) (reply : Reply) (new : Standing) w
   abbrev pub Turn : Type 0
   Turn = Accepts ⊎ Declines ⊎ Stops ⊎ Waits
 
--- Reading what the tables keep. Success and want of memory beside the store leave the desk as it is. A fault of the store stops it, and a desk that was stopped asks for reopening.
-abbrev pub ReadsRows : {A : Type 0} → Standing → Result A Refusal → Standing → Type 0
-ReadsRows old result new =
-    (IsFalse old.stopped × (new ≡ old) × (IsOk result ⊎ (result ≡ Err Memory)))
+-- Reading what the tables keep. What is read leaves the desk as it is, and so does one refusal that is no fault of the store. A fault of the store stops it, and a desk that was stopped asks for reopening.
+abbrev pub Reads : {A : Type 0} → Refusal → Standing → Result A Refusal → Standing → Type 0
+Reads passing old result new =
+    (IsFalse old.stopped × (new ≡ old) × (IsOk result ⊎ (result ≡ Err passing)))
     ⊎ (IsFalse old.stopped × (new ≡ record old { stopped = true }) × (why : Refusal) × IsReadFault why × (result ≡ Err why))
     ⊎ (IsTrue old.stopped × (new ≡ old) × (result ≡ Err NeedsReopen))
 
--- Reading a slip. A slip, or no such match, leaves the desk as it is. A fault of the store stops it, and a desk that was stopped asks for reopening.
+-- of standings, for which memory may be wanting beside the store
+abbrev pub ReadsRows : {A : Type 0} → Standing → Result A Refusal → Standing → Type 0
+ReadsRows old result new = Reads Memory old result new
+
+-- of a slip, where there may be no such match
 abbrev pub ReadsSlip : Standing → Result SlipRow Refusal → Standing → Type 0
-ReadsSlip old result new =
-    (IsFalse old.stopped × (new ≡ old) × (IsOk result ⊎ (result ≡ Err NoSuchMatch)))
-    ⊎ (IsFalse old.stopped × (new ≡ record old { stopped = true }) × (why : Refusal) × IsReadFault why × (result ≡ Err why))
-    ⊎ (IsTrue old.stopped × (new ≡ old) × (result ≡ Err NeedsReopen))
+ReadsSlip old result new = Reads NoSuchMatch old result new

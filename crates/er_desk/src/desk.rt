@@ -210,9 +210,9 @@ impl<S: Alter> Desk<S> {
         ensures turn { ReadsRows (standing self.old) result (standing self.new) }
         ensures waits { IsTrue (standing self.old).stopped → self.new ≡ self.old }
 
-        // Where the tables stand for the event, they are its standings, or memory or the store fails.
-        ensures found { IsFalse (standing self.old).stopped → HasCleanDisk (state S.Store self.new) → ShowsOwn S.Store self.old
-            → MatchResult result (λ rows. AreTheStandings self.old.event rows.items) IsFault }
+        // Where the tables stand for the event, they are its standings. Of a desk that runs, memory or the store fails else.
+        ensures found { HasCleanDisk (state S.Store self.new) → ShowsOwn S.Store self.old → IfOk result (λ rows. AreTheStandings self.old.event rows.items) }
+        ensures fails { IsFalse (standing self.old).stopped → HasCleanDisk (state S.Store self.new) → ShowsOwn S.Store self.old → IfErr result IsFault }
 
         // The tables stand for the event, and those of others stay.
         ensures clean { HasCleanDisk (state S.Store self.new) → HasCleanDisk (state S.Store self.old) }
