@@ -1,10 +1,14 @@
 -- What a desk answers to a request.
-use Rattle.std.specs.Prelude.{◌≡◌, ◌⊎◌, ℕ, IsTrue, IsFalse, List, Option, Some, None, Ok, Err}
+use Rattle.std.specs.Global.{Global}
+use Rattle.std.specs.Prelude.{◌≡◌, ◌⊎◌, ℕ, IsTrue, IsFalse, List, Option, Some, None, Result, Ok, Err, IfOk, Vec}
+use Rattle.er_event.specs.declared.refusals.Refusal.{Refusal}
 use Rattle.er_event.specs.declared.refusals.Refusal.TheVariants.{Memory, NeedsReopen, NoSuchMatch}
 use Rattle.er_event.specs.Event.{EventValue}
-use Rattle.er_paper.specs.Texts.{players_text, IsStandingsText, pairings_text, bracket_text}
+use Rattle.er_paper.specs.Texts.{players_text, rows_text, pairings_text, bracket_text}
 use Rattle.er_paper.specs.Tables.{players_csv, results_csv}
-use Rattle.er_desk.specs.Desk.{Standing, Turn}
+use Rattle.er_rank.specs.declared.rows.Row.{Row}
+use Rattle.er_desk.specs.Desk.{Standing, Turn, ReadsRows}
+use Rattle.er_desk.specs.Headline.{AreTheStandings}
 use Rattle.er_desk.specs.Reply.{Reply}
 use Rattle.er_words.specs.declared.action.Request.{Request}
 use Rattle.er_words.specs.declared.action.Request.TheVariants.{Submit, Players, Standings, Slips, Bracket, Export}
@@ -25,9 +29,6 @@ slips_answer (Some text) = Text text
 abbrev pub ShowsPlayers : EventValue → Answer → Type 0
 ShowsPlayers event answer = answer ≡ Text (players_text event)
 
-abbrev pub ShowsStandings : EventValue → Answer → Type 0
-ShowsStandings event answer = (text : List ℕ) × IsStandingsText event text × (answer ≡ Text text)
-
 abbrev pub ShowsSlips : ℕ → EventValue → Answer → Type 0
 ShowsSlips round event answer = answer ≡ slips_answer (pairings_text event round)
 
@@ -46,11 +47,17 @@ ShowsExport kind event answer = answer ≡ Text (csv_of kind event)
 abbrev pub IsShown : Standing → (EventValue → Answer → Type 0) → Answer → Type 0
 IsShown desk Shows answer = (IsFalse desk.stopped × (Shows desk.event answer ⊎ (answer ≡ Refused Memory))) ⊎ (IsTrue desk.stopped × (answer ≡ Refused NeedsReopen))
 
--- what a desk answers, and where it stands then. A text leaves it as it is.
-abbrev pub Answers : Standing → Request → Answer → Standing → Type 0
-Answers old (Submit command) answer new = (reply : Reply) × Turn old command reply new × (answer ≡ reply_answer reply)
-Answers old Players answer new = IsShown old ShowsPlayers answer × (new ≡ old)
-Answers old Standings answer new = IsShown old ShowsStandings answer × (new ≡ old)
-Answers old (Slips round) answer new = IsShown old (ShowsSlips round) answer × (new ≡ old)
-Answers old Bracket answer new = IsShown old ShowsBracket answer × (new ≡ old)
-Answers old (Export kind) answer new = IsShown old (ShowsExport kind) answer × (new ≡ old)
+-- of the standings that were read, their text, or want of memory in making it
+abbrev pub IsRowsAnswer : EventValue → Result (Vec Row Global) Refusal → Answer → Type 0
+IsRowsAnswer event (Ok rows) answer = (answer ≡ Text (rows_text event rows.items)) ⊎ (answer ≡ Refused Memory)
+IsRowsAnswer event (Err why) answer = answer ≡ Refused why
+
+-- What a desk answers, and where it stands then. A text of what it holds leaves it as it is. `Stood` is that its tables stood for its event, on a clean disk: on this rest the standings, which are read of them.
+abbrev pub Answers : Type 0 → Standing → Request → Answer → Standing → Type 0
+Answers Stood old (Submit command) answer new = (reply : Reply) × Turn old command reply new × (answer ≡ reply_answer reply)
+Answers Stood old Players answer new = IsShown old ShowsPlayers answer × (new ≡ old)
+Answers Stood old Standings answer new =
+    (read : Result (Vec Row Global) Refusal) × ReadsRows old read new × (Stood → IfOk read (λ rows. AreTheStandings old.event rows.items)) × IsRowsAnswer old.event read answer
+Answers Stood old (Slips round) answer new = IsShown old (ShowsSlips round) answer × (new ≡ old)
+Answers Stood old Bracket answer new = IsShown old ShowsBracket answer × (new ≡ old)
+Answers Stood old (Export kind) answer new = IsShown old (ShowsExport kind) answer × (new ≡ old)

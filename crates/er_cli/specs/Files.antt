@@ -5,8 +5,12 @@ use Rattle.er_event.specs.declared.refusals.Refusal.TheVariants.{Memory, NoEvent
 use Rattle.er_event.specs.declared.refusals.TheConstants.{MAX_SERIAL}
 use Rattle.er_rules.specs.Commands.{first_refusal}
 use Rattle.er_rules.specs.Sound.{IsSound}
+use Rattle.sqlite_trees.specs.declared.store.Store.{Ghosts}
+use Rattle.sqlite.specs.State.{HasCleanDisk}
 use Rattle.er_store.specs.Fault.{IsFault, IsLoadFault}
-use Rattle.er_desk.specs.Desk.{Standing}
+use Rattle.er_store.specs.Standing.{HasTables, AreKeyed}
+use Rattle.er_desk.specs.declared.desk.Desk.{Desk}
+use Rattle.er_desk.specs.Desk.{Standing, ShowsOwn, standing, state}
 use Rattle.er_desk.specs.Reply.{Reply, receipt}
 use Rattle.er_words.specs.declared.action.Action.{Action}
 use Rattle.er_words.specs.declared.action.Action.TheVariants.{Init, Open}
@@ -27,15 +31,6 @@ use Rattle.er_cli.specs.Answers.{Answers, reply_answer}
 abbrev pub IsNotOpened : Answer → Type 0
 IsNotOpened answer = (why : Refusal) × ((why ≡ NoEvent) ⊎ IsLoadFault why) × (answer ≡ Refused why)
 
--- What a desk answers that was just opened: its event is sound, and no fault of the store is behind.
-pub record OpenedAnswers (request : Request) (answer : Answer) : Type 0 where
-  pub found : Standing
-  pub sound : IsSound found.event
-  pub low : found.serial ≤ MAX_SERIAL
-  pub ready : IsFalse found.stopped
-  pub last : Standing
-  pub answers : Answers found request answer last
-
 -- the event is made, or the file has one, or memory or the store fails
 abbrev pub IsMade : Reply → Type 0
 IsMade reply = (reply ≡ Ok (receipt 0)) ⊎ (reply ≡ Err EventExists) ⊎ ((why : Refusal) × IsFault why × (reply ≡ Err why))
@@ -54,23 +49,25 @@ module _ (out out_then err err_then : Option (List ℕ)) (status : ℕ) where
       (PrintsServed count out out_then status × (err_then ≡ err))
       ⊎ Says CANNOT_LISTEN.now DEVICE (record { meant = err; other = out }) (record { meant = err_then; other = out_then }) status
 
--- what importing a list does to a desk that was just opened, and what is printed of it
-pub record OpenedImports (out out_then err err_then : Option (List ℕ)) (status : ℕ) : Type 0 where
-  pub found : Standing
-  pub sound : IsSound found.event
-  pub low : found.serial ≤ MAX_SERIAL
-  pub ready : IsFalse found.stopped
-  pub last : Standing
-  pub imports : Imports found last out out_then err err_then status
+-- a desk that was just opened: its event is sound, and no fault of the store is behind
+pub record IsOpened {S : Type 0} (g : Ghosts S) (desk : Desk S g) : Type 0 where
+  pub sound : IsSound desk.event
+  pub low : desk.serial ≤ MAX_SERIAL
+  pub ready : IsFalse (standing desk).stopped
+  -- tables with the schema stand for it, on a clean disk
+  pub stands : HasCleanDisk (state g desk) → HasTables (state g desk).now.schema → AreKeyed (state g desk).now → ShowsOwn g desk
 
--- what is done with an event that was opened
-abbrev pub Does : Task → (out out_then err err_then : Option (List ℕ)) → ℕ → Type 0
-Does (Ask request) out out_then err err_then status = (answer : Answer) × OpenedAnswers request answer × Tells answer out out_then err err_then status
-Does (Import list) out out_then err err_then status = OpenedImports out out_then err err_then status
-Does (Serve port count) out out_then err err_then status = Serves out out_then err err_then status count
+-- what is done with an event that was opened, by its desk
+abbrev pub Does : {S : Type 0} (g : Ghosts S) → Desk S g → Task → (out out_then err err_then : Option (List ℕ)) → ℕ → Type 0
+Does {S} g desk (Ask request) out out_then err err_then status =
+    (answer : Answer) × (last : Desk S g) × Answers (HasCleanDisk (state g last) × ShowsOwn g desk) (standing desk) request answer (standing last)
+    × Tells answer out out_then err err_then status
+Does g desk (Import list) out out_then err err_then status = (last : Standing) × Imports (standing desk) last out out_then err err_then status
+Does g desk (Serve port count) out out_then err err_then status = Serves out out_then err err_then status count
 
--- what a command line does to the output and the errors, and its status
-abbrev pub EndsLine : Action → (out out_then err err_then : Option (List ℕ)) → ℕ → Type 0
-EndsLine (Init name rounds cut) out out_then err err_then status = (answer : Answer) × InitAnswers name rounds cut answer × Tells answer out out_then err err_then status
-EndsLine (Open task) out out_then err err_then status =
-    ((answer : Answer) × IsNotOpened answer × Tells answer out out_then err err_then status) ⊎ Does task out out_then err err_then status
+-- What a command line does to the output and the errors, and its status. An event is opened by a desk over such a store.
+abbrev pub EndsLine : {S : Type 0} → Ghosts S → Action → (out out_then err err_then : Option (List ℕ)) → ℕ → Type 0
+EndsLine g (Init name rounds cut) out out_then err err_then status = (answer : Answer) × InitAnswers name rounds cut answer × Tells answer out out_then err err_then status
+EndsLine {S} g (Open task) out out_then err err_then status =
+    ((answer : Answer) × IsNotOpened answer × Tells answer out out_then err err_then status)
+    ⊎ ((desk : Desk S g) × IsOpened g desk × Does g desk task out out_then err err_then status)

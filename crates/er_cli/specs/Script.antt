@@ -1,5 +1,5 @@
 -- What the lines of a script are answered.
-use Rattle.std.specs.Prelude.{◌≡◌, ◌⊎◌, ℕ, false, IsFalse, IfSome, List, [], ◌∷◌, take, flat_map, Option, Some, None, MatchOption, option_map, is_some}
+use Rattle.std.specs.Prelude.{◌≡◌, ◌⊎◌, ⊤, ℕ, false, IsFalse, IfSome, List, [], ◌∷◌, take, flat_map, Option, Some, None, MatchOption, option_map, is_some}
 use Rattle.std.specs.Io.KnownBytes.{Appends}
 use Rattle.sqlite_trees.specs.declared.store.Store.{Ghosts}
 use Rattle.sqlite_trees.specs.declared.memory.MemStore.{MemStore}
@@ -31,13 +31,13 @@ Makes old name rounds cut answer new =
     ((answer ≡ Accepted (record { serial = 0 })) × (new ≡ Some (record { event = created name rounds cut; serial = 0; stopped = false })))
     ⊎ ((why : Refusal) × IsFault why × (answer ≡ Refused why) × (new ≡ old))
 
--- What an action is answered, and where the desk stands then. All but `init` want an event. A script imports no list, and serves no clients.
+-- What an action is answered, and where the desk stands then. The tables in memory stand for its event. All but `init` want an event. A script imports no list, and serves no clients.
 abbrev pub Acts : Option Standing → Action → Answer → Option Standing → Type 0
 Acts old (Init name rounds cut) answer new =
     MatchOption (first_refusal (init_checks (is_some old) name rounds cut)) (Makes old name rounds cut answer new) (λ why. ((answer ≡ Refused why) ⊎ (answer ≡ Refused Memory)) × (new ≡ old))
 Acts old (Open (Import list)) answer new = (answer ≡ Usage) × (new ≡ old)
 Acts None (Open (Ask request)) answer new = (answer ≡ Refused NoEvent) × (new ≡ None)
-Acts (Some old) (Open (Ask request)) answer new = (next : Standing) × Answers old request answer next × (new ≡ Some next)
+Acts (Some old) (Open (Ask request)) answer new = (next : Standing) × Answers ⊤ old request answer next × (new ≡ Some next)
 Acts old (Open (Serve port count)) answer new = (answer ≡ Usage) × (new ≡ old)
 
 -- What a line is answered. Memory may be wanting to read it.

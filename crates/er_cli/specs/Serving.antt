@@ -1,20 +1,23 @@
 -- What serving clients does: to the desk, and to what is printed.
-use Rattle.std.specs.Prelude.{◌≡◌, ◌⊎◌, ◌≤◌, ℕ, zero, suc, List, [], ◌∷◌, ◌++◌, Option, Result, codes}
+use Rattle.std.specs.Global.{Global}
+use Rattle.std.specs.Prelude.{◌≡◌, ◌⊎◌, ◌≤◌, ℕ, zero, suc, List, [], ◌∷◌, ◌++◌, Option, Result, Vec, codes}
 use Rattle.std.specs.Fmt.{decimal}
 use Rattle.std.specs.Io.KnownBytes.{Appends}
 use Rattle.er_event.specs.declared.refusals.Command.TheVariants.{Result as Hand}
 use Rattle.er_event.specs.declared.refusals.Refusal.{Refusal}
 use Rattle.er_event.specs.declared.scores.Games.{Games}
 use Rattle.er_event.specs.declared.slips.SlipRow.{SlipRow}
-use Rattle.er_desk.specs.Desk.{Standing, Turn, ReadsSlip}
+use Rattle.er_rank.specs.declared.rows.Row.{Row}
+use Rattle.er_desk.specs.Desk.{Standing, Turn, ReadsRows, ReadsSlip}
 use Rattle.er_desk.specs.Reply.{Reply}
 use Rattle.er_cli.specs.declared.TheConstants.{DONE, DEVICE}
 use Rattle.er_cli.specs.Texts.{AppendsPart}
 
--- one connection: the desk stays as it is, reads a slip, or is handed one score
+-- one connection: the desk stays as it is, reads its standings or a slip, or is handed one score
 abbrev pub Connects : Standing → Standing → Type 0
 Connects old new =
     (new ≡ old)
+    ⊎ ((read : Result (Vec Row Global) Refusal) × ReadsRows old read new)
     ⊎ ((read : Result SlipRow Refusal) × ReadsSlip old read new)
     ⊎ ((round table : ℕ) × (score : Games) × (reply : Reply) × Turn old (Hand round table score) reply new)
 

@@ -1,15 +1,15 @@
-ghost use Rattle.std.specs.Prelude.{◌≡◌, IfOk, IsFalse, MatchResult, option_map};
+ghost use Rattle.std.specs.Prelude.{◌≡◌, ◌⊎◌, IfOk, IsFalse, MatchResult, option_map};
 ghost use Rattle.sqlite.specs.State.{HasCleanDisk};
 ghost use Rattle.er_desk.specs.Desk.{ShowsOwn, standing, state};
-ghost use Rattle.er_cli.specs.Answers.{Answers, csv_of, reply_answer, slips_answer};
-ghost use Rattle.er_words.specs.declared.action.Request.TheVariants.{Players, Standings, Slips, Bracket, Export};
+ghost use Rattle.er_paper.specs.Texts.{rows_text};
+ghost use Rattle.er_cli.specs.Answers.{Answers, IsShown, ShowsPlayers, ShowsSlips, ShowsBracket, ShowsExport, csv_of, reply_answer, slips_answer};
+ghost use Rattle.er_words.specs.declared.action.Request.TheVariants.{Standings};
 
 use crate::texts::Answer;
 use er_desk::{Desk, Reply};
 use er_event::{Event, Items, Refusal};
-use er_paper::{
-    bracket_text, pairings_text, players_csv, players_text, results_csv, standings_text,
-};
+use er_paper::{bracket_text, pairings_text, players_csv, players_text, results_csv, rows_text};
+use er_rank::Row;
 use er_words::{ExportKind, Request};
 use sqlite::Alter;
 use std::alloc::{AllocError, Global};
@@ -45,7 +45,7 @@ fn slips_answer(text: Result<Option<Vec<u8>>, AllocError>) -> Answer
 }
 
 fn players<S: Alter>(alloc: Global, desk: &Desk<S>) -> Answer
-    ensures { Answers (standing desk.now) Players result (standing desk.now) }
+    ensures { IsShown (standing desk.now) ShowsPlayers result }
 {
     match desk.event() {
         Ok(event) => text_answer(players_text(alloc, event)),
@@ -53,17 +53,29 @@ fn players<S: Alter>(alloc: Global, desk: &Desk<S>) -> Answer
     }
 }
 
-fn standings<S: Alter>(alloc: Global, desk: &Desk<S>) -> Answer
-    ensures { Answers (standing desk.now) Standings result (standing desk.now) }
+/// The text of these rows of standings.
+fn rows_answer<S: Alter>(alloc: Global, desk: &Desk<S>, rows: &[Row]) -> Answer
+    ensures { IsFalse (standing desk.now).stopped → (result ≡ Answer.Text (rows_text desk.now.event rows.now)) ⊎ (result ≡ Answer.Refused Refusal.Memory) }
 {
     match desk.event() {
-        Ok(event) => text_answer(standings_text(alloc, event)),
+        Ok(event) => text_answer(rows_text(alloc, rows, event)),
+        Err(why) => Answer::Refused(why),
+    }
+}
+
+/// The standings, by the totals in the tables.
+fn standings<S: Alter>(alloc: Global, desk: &mut Desk<S>) -> Answer
+    ensures answers { Answers (HasCleanDisk (state S.Store desk.new) × ShowsOwn S.Store desk.old) (standing desk.old) Standings result (standing desk.new) }
+    ensures stands { HasCleanDisk (state S.Store desk.new) → ShowsOwn S.Store desk.old → IsFalse (standing desk.new).stopped → ShowsOwn S.Store desk.new }
+{
+    match desk.stored_standings(alloc) {
+        Ok(rows) => rows_answer(alloc, desk, rows.as_slice()),
         Err(why) => Answer::Refused(why),
     }
 }
 
 fn slips<S: Alter>(alloc: Global, desk: &Desk<S>, round: u8) -> Answer
-    ensures { Answers (standing desk.now) (Slips round) result (standing desk.now) }
+    ensures { IsShown (standing desk.now) (ShowsSlips round) result }
 {
     match desk.event() {
         Ok(event) => slips_answer(pairings_text(alloc, event, round)),
@@ -72,7 +84,7 @@ fn slips<S: Alter>(alloc: Global, desk: &Desk<S>, round: u8) -> Answer
 }
 
 fn bracket<S: Alter>(alloc: Global, desk: &Desk<S>) -> Answer
-    ensures { Answers (standing desk.now) Bracket result (standing desk.now) }
+    ensures { IsShown (standing desk.now) ShowsBracket result }
 {
     match desk.event() {
         Ok(event) => text_answer(bracket_text(alloc, event)),
@@ -91,7 +103,7 @@ fn csv_of(alloc: Global, event: &Event, kind: ExportKind) -> Result<Vec<u8>, All
 }
 
 fn export<S: Alter>(alloc: Global, desk: &Desk<S>, kind: ExportKind) -> Answer
-    ensures { Answers (standing desk.now) (Export kind) result (standing desk.now) }
+    ensures { IsShown (standing desk.now) (ShowsExport kind) result }
 {
     match desk.event() {
         Ok(event) => text_answer(csv_of(alloc, event, kind)),
@@ -99,9 +111,9 @@ fn export<S: Alter>(alloc: Global, desk: &Desk<S>, kind: ExportKind) -> Answer
     }
 }
 
-/// What a desk answers. A text leaves it as it is.
+/// What a desk answers. A text leaves it as it is, but for the standings where its store has a fault: these are read.
 pub fn answer<S: Alter>(alloc: Global, desk: &mut Desk<S>, request: Request) -> Answer
-    ensures answers { Answers (standing desk.old) request result (standing desk.new) }
+    ensures answers { Answers (HasCleanDisk (state S.Store desk.new) × ShowsOwn S.Store desk.old) (standing desk.old) request result (standing desk.new) }
     ensures stands { HasCleanDisk (state S.Store desk.new) → ShowsOwn S.Store desk.old → IsFalse (standing desk.new).stopped → ShowsOwn S.Store desk.new }
 {
     match request {

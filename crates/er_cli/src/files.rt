@@ -4,11 +4,10 @@ ghost use Rattle.er_rules.specs.Sound.{IsSound};
 ghost use Rattle.er_desk.specs.Desk.{AreLimits, standing};
 ghost use Rattle.er_desk.specs.Reply.{Reply, receipt};
 ghost use Rattle.er_words.specs.declared.action.Action.TheVariants.{Open};
-ghost use Rattle.er_words.specs.declared.action.Task.TheVariants.{Serve};
 ghost use Rattle.er_words.specs.Action.{action_of};
 ghost use Rattle.er_cli.specs.Answers.{reply_answer};
 ghost use Rattle.er_store.specs.Fault.{IsLoadFault};
-ghost use Rattle.er_cli.specs.Files.{Does, EndsLine, InitAnswers, IsMade};
+ghost use Rattle.er_cli.specs.Files.{Does, EndsLine, InitAnswers, IsMade, Serves};
 ghost use Rattle.er_cli.specs.Help.{Tells};
 
 use crate::answers::{answer, reply_answer};
@@ -21,7 +20,8 @@ use crate::{DEVICE, say_all, tell};
 use er_desk::{Desk, Reply, opening_refusal};
 use er_event::{Cause, Name, Receipt, Refusal};
 use er_words::{Action, Line, Task};
-use sqlite::{Alter, Connection, Wary};
+use sqlite::{Alter, Connection, FileFrom, FileStore, Wary};
+use sqlite_trees::store::Store;
 use std::alloc::Global;
 use std::fs;
 use std::io::Write;
@@ -86,7 +86,7 @@ fn listen<S: Alter, O: Write, E: Write>(
     out: &mut O,
     err: &mut E,
 ) -> u8
-    ensures { Does (Serve port count) (O.contents out.old) (O.contents out.new) (E.contents err.old) (E.contents err.new) result }
+    ensures { Serves (O.contents out.old) (O.contents out.new) (E.contents err.old) (E.contents err.new) result count }
 {
     match TcpListener::bind(rt, (Ipv4Addr::LOCALHOST, port)) {
         Ok(listener) => serve_on(rt.alloc(), desk, &listener, count, out),
@@ -105,7 +105,7 @@ fn do_task<S: Alter + Drop, O: Write, E: Write>(
     requires sound { IsSound desk.event }
     requires low { desk.serial ≤ MAX_SERIAL }
     requires ready { IsFalse (standing desk).stopped }
-    ensures { Does task (O.contents out.old) (O.contents out.new) (E.contents err.old) (E.contents err.new) result }
+    ensures { Does S.Store desk task (O.contents out.old) (O.contents out.new) (E.contents err.old) (E.contents err.new) result }
 {
     match task {
         Task::Ask { request } => tell(out, err, &answer(rt.alloc(), &mut desk, request)),
@@ -129,7 +129,7 @@ fn open<O: Write, E: Write>(
     out: &mut O,
     err: &mut E,
 ) -> u8
-    ensures { EndsLine (Open task) (O.contents out.old) (O.contents out.new) (E.contents err.old) (E.contents err.new) result }
+    ensures { EndsLine ⟦<FileStore<FileFrom<Wary>> as Store>⟧ (Open task) (O.contents out.old) (O.contents out.new) (E.contents err.old) (E.contents err.new) result }
 {
     if let Err(why) = find_file(rt, path) {
         return tell_refusal(out, err, why);
@@ -142,7 +142,7 @@ fn open<O: Write, E: Write>(
 
 /// Does what a command line asks of its file, and gives the status to end with.
 pub fn act<O: Write, E: Write>(rt: &HostRuntime, line: Line, out: &mut O, err: &mut E) -> u8
-    ensures { EndsLine (action_of line) (O.contents out.old) (O.contents out.new) (E.contents err.old) (E.contents err.new) result }
+    ensures { EndsLine ⟦<FileStore<FileFrom<Wary>> as Store>⟧ (action_of line) (O.contents out.old) (O.contents out.new) (E.contents err.old) (E.contents err.new) result }
 {
     let (file, action) = line.into_parts();
     match action {

@@ -33,6 +33,8 @@ use help::{AWAITING, say, text_for};
 use input::{InputFault, lines_of, read_script};
 use script::run_lines;
 pub use serving::serve_on;
+use sqlite::{FileFrom, FileStore, Wary};
+use sqlite_trees::store::Store;
 use std::alloc::Global;
 use std::io::{Read, Write};
 use texts::{Answer, WriteFault, flush, print_answer};
@@ -165,7 +167,7 @@ pub fn run<O: Write, E: Write>(rt: &HostRuntime, words: &[String], out: &mut O, 
         → EndsAsUsage (map string_bytes words.now) (O.contents out.old) (O.contents out.new) (E.contents err.old) (E.contents err.new) result }
     // What is one is answered as the event of the file has it, with the status of that answer. Memory may be wanting to read it.
     ensures answered { text_for (map string_bytes words.now) ≡ None → IfSome (line_of (map string_bytes words.now))
-        (λ line. EndsLine (action_of line) (O.contents out.old) (O.contents out.new) (E.contents err.old) (E.contents err.new) result
+        (λ line. EndsLine ⟦<FileStore<FileFrom<Wary>> as Store>⟧ (action_of line) (O.contents out.old) (O.contents out.new) (E.contents err.old) (E.contents err.new) result
         ⊎ Tells (Answer.Refused Refusal.Memory) (O.contents out.old) (O.contents out.new) (E.contents err.old) (E.contents err.new) result) }
 {
     if let Some(text) = text_for(words) {

@@ -56,8 +56,9 @@ impl Runner {
     }
 
     fn ask(&mut self, request: Request) -> Answer
+        requires { IsWritten self.old.desk }
         ensures acts { Acts (standing_of self.old.desk) (Open (Ask request)) result (standing_of self.new.desk) }
-        ensures written { IsWritten self.old.desk → IsWritten self.new.desk }
+        ensures written { IsWritten self.new.desk }
     {
         match &mut self.desk {
             None => Answer::Refused(Refusal::NoEvent),
@@ -66,8 +67,9 @@ impl Runner {
     }
 
     fn open(&mut self, task: Task) -> Answer
+        requires { IsWritten self.old.desk }
         ensures acts { Acts (standing_of self.old.desk) (Open task) result (standing_of self.new.desk) }
-        ensures written { IsWritten self.old.desk → IsWritten self.new.desk }
+        ensures written { IsWritten self.new.desk }
     {
         match task {
             Task::Ask { request } => self.ask(request),
@@ -77,8 +79,9 @@ impl Runner {
     }
 
     fn act(&mut self, action: Action) -> Answer
+        requires { IsWritten self.old.desk }
         ensures acts { Acts (standing_of self.old.desk) action result (standing_of self.new.desk) }
-        ensures written { IsWritten self.old.desk → IsWritten self.new.desk }
+        ensures written { IsWritten self.new.desk }
     {
         match action {
             Action::Init { name, rounds, cut } => {
@@ -90,8 +93,9 @@ impl Runner {
 
     /// The answer to a line.
     fn answer(&mut self, line: &[u8]) -> Answer
+        requires { IsWritten self.old.desk }
         ensures answers { LineAnswers (standing_of self.old.desk) (script_action line.now) result (standing_of self.new.desk) }
-        ensures written { IsWritten self.old.desk → IsWritten self.new.desk }
+        ensures written { IsWritten self.new.desk }
     {
         match read_line(self.alloc, line) {
             Ok(line) => {

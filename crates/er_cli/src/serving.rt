@@ -83,7 +83,7 @@ pub fn serve_on<S: Alter, W: Write>(
     count: u32,
     out: &mut W,
 ) -> u8
-    // Each client leaves the desk as it was, has it read a slip, or hands it one score.
+    // Each client leaves the desk as it was, has it read its standings or a slip, or hands it one score.
     ensures turns { ((result ≡ DONE) × ConnectsAll count (standing desk.old) (standing desk.new)) ⊎ ((result ≡ DEVICE) × ConnectsUpTo count (standing desk.old) (standing desk.new)) }
     ensures printed { PrintsServed count (W.contents out.old) (W.contents out.new) result }
 

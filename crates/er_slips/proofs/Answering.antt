@@ -1,5 +1,5 @@
 -- What the desk answers, and how serving an input ends.
-use Rattle.std.proofs.Common.{◌≡◌, ◌⊎◌, inl, inr, ℕ, ◌==◌, false, true≢false, arith, List, [], ◌∷◌, Option, Some, None, Result, Ok, Err, IsTrue, IsFalse, IfOk, IfErr, OnOk, IfSome, MatchResult, refl, sym, ap, subst, ◌∙◌}
+use Rattle.std.proofs.Common.{◌≡◌, ◌⊎◌, inl, inr, ℕ, ◌==◌, false, true≢false, arith, List, [], ◌∷◌, Option, Some, None, Result, Ok, Err, IsTrue, IsFalse, IfOk, IfErr, OnOk, IfSome, MatchResult, Vec, Global, is_ok, refl, sym, ap, subst, ◌∙◌}
 use Rattle.std.specs.Io.KnownBytes.{Keeps}
 use Rattle.std.specs.List.{AllByRecursion}
 use Rattle.std.proofs.lemmas.Bool.Decides.{nat_tests}
@@ -14,11 +14,13 @@ use Rattle.er_event.specs.declared.scores.Games.{Games}
 use Rattle.er_event.specs.declared.slips.SlipRow.{SlipRow}
 use Rattle.er_event.specs.Event.{EventValue}
 use Rattle.er_paper.specs.Slip.{slip_text}
+use Rattle.er_paper.specs.Texts.{rows_text}
+use Rattle.er_rank.specs.declared.rows.Row.{Row}
 use Rattle.er_store.specs.Standing.{IsOther, KeepsOthers}
 use Rattle.sqlite_trees.specs.declared.store.Store.{Ghosts}
 use Rattle.er_desk.specs.declared.desk.Desk.{Desk}
-use Rattle.er_desk.specs.Desk.{Standing, Turn, ShowsOwn, point_of, standing, state, ReadsSlip}
-use Rattle.er_desk.specs.Headline.{LeavesJust}
+use Rattle.er_desk.specs.Desk.{Standing, Turn, ShowsOwn, point_of, standing, state, Reads, ReadsRows, ReadsSlip}
+use Rattle.er_desk.specs.Headline.{LeavesJust, AreTheStandings}
 use Rattle.er_desk.specs.Reply.{Reply, receipt, reply_to, IsDue}
 use Rattle.er_slips.specs.declared.answer.Answer.{Answer}
 use Rattle.er_slips.specs.declared.request.asked.Asked.{Asked}
@@ -29,21 +31,39 @@ use Rattle.er_slips.specs.declared.request.asked.Unasked.TheVariants.{Refused}
 use Rattle.er_slips.specs.declared.serve.Served.{Served}
 use Rattle.er_slips.specs.declared.serve.Served.TheVariants.{Answered, ReadFault, WriteFault}
 use Rattle.er_slips.specs.Request.{Asks, TellsAsked}
-use Rattle.er_slips.specs.Answer.{AnswerValue, shown, fault_answer, refusal_answer, slip_answer, status_of}
+use Rattle.er_slips.specs.Answer.{AnswerValue, shown, fault_answer, refusal_answer, slip_answer, text_answer, status_of}
 use Rattle.er_slips.specs.Whole.{ShowsStandings, ShowsPairings, row_answer, reply_answer, IsAnswered, submitted, IsAnswerUnless503}
 use Rattle.er_store.specs.Fault.{IsReadFault}
 use Rattle.er_store.specs.Slip.{FindsSlip}
-use Rattle.er_slips.specs.Serving.{IsShown, IsSlipAnswer, Answers, IsServed, IsUnserved, Writes, Ends, IsWritten}
+use Rattle.er_slips.specs.Serving.{IsShown, IsRowsAnswer, IsSlipAnswer, Answers, IsServed, IsUnserved, Writes, Ends, IsWritten}
 
 pub reopening : (desk : Standing) (Shows : EventValue → AnswerValue → Type 0) (answer : AnswerValue) (why : Refusal)
     → IsTrue desk.stopped × (why ≡ NeedsReopen) → answer ≡ refusal_answer why → IsShown desk Shows answer
 reopening desk Shows answer why stopped is = inr (stopped.0, is ∙ ap refusal_answer stopped.1)
 
--- a slip that was made, or want of memory
+-- an answer that was made, or want of memory
+pub made-is : (made : Result Answer AllocError) (answer due : AnswerValue) → IfOk made (λ a. shown a ≡ due) → MatchResult made (λ a. answer ≡ shown a) (λ _. answer ≡ refusal_answer Memory)
+    → (answer ≡ due) ⊎ (answer ≡ refusal_answer Memory)
+made-is (Ok a) answer due of is = inl (is ∙ of)
+made-is (Err e) answer due of is = inr is
+
 pub slip-made : (read : Result SlipRow Refusal) (row : SlipRow) (made : Result Answer AllocError) (answer : AnswerValue) → read ≡ Ok row → IfOk made (λ a. shown a ≡ slip_answer (slip_text row))
     → MatchResult made (λ a. answer ≡ shown a) (λ _. answer ≡ refusal_answer Memory) → IsSlipAnswer read answer
-slip-made read row (Ok a) answer of is same = rw of (inl (same ∙ is))
-slip-made read row (Err e) answer of is same = rw of (inr same)
+slip-made read row made answer of is same = rw of (made-is made answer (slip_answer (slip_text row)) is same)
+
+-- of the desk's own event
+pub rows-made : (e event : EventValue) (rows : List Row) (made : Result Answer AllocError) (answer : AnswerValue) → e ≡ event → IfOk made (λ a. shown a ≡ text_answer (rows_text e rows))
+    → MatchResult made (λ a. answer ≡ shown a) (λ _. answer ≡ refusal_answer Memory) → (answer ≡ text_answer (rows_text event rows)) ⊎ (answer ≡ refusal_answer Memory)
+rows-made e event rows made answer same of is =
+    subst (λ (f : EventValue). (answer ≡ text_answer (rows_text f rows)) ⊎ (answer ≡ refusal_answer Memory)) same (made-is made answer (text_answer (rows_text e rows)) of is)
+
+-- rows that were read leave the desk at its event
+pub rows-answered : (rows : Vec Row Global) (old new : Standing) (answer : AnswerValue) → ReadsRows old (Ok rows) new
+    → (IsFalse new.stopped → (answer ≡ text_answer (rows_text new.event rows.items)) ⊎ (answer ≡ refusal_answer Memory)) → IsRowsAnswer old.event (Ok rows) answer
+rows-answered rows old new answer (inl (running, same, e)) due =
+    subst (λ (s : Standing). IsFalse s.stopped → (answer ≡ text_answer (rows_text s.event rows.items)) ⊎ (answer ≡ refusal_answer Memory)) same due running
+rows-answered rows old new answer (inr (inl (running, same, why, fault, e))) due = absurd (true≢false (ap is_ok e))
+rows-answered rows old new answer (inr (inr (stopped, same, e))) due = absurd (true≢false (ap is_ok e))
 
 -- ---- how serving ends
 
@@ -117,6 +137,17 @@ module _ (old new : Standing) (input : List ℕ) (answer : AnswerValue) (runs : 
       hindered other (fault-status other fault) (e ∙ ap refusal_answer which)
   slip-by round table (Err why) is (inr (inr (stopped, same, f))) found e = runs-on stopped
 
+  rows-by : (read : Result (Vec Row Global) Refusal) → Asks input (Ok Standings) → ReadsRows old read new → IfOk read (λ rows. AreTheStandings old.event rows.items)
+      → IsRowsAnswer old.event read answer → IsAnswerUnless503 old.event old.serial input answer
+  rows-by (Ok rows) is reads are (inl e) = exact (Ok Standings) is (rows_text old.event rows.items, record { rows = rows.items; standings = are.0; lines = refl }, e)
+  rows-by (Ok rows) is reads are (inr memory) = hindered Memory refl memory
+  rows-by (Err why) is (inl (running, same, inl ok)) are e = absurd (true≢false (sym ok))
+  rows-by (Err why) is (inl (running, same, inr memory)) are e = hindered Memory refl (let which : why ≡ Memory = cc in e ∙ ap refusal_answer which)
+  rows-by (Err why) is (inr (inl (running, same, other, fault, f))) are e =
+      let which : why ≡ other = cc in
+      hindered other (fault-status other fault) (e ∙ ap refusal_answer which)
+  rows-by (Err why) is (inr (inr (stopped, same, f))) are e = runs-on stopped
+
   reply-by : (round table : ℕ) (score : Games) (reply : Reply) → Asks input (Ok (Report round table score)) → Turn old (Hand round table score) reply new
       → answer ≡ reply_answer reply → IsAnswerUnless503 old.event old.serial input answer
   reply-by round table score reply is (inl it) e = exact (Ok (Report round table score)) is (reply, (Ok new.event, it.taken, due), e)
@@ -136,7 +167,7 @@ module _ (old new : Standing) (input : List ℕ) (answer : AnswerValue) (runs : 
 
   answered-by : (Stood : Type 0) → Stood → (asked : Result Asked Fault) → Asks input asked → Answers Stood old asked answer new → IsAnswerUnless503 old.event old.serial input answer
   answered-by Stood stood (Err fault) is answers = exact (Err fault) is answers.0
-  answered-by Stood stood (Ok Standings) is answers = shown-by (Ok Standings) ShowsStandings is (λ s. s) answers.0
+  answered-by Stood stood (Ok Standings) is (read, reads, found, e) = rows-by read is reads (found stood) e
   answered-by Stood stood (Ok (Pairings round)) is answers = shown-by (Ok (Pairings round)) (ShowsPairings round) is (λ s. s) answers.0
   answered-by Stood stood (Ok (Slip round table)) is (read, reads, found, e) = slip-by round table read is reads (found stood) e
   answered-by Stood stood (Ok (Report round table score)) is (reply, turn, e) = reply-by round table score reply is turn e
@@ -170,8 +201,9 @@ module _ {S : Type 0} (g : Ghosts S) (old new : Desk S g) where
   replied-leaves (Ok receipt) acknowledged same shows before runs = acknowledged shows
   replied-leaves (Err why) acknowledged same shows before runs = subst (λ (d : Desk S g). LeavesJust (state g d) (point_of (standing d))) (sym (same runs)) before
 
-  -- after a slip, or none, the desk stands where it stood
-  pub read-leaves : (read : Result SlipRow Refusal) → ReadsSlip (standing old) read (standing new) → LeavesJust (state g new) (point_of (standing old)) → LeavesJust (state g new) (point_of (standing new))
-  read-leaves read (inl (running, same, e)) leaves = subst (λ (s : Standing). LeavesJust (state g new) (point_of s)) (sym same) leaves
-  read-leaves read (inr (inl (running, same, why, fault, e))) leaves = subst (λ (s : Standing). LeavesJust (state g new) (point_of s)) (sym same) leaves
-  read-leaves read (inr (inr (stopped, same, e))) leaves = subst (λ (s : Standing). LeavesJust (state g new) (point_of s)) (sym same) leaves
+  -- after reading, the desk stands where it stood
+  pub read-leaves : {A : Type 0} (passing : Refusal) (read : Result A Refusal) → Reads passing (standing old) read (standing new)
+      → LeavesJust (state g new) (point_of (standing old)) → LeavesJust (state g new) (point_of (standing new))
+  read-leaves passing read (inl (running, same, e)) leaves = subst (λ (s : Standing). LeavesJust (state g new) (point_of s)) (sym same) leaves
+  read-leaves passing read (inr (inl (running, same, why, fault, e))) leaves = subst (λ (s : Standing). LeavesJust (state g new) (point_of s)) (sym same) leaves
+  read-leaves passing read (inr (inr (stopped, same, e))) leaves = subst (λ (s : Standing). LeavesJust (state g new) (point_of s)) (sym same) leaves

@@ -1,13 +1,17 @@
 -- What serving one request does: to the desk, and to what is written.
-use Rattle.std.specs.Prelude.{◌≡◌, ◌⊎◌, ◌≤◌, ℕ, IsTrue, IsFalse, List, length, take, Option, Some, Result, Ok, Err, IfSome}
+use Rattle.std.specs.Global.{Global}
+use Rattle.std.specs.Prelude.{◌≡◌, ◌⊎◌, ◌≤◌, ℕ, IsTrue, IsFalse, List, length, take, Option, Some, Result, Ok, Err, IfOk, IfSome, Vec}
 use Rattle.std.specs.Io.KnownBytes.{Appends, Keeps}
 use Rattle.er_event.specs.declared.refusals.Command.TheVariants.{Result as Hand}
 use Rattle.er_event.specs.declared.refusals.Refusal.{Refusal}
 use Rattle.er_event.specs.declared.refusals.Refusal.TheVariants.{Memory, NeedsReopen}
 use Rattle.er_event.specs.declared.slips.SlipRow.{SlipRow}
 use Rattle.er_event.specs.Event.{EventValue}
+use Rattle.er_paper.specs.Texts.{rows_text}
+use Rattle.er_rank.specs.declared.rows.Row.{Row}
 use Rattle.er_store.specs.Slip.{FindsSlip}
-use Rattle.er_desk.specs.Desk.{Standing, Turn, ReadsSlip}
+use Rattle.er_desk.specs.Desk.{Standing, Turn, ReadsRows, ReadsSlip}
+use Rattle.er_desk.specs.Headline.{AreTheStandings}
 use Rattle.er_desk.specs.Reply.{Reply}
 use Rattle.er_slips.specs.declared.request.asked.Asked.{Asked}
 use Rattle.er_slips.specs.declared.request.asked.Asked.TheVariants.{Standings, Pairings, Slip, Report}
@@ -15,8 +19,8 @@ use Rattle.er_slips.specs.declared.request.asked.Fault.{Fault}
 use Rattle.er_slips.specs.declared.serve.Served.{Served}
 use Rattle.er_slips.specs.declared.serve.Served.TheVariants.{Answered, ReadFault, WriteFault}
 use Rattle.er_slips.specs.Request.{Asks}
-use Rattle.er_slips.specs.Answer.{AnswerValue, fault_answer, refusal_answer}
-use Rattle.er_slips.specs.Whole.{ShowsStandings, ShowsPairings, row_answer, reply_answer, IsAnswerUnless503}
+use Rattle.er_slips.specs.Answer.{AnswerValue, fault_answer, refusal_answer, text_answer}
+use Rattle.er_slips.specs.Whole.{ShowsPairings, row_answer, reply_answer, IsAnswerUnless503}
 
 -- ---- the desk
 
@@ -29,10 +33,16 @@ abbrev pub IsSlipAnswer : Result SlipRow Refusal → AnswerValue → Type 0
 IsSlipAnswer (Ok row) answer = (answer ≡ row_answer (Some row)) ⊎ (answer ≡ refusal_answer Memory)
 IsSlipAnswer (Err why) answer = answer ≡ refusal_answer why
 
+-- of the standings that were read, their text, or want of memory in making it
+abbrev pub IsRowsAnswer : EventValue → Result (Vec Row Global) Refusal → AnswerValue → Type 0
+IsRowsAnswer event (Ok rows) answer = (answer ≡ text_answer (rows_text event rows.items)) ⊎ (answer ≡ refusal_answer Memory)
+IsRowsAnswer event (Err why) answer = answer ≡ refusal_answer why
+
 -- What is asked of the desk, its answer, and where it stands then. `Stood` is that its tables stood for its event, on a clean disk: on this rests what is read of them.
 abbrev pub Answers : Type 0 → Standing → Result Asked Fault → AnswerValue → Standing → Type 0
 Answers Stood old (Err fault) answer new = (answer ≡ fault_answer fault) × (new ≡ old)
-Answers Stood old (Ok Standings) answer new = IsShown old ShowsStandings answer × (new ≡ old)
+Answers Stood old (Ok Standings) answer new =
+    (read : Result (Vec Row Global) Refusal) × ReadsRows old read new × (Stood → IfOk read (λ rows. AreTheStandings old.event rows.items)) × IsRowsAnswer old.event read answer
 Answers Stood old (Ok (Pairings round)) answer new = IsShown old (ShowsPairings round) answer × (new ≡ old)
 Answers Stood old (Ok (Slip round table)) answer new =
     (read : Result SlipRow Refusal) × ReadsSlip old read new × (Stood → FindsSlip old.event round table read) × IsSlipAnswer read answer

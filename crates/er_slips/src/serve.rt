@@ -1,12 +1,13 @@
-ghost use Rattle.std.specs.Prelude.{◌≡◌, Ok, IfSome, IsTrue, IsFalse, MatchResult};
+ghost use Rattle.std.specs.Prelude.{◌≡◌, ◌⊎◌, Ok, IfSome, IsTrue, IsFalse, MatchResult};
 ghost use Rattle.sqlite.specs.State.{HasCleanDisk};
 ghost use Rattle.er_event.specs.declared.refusals.Command.TheVariants as command;
 ghost use Rattle.er_store.specs.Standing.{KeepsOthers};
 ghost use Rattle.er_desk.specs.Desk.{Turn, ShowsOwn, point_of, standing, state};
 ghost use Rattle.er_desk.specs.Headline.{LeavesJust};
+ghost use Rattle.er_paper.specs.Texts.{rows_text};
 ghost use Rattle.er_slips.specs.declared.request.asked.Asked.TheVariants as asked;
-ghost use Rattle.er_slips.specs.Answer.{shown, refusal_answer};
-ghost use Rattle.er_slips.specs.Whole.{ShowsStandings, ShowsPairings, reply_answer};
+ghost use Rattle.er_slips.specs.Answer.{shown, refusal_answer, text_answer};
+ghost use Rattle.er_slips.specs.Whole.{ShowsPairings, reply_answer};
 ghost use Rattle.er_slips.specs.Serving.{IsShown, IsSlipAnswer, Answers, Writes, Ends, IsWritten};
 
 mod sending;
@@ -19,6 +20,7 @@ use crate::request::{Asked, Unasked, read_request};
 use crate::serve::sending::{Sent, send};
 use er_desk::{Desk, Reply};
 use er_event::{Command, Games, Refusal, SlipRow};
+use er_rank::Row;
 use sqlite::Alter;
 use std::alloc::{AllocError, Global};
 use std::io::{Read, Write};
@@ -43,11 +45,28 @@ fn made(answer: Result<Answer, AllocError>) -> Answer
     }
 }
 
-fn standings<S: Alter>(alloc: Global, desk: &Desk<S>) -> Answer
-    ensures { IsShown (standing desk.now) ShowsStandings (shown result) }
+/// The answer with these rows of standings.
+fn rows_answer<S: Alter>(alloc: Global, desk: &Desk<S>, rows: &[Row]) -> Answer
+    ensures { IsFalse (standing desk.now).stopped → (shown result ≡ text_answer (rows_text desk.now.event rows.now)) ⊎ (shown result ≡ refusal_answer Refusal.Memory) }
 {
     match desk.event() {
-        Ok(event) => made(standings_answer(alloc, event)),
+        Ok(event) => made(standings_answer(alloc, rows, event)),
+        Err(why) => refusal_answer(&why),
+    }
+}
+
+fn standings<S: Alter>(alloc: Global, desk: &mut Desk<S>) -> Answer
+    ensures answers { Answers (HasCleanDisk (state S.Store desk.new) × ShowsOwn S.Store desk.old) (standing desk.old) (Ok asked.Standings) (shown result) (standing desk.new) }
+    ensures waits { IsTrue (standing desk.old).stopped → desk.new ≡ desk.old }
+    ensures clean { HasCleanDisk (state S.Store desk.new) → HasCleanDisk (state S.Store desk.old) }
+    ensures stands { HasCleanDisk (state S.Store desk.new) → ShowsOwn S.Store desk.old → IsFalse (standing desk.new).stopped → ShowsOwn S.Store desk.new }
+    ensures others { HasCleanDisk (state S.Store desk.new) → ShowsOwn S.Store desk.old → IsTrue (state S.Store desk.new).is_open
+        → KeepsOthers (state S.Store desk.old).now (state S.Store desk.new).now }
+    ensures leaves { ShowsOwn S.Store desk.old → LeavesJust (state S.Store desk.old) (point_of (standing desk.old)) → IsFalse (standing desk.new).stopped
+        → LeavesJust (state S.Store desk.new) (point_of (standing desk.new)) }
+{
+    match desk.stored_standings(alloc) {
+        Ok(rows) => rows_answer(alloc, desk, rows.as_slice()),
         Err(why) => refusal_answer(&why),
     }
 }

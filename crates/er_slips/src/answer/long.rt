@@ -1,14 +1,15 @@
 ghost use Rattle.std.specs.Prelude.{◌≡◌, None, IfOk};
 ghost use Rattle.er_paper.specs.Slip.{slip_text};
-ghost use Rattle.er_paper.specs.Texts.{pairings_text};
-ghost use Rattle.er_slips.specs.Answer.{shown, answer_of, slip_answer};
-ghost use Rattle.er_slips.specs.Whole.{ShowsStandings, pairings_answer};
+ghost use Rattle.er_paper.specs.Texts.{pairings_text, rows_text};
+ghost use Rattle.er_slips.specs.Answer.{shown, answer_of, slip_answer, text_answer};
+ghost use Rattle.er_slips.specs.Whole.{pairings_answer};
 
 use crate::answer::Answer;
 use crate::answer::fixed::refusal_answer;
 use crate::answer::head::head_of;
 use er_event::{Event, Refusal, SlipRow};
-use er_paper::{pairings_text, slip_json, standings_text};
+use er_paper::{pairings_text, rows_text, slip_json};
+use er_rank::Row;
 use std::alloc::{AllocError, Global};
 
 /// The answer 200 with a body of any length, a text or JSON.
@@ -22,10 +23,10 @@ fn long_answer(alloc: Global, is_text: bool, body: &[u8]) -> Result<Answer, Allo
 }
 
 /// The answer with the standings.
-pub fn standings_answer(alloc: Global, event: &Event) -> Result<Answer, AllocError>
-    ensures { IfOk result (λ answer. ShowsStandings event.now (shown answer)) }
+pub fn standings_answer(alloc: Global, rows: &[Row], event: &Event) -> Result<Answer, AllocError>
+    ensures { IfOk result (λ answer. shown answer ≡ text_answer (rows_text event.now rows.now)) }
 {
-    let text = standings_text(alloc, event)?;
+    let text = rows_text(alloc, rows, event)?;
     long_answer(alloc, true, text.as_slice())
 }
 

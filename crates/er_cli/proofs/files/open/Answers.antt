@@ -1,4 +1,4 @@
-use Rattle.std.proofs.Common.{inl, refl}
+use Rattle.std.proofs.Common.{inl, inr, refl}
 use Rattle.er_cli.specs.declared.texts.Answer.TheVariants.{Refused}
 use Rattle.er_cli.proofs.files.open.Goals as goal
 
@@ -7,3 +7,7 @@ returns-in-Err g c = inl (Refused c.in-Err.why, (c.in-Err.why, c.in-Err.ensures,
 
 pub returns-in-Err-open : goal.returns-in-Err-open
 returns-in-Err-open g c = inl (Refused c.into_refusal.result, (c.into_refusal.result, rw c.into_refusal.ensures c.in-Err-open.ensures.why, refl), c.tell_refusal-in-Err-open.ensures)
+
+pub returns-in-Ok : goal.returns-in-Ok
+returns-in-Ok g c =
+    inr (c.in-Ok.desk, record { sound = c.in-Ok.ensures.sound.0; low = c.in-Ok.ensures.sound.1; ready = c.in-Ok.ensures.ready; stands = c.in-Ok.ensures.stands }, c.do_task.ensures)

@@ -6,6 +6,9 @@ use Rattle.er_cli.proofs.Sending.{part_after, err_is}
 use Rattle.er_cli.proofs.Runs.{Runs-push, printed-push, lines-push}
 use Rattle.er_cli.proofs.script.run_lines.Goals as goal
 
+pub answer-answer-requires : goal.answer-answer-requires
+answer-answer-requires g c = c.loop-line.invariant.3
+
 pub loop-line-preserved : goal.loop-line-preserved
 loop-line-preserved g c =
     let so_far = c.loop-line.invariant in
@@ -13,7 +16,7 @@ loop-line-preserved g c =
     let runs = Runs-push _ so_far.0 _ _ _ _ answer so_far.1 c.answer-answer.ensures.answers in
     let printed = Appends-trans _ _ _ _ _ so_far.2 c.in_ok-print_answer.ensures.sent in
     let none : Bor (List ℕ) = record { ref_ptr = (0, 0); now = [] } in
-    (so_far.0 ++ answer ∷ [], rw (lines-push c.args.lines.now c.loop-line.line-index none c.loop-line-test.true) runs, rw (printed-push so_far.0 answer) printed)
+    (so_far.0 ++ answer ∷ [], rw (lines-push c.args.lines.now c.loop-line.line-index none c.loop-line-test.true) runs, rw (printed-push so_far.0 answer) printed, c.answer-answer.ensures.written)
 
 pub returns-in_err-print_answer-clause-part : goal.returns-in_err-print_answer-clause-part
 returns-in_err-print_answer-clause-part g c =
