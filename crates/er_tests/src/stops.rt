@@ -135,6 +135,25 @@ fn first_session(alloc: Global, case: Case, log: u64, db: u64, to: usize) -> Opt
     }
 }
 
+/// Opens an event over a connection and sends the commands before this place. The count of all that were acknowledged then.
+fn session_on<S: Alter>(
+    alloc: Global,
+    case: Case,
+    conn: Connection<S>,
+    before: usize,
+    to: usize,
+) -> (Option<usize>, Connection<S>)
+    requires { conn.in_transaction ≡ false }
+{
+    match Desk::adopt(alloc, conn) {
+        Ok(mut desk) => {
+            let acknowledged = send(alloc, &mut desk, case, to);
+            (acknowledged, desk.close())
+        }
+        Err((conn, why)) => ((Err(why) == FAULT).then_some(before), conn),
+    }
+}
+
 /// A session over the files of an event with so many commands. Where it stops while it opens them, nothing more is acknowledged.
 fn next_session(alloc: Global, case: Case, files: Disks, before: usize, to: usize) -> Ended
     requires { IsTrue (memory_is_usable (inner_of files.log)) × IsFresh files.log × IsTrue (memory_is_usable (inner_of files.db)) × IsFresh files.db }
@@ -148,13 +167,8 @@ fn next_session(alloc: Global, case: Case, files: Disks, before: usize, to: usiz
             };
         }
     };
-    match Desk::adopt(alloc, conn) {
-        Ok(mut desk) => {
-            let acknowledged = send(alloc, &mut desk, case, to);
-            closed(acknowledged, desk.close())
-        }
-        Err((conn, why)) => closed((Err(why) == FAULT).then_some(before), conn),
-    }
+    let (acknowledged, conn) = session_on(alloc, case, conn, before, to);
+    closed(acknowledged, conn)
 }
 
 /// Whether this is the event that so many commands make with no stop, with its standings.
@@ -189,16 +203,27 @@ fn ends_well<S: Alter>(
     Some(may_find(acknowledged, serial) && begins_well && is_sent && ends_well)
 }
 
-/// Whether files that stop no more hold what they may, and lead to the end.
-fn goes_on(alloc: Global, case: Case, files: &Disks, acknowledged: Option<usize>) -> Option<bool> {
-    let files = opened_again(alloc, files, NEVER, NEVER)?;
-    let conn = match Connection::open_files(alloc, files, Options::new(7)) {
-        Ok(conn) => conn,
-        Err(_) => return None,
-    };
+/// Whether what a connection shows is an event that may be there, and leads to the end.
+fn goes_on_from<S: Alter + Drop>(
+    alloc: Global,
+    case: Case,
+    conn: Connection<S>,
+    acknowledged: Option<usize>,
+) -> Option<bool>
+    requires { conn.in_transaction ≡ false }
+{
     match Desk::adopt(alloc, conn) {
         Ok(mut desk) => ends_well(alloc, &mut desk, case, acknowledged),
         Err((_conn, why)) => Some(acknowledged.is_none() && why == Refusal::NoEvent),
+    }
+}
+
+/// Whether files that stop no more hold what they may, and lead to the end.
+fn goes_on(alloc: Global, case: Case, files: &Disks, acknowledged: Option<usize>) -> Option<bool> {
+    let files = opened_again(alloc, files, NEVER, NEVER)?;
+    match Connection::open_files(alloc, files, Options::new(7)) {
+        Ok(conn) => goes_on_from(alloc, case, conn, acknowledged),
+        Err(_) => None,
     }
 }
 
