@@ -1,5 +1,5 @@
 """Random events: small ones, of 2 to 11 players, in which pairings, results, corrections, drops and cuts come in any order, and whole
-ones, of 8 to 32 players, which are played from the first round to the champion, where they have a cut and enough players for it.
+ones, of 8 to 64 players, which are played from the first round to the champion, where they have a cut and enough players for it.
 """
 from plain_event import PLAYOFF, SWISS, Event
 
@@ -103,7 +103,7 @@ def this_and_that(sends, dice):
 
 def to_the_champion(sends, dice):
     """An event that is played from its first round to its end."""
-    play = Play(sends, dice, dice.randint(8, 32), dice.randint(1, 5), dice.choice((0, 2, 4, 8, 8)))
+    play = Play(sends, dice, dice.randint(8, 64), dice.randint(1, 5), dice.choice((0, 2, 4, 8, 8)))
     event = play.event
     for number in range(1, event.rounds + 1):
         play.pair(number)

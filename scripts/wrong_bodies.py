@@ -33,6 +33,8 @@ def toolchain():
 
 rt = toolchain()
 printing = threading.Lock()
+# a crate with more wrong bodies than this is tried in two parts, side by side
+MANY = 60
 # What a proof file says of a name that it lost, and not of the contract.
 LOST_NAME = re.compile(r"has no field|is not in scope|has no `|was not admitted|was rejected|was not checked|were not checked|which is not proved")
 # What says that the text was not read, so that nothing was tried.
@@ -241,8 +243,17 @@ def tried(crate, bodies, kept, has_holes=True):
     return said, output
 
 
+def parts_of(bodies):
+    """Halves of many wrong bodies: the crate that takes longest would else be tried on one processor while the others have no work. Those
+    that change the same function stay together, as they go into checks of their own anyway."""
+    if len(bodies) <= MANY:
+        return [bodies]
+    functions = sorted({min(it.functions) for it in bodies})
+    return [[it for it in bodies if min(it.functions) in functions[half::2]] for half in (0, 1)]
+
+
 def try_all(crate, bodies, shows):
-    """What was found of each wrong body of a crate, by name."""
+    """What was found of each of these wrong bodies of a crate, by name."""
     found, unclear = {}, []
     with tempfile.TemporaryDirectory(prefix="wrong-bodies-") as kept:
         left = bodies
@@ -294,6 +305,7 @@ def main():
     if not all(is_ready(crate, given.after_gate) for crate, bodies in work if bodies):
         sys.exit("a library below could not be built")
     work.sort(key=lambda it: -it[0].count(rb"\n"))
+    work = [(crate, part) for crate, bodies in work for part in parts_of(bodies)]
     with concurrent.futures.ThreadPoolExecutor(rt.processors()) as pool:
         found = list(pool.map(lambda it: try_all(*it, given.show), work))
     refused = sum(it == "refused" for said in found for it in said.values())
