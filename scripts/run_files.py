@@ -161,6 +161,10 @@ def run_totals(room):
     check("the right total again", run("players", by_sqlite(wrong, "UPDATE tally SET points = 3 WHERE no = 4")), players)
     run("correct", file, "1", "2", "0", "2", "0")
     check("totals after a correction", totals_in(file), [(1, 0, 1, 0, 2), (2, 0, 1, 0, 2), (3, 3, 1, 6, 2), (4, 3, 1, 6, 2)])
+    three = f"{room}/three.event"
+    for words in (("init", three, "Friday", "3", "0"), *(("enrol", three, it) for it in ("Ana", "Bo", "Cy")), ("start", three), ("pair", three, "1", "0" * 64)):
+        run(*words)
+    check("totals with a bye in an open round", totals_in(three), [(it, 0, 0, 0, 0) for it in range(1, 4)])
 
 
 def run_locked(room):
