@@ -377,3 +377,102 @@ fn a_pairing_survives_each_stop(rt: HostRuntime) -> Result<(), Fail> {
     assert!(rt; second_round(alloc, false).is_some());
     Ok(())
 }
+
+/// The fewest calls of one of the files, from so many on, after which a first session has sent the commands before this place.
+fn first_calls(
+    alloc: Global,
+    case: Case,
+    from_calls: u64,
+    to: usize,
+    stops_log: bool,
+) -> Option<u64> {
+    for calls in from_calls..10_000 {
+        let (log, db) = calls_of(stops_log, calls);
+        if first_session(alloc, case, log, db, to)?.acknowledged == Some(to) {
+            return Some(calls);
+        }
+    }
+    None
+}
+
+/// Whether a later session has sent the commands before `places.1`, those before `places.0` being acknowledged, where it stops after so many calls.
+fn is_sent(
+    alloc: Global,
+    case: Case,
+    files: &Disks,
+    places: (usize, usize),
+    stops_log: bool,
+    calls: u64,
+) -> Option<bool> {
+    let (from, to) = places;
+    let (log, db) = calls_of(stops_log, calls);
+    let it = next_session(alloc, case, opened_again(alloc, files, log, db)?, from, to);
+    Some(it.acknowledged == Some(to))
+}
+
+/// The fewest calls after which it has, up to 1,023: found by halving.
+fn later_calls(
+    alloc: Global,
+    case: Case,
+    files: &Disks,
+    places: (usize, usize),
+    stops_log: bool,
+) -> Option<u64> {
+    let (mut low, mut high) = (0_u64, 1024_u64);
+    for _ in 0..10 {
+        let middle = low.saturating_add(high) / 2;
+        if is_sent(alloc, case, files, places, stops_log, middle)? {
+            high = middle;
+        } else {
+            low = middle.saturating_add(1);
+        }
+    }
+    is_sent(alloc, case, files, places, stops_log, low)?.then_some(low)
+}
+
+/// Stops a second session of the eight players at each call by which it pairs the second round. The count of these calls, if it survives each stop.
+fn second_stops(alloc: Global, files: &Disks, stops_log: bool) -> Option<u64> {
+    let first = later_calls(alloc, EIGHT, files, (9, 14), stops_log)?;
+    let end = later_calls(alloc, EIGHT, files, (9, 15), stops_log)?;
+    for calls in first..end {
+        let (log, db) = calls_of(stops_log, calls);
+        session_ends(alloc, EIGHT, opened_again(alloc, files, log, db)?, (9, 15))?;
+    }
+    end.checked_sub(first)
+}
+
+/// Both stops of each kind of file after what a first session has left.
+fn two_second_stops(alloc: Global, files: &Disks) -> Option<u64> {
+    second_stops(alloc, files, true)?.checked_add(second_stops(alloc, files, false)?)
+}
+
+/// The stops of second sessions, after a first one that stops at this call of one of its files, and after the process and the machine have.
+fn stops_after(alloc: Global, calls: u64, stops_log: bool) -> Option<u64> {
+    let (log, db) = calls_of(stops_log, calls);
+    let mut it = first_session(alloc, EIGHT, log, db, 10)?;
+    let after_process = two_second_stops(alloc, &it.files)?;
+    it.files.log.crash();
+    it.files.db.crash();
+    after_process.checked_add(two_second_stops(alloc, &it.files)?)
+}
+
+/// Stops a first session at each call by which it pairs the first round, and then each time a second session. The count of all second stops.
+fn two_stops(alloc: Global, stops_log: bool) -> Option<u64> {
+    let first = first_calls(alloc, EIGHT, 0, 9, stops_log)?;
+    let end = first_calls(alloc, EIGHT, first, 10, stops_log)?;
+    let mut count = 0_u64;
+    for calls in first..end {
+        count = count.checked_add(stops_after(alloc, calls, stops_log)?)?;
+    }
+    Some(count)
+}
+
+/// The first stop comes in the pairing of the first round, and the second one in that of the second, each at each of its calls.
+#[test]
+fn two_stops_in_three_sessions(rt: HostRuntime) -> Result<(), Fail> {
+    let alloc = rt.alloc();
+    let (log, db) = (two_stops(alloc, true), two_stops(alloc, false));
+    assert!(rt; log.is_some_and(|count| count > 8), "log {log:?}");
+    assert!(rt; db.is_some(), "db {db:?}");
+    Ok(())
+}
