@@ -5,6 +5,11 @@ A wrong body is an edit in the form of must-fail edits: a line `file: src/NAME.r
 `in: MODULE::FUNCTION` names the function that must be refused, where that is not the one around the change. As many as don't touch the same
 function are put into one copy of the crate, and one check says of each function whether it is still proved. What that check could not
 judge, as a function that calls another one that is refused, is tried again with fewer beside it, and at last alone.
+
+Beside the gate, which leaves processors idle while crates wait for those below them, a crate's wrong bodies are tried as soon as the gate
+has proved it, over copies of the libraries that it made. There those of public functions are tried each time, and those with a line
+`tried: always`; the others of private functions come in turns, by the day of the commit. With no turn given, all are tried. Where time is
+short, on a machine that others use, what is left is named, and not tried.
 """
 import argparse
 import concurrent.futures
@@ -14,10 +19,12 @@ import importlib.util
 import os
 import re
 import shutil
+import signal
 import subprocess
 import sys
 import tempfile
 import threading
+import time
 
 
 def toolchain():
@@ -35,6 +42,12 @@ rt = toolchain()
 printing = threading.Lock()
 # a crate with more wrong bodies than this is tried in two parts, side by side
 MANY = 60
+# the free memory, in bytes, below which no check is begun beside others
+ROOM = 8_000_000_000
+# those of private functions are tried in so many turns
+TURNS = 5
+# What was not begun before the time was over.
+NOT_TRIED = "not tried"
 # What a proof file says of a name that it lost, and not of the contract.
 LOST_NAME = re.compile(r"has no field|is not in scope|has no `|was not admitted|was rejected|was not checked|were not checked|which is not proved")
 # What says that the text was not read, so that nothing was tried.
@@ -50,6 +63,7 @@ class WrongBody:
     name: str
     pairs: list
     functions: set
+    is_always: bool
 
     def applied(self, texts, crate):
         """The texts of the crate with this edit too, or None where it does not fit beside the others."""
@@ -121,12 +135,14 @@ def proof_of(folder, function, mark=""):
 
 
 def read(path, crate):
-    file, old, pairs, functions, named = "", None, [], set(), False
+    file, old, pairs, functions, named, is_always = "", None, [], set(), False, False
     for line in open(path, encoding="utf-8").read().split("\n"):
         if line.startswith("file: "):
             file = line[6:].strip()
         elif line.startswith("in: "):
             functions, named = {line[4:].strip()}, True
+        elif line == "tried: always":
+            is_always = True
         elif line.startswith("old: "):
             old = line[5:]
         elif line.startswith("new:"):
@@ -139,7 +155,26 @@ def read(path, crate):
             old = None
     if not pairs or None in functions:
         sys.exit(f"{path}: no function is around the change: name one by a line `in: MODULE::FUNCTION`")
-    return WrongBody(os.path.basename(path).removesuffix(".edit"), pairs, functions)
+    return WrongBody(os.path.basename(path).removesuffix(".edit"), pairs, functions, is_always)
+
+
+def is_public(crate, function):
+    """Whether other crates may call the function: a trait's, or one that is public in a module or of a type which the crate hands out."""
+    if function == EXAMPLES or "\\" in function:
+        return True
+    *path, name = function.split("::")
+    sources = dict(sources_of(crate))
+    root = sources["src/lib.rt"]
+    handed_out = {*re.findall(r"\w+", " ".join(re.findall(r"pub use ([^;]*);", root))), *re.findall(r"^pub (?:mod|fn|struct|enum) (\w+)", root, re.M)}
+    owner = path[-1] if path and path[-1][0].isupper() else name
+    is_declared = any(re.search(rf"^ *pub (?:const )?fn {name}\b", text, re.M) for text in sources.values())
+    return is_declared and bool(handed_out & {owner, *path[:1]})
+
+
+def of_turn(crate, bodies, turn):
+    """The wrong bodies that are tried in this turn: those that are tried each time, and a part of the others."""
+    always = [it for it in bodies if it.is_always or any(is_public(crate, function) for function in it.functions)]
+    return always + [it for it in bodies if it not in always][turn % TURNS :: TURNS]
 
 
 def said_of(crate, function, output, constants):
@@ -224,7 +259,11 @@ def checked(crate, texts, holes, flags, kept):
         flags = ["--jobs", "1", *flags, *(["--allow-holes"] if holes else [])]
         words = [rt.rtlib.RATTLE, "check", *crate.words(flags, keeps=False), "--incremental", kept]
         how = {"cwd": room, "stdin": subprocess.DEVNULL, "stdout": subprocess.PIPE, "stderr": subprocess.STDOUT, "errors": "replace"}
-        return subprocess.run([*rt.rtlib.guarded(), *words], **how).stdout
+        ran = subprocess.run([*rt.rtlib.guarded(), *words], **how)
+        if ran.returncode == -signal.SIGKILL:
+            # most likely for memory, which the gate may have taken too
+            ran = subprocess.run([*rt.rtlib.guarded(), *words], **how)
+        return ran.stdout
 
 
 def tried(crate, bodies, kept, has_holes=True):
@@ -252,12 +291,20 @@ def parts_of(bodies):
     return [[it for it in bodies if min(it.functions) in functions[half::2]] for half in (0, 1)]
 
 
+# when no check is begun any more, by the clock of `time.monotonic`
+deadline = float("inf")
+
+
+def has_time():
+    return time.monotonic() < deadline
+
+
 def try_all(crate, bodies, shows):
     """What was found of each of these wrong bodies of a crate, by name."""
     found, unclear = {}, []
     with tempfile.TemporaryDirectory(prefix="wrong-bodies-") as kept:
         left = bodies
-        while left:
+        while left and has_time():
             said, output = tried(crate, left, kept)
             if shows:
                 print(output)
@@ -266,34 +313,112 @@ def try_all(crate, bodies, shows):
             left = [it for it in left if it.name not in said]
         # what was not refused so is tried alone, over the proofs of the whole crate
         for body in unclear:
-            said, output = tried(crate, [body], kept, has_holes=False)
-            if shows:
-                print(output)
-            found.update(said)
+            if has_time():
+                said, output = tried(crate, [body], kept, has_holes=False)
+                if shows:
+                    print(output)
+                found.update(said)
+    found.update({it.name: NOT_TRIED for it in bodies if it.name not in found})
     with printing:
         for name, what in sorted(found.items()):
             if what != "refused":
                 print(f"{crate.name}/{name}: {what.upper()}", flush=True)
-        refused = sum(it == "refused" for it in found.values())
-        print(f"{crate.name}: {refused} refused, {len(found) - refused} passed", flush=True)
+        print(f"{crate.name}: {told([found])}", flush=True)
     return found
 
 
-def is_ready(crate, after_gate):
-    """Whether the libraries below the crate are there: left by the gate, which proved them just now, or built over the session's own work."""
-    below = crate.below()
-    if after_gate and all(os.path.isdir(it.rlib) for it in below):
+def told(found):
+    """How many were refused, passed, and were not tried."""
+    all_said = [it for said in found for it in said.values()]
+    refused, left = all_said.count("refused"), all_said.count(NOT_TRIED)
+    return f"{refused} refused, {len(all_said) - refused - left} passed" + (f", {left} not tried for want of time" if left else "")
+
+
+# What the gate says of a crate that it has proved, and what its log ends with.
+PROVED = re.compile(r"^rt: (\w+) (?:proved$|is kept: )", re.M)
+ENDED = "the gate has ended\n"
+
+
+class Gate:
+    """The gate that runs beside this, by its log."""
+
+    def __init__(self, log, room):
+        self.log, self.room, self.taken = log, room, set()
+
+    def said(self):
+        with open(self.log, encoding="utf-8", errors="replace") as it:
+            return it.read()
+
+    def has_ended(self):
+        return self.said().endswith(ENDED)
+
+    def has_proved(self, crate):
+        """Whether it has proved the crate and the libraries below, whose copies are taken then: the gate puts others in their place at its end."""
+        wanted, proved = {it.name for it in [*crate.below(), crate]}, {*PROVED.findall(self.said())}
+        if not wanted <= proved:
+            return False
+        for it in crate.below():
+            if it.name not in self.taken:
+                made = f"{self.room}/{it.name}/{it.name}.rlib"
+                shutil.copytree(it.rlib, made, copy_function=linked)
+                it.rlib = made
+                self.taken.add(it.name)
         return True
-    return not any(it.build_rlib(["--jobs", "1"], anew=False) for it in below)
+
+
+def linked(one, other):
+    """Copies a file, by a link where it can be one."""
+    try:
+        os.link(one, other)
+    except OSError:
+        shutil.copy2(one, other)
+
+
+def try_beside(gate, work, shows):
+    """Tries each part once the gate has proved its crate: with half of the processors until the gate has ended, and then with all."""
+    os.nice(10)
+    found, left, running = [], [*work], set()
+    with concurrent.futures.ThreadPoolExecutor(rt.processors()) as pool:
+        while left or running:
+            has_ended = gate.has_ended()
+            lanes = rt.processors() if has_ended else max(1, rt.processors() // 2)
+            ready = [it for it in left if gate.has_proved(it[0])]
+            if has_ended and not ready and not running:
+                sys.exit(f"the gate did not prove {left[0][0].name}")
+            places = lanes - len(running)
+            if rt.free() < ROOM:
+                # one goes on even so
+                places = 0 if running else 1
+            for it in ready[:places]:
+                left.remove(it)
+                running.add(pool.submit(try_all, *it, shows))
+            ended, running = concurrent.futures.wait(running, timeout=5, return_when=concurrent.futures.FIRST_COMPLETED)
+            found += [it.result() for it in ended]
+            if not running and not ready:
+                time.sleep(5)
+    return found
+
+
+def try_now(work, shows):
+    """Tries all parts with all processors, over the libraries below as the session builds them."""
+    if any(it.build_rlib(["--jobs", "1"], anew=False) for crate, bodies in work if bodies for it in crate.below()):
+        sys.exit("a library below could not be built")
+    with concurrent.futures.ThreadPoolExecutor(rt.processors()) as pool:
+        return list(pool.map(lambda it: try_all(*it, shows), work))
 
 
 def main():
     words = argparse.ArgumentParser(description="Tries the wrong bodies of each crate, or of those that are named.")
     words.add_argument("names", nargs="*", metavar="NAME")
-    words.add_argument("--after-gate", action="store_true", help="take the libraries that rt ci has just proved")
+    words.add_argument("--beside-gate", metavar="LOG", help="begin with each crate once rt ci, whose output goes to LOG, has proved it")
+    words.add_argument("--turn", metavar="NUMBER", type=int, help=f"leave out those of private functions, but for one of {TURNS} parts")
+    words.add_argument("--minutes", metavar="NUMBER", type=int, help="begin no check after so many; what is left is named, and is no fault")
     words.add_argument("--only", metavar="EDIT", help="try this one alone")
     words.add_argument("--show", action="store_true", help="print what each check said")
     given = words.parse_args()
+    if given.minutes:
+        global deadline
+        deadline = time.monotonic() + 60 * given.minutes
     os.environ.pop(rt.rtlib.ALLOW_C, None)
     rt.rtlib.guarded()
     work = []
@@ -301,17 +426,18 @@ def main():
         folder = f"{crate.folder}/wrong-bodies"
         if os.path.isdir(folder) and (not given.names or crate.name in given.names):
             bodies = [read(f"{folder}/{it}", crate) for it in sorted(os.listdir(folder)) if it.endswith(".edit")]
-            work.append((crate, [it for it in bodies if given.only in (None, it.name)]))
-    if not all(is_ready(crate, given.after_gate) for crate, bodies in work if bodies):
-        sys.exit("a library below could not be built")
+            bodies = [it for it in bodies if given.only in (None, it.name)]
+            work.append((crate, bodies if given.turn is None else of_turn(crate, bodies, given.turn)))
     work.sort(key=lambda it: -it[0].count(rb"\n"))
     work = [(crate, part) for crate, bodies in work for part in parts_of(bodies)]
-    with concurrent.futures.ThreadPoolExecutor(rt.processors()) as pool:
-        found = list(pool.map(lambda it: try_all(*it, given.show), work))
-    refused = sum(it == "refused" for said in found for it in said.values())
-    passed = sum(map(len, found)) - refused
-    print(f"{refused} wrong bodies refused, {passed} passed")
-    return 1 if passed or not refused else 0
+    if given.beside_gate:
+        with tempfile.TemporaryDirectory(prefix="gate-libraries-") as room:
+            found = try_beside(Gate(given.beside_gate, room), work, given.show)
+    else:
+        found = try_now(work, given.show)
+    print(f"wrong bodies: {told(found)}")
+    all_said = {it for said in found for it in said.values()}
+    return 1 if all_said - {"refused", NOT_TRIED} or "refused" not in all_said else 0
 
 
 if __name__ == "__main__":
