@@ -238,8 +238,9 @@ impl<S: Alter> Desk<S> {
         ensures turn { ReadsSlip (standing self.old) result (standing self.new) }
         ensures waits { IsTrue (standing self.old).stopped → self.new ≡ self.old }
 
-        // Where the tables stand for the event, what is found is its slip.
+        // Where the tables stand for the event, what is found is its slip. Of a desk that runs there is no such match else, or memory or the store fails.
         ensures found { HasCleanDisk (state S.Store self.new) → ShowsOwn S.Store self.old → FindsSlip self.old.event round table result }
+        ensures fails { IsFalse (standing self.old).stopped → HasCleanDisk (state S.Store self.new) → ShowsOwn S.Store self.old → IfErr result (λ why. (why ≡ Refusal.NoSuchMatch) ⊎ IsFault why) }
 
         // The tables stand for the event, and those of others stay.
         ensures clean { HasCleanDisk (state S.Store self.new) → HasCleanDisk (state S.Store self.old) }
