@@ -101,9 +101,9 @@ def this_and_that(sends, dice):
     return play
 
 
-def to_the_champion(sends, dice):
-    """An event that is played from its first round to its end."""
-    play = Play(sends, dice, dice.randint(8, 64), dice.randint(1, 5), dice.choice((0, 2, 4, 8, 8)))
+def to_the_champion(sends, dice, most):
+    """An event that is played from its first round to its end, by at most so many players."""
+    play = Play(sends, dice, dice.randint(8, most), dice.randint(1, 5), dice.choice((0, 2, 4, 8, 8)))
     event = play.event
     for number in range(1, event.rounds + 1):
         play.pair(number)
@@ -134,6 +134,7 @@ def to_the_champion(sends, dice):
     return play
 
 
-def random_event(sends, dice, number):
-    """Every second event is a whole one. The event at its end is given."""
-    return (this_and_that, to_the_champion)[number % 2](sends, dice).event
+def random_event(sends, dice, number, most=64):
+    """Every second event is a whole one, of at most so many players. The event at its end is given."""
+    play = to_the_champion(sends, dice, most) if number % 2 else this_and_that(sends, dice)
+    return play.event

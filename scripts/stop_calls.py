@@ -16,6 +16,8 @@ from plain_event import Event
 from random_play import random_event
 
 STOPS, FAULTS = ("before", "half"), ("EIO", "ENOSPC")
+# the most players of a random event that is played to its champion
+MOST = 12
 REFUSED = due(["refused 25 Store"])
 State = collections.namedtuple("State", "rows standings")
 NOTHING = State(None, due(["refused 27 NoEvent"]))
@@ -79,6 +81,9 @@ class Calls:
                     return False, f"sent again: {again}, and the file holds {rows_of_copy(file)}"
             return got == REFUSED, None
 
+    def told(self):
+        return f"{self.lines} command lines, {self.stops} stops, {self.faults} faults of the device, {self.refused} of these refused, {len(self.wrong)} wrong"
+
     def play(self, line, answer, event):
         after = State(rows_of(event), due(event.standings()))
         tries = [(nth, how) for nth in range(1, self.count(line) + 1) for how in STOPS + FAULTS]
@@ -104,9 +109,11 @@ def main(program, library, count, seed):
                 if number == 0:
                     with_playoff(calls.play)
                 else:
-                    random_event(calls.play, dice, number)
+                    random_event(calls.play, dice, number, MOST)
+            if count:
+                print(f"{number + 1} events, {calls.told()}", file=sys.stderr, flush=True)
     print("\n".join(calls.wrong), file=sys.stderr, end="\n" if calls.wrong else "")
-    print(f"stops at each call: {count + 1} events, {calls.lines} command lines, {calls.stops} stops, {calls.faults} faults of the device, {calls.refused} of these refused, {len(calls.wrong)} wrong")
+    print(f"stops at each call: {count + 1} events, {calls.told()}")
     return 1 if calls.wrong else 0
 
 
