@@ -1,0 +1,242 @@
+"""Damages files of random events, each in one way, and has the program print their standings, players and bracket. What C SQLite reads of a copy says
+what is due. A file that was damaged by SQL is answered by just the event that its rows stand for, or refused 27 or 29. Where bytes were
+damaged, a refusal 25, 27 or 29 is always lawful, and the texts of an event where its rows are read; only of a file that C SQLite
+can't read may the texts be those of another event, one that the file once held. A file that is refused keeps its bytes; beside it a log may be begun, or
+its log be ended, where nothing of it is read.
+"""
+import collections
+import concurrent.futures
+import copy
+import itertools
+import os
+import random
+import sqlite3
+import subprocess
+import sys
+import tempfile
+
+import damaged_bytes
+import damaged_rows
+import plain_file
+from event_files import copied, due, rows_of, rows_of_copy, run, words_of
+from plain_event import PLAYOFF
+from plain_log import FRAME, HEAD, committed
+from random_play import random_event
+from tally import check, end
+
+READINGS = ("standings", "players", "bracket")
+WRONGLY = "wrongly"
+REFUSALS = {number: (due([f"refused {number} {name}"]),) * 3 for number, name in ((25, "Store"), (27, "NoEvent"), (29, "Damaged"))}
+# how many of the damages of a round are of this kind, where it is more than one
+WEIGHTS = {"a value set": 4, "tables without keys": 3, "a trick": 6, "rows of another event": 9, "bytes turned": 2}
+
+Outcome = collections.namedtuple("Outcome", "kind read answer change faults")
+
+
+def texts_of(event):
+    return due(event.standings()), due(event.players()), due(event.bracket())
+
+
+# ---- the files before any damage
+
+
+class Template:
+    """A random event in two files: one as the program left it, with its log, and one into which C SQLite has put the log."""
+
+    def __init__(self, states):
+        self.states, self.event = states, states[-1][1]
+        self.kept = {}
+
+    def make(self, program, folder):
+        self.logged, self.whole = f"{folder}/logged/e.event", f"{folder}/whole/e.event"
+        for file in (self.logged, self.whole):
+            os.makedirs(os.path.dirname(file))
+        names = [line.split("\t")[1] for line, _ in self.states if line.startswith("enrol\t")]
+        with open(f"{folder}/names.csv", "w", encoding="utf-8") as it:
+            it.writelines(f"{line}\n" for line in ["name", *names])
+        self.send(program, self.states[0][0], "ok 0")
+        check("import", run(program, ["import", self.logged, f"{folder}/names.csv"]), due([f"added {len(names)} already 0"]))
+        for line, event in self.states[1 + len(names) :]:
+            self.send(program, line, f"ok {event.serial}")
+        check("rows of an undamaged file", rows_of_copy(self.logged), rows_of(self.event))
+        copied(self.logged, os.path.dirname(self.whole))
+        base = sqlite3.connect(self.whole)
+        base.execute("PRAGMA wal_checkpoint(TRUNCATE)").fetchall()
+        base.close()
+
+    def send(self, program, line, answer):
+        check(line, run(program, words_of(line, self.logged)), due([answer]))
+
+    def held(self):
+        """The texts of all the events that the file has held."""
+        if not self.kept:
+            self.kept = {texts_of(event) for _, event in self.states}
+        return self.kept
+
+
+class TooLong(Exception):
+    """An event has more lines than are wanted."""
+
+
+def random_states(dice, number, longest):
+    """The lines of a random event that are taken, each with the event then. Of enrolments, which are the first, and of others there are so many at most."""
+    states = []
+
+    def note(line, answer, event):
+        if answer[0].startswith("ok "):
+            states.append((line, copy.deepcopy(event)))
+        if max(len(event.names), len(states) - len(event.names)) > longest:
+            raise TooLong
+
+    random_event(note, dice, number)
+    return states[: dice.randint(1, len(states))] if dice.random() < 0.3 else states
+
+
+def chosen(dice, count, longest):
+    """So many random events of at most so many command lines; every third has a playoff."""
+    found = []
+    for number in itertools.count():
+        try:
+            it = Template(random_states(dice, number, longest))
+        except TooLong:
+            continue
+        if len(found) % 3 or it.event.phase >= PLAYOFF:
+            found.append(it)
+        if len(found) == count:
+            return found
+
+
+# ---- one damage
+
+
+def kinds():
+    """What is damaged, and the kinds of damage to it, each as many times as it comes in a round of them."""
+    parts = (("rows", damaged_rows.KINDS), ("whole", damaged_bytes.FILE_KINDS), ("logged", damaged_bytes.LOG_KINDS))
+    return [(part, kind) for part, those in parts for kind in those for _ in range(WEIGHTS.get(kind, 1))]
+
+
+def read_by_sqlite(file):
+    """What is due to the three readings by what C SQLite reads of a copy; nothing where it can't read it."""
+    with tempfile.TemporaryDirectory() as room:
+        try:
+            return texts_of(plain_file.read(copied(file, room)))
+        except plain_file.NoEvent:
+            return REFUSALS[27]
+        except plain_file.Damaged:
+            return REFUSALS[29]
+        except sqlite3.Error:
+            return ()
+
+
+def bytes_in(room):
+    return {name: open(f"{room}/{name}", "rb").read() for name in os.listdir(room)}
+
+
+def change_of_log(before, after):
+    """How opening a file changed its log, in which nothing that is read may change; or None."""
+    if after == before:
+        return None
+    same = next((at for at, (one, other) in enumerate(zip(before, after)) if one != other), min(len(before), len(after)))
+    read = committed(before)
+    if read > same:
+        return WRONGLY
+    return "an end put to its log" if read else "a log without a head begun anew" if len(before) > HEAD + FRAME else "an empty log put beside it"
+
+
+def change_of(before, after):
+    """How a refused file was changed."""
+    log, file = "e.event-wal", "e.event"
+    if set(after) - {log} != {file}:
+        return WRONGLY
+    if after[file] != before[file]:
+        return WRONGLY if before[file] else "an empty file begun, with its log"
+    return change_of_log(before.get(log, b""), after.get(log, b"")) or "none"
+
+
+def name_of(answers):
+    """A refusal that is lawful, an event, or what is neither."""
+    if answers in REFUSALS.values():
+        return next(f"refused {number}" for number, them in REFUSALS.items() if them == answers)
+    return "an event" if answers and all(status == 0 for status, _, _ in answers) else "nothing"
+
+
+class Damages:
+    def __init__(self, program, templates, seed):
+        self.program, self.templates, self.seed = os.path.abspath(program), templates, seed
+        self.kinds = kinds()
+
+    def damage(self, room, number):
+        """A damaged copy of a template: its file, the template, and in which way it was damaged."""
+        dice = random.Random(f"{self.seed} {number}")
+        part, kind = self.kinds[number % len(self.kinds)]
+        template = dice.choice(self.templates)
+        is_logged = part == "logged" or part == "rows" and dice.random() < 0.5
+        file = copied(template.logged if is_logged else template.whole, room)
+        if part == "rows":
+            damaged_rows.damage(dice, file, kind, template.event)
+        else:
+            those = damaged_bytes.LOG_KINDS if part == "logged" else damaged_bytes.FILE_KINDS
+            those[kind](dice, file, [it.logged for it in self.templates if it is not template])
+        return file, template, f"{'SQL' if part == 'rows' else 'bytes'}: {kind}"
+
+    def answers(self, file):
+        """What the three readings are answered; nothing where one doesn't end."""
+        try:
+            return tuple(run(self.program, [name, file]) for name in READINGS)
+        except subprocess.TimeoutExpired:
+            return ()
+
+    def is_lawful(self, template, kind, due_answers, answers):
+        """Whether the answers are due to what C SQLite reads."""
+        if answers == due_answers:
+            return True
+        if answers in REFUSALS.values():
+            return kind.startswith("bytes: ") or kind == f"SQL: {damaged_rows.UNREAD_KIND}"
+        return not due_answers and any(answers in it.held() for it in self.templates)
+
+    def tried(self, number):
+        with tempfile.TemporaryDirectory() as room:
+            file, template, kind = self.damage(room, number)
+            before, due_answers = bytes_in(room), read_by_sqlite(file)
+            answers = self.answers(file)
+            after, faults = bytes_in(room), []
+            change = change_of(before, after) if answers in REFUSALS.values() else ""
+            if not self.is_lawful(template, kind, due_answers, answers):
+                faults.append(f"{str(answers)[:500]}, and not {str(due_answers)[:500]}")
+            if change == WRONGLY:
+                faults.append("a refused file was changed")
+            if not change and due_answers and read_by_sqlite(file) != due_answers:
+                faults.append("C SQLite reads something else afterwards")
+            return Outcome(kind, name_of(due_answers), name_of(answers), change, [f"damage {number}, {kind}: {it}" for it in faults])
+
+
+def told(outcomes):
+    """The counts of each kind of damage, of what C SQLite reads, and of the answers; and of how refused files were changed."""
+    counts = collections.Counter(it[:3] for it in outcomes)
+    changes = collections.Counter(it.change for it in outcomes if it.change)
+    lines = [f"{count:6} {kind}: C SQLite reads {read}, answered: {answer}" for (kind, read, answer), count in sorted(counts.items())]
+    return lines + [f"{count:6} refused files, changed: {change}" for change, count in sorted(changes.items())]
+
+
+def main(program, count, seed, jobs, templates, longest):
+    with tempfile.TemporaryDirectory() as folder:
+        dice, outcomes = random.Random(seed), []
+        chosen_ones = chosen(dice, templates, longest)
+        for number, template in enumerate(chosen_ones):
+            template.make(program, f"{folder}/{number}")
+        damages = Damages(program, chosen_ones, seed)
+        with concurrent.futures.ThreadPoolExecutor(jobs) as pool:
+            for outcome in pool.map(damages.tried, range(count)):
+                outcomes.append(outcome)
+                if len(outcomes) % 1000 == 0:
+                    print(f"{len(outcomes)} damages", file=sys.stderr)
+    faults = [it for outcome in outcomes for it in outcome.faults]
+    print("\n".join(told(outcomes)))
+    print("\n".join(faults), file=sys.stderr, end="\n" if faults else "")
+    print(f"{count} damages, {len(faults)} wrong")
+    check("damages", len(faults), 0)
+    end(f"damaged files of {templates} random events")
+
+
+if __name__ == "__main__":
+    main(sys.argv[1], *map(int, sys.argv[2:]))

@@ -1,0 +1,238 @@
+"""Edits good files by plain SQL, one edit each: those of worked example 43, and those that break one more rule of the rows each. The program
+refuses each such file, for reading as for writing, and leaves it as it is. The same files without the edit open. Each edit is made through
+Python's SQLite; and those of worked example 43, or `all`, through the command `sqlite3` too, where it is installed.
+"""
+import collections
+import copy
+import os
+import shutil
+import sqlite3
+import subprocess
+import sys
+import tempfile
+
+import plain_file
+from damage import bytes_in, change_of
+from event_files import copied, due, run
+from plain_event import Event
+from tally import check, end
+
+program, takes_all = os.path.abspath(sys.argv[1]), sys.argv[2:] == ["all"]
+ZERO = "0" * 64
+# of a file without a log: opening it puts an empty one beside it
+UNCHANGED = ("none", "an empty log put beside it")
+Good = collections.namedtuple("Good", "file event writing")
+Edit = collections.namedtuple("Edit", "example table what sql")
+
+# worked examples: number of rounds, cut, players, the lines behind `start`, and a command for which it is time then
+EXAMPLES = {
+    1: (3, 0, ("Ana", "Bo", "Cy", "Di"), None, "start"),
+    4: (3, 0, ("Ana", "Bo", "Cy", "Di"), [], "result 1 1 2 0 0"),
+    5: (3, 0, ("Ana", "Bo", "Cy"), [], "result 1 1 2 0 0"),
+    9: (3, 0, ("Ana", "Bo", "Cy", "Di"), ["result 1 1 2 0 0", "result 1 2 2 1 0"], "correct 1 2 0 2 0"),
+    17: (
+        1,
+        4,
+        [f"P{it}" for it in range(1, 7)],
+        ["result 1 1 2 0 0", "result 1 2 2 0 0", "result 1 3 2 0 0", "drop 2", "cut", "playoff 1 1 2 0 0", "playoff 1 2 1 2 0", "playoff 2 1 0 2 0"],
+        "playoff 2 1 0 2 0",
+    ),
+}
+
+PAIRING = "round INTEGER NOT NULL, tab INTEGER NOT NULL, lo INTEGER NOT NULL, hi INTEGER NOT NULL, swapped INTEGER NOT NULL, done INTEGER NOT NULL, x INTEGER NOT NULL, y INTEGER NOT NULL, d INTEGER NOT NULL"
+NO_KEYS = {
+    "event": "id, version, serial, name, rounds, cut, phase",
+    "player": "no, name, dropped",
+    "pairing": PAIRING,
+    "bracket": "stage, slot, a, b, done, x, y, d",
+    "tally": "no, points, rounds, gamepoints, games",
+}
+UNCHECKED = "PRAGMA ignore_check_constraints = ON;"
+
+# rows that break a CHECK of their table, so that C SQLite itself says that the database isn't whole: 25 is an answer to them too
+UNWHOLE = [
+    (1, "an id of 2", f"{UNCHECKED} UPDATE event SET id = 2"),
+    (1, "two rows of event", f"{UNCHECKED} INSERT INTO event SELECT 2, version, serial, name, rounds, cut, phase FROM event"),
+    (4, "players the wrong way round", f"{UNCHECKED} UPDATE pairing SET lo = hi, hi = lo WHERE tab = 1"),
+]
+
+
+def loosely(table, statement):
+    """The statement, of a table that was made anew without keys and checks."""
+    copied_rows = f"CREATE TABLE loose({NO_KEYS[table]}); INSERT INTO loose SELECT * FROM {table}"
+    return f"{copied_rows}; DROP TABLE {table}; ALTER TABLE loose RENAME TO {table}; {statement}"
+
+
+# worked example 43
+WORKED = [
+    Edit(1, "event", "the event's row deleted", "DELETE FROM event"),
+    Edit(1, "event", "version 2", "UPDATE event SET version = 2"),
+    Edit(1, "event", "serial 1000000", "UPDATE event SET serial = 1000000"),
+    Edit(1, "event", "phase 4", "UPDATE event SET phase = 4"),
+    Edit(1, "player", "player 2 deleted", "DELETE FROM player WHERE no = 2"),
+    Edit(1, "player", "a name with a space in front", "UPDATE player SET name = ' Bo' WHERE no = 2"),
+    Edit(1, "player", "dropped as a blob", "UPDATE player SET dropped = x'00' WHERE no = 2"),
+    Edit(1, "player", "no table player", "DROP TABLE player"),
+    Edit(4, "pairing", "table 2 as table 3", "UPDATE pairing SET tab = 3 WHERE tab = 2"),
+    Edit(4, "pairing", "a player who isn't there", "UPDATE pairing SET hi = 9 WHERE tab = 2"),
+    Edit(4, "pairing", "a game in an open match", "UPDATE pairing SET x = 1 WHERE tab = 1"),
+    Edit(5, "pairing", "a bye that isn't swapped", "UPDATE pairing SET swapped = 0 WHERE tab = 0"),
+    Edit(17, "bracket", "stage 2 deleted", "DELETE FROM bracket WHERE stage = 2"),
+    Edit(17, "bracket", "a playoff player who isn't there", "UPDATE bracket SET a = 9 WHERE stage = 1 AND slot = 2"),
+    Edit(17, "bracket", "other seeds, the same winners", "UPDATE bracket SET a = 3, b = 5, x = 0, y = 2, d = 0 WHERE stage = 1 AND slot = 1"),
+]
+
+# worked examples 18 and 39, and others; a table that is None is no event at all
+EDITS = WORKED + [
+    Edit(4, "pairing", "a pairing again", loosely("pairing", "INSERT INTO pairing SELECT 2, tab, lo, hi, 1 - swapped, 0, 0, 0, 0 FROM pairing; UPDATE pairing SET done = 1, x = 2 WHERE round = 1; UPDATE tally SET rounds = 1, games = 2; UPDATE tally SET points = 3, gamepoints = 6 WHERE no IN (1, 4)")),
+    Edit(9, "tally", "points of player 4", "UPDATE tally SET points = 4 WHERE no = 4"),
+    Edit(1, None, "no table event", "DROP TABLE event"),
+    Edit(1, None, "no column of event", "ALTER TABLE event RENAME COLUMN cut TO cuts"),
+    Edit(1, None, "no table event, nor player", "DROP TABLE event; DROP TABLE player"),
+    Edit(1, "event", "an id of 2", loosely("event", "UPDATE event SET id = 2")),
+    Edit(1, "event", "two rows", loosely("event", "INSERT INTO event SELECT 2, version, serial, name, rounds, cut, phase FROM event")),
+    Edit(1, "event", "a negative serial", "UPDATE event SET serial = -1"),
+    Edit(1, "event", "a serial that is 4 above 2 to the 32", "UPDATE event SET serial = 4294967300"),
+    Edit(1, "event", "the name of an event with a TAB", "UPDATE event SET name = 'Fri' || char(9) || 'day'"),
+    Edit(1, "event", "no rounds", "UPDATE event SET rounds = 0"),
+    Edit(1, "event", "ten rounds", "UPDATE event SET rounds = 10"),
+    Edit(1, "event", "a cut of 6", "UPDATE event SET cut = 6"),
+    Edit(1, "event", "rounds as a fraction", "UPDATE event SET rounds = 2.5"),
+    Edit(1, "player", "one who dropped before the start", "UPDATE player SET dropped = 1 WHERE no = 2"),
+    Edit(1, "player", "a name twice", loosely("player", "UPDATE player SET name = 'Ana'")),
+    Edit(1, "player", "a number twice", loosely("player", "UPDATE player SET no = 1 WHERE no = 2")),
+    Edit(1, "player", "no name", loosely("player", "UPDATE player SET name = NULL WHERE no = 3")),
+    Edit(1, "player", "a name as a blob", "UPDATE player SET name = CAST(name AS BLOB) WHERE no = 3"),
+    Edit(1, "player", "a name that is no UTF-8", "UPDATE player SET name = CAST(x'ff' AS TEXT) WHERE no = 3"),
+    Edit(4, "player", "dropped as 2", "UPDATE player SET dropped = 2 WHERE no = 3"),
+    Edit(1, "pairing", "a column less", "ALTER TABLE pairing RENAME COLUMN x TO games"),
+    Edit(1, "bracket", "no table bracket", "DROP TABLE bracket"),
+    Edit(1, "tally", "no table tally", "DROP TABLE tally"),
+    Edit(1, "tally", "a column less", "ALTER TABLE tally RENAME COLUMN games TO played"),
+    Edit(1, "tally", "a row less", "DELETE FROM tally WHERE no = 4"),
+    Edit(1, "tally", "a row more", "INSERT INTO tally VALUES (5, 0, 0, 0, 0)"),
+    Edit(4, "pairing", "a round before the start", "UPDATE event SET phase = 0"),
+    Edit(9, "pairing", "a round above the last", "INSERT INTO pairing VALUES (2, 1, 1, 4, 1, 0, 0, 0, 0), (2, 2, 2, 3, 0, 0, 0, 0, 0); UPDATE event SET rounds = 1"),
+    Edit(9, "pairing", "round 3 behind round 1", "INSERT INTO pairing VALUES (3, 1, 1, 4, 1, 0, 0, 0, 0), (3, 2, 2, 3, 0, 0, 0, 0, 0)"),
+    Edit(4, "pairing", "an open round before the newest", "INSERT INTO pairing VALUES (2, 1, 1, 4, 1, 0, 0, 0, 0), (2, 2, 2, 3, 0, 0, 0, 0, 0)"),
+    Edit(4, "pairing", "one who sits twice", "UPDATE pairing SET lo = 2, hi = 3 WHERE tab = 2"),
+    Edit(9, "pairing", "a score with games below 0", "UPDATE pairing SET y = -1 WHERE tab = 2; UPDATE tally SET gamepoints = -3, games = 1 WHERE no = 3; UPDATE tally SET games = 1 WHERE no = 1"),
+    Edit(1, "player", "one player after the start", "DELETE FROM player WHERE no > 1; DELETE FROM tally WHERE no > 1; UPDATE event SET phase = 1"),
+    Edit(9, "pairing", "a score of 2-2-0", "UPDATE pairing SET y = 2 WHERE tab = 2; UPDATE tally SET points = 1, gamepoints = 6, games = 4 WHERE no IN (1, 3)"),
+    Edit(4, "pairing", "players the wrong way round", loosely("pairing", "UPDATE pairing SET lo = hi, hi = lo, swapped = 0 WHERE tab = 1")),
+    Edit(5, "pairing", "two byes", loosely("pairing", "UPDATE pairing SET tab = 0, lo = 0, swapped = 1, done = 1, x = 2 WHERE tab = 1")),
+    Edit(5, "pairing", "a bye at a table", "UPDATE pairing SET tab = 2 WHERE tab = 0"),
+    Edit(9, "bracket", "a bracket before the cut", "INSERT INTO bracket VALUES (1, 1, 4, 1, 0, 0, 0, 0)"),
+    Edit(17, "bracket", "a final that has no score", "UPDATE bracket SET done = 0, x = 0, y = 0, d = 0 WHERE stage = 2"),
+    Edit(17, "bracket", "a drawn match", "UPDATE bracket SET x = 2 WHERE stage = 2"),
+    Edit(17, "bracket", "a winner who isn't in the final", "UPDATE bracket SET a = 3 WHERE stage = 2"),
+    Edit(17, "bracket", "a bracket without a cut", "UPDATE event SET cut = 0"),
+    Edit(17, "bracket", "the first stage alone, of a cut of 8", "UPDATE event SET cut = 8"),
+    Edit(17, "bracket", "the final is still to be played", "UPDATE event SET phase = 2"),
+]
+
+
+def command(event, words):
+    """What the plain event is answered to a command line without its file."""
+    name, *rest = words.split(" ")
+    numbers = [int(it) for it in rest]
+    if name in ("result", "correct"):
+        return event.report(*numbers[:2], tuple(numbers[2:]), name == "result")
+    if name == "playoff":
+        return event.play(*numbers[:2], tuple(numbers[2:]))
+    return {"start": event.start, "drop": event.drop, "cut": event.end_rounds}[name](*numbers)
+
+
+def with_file(words, file):
+    name, *rest = words.split(" ")
+    return [name, file, *rest]
+
+
+def made(example, room):
+    """The file of a worked example, made by command lines, and its event."""
+    rounds, cut, names, lines, writing = EXAMPLES[example]
+    file, event = f"{room}/{example}/e.event", Event(rounds, cut)
+    os.mkdir(os.path.dirname(file))
+    check(f"example {example}, init", run(program, ["init", file, "Friday", str(rounds), str(cut)]), due(["ok 0"]))
+    for name in names:
+        check(f"example {example}, {name}", run(program, ["enrol", file, name]), due(event.enrol(name)))
+    if lines is not None:
+        check(f"example {example}, start", run(program, ["start", file]), due(event.start()))
+        check(f"example {example}, pair", run(program, ["pair", file, "1", ZERO]), due(event.pair(1, bytes(32))))
+        for words in lines:
+            check(f"example {example}, {words}", run(program, with_file(words, file)), due(command(event, words)))
+    return Good(file, event, writing)
+
+
+def check_good(example, good):
+    """The file opens before any edit, and shows its event; and the command that is to be refused is answered by the rules."""
+    with tempfile.TemporaryDirectory() as room:
+        check(f"example {example}, read plainly", vars(plain_file.read(copied(good.file, room))), vars(good.event))
+    for name in ("players", "standings"):
+        check(f"example {example}, {name}", run(program, [name, good.file]), due(getattr(good.event, name)()))
+    with tempfile.TemporaryDirectory() as room:
+        answer = due(command(copy.deepcopy(good.event), good.writing))
+        check(f"example {example}, {good.writing}", run(program, with_file(good.writing, copied(good.file, room))), answer)
+
+
+def by_python(file, sql):
+    base = sqlite3.connect(file, isolation_level=None)
+    base.executescript(sql)
+    base.close()
+
+
+def by_command(file, sql):
+    subprocess.run(["sqlite3", "-bail", file, sql], stdin=subprocess.DEVNULL, stdout=subprocess.DEVNULL, timeout=60, check=True)
+
+
+def table_at_fault(file):
+    try:
+        plain_file.read(file)
+        return "none"
+    except plain_file.NoEvent:
+        return None
+    except plain_file.Damaged as fault:
+        return fault.table
+
+
+def run_in_copy(name, how, sql, good, refusals):
+    """Makes an edit in a copy, and asks the program to read it and to write it. It is refused in one of these ways, and stays as it is."""
+    with tempfile.TemporaryDirectory() as room:
+        file = copied(good.file, room)
+        how(file, sql)
+        before = bytes_in(room)
+        for words in ("players", "standings", good.writing):
+            got = run(program, with_file(words, file))
+            check(f"{name}, {words}", got in refusals or got, True)
+        check(f"{name}, the file stays", change_of(before, bytes_in(room)) in UNCHANGED, True)
+        return table_at_fault(file)
+
+
+def run_edit(how, edit, good):
+    name = f"{edit.what}, {how.__name__}"
+    refusals = [due(["refused 29 Damaged" if edit.table else "refused 27 NoEvent"])]
+    check(f"{name}, the table at fault", run_in_copy(name, how, edit.sql, good, refusals), edit.table)
+
+
+def run_unwhole(how, what, sql, good):
+    run_in_copy(f"{what}, unchecked, {how.__name__}", how, sql, good, [due(["refused 29 Damaged"]), due(["refused 25 Store"])])
+
+
+def main():
+    with tempfile.TemporaryDirectory() as room:
+        goods = {example: made(example, room) for example in EXAMPLES}
+        for example, good in goods.items():
+            check_good(example, good)
+        for edit in EDITS:
+            run_edit(by_python, edit, goods[edit.example])
+        for example, what, sql in UNWHOLE:
+            run_unwhole(by_python, what, sql, goods[example])
+        by_hand = (EDITS if takes_all else WORKED) if shutil.which("sqlite3") else []
+        for edit in by_hand:
+            run_edit(by_command, edit, goods[edit.example])
+    if not by_hand:
+        print("the command sqlite3 is not installed: no edit is made by it")
+    end(f"one edit in a good file: {len(EDITS)} edits, and {len(UNWHOLE)} that a CHECK forbids; by the command sqlite3 {len(by_hand)} of them")
+
+
+main()
