@@ -1,8 +1,8 @@
 """Damages files of random events, each in one way, and has the program print their standings, players and bracket. What C SQLite reads of a copy says
 what is due. A file that was damaged by SQL is answered by just the event that its rows stand for, or refused 27 or 29. Where bytes were
 damaged, a refusal 25, 27 or 29 is always lawful, and the texts of an event where its rows are read; only of a file that C SQLite
-can't read may the texts be those of another event, one that the file once held. A file that is refused keeps its bytes; beside it a log may be begun, or
-its log be ended, where nothing of it is read.
+can't read may the texts be those of another event, one that the file once held. A file that is refused keeps its bytes, but for an empty one; beside
+it a log may be begun, or its log be ended, where nothing of it is read.
 """
 import collections
 import concurrent.futures
