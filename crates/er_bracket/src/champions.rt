@@ -3,7 +3,6 @@ ghost use Rattle.er_event.specs.declared.events.Phase.TheVariants.{Finished};
 ghost use Rattle.er_event.specs.Bracket.{last_match};
 ghost use Rattle.er_event.specs.Bracket.{champion};
 
-use crate::winners::winner;
 use er_event::{Bracket, Event, Match, Phase, PlayerNo};
 
 /// The one match of the last stage, if that has one.
@@ -28,5 +27,5 @@ pub fn champion(event: &Event) -> Option<PlayerNo>
         return None;
     }
     let played = last_match(event.bracket())?;
-    PlayerNo::try_new(winner(played))
+    PlayerNo::try_new(played.winner())
 }

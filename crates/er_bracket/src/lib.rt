@@ -3,7 +3,6 @@
 
 mod champions;
 mod stages;
-mod winners;
 
 pub use champions::champion;
 pub use stages::{first_stage, next_stage};

@@ -3,7 +3,6 @@ ghost use Rattle.er_event.specs.Bracket.{open_match, next_stage};
 ghost use Rattle.er_bracket.specs.Winners.{IsWon};
 ghost use Rattle.er_bracket.specs.Seeds.{first_stage};
 
-use crate::winners::winner;
 use er_event::{Items, Match, PlayerNo};
 use std::alloc::{AllocError, Global};
 
@@ -54,7 +53,7 @@ pub fn next_stage(alloc: Global, matches: &[Match]) -> Result<Items<Match>, Allo
     let mut next = Items::new(alloc);
     let mut rest = matches;
     while let [first, second, later @ ..] = rest {
-        next.push(open_match(winner(first), winner(second)))?;
+        next.push(open_match(first.winner(), second.winner()))?;
         rest = later;
     }
     Ok(next)

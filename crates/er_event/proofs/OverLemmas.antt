@@ -1,21 +1,20 @@
 -- What the matches of one player can come to at most.
-use Rattle.std.proofs.Common.{◌≡◌, ◌≢◌, ◌⊎◌, inl, inr, ℕ, zero, suc, ◌+◌, ◌*◌, ◌<◌, ◌≤◌, ◌==◌, nat_lt, Bool, true, false, cond, if◌then◌else◌, List, [], ◌∷◌, ◌++◌, length, get_or, flat_map, All, IfSome, IsTrue, Option, Some, None, refl, sym, ap, ap₂, subst, ◌∙◌, arith}
+use Rattle.std.proofs.Common.{◌≡◌, ◌≢◌, ◌⊎◌, inl, inr, ℕ, suc, ◌+◌, ◌≤◌, ◌==◌, nat_lt, Bool, true, false, cond, if◌then◌else◌, List, [], ◌∷◌, ◌++◌, length, get_or, flat_map, All, IfSome, IsTrue, Option, Some, None, refl, sym, ap, subst, ◌∙◌, arith}
 use Rattle.std.proofs.lemmas.Bool.{cases_eq}
 use Rattle.std.proofs.lemmas.Bool.Decides.{nat_tests}
-use Rattle.er_event.specs.declared.players.TheConstants.{MAX_PLAYERS}
 use Rattle.er_event.specs.declared.rounds.Match.{Match}
 use Rattle.er_event.specs.declared.rounds.Round.{Round}
 use Rattle.er_event.specs.declared.scores.Games.{Games}
 use Rattle.er_event.specs.declared.totals.Totals.{Totals}
 use Rattle.er_event.specs.Event.{EventValue}
 use Rattle.er_event.specs.Lines.{Line, own, as_second, lines_of_score, lines_of_match, counted_lines, lines_from}
-use Rattle.er_event.specs.Round.{seats, is_counted}
+use Rattle.er_event.specs.Round.{is_counted}
 use Rattle.er_event.specs.Score.{is_swiss_score}
 use Rattle.er_event.specs.Seen.{IsSeatedOnce, AreFew, AreOver}
 use Rattle.er_event.specs.Sound.{IsRound, IsSoundButForSeeds}
 use Rattle.er_event.specs.Tallies.{AreReadable}
-use Rattle.er_event.specs.Totals.{points_of, game_points_of, games_of, totals_of, totals, plus}
-use Rattle.er_event.proofs.TotalLemmas.{own-append, totals_of-append, absent-second, absent, apart_at, one_match, over-more}
+use Rattle.er_event.specs.Totals.{points_of, totals_of, totals, plus}
+use Rattle.er_event.proofs.TotalLemmas.{own-append, totals_of-append, absent-second, absent, apart_at, one_match}
 
 -- no more than so many games of each kind
 abbrev HasFew : Match → Type 0

@@ -3,14 +3,14 @@ ghost use Rattle.std.specs.List.{list_all, range_with_len};
 ghost use Rattle.er_event.specs.Match.{is_known, is_lawful_slot_score};
 ghost use Rattle.er_event.specs.Round.{is_counted, seats};
 ghost use Rattle.er_event.specs.Sound.{IsBracket};
-ghost use Rattle.er_event.specs.Bracket.{winner, next_stage, SameSlots, FollowOn, IsDecided, is_over};
+ghost use Rattle.er_event.specs.Bracket.{next_stage, SameSlots, FollowOn, IsDecided, is_over};
 
 use crate::checks::{are_seated_once, is_known, is_playoff};
 use crate::items::Items;
 use crate::rounds::{Match, is_complete};
 
 /// Whether the stage was the final, and is played.
-pub(crate) fn is_over(stage: &[Match]) -> bool
+pub fn is_over(stage: &[Match]) -> bool
     ensures { result ≡ is_over stage.now }
 {
     is_complete(stage) && stage.len() == 1
@@ -36,23 +36,6 @@ fn are_all_lawful(stages: &[Items<Match>]) -> bool
     stages.iter().all(|stage| are_lawful(stage.as_slice()))
 }
 
-/// The number of the player who won the match, and 0 where it is open.
-fn winner(played: &Match) -> u16
-    ensures { result ≡ winner played.now }
-{
-    match played.score {
-        Some(score) => {
-            let games = score.games();
-            if games.x > games.y {
-                played.a
-            } else {
-                played.b
-            }
-        }
-        None => 0,
-    }
-}
-
 /// Whether each slot of the next stage has the winners of two slots of this one.
 fn has_winners(stage: &[Match], next: &[Match]) -> bool
     ensures { IsTrue result ↔ SameSlots next.now (next_stage stage.now) }
@@ -61,8 +44,8 @@ fn has_winners(stage: &[Match], next: &[Match]) -> bool
         return false;
     }
     for (place, played) in next.iter().enumerate() {
-        let first = winner(&stage[2 * place]);
-        let second = winner(&stage[2 * place + 1]);
+        let first = stage[2 * place].winner();
+        let second = stage[2 * place + 1].winner();
         if played.a != first || played.b != second {
             return false;
         }

@@ -33,6 +33,23 @@ pub enum Phase {
     Finished,
 }
 
+impl Phase {
+    ghost use Rattle.std.specs.Prelude.{◌≡◌};
+    ghost use Rattle.er_event.specs.Rows.{phase_code};
+
+    /// The number that stands for the phase in the event's row.
+    pub fn code(self) -> u8
+        ensures { result ≡ phase_code self }
+    {
+        match self {
+            Phase::Enrolling => 0,
+            Phase::Swiss => 1,
+            Phase::Playoff => 2,
+            Phase::Finished => 3,
+        }
+    }
+}
+
 /// One tournament. Each value is sound, save that the playoff may seed any of its players.
 #[derive(Drop)]
 pub struct Event {

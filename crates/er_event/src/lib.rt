@@ -20,6 +20,7 @@ mod stages;
 mod tallies;
 mod totals;
 
+pub use brackets::is_over;
 pub use changes::Change;
 pub use checks::BYE;
 pub use events::{Event, MAX_ROUNDS, Phase};
@@ -29,7 +30,7 @@ pub use pairings::match_at_table;
 pub use parts::{Parts, PartsFault};
 pub use players::{MAX_PLAYERS, Player, PlayerNo};
 pub use refusals::{Cause, Command, MAX_SERIAL, Place, Receipt, Refusal};
-pub use rounds::{Bracket, Match, Round};
+pub use rounds::{Bracket, Match, Round, is_complete};
 pub use rows::{BracketRow, EventRow, PairingRow, PlayerRow, TallyRow};
 pub use scores::{Games, Score};
 pub use slips::SlipRow;

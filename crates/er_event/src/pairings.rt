@@ -3,7 +3,7 @@ ghost use Rattle.std.specs.List.{prefix_len};
 ghost use Rattle.er_event.specs.declared.rounds.Match.{Match};
 ghost use Rattle.er_event.specs.declared.rounds.Round.{Round};
 ghost use Rattle.er_event.specs.declared.refusals.Place.{Place};
-ghost use Rattle.er_event.specs.Rows.{games_of, pairing_row, keyed_round_rows, keyed_rows_from};
+ghost use Rattle.er_event.specs.Rows.{pairing_row, keyed_round_rows, keyed_rows_from};
 ghost use Rattle.er_event.specs.Round.{is_bye, numbered_from, table_of};
 ghost use Rattle.er_event.specs.Score.{is_swiss_score};
 ghost use Rattle.er_event.specs.Match.{MayStand};
@@ -70,22 +70,12 @@ fn table_of(table: usize, played: &Match) -> usize
     if played.b == 0 { 0 } else { table }
 }
 
-/// The games of a score, or none where there is no score.
-pub(crate) fn games_of(score: Option<Score>) -> Games
-    ensures { result ≡ games_of score }
-{
-    match score {
-        Some(score) => score.games(),
-        None => Games { x: 0, y: 0, d: 0 },
-    }
-}
-
 /// The row of a match at a table of a round.
 fn row_of(round: u8, table: usize, played: &Match) -> PairingRow
     requires { table < 9223372036854775808 }
     ensures { result ≡ pairing_row round (table, played.now) }
 {
-    let games = games_of(played.score);
+    let games = played.games();
     PairingRow {
         round: i64::from(round),
         tab: table_of(table, played) as i64,

@@ -1,8 +1,10 @@
 ghost use Rattle.std.specs.Prelude.{◌≡◌, IfOk};
+ghost use Rattle.er_event.specs.Bracket.{winner};
 ghost use Rattle.er_event.specs.Round.{is_counted};
+ghost use Rattle.er_event.specs.Rows.{games_of};
 
 use crate::items::Items;
-use crate::scores::Score;
+use crate::scores::{Games, Score};
 use std::alloc::{AllocError, Global};
 
 /// Two players at one table, or one player with a bye.
@@ -28,8 +30,33 @@ pub struct Bracket {
     pub stages: Items<Items<Match>>,
 }
 
+impl Match {
+    /// The games of the score, all 0 where there is none.
+    pub fn games(&self) -> Games
+        ensures { result ≡ games_of self.now.score }
+    {
+        match self.score {
+            Some(score) => score.games(),
+            None => Games { x: 0, y: 0, d: 0 },
+        }
+    }
+
+    /// The number of the player who won the match, and 0 where it is open.
+    pub fn winner(&self) -> u16
+        ensures { result ≡ winner self.now }
+    {
+        match self.score {
+            Some(score) => {
+                let games = score.games();
+                if games.x > games.y { self.a } else { self.b }
+            }
+            None => 0,
+        }
+    }
+}
+
 /// Whether each match has its score.
-pub(crate) fn is_complete(matches: &[Match]) -> bool
+pub fn is_complete(matches: &[Match]) -> bool
     ensures { result ≡ is_counted matches.now }
 {
     matches.iter().all(|played| played.score.is_some())

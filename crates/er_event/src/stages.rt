@@ -7,7 +7,6 @@ ghost use Rattle.er_event.specs.Stages.{IsShownSlot, IsShownStage, is_of_stage};
 ghost use Rattle.er_event.specs.declared.stages.TheConstants.{MAX_STAGES};
 
 use crate::items::Items;
-use crate::pairings::games_of;
 use crate::parts::PartsFault;
 use crate::refusals::Place;
 use crate::rounds::Match;
@@ -50,7 +49,7 @@ fn row_of(stage: u8, slot: usize, played: &Match) -> BracketRow
     requires { slot < 9223372036854775808 }
     ensures { result ≡ bracket_row stage (slot, played.now) }
 {
-    let games = games_of(played.score);
+    let games = played.games();
     BracketRow {
         stage: i64::from(stage),
         slot: slot as i64,

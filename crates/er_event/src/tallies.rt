@@ -115,8 +115,10 @@ impl Event {
         requires { Fits self.now change.now }
         ensures value { result.now ≡ recounted self.now change.now }
         ensures known { AreOf self.now result.now }
+        ensures sound { IsSoundButForSeeds self.now }
         ensures others { (player : ℕ) → IsAbsent player result.now → totals (after self.now change.now) player ≡ totals self.now player }
     {
+        let stored = self.stored();
         match change {
             Change::AddRound { matches } => counted_at_once(matches.as_slice()),
             Change::SetScore {
@@ -124,7 +126,7 @@ impl Event {
                 table,
                 score,
             } => {
-                let round = &self.stored()[usize::from(*round) - 1];
+                let round = &stored[usize::from(*round) - 1];
                 recounted_in(round.matches.as_slice(), usize::from(*table), *score)
             }
             Change::AddPlayer { .. }

@@ -13,7 +13,9 @@ ghost use Rattle.er_rules.specs.Step.{Steps, scored_at};
 
 use crate::pairing::active_count;
 use er_bracket::{first_stage, next_stage};
-use er_event::{Change, Event, Games, Items, Match, Phase, Refusal, Round, Score};
+use er_event::{
+    Change, Event, Games, Items, Match, Phase, Refusal, Round, Score, is_complete, is_over,
+};
 use er_rank::top;
 use std::alloc::{AllocError, Global};
 
@@ -60,13 +62,6 @@ fn check_cut(event: &Event) -> Result<(), Refusal>
     Ok(())
 }
 
-/// Whether each match has its score.
-fn are_played(matches: &[Match]) -> bool
-    ensures { result ≡ is_counted matches.now }
-{
-    matches.iter().all(|played| played.score.is_some())
-}
-
 /// The stage with the score in this slot, which is numbered from 1.
 fn scored_stage(
     alloc: Global,
@@ -91,18 +86,11 @@ fn following(alloc: Global, matches: &[Match]) -> Result<Option<Items<Match>>, A
     requires scores { All (λ m. IfSome m.score (λ s. IsTrue (is_playoff_score s))) matches.now }
     ensures { IfOk result (λ next. next ≡ following matches.now) }
 {
-    if matches.len() == 1 || !are_played(matches) {
+    if matches.len() == 1 || !is_complete(matches) {
         return Ok(None);
     }
     let next = next_stage(alloc, matches)?;
     Ok(Some(next))
-}
-
-/// Whether the stage was the final, and is played.
-fn is_over(matches: &[Match]) -> bool
-    ensures { result ≡ is_over matches.now }
-{
-    matches.len() == 1 && are_played(matches)
 }
 
 fn playoff_score(games: Games) -> Result<Score, Refusal>

@@ -1,5 +1,5 @@
 -- The rows of an event's matches, less those of an open round, are its meetings.
-use Rattle.std.proofs.Common.{◌≡◌, ◌≢◌, ◌⊎◌, inl, inr, ℕ, ℤ, pos, zero, suc, ◌+◌, ◌-◌, ◌==◌, ◌<◌, ◌≤◌, min, max, Bool, true, false, not, cond, ◌&&◌, if◌then◌else◌, List, [], ◌∷◌, ◌++◌, map, filter, find, flat_map, take, length, get_or, Option, Some, None, option_map, is_some, All, Contains, IsTrue, IsFalse, refl, sym, ap, ap₂, subst, ◌∙◌, arith, append-nil, true≢false}
+use Rattle.std.proofs.Common.{◌≡◌, ◌≢◌, ℕ, ℤ, pos, suc, ◌+◌, ◌-◌, ◌≤◌, min, max, Bool, true, false, not, cond, ◌&&◌, if◌then◌else◌, List, [], ◌∷◌, ◌++◌, map, filter, find, take, length, Option, Some, None, option_map, is_some, All, IsTrue, refl, sym, ap, ap₂, subst, ◌∙◌, arith, append-nil, true≢false}
 use Rattle.std.specs.Prelude.{⊤}
 use Rattle.std.specs.List.{AllByRecursion}
 use Rattle.std.specs.Option.{option_or}
@@ -17,7 +17,7 @@ use Rattle.er_event.specs.declared.tallies.Meeting.{Meeting}
 use Rattle.er_event.specs.declared.totals.Totals.{Totals}
 use Rattle.er_event.specs.Event.{EventValue}
 use Rattle.er_event.specs.Round.{is_bye, is_counted, numbered_from}
-use Rattle.er_event.specs.Rows.{flag, tally_row}
+use Rattle.er_event.specs.Rows.{tally_row}
 use Rattle.er_event.specs.Score.{bye_score}
 use Rattle.er_event.specs.Sound.{numbers, IsSoundButForSeeds}
 use Rattle.er_event.specs.Tallies.{counted_matches, meeting_by, meetings}
@@ -25,7 +25,7 @@ use Rattle.er_event.specs.Totals.{totals}
 use Rattle.er_store.specs.declared.rows.MeetingRow.{MeetingRow}
 use Rattle.er_store.proofs.Exact.{map-same}
 use Rattle.er_store.proofs.Joined.{IsMatch, all_matches, some_number}
-use Rattle.er_store.specs.Meetings.{meeting_row, round_meetings, meetings_from, meeting_rows, open_round, is_over, counted_rows, sides_in, sides_of}
+use Rattle.er_store.specs.Meetings.{meeting_row, meetings_from, meeting_rows, open_round, is_over, counted_rows, sides_in, sides_of}
 
 abbrev is_open : MeetingRow → Bool
 is_open row = int_eq row.done (pos 0)

@@ -1,5 +1,5 @@
 -- What the join of the meetings reads of tables that stand for an event.
-use Rattle.std.proofs.Common.{◌≡◌, ◌≢◌, ℕ, ℤ, pos, ◌+◌, ◌==◌, ◌<◌, ◌≤◌, min, max, Bool, true, false, not, cond, ◌&&◌, List, [], ◌∷◌, ◌++◌, map, filter, flat_map, length, nat_lt, suc, true≢false, is_some, All, Contains, Option, Some, None, refl, sym, ap, ap₂, subst, ◌∙◌, arith, Less, Equal, Greater, int_cmp}
+use Rattle.std.proofs.Common.{◌≡◌, ℕ, ℤ, pos, ◌+◌, ◌<◌, ◌≤◌, min, max, Bool, true, false, not, cond, ◌&&◌, List, [], ◌∷◌, ◌++◌, map, filter, flat_map, nat_lt, suc, true≢false, is_some, All, Contains, refl, sym, ap, ap₂, subst, ◌∙◌, arith, Greater, int_cmp}
 use Rattle.std.specs.List.{list_all, AllByRecursion}
 use Rattle.std.specs.Ordering.{ordering_then}
 use Rattle.std.specs.List.Sorted.{IsPermutation, IsSorted}
@@ -19,7 +19,7 @@ use Rattle.sqlite.specs.Order.{Row, column, value_cmp}
 use Rattle.sqlite.specs.Program.{overlay}
 use Rattle.sqlite.specs.Query.{or_nulls, IsAnswer, Output, output, output_cmp}
 use Rattle.sqlite.specs.State.{State, Shown}
-use Rattle.sqlite.specs.Term.{Env, eval_all, holds}
+use Rattle.sqlite.specs.Term.{Env, holds}
 use Rattle.sqlite.specs.Tree.{Trees, IsAscending}
 use Rattle.sqlite.proofs.Callers.{reads_as}
 use Rattle.sqlite_sql.specs.declared.ops.BinaryOp.TheVariants.{Compare}
@@ -47,7 +47,7 @@ use Rattle.er_store.proofs.Counted.{is_pair, is_pair_at, rows_of}
 use Rattle.er_store.proofs.Exact.{IsBelow, lower, level, map-same}
 use Rattle.er_store.proofs.Joined.{IsMatch, all_matches, some_number}
 use Rattle.er_store.proofs.Joining.{joined, numbered_as}
-use Rattle.er_store.proofs.Meaning.{Selects, meeting_query, meeting_tests, meeting_terms}
+use Rattle.er_store.proofs.Meaning.{Selects, meeting_query, meeting_tests}
 use Rattle.er_store.proofs.Picking.{picks}
 use Rattle.er_store.proofs.PickingTotals.{picks_row}
 use Rattle.er_store.proofs.ReadLemmas.{sorted_rows, two_agree}

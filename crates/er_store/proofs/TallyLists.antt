@@ -1,6 +1,5 @@
 -- The rows of players and of totals, one beside the other.
-use Rattle.std.proofs.Common.{◌≡◌, ℕ, ◌+◌, ◌<◌, ◌≤◌, List, [], ◌∷◌, ◌++◌, map, take, length, get_or, false, inl, Result, Ok, Err, MatchResult, refl, sym, ap, ap₂, subst, ◌∙◌, arith}
-use Rattle.std.specs.List.{range_with_len}
+use Rattle.std.proofs.Common.{◌≡◌, ℕ, ◌+◌, ◌<◌, ◌≤◌, List, [], ◌∷◌, ◌++◌, map, take, length, get_or, false, inl, Result, Ok, Err, MatchResult, sym, ap, ap₂, ◌∙◌, arith}
 use Rattle.std.proofs.lemmas.List.{get_or-map, length-map, map-append, take_more}
 use Rattle.std.proofs.lemmas.List.FromFn.{get_or-range_with_len}
 use Rattle.er_event.specs.declared.players.Player.{Player}
@@ -11,7 +10,7 @@ use Rattle.er_event.specs.declared.rows.TallyRow.{TallyRow}
 use Rattle.er_event.specs.declared.tallies.Tally.{Tally}
 use Rattle.er_event.specs.Event.{EventValue}
 use Rattle.er_event.specs.Rows.{player_row, player_rows, tally_row, tally_rows}
-use Rattle.er_event.specs.Sound.{numbers, IsSoundButForSeeds}
+use Rattle.er_event.specs.Sound.{IsSoundButForSeeds}
 use Rattle.er_event.specs.Tallies.{tally_by, tallies}
 use Rattle.er_event.specs.Totals.{totals}
 use Rattle.er_store.specs.Fault.{IsFault}

@@ -106,8 +106,6 @@ fn event_of(alloc: Global, parts: Parts) -> Result<(Event, u32), Refusal>
         Err(PartsFault::Memory) => return Err(Refusal::Memory),
         Err(PartsFault::Damaged(table)) => return Err(Refusal::Damaged { table }),
     };
-    // An event is always sound, as this tells the proof.
-    let _ = event.phase();
     let Some(serial) = serial else { unreachable!() };
     Ok((event, serial))
 }

@@ -41,17 +41,6 @@ pub fn insert_player<S: Alter>(
 pub const INSERT_EVENT: &str =
     "INSERT INTO event (id, version, serial, name, rounds, cut, phase) VALUES (1, 1, ?1, ?2, ?3, ?4, ?5)";
 
-fn phase_code(phase: Phase) -> u32
-    ensures { result ≡ phase_code phase }
-{
-    match phase {
-        Phase::Enrolling => 0,
-        Phase::Swiss => 1,
-        Phase::Playoff => 2,
-        Phase::Finished => 3,
-    }
-}
-
 /// Inserts the event's row.
 pub fn insert_event<S: Alter>(
     tx: &mut Transaction<'_, S>,
@@ -67,7 +56,7 @@ pub fn insert_event<S: Alter>(
 {
     let rounds = u32::from(event.rounds());
     let cut = u32::from(event.cut());
-    let phase = phase_code(event.phase());
+    let phase = u32::from(event.phase().code());
     tx.execute(
         INSERT_EVENT,
         params![serial, event.name().as_str(), rounds, cut, phase],
@@ -101,7 +90,7 @@ pub fn set_phase<S: Alter>(tx: &mut Transaction<'_, S>, phase: Phase) -> Result<
     ensures committed { HasCleanDisk (state S.Store tx.new.conn.now) → KeepsCommit (state S.Store tx.old.conn.now) (state S.Store tx.new.conn.now) }
     ensures survives { Survives (state S.Store tx.old.conn.now) (state S.Store tx.new.conn.now) (λ _. ⊥) }
 {
-    tx.execute(SET_PHASE, params![phase_code(phase)])?;
+    tx.execute(SET_PHASE, params![u32::from(phase.code())])?;
     Ok(())
 }
 
@@ -148,16 +137,6 @@ pub fn set_score<S: Alter>(
 pub const INSERT_PAIRING: &str =
     "INSERT INTO pairing (round, tab, lo, hi, swapped, done, x, y, d) VALUES (?1, ?2, ?3, ?4, ?5, ?6, ?7, ?8, ?9)";
 
-/// The games of a score, all 0 where there is none.
-fn games_of(score: Option<Score>) -> Games
-    ensures { result ≡ games_of score }
-{
-    match score {
-        Some(score) => score.games(),
-        None => Games { x: 0, y: 0, d: 0 },
-    }
-}
-
 /// Inserts the next match of a round that is being stored. `place` is its place in the round, from 1; a bye is at table 0.
 pub fn insert_pairing<S: Alter>(
     tx: &mut Transaction<'_, S>,
@@ -176,7 +155,7 @@ pub fn insert_pairing<S: Alter>(
     let lower = u32::from(played.a.min(played.b));
     let higher = u32::from(played.a.max(played.b));
     let swapped = played.b < played.a;
-    let Games { x, y, d } = games_of(played.score);
+    let Games { x, y, d } = played.games();
     tx.execute(
         INSERT_PAIRING,
         params![
@@ -211,7 +190,7 @@ pub fn insert_slot<S: Alter>(
     ensures committed { HasCleanDisk (state S.Store tx.new.conn.now) → KeepsCommit (state S.Store tx.old.conn.now) (state S.Store tx.new.conn.now) }
     ensures survives { Survives (state S.Store tx.old.conn.now) (state S.Store tx.new.conn.now) (λ _. ⊥) }
 {
-    let Games { x, y, d } = games_of(played.score);
+    let Games { x, y, d } = played.games();
     tx.execute(
         INSERT_SLOT,
         params![

@@ -223,8 +223,6 @@ fn recount<S: Alter>(
     ensures committed { HasCleanDisk (state S.Store tx.new.conn.now) → KeepsCommit (state S.Store tx.old.conn.now) (state S.Store tx.new.conn.now) }
     ensures survives { Survives (state S.Store tx.old.conn.now) (state S.Store tx.new.conn.now) (λ _. ⊥) }
 {
-    // An event's players are always numbered, as this tells the proof.
-    let _ = event.players();
     for played in event.recounted(change) {
         recount_match(tx, event, change, played)?;
     }

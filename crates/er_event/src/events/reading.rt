@@ -158,6 +158,7 @@ impl Event {
     /// The event that the rows are of, or else the first of the four tables that is at fault.
     pub fn from_parts(alloc: Global, parts: Parts) -> Result<Event, PartsFault>
         ensures value { IfOk result (IsOf parts) }
+        ensures sound { IfOk result IsSoundButForSeeds }
         // No other sound event has these rows.
         ensures only { IfOk result (λ e. (other : EventValue) → IsOf parts other → IsSoundButForSeeds other → other ≡ e) }
         ensures damaged { (place : Place) → result ≡ Err (PartsFault.Damaged place) → IsFirstFault parts place }

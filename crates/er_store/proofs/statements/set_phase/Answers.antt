@@ -9,7 +9,7 @@ returns-clause-makes g c clean e s rows stands =
     let old = state g.S.Store c.args.tx.now.conn.now in
     let new = state g.S.Store c.execute.new.self.conn.now in
     let inside = inside_ok _ c.in_ok-execute.field-0 _ (λ e. (c.in_ok-execute.ensures.ended e).0) in
-    let set = sets_phase old new e s c.args.phase c.in_ok-execute.field-0 stands inside (rw (c.params-to_sql.ensures, c.phase_code.ensures) at (c.in_ok-execute.ensures.runs clean inside)) in
+    let set = sets_phase old new e s c.args.phase c.in_ok-execute.field-0 stands inside (rw (c.params-to_sql.ensures, c.from.ensures, c.code.ensures) at (c.in_ok-execute.ensures.runs clean inside)) in
     row_set old new e c.args.phase s s stands.low stands set.0 set.1
 
 pub returns-in_err-execute-clause-committed : goal.returns-in_err-execute-clause-committed

@@ -71,7 +71,7 @@ loop-played-preserved g c =
       λ clean e s same moves stands.
           let was = so_far.2 (was_clean mid new _ c.recount_match.ensures.survives clean) e s same moves stands in
           let made = c.in_ok-recount_match.ensures.makes clean e s (set_for_all (take at items) now before) same was.stands in
-          let numbered = numbered_too e.players event.players same (c.players.ensures.sound.players.numbered) in
+          let numbered = numbered_too e.players event.players same (c.recounted-played-items.ensures.sound.players.numbered) in
           let rows = rows_agree (set_for_all (m ∷ []) now (set_for_all (take at items) now before)) (set_for_all (take at items ++ m ∷ []) now before) e.players numbered (λ q low. set-more (take at items) m q now before) in
           subst (λ (ms : List Match). MakesWith old new e s (tally_rows_by (set_for_all ms now before) e.players)) (sym more)
           (subst (λ (ts : List TallyRow). MakesWith old new e s ts) rows (makes_then old mid new e e s was made)),
@@ -89,7 +89,7 @@ returns-clause-makes g c clean e s same moves stands =
     let items = c.recounted-played-items.result.now in
     let now = totals (after event c.args.change.now) in
     let before = totals event in
-    let numbered = numbered_too e.players event.players same (c.players.ensures.sound.players.numbered) in
+    let numbered = numbered_too e.players event.players same (c.recounted-played-items.ensures.sound.players.numbered) in
     let all = take_all c.loop-played.played-index items c.loop-played-test.false in
     let made = subst (λ (ms : List Match). MakesWith old new e s (tally_rows_by (set_for_all ms now before) e.players)) all (c.loop-played.invariant.2 clean e s same moves stands) in
     subst (λ (ts : List TallyRow). MakesWith old new e s ts)

@@ -17,7 +17,7 @@ recounted_in-requires c =
     let fits : Fits event (SetScore score.round score.table score.score) = subst (Fits event) score.is c.requires in
     let round = c.index-stored-from.result in
     let is : round ≡ get_or event.stored (score.round - 1) round =
-    c.index-stored-from.is ∙ (ap (λ (rs : List Round). get_or rs (c.from.result - 1) round) c.stored.ensures.value ∙ ap (λ (k : ℕ). get_or event.stored (k - 1) round) c.from.ensures) in
+    c.index-stored-from.is ∙ (ap (λ (rs : List Round). get_or rs (c.from.result - 1) round) c.stored-stored.ensures.value ∙ ap (λ (k : ℕ). get_or event.stored (k - 1) round) c.from.ensures) in
     rw (c.from-in-SetScore.ensures, c.as_slice-in-SetScore.ensures) (table-within event score.round score.table score.score fits round is)
 
 pub returns-in-AddRound-clause-known : goal.returns-in-AddRound-clause-known
@@ -41,7 +41,7 @@ given c =
     let fits : Fits event (SetScore score.round score.table score.score) = subst (Fits event) score.is c.requires in
     let round = c.index-stored-from.result in
     let is : round ≡ get_or event.stored (score.round - 1) (record { matches = [] }) =
-    c.index-stored-from.is ∙ (ap (λ (rs : List Round). get_or rs (c.from.result - 1) round) c.stored.ensures.value ∙ (ap (λ (k : ℕ). get_or event.stored (k - 1) round) c.from.ensures
+    c.index-stored-from.is ∙ (ap (λ (rs : List Round). get_or rs (c.from.result - 1) round) c.stored-stored.ensures.value ∙ (ap (λ (k : ℕ). get_or event.stored (k - 1) round) c.from.ensures
     ∙ get_or_default event.stored (score.round - 1) round (record { matches = [] }) (round-within event score.round score.table score.score fits))) in
     c.recounted_in.ensures
     ∙ (ap (λ (ms : List Match). recounted_in ms c.from-in-SetScore.result score.score) (c.as_slice-in-SetScore.ensures ∙ ap (λ (r : Round). r.matches) is)
@@ -56,7 +56,7 @@ returns-in-SetScore-clause-known c =
     let score = c.in-SetScore in
     let event = c.args.self.now in
     let fits : Fits event (SetScore score.round score.table score.score) = subst (Fits event) score.is c.requires in
-    rw (given c ∙ ap (recounted event) score.is) (scored-known event score.round score.table score.score c.stored.ensures.sound fits)
+    rw (given c ∙ ap (recounted event) score.is) (scored-known event score.round score.table score.score c.stored-stored.ensures.sound fits)
 
 pub returns-in-SetScore-clause-others : goal.returns-in-SetScore-clause-others
 returns-in-SetScore-clause-others c = λ player away.
