@@ -12,7 +12,6 @@ pub mod Passing
 pub mod Trying
 pub mod Sharing
 pub mod Answering
-pub mod Pointing
 pub mod Placing
 pub mod Ordering
 pub mod Uniqueness

@@ -1,14 +1,9 @@
 -- The active players by number, with their keys.
-use Rattle.std.proofs.Common.{◌≡◌, ℕ, zero, suc, ◌+◌, ◌<◌, ◌≤◌, Bool, true, false, not, cond, List, [], ◌∷◌, ◌++◌, length, take, map, filter, get_or, All, refl, sym, ap, ◌∙◌, arith, not-suc-le-zero, add-one, length-append, append-nil}
-use Rattle.std.proofs.lemmas.List.Elements.{All-weaker}
-use Rattle.er_event.specs.declared.events.TheConstants.{MAX_ROUNDS}
+use Rattle.std.proofs.Common.{◌≡◌, ℕ, zero, suc, ◌+◌, ◌<◌, ◌≤◌, Bool, true, false, not, cond, List, [], ◌∷◌, ◌++◌, length, take, map, filter, get_or, refl, sym, ap, ◌∙◌, arith, not-suc-le-zero, add-one, length-append, append-nil}
 use Rattle.er_event.specs.declared.players.Player.{Player}
-use Rattle.er_event.specs.declared.rounds.Round.{Round}
 use Rattle.er_event.specs.Event.{EventValue}
-use Rattle.er_event.specs.Sound.{IsSoundButForSeeds, IsRound, numbers}
 use Rattle.er_pair.specs.declared.places.Place.{Place}
 use Rattle.er_event.specs.Totals.{totals}
-use Rattle.er_pair.specs.Points.{IsSeatedOnce}
 use Rattle.er_pair.specs.Place.{place_of, placed}
 
 abbrev pub active_in : List Player → List ℕ
@@ -64,15 +59,9 @@ placed-push event [] (key ∷ keys) n below = refl
 placed-push event (m ∷ ns) [] n below = absurd (not-suc-le-zero below)
 placed-push event (m ∷ ns) (key ∷ keys) n below = ap (λ (l : List Place). place_of event m key ∷ l) (placed-push event ns keys n (omega arith))
 
-pub rounds_few : (event : EventValue) → IsSoundButForSeeds event → length event.stored ≤ MAX_ROUNDS
-rounds_few event sound = let a = sound.rounds.few in let b = sound.set_up.rounds.1 in omega arith
-
-pub rounds_seated : (event : EventValue) → IsSoundButForSeeds event → All (λ (round : Round). IsSeatedOnce round.matches) event.stored
-rounds_seated event sound = All-weaker (λ (r : Round). IsRound (numbers event.players) r.matches) (λ (r : Round). IsSeatedOnce r.matches) (λ r h. h.seated_once) event.stored sound.rounds.each
-
 -- the next active player goes to the end
 pub placed_more : (event : EventValue) (players : List Player) (keys : List ℕ) (i : ℕ) (p : Player) (places new : List Place) (number points len : ℕ)
-    → i < length players → p ≡ get_or players i p → p.dropped ≡ false → number ≡ p.no → points ≡ (totals event number).points
+    → i < length players → p ≡ get_or players i p → p.dropped ≡ false → number ≡ p.no → points ≡ (totals event p.no).points
     → places ≡ placed event (active_in (take i players)) keys → length places ≡ length (active_in (take i players)) → len ≡ length places → len < length keys
     → new ≡ places ++ record { points = record { 0 = points }; key = get_or keys len 0; number = number } ∷ []
     → (new ≡ placed event (active_in (take (i + 1) players)) keys) × (length new ≡ length (active_in (take (i + 1) players)))
@@ -82,7 +71,7 @@ placed_more event players keys i p places new number points len below is active 
     let count_is : len ≡ length before = len_is ∙ count in
     let at : ℕ → ℕ → ℕ → Place = λ n k m. record { points = record { 0 = n }; key = get_or keys k 0; number = m } in
     let place : at points len number ≡ place_of event p.no (get_or keys (length before) 0) =
-    ap (λ (n : ℕ). at n len number) pointed ∙ (ap (λ (k : ℕ). at (totals event number).points k number) count_is ∙ ap (λ (m : ℕ). place_of event m (get_or keys (length before) 0)) numbered) in
+    ap (λ (n : ℕ). at n len number) pointed ∙ (ap (λ (k : ℕ). at (totals event p.no).points k number) count_is ∙ ap (λ (m : ℕ). at (totals event p.no).points (length before) m) numbered) in
     let room_before : length before < length keys = omega (arith, count_is, room) in (
       pushed ∙ (ap (λ (l : List Place). l ++ at points len number ∷ []) value
           ∙ (ap (λ (q : Place). placed event before keys ++ q ∷ []) place

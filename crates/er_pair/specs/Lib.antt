@@ -1,4 +1,3 @@
-pub mod Points
 pub mod Order
 pub mod Place
 pub mod Rows

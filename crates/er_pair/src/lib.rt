@@ -7,7 +7,6 @@ mod meetings;
 mod orders;
 mod pairings;
 mod places;
-mod points;
 mod rows;
 mod search;
 mod seats;

@@ -43,8 +43,6 @@ impl Met {
     pub fn of(alloc: Global, event: &Event) -> Result<Met, AllocError>
         ensures { IfOk result (λ met. has_met met ≡ have_met event.now) }
     {
-        // A match is between players of the event, whose numbers are at most 512.
-        let _players = event.players();
         let mut met = Met::empty(alloc)?;
         for round in event.stored() {
             for table in round.matches.as_slice() {

@@ -4,7 +4,6 @@ ghost use Rattle.er_pair.specs.Order.{active_numbers, AreKeys, IsOrder, seats_of
 ghost use Rattle.er_pair.specs.Place.{placed};
 
 use crate::places::{Place, sort_places};
-use crate::points::match_points;
 use er_event::{Event, MAX_PLAYERS};
 use std::alloc::{AllocError, Global};
 use std::cmp::Reverse;
@@ -21,11 +20,10 @@ fn places(alloc: Global, event: &Event, keys: &[u32]) -> Result<Vec<Place>, Allo
         if player.dropped {
             continue;
         }
-        let number = player.no.get();
         places.push(Place {
-            points: Reverse(match_points(event.stored(), number)),
+            points: Reverse(event.totals(player.no).points),
             key: keys[places.len()],
-            number,
+            number: player.no.get(),
         })?;
     }
     Ok(places)

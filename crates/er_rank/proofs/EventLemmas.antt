@@ -1,5 +1,5 @@
 -- The tallies and the meetings of a sound event keep the limits.
-use Rattle.std.proofs.Common.{◌≡◌, ℕ, ◌+◌, ◌*◌, ◌≤◌, ◌==◌, min, max, nat_lt, not, suc, Bool, true, false, if◌then◌else◌, List, [], ◌∷◌, map, filter, length, sum_by, get_or, All, refl, sym, ap, subst, ◌∙◌, arith}
+use Rattle.std.proofs.Common.{◌≡◌, ℕ, ◌*◌, ◌≤◌, ◌==◌, min, max, nat_lt, not, suc, Bool, true, false, if◌then◌else◌, List, [], ◌∷◌, map, filter, length, sum_by, get_or, All, refl, sym, ap, ◌∙◌, arith}
 use Rattle.std.specs.List.{range_with_len}
 use Rattle.std.proofs.lemmas.List.{length-map}
 use Rattle.std.proofs.lemmas.List.Elements.{All-map, All-filter, filter_passes}
@@ -8,22 +8,20 @@ use Rattle.er_event.specs.declared.rounds.Match.{Match}
 use Rattle.er_event.specs.declared.tallies.Meeting.{Meeting}
 use Rattle.er_event.specs.declared.tallies.Tally.{Tally}
 use Rattle.er_event.specs.Event.{EventValue}
-use Rattle.er_event.specs.Lines.{lines}
+use Rattle.er_event.specs.Lines.{Line, lines, own_lines}
 use Rattle.er_event.specs.Round.{is_bye}
 use Rattle.er_event.specs.Sound.{IsSoundButForSeeds}
 use Rattle.er_event.specs.Tallies.{tally_by, tallies, counted_matches, meeting_by, meetings}
-use Rattle.er_event.specs.Totals.{totals}
-use Rattle.er_rank.specs.declared.lines.Line.{Line}
-use Rattle.er_rank.specs.declared.lines.TheConstants.{MAX_GAMES_OF_MATCH}
+use Rattle.er_event.specs.Totals.{points_of, game_points_of, games_of, totals}
+use Rattle.er_rank.specs.declared.lists.TheConstants.{MAX_GAMES_OF_MATCH}
 use Rattle.er_rank.specs.Meeting.{encounters, totals_of, IsRecord, AreTallies, AreEncounters, IsKnownTo, AreListsOf, AreLists}
-use Rattle.er_rank.specs.Seen.{seen}
 use Rattle.er_rank.specs.Standings.{opponents}
-use Rattle.er_rank.specs.Tally.{games_of, points_of, own_lines, IsKnown}
+use Rattle.er_rank.specs.Tally.{IsKnown}
 use Rattle.er_rank.proofs.MeetingLemmas.{is_met, opponents-met, lawful-matches, known-counted}
 use Rattle.er_rank.proofs.MeritLemmas.{opponents-few}
 use Rattle.er_rank.proofs.OpponentLemmas.{met-count}
 use Rattle.er_rank.proofs.SoundLemmas.{AreWithin-sound, first_numbers, seats_known}
-use Rattle.er_rank.proofs.StandingLemmas.{map-map, map-agree, totals_in-seen, opponents_in-seen, totals_of-known}
+use Rattle.er_rank.proofs.StandingLemmas.{map-map, map-agree, totals_of-known}
 
 points-low : (l : Line) → points_of l ≤ 3
 points-low l = by_tests (nat_lt l.lost l.won) (l.won == l.lost)
@@ -33,14 +31,14 @@ points-low l = by_tests (nat_lt l.lost l.won) (l.won == l.lost)
     by_tests false true = omega arith
     by_tests false false = omega arith
 
-game_points-low : (l : Line) → 3 * l.won + l.drawn ≤ 3 * games_of l
+game_points-low : (l : Line) → game_points_of l ≤ 3 * games_of l
 game_points-low l = omega arith
 
 -- what short lines come to
 record AreShort (own : List Line) : Type 0 where
   points : sum_by points_of own ≤ 3 * length own
   games : sum_by games_of own ≤ MAX_GAMES_OF_MATCH * length own
-  game_points : sum_by (λ (l : Line). 3 * l.won + l.drawn) own ≤ 3 * sum_by games_of own
+  game_points : sum_by game_points_of own ≤ 3 * sum_by games_of own
 
 short-lines : (own : List Line) → All (λ (l : Line). games_of l ≤ MAX_GAMES_OF_MATCH) own → AreShort own
 short-lines [] short = record { points = omega arith; games = omega arith; game_points = omega arith }
@@ -49,7 +47,7 @@ short-lines (l ∷ own) short =
     let here = short 0 l (omega arith) in
     let points = sum_by-cons points_of l own in
     let games = sum_by-cons games_of l own in
-    let game_points = sum_by-cons (λ (m : Line). 3 * m.won + m.drawn) l own in
+    let game_points = sum_by-cons game_points_of l own in
     record {
       points = omega (arith, points, points-low l, rest.points);
       games = omega (arith, games, here, rest.games);
@@ -58,18 +56,16 @@ short-lines (l ∷ own) short =
 
 pub totals-record : (e : EventValue) → IsSoundButForSeeds e → (player : ℕ) → IsRecord (totals e player)
 totals-record e sound player =
-    let all = map seen (lines e) in
     let within = AreWithin-sound e sound in
-    let own = own_lines all player in
-    let short = short-lines own (All-filter (λ (l : Line). l.player == player) (λ (l : Line). games_of l ≤ MAX_GAMES_OF_MATCH) all within.short) in
+    let short = short-lines (own_lines e player) (All-filter (λ (l : Line). l.player == player) (λ (l : Line). games_of l ≤ MAX_GAMES_OF_MATCH) (lines e) within.short) in
     let few = within.few player in
-    let count = length-filter (λ (l : Line). l.player == player) all in
-    subst IsRecord (totals_in-seen e player) (record {
+    let count = length-filter (λ (l : Line). l.player == player) (lines e) in
+    record {
       rounds = omega (arith, few, count);
       points = short.points;
       games = short.games;
       game_points = short.game_points;
-    })
+    }
 
 pub AreTallies-event : (e : EventValue) → IsSoundButForSeeds e → AreTallies (tallies e)
 AreTallies-event e sound =
@@ -89,8 +85,8 @@ AreEncounters-event e sound =
       known = λ k d below. (lawful k d below).known;
       few = λ player.
           let met = ap length (opponents-met e player (first_numbers e sound)) ∙ length-map (opponents e player) (totals e) in
-          let lines_few = opponents-few players (map seen (lines e)) player (AreWithin-sound e sound) in
-          omega (arith, met-count (encounters (meetings e)) player, met, ap length (opponents_in-seen e player), lines_few);
+          let lines_few = opponents-few e player (AreWithin-sound e sound) in
+          omega (arith, met-count (encounters (meetings e)) player, met, lines_few);
       records = λ k d below. (lawful k d below).recorded;
     })
 

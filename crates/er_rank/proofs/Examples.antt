@@ -9,7 +9,7 @@ use Rattle.er_event.specs.Bracket.{open_match}
 use Rattle.er_event.specs.Event.{EventValue}
 use Rattle.er_event.specs.Lines.{lines}
 use Rattle.er_event.specs.Totals.{totals}
-use Rattle.er_rank.specs.declared.lines.TheConstants.{MAX_GAMES_OF_MATCH}
+use Rattle.er_rank.specs.declared.lists.TheConstants.{MAX_GAMES_OF_MATCH}
 use Rattle.er_rank.specs.declared.rows.Row.{Row}
 use Rattle.er_rank.specs.Standings.{opponents_match_win, game_win, opponents_game_win, is_better, is_listed_before, first_active}
 

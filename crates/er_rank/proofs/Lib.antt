@@ -1,6 +1,4 @@
 pub mod Examples
-pub mod LineLemmas
-pub mod TallyLemmas
 pub mod MeritLemmas
 pub mod OpponentLemmas
 pub mod MeetingLemmas

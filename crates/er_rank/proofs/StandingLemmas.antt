@@ -1,5 +1,5 @@
 -- Placings stand as the rules say.
-use Rattle.std.proofs.Common.{◌≡◌, ◌≢◌, ℕ, ◌+◌, ◌-◌, ◌*◌, ◌<◌, ◌==◌, ◌&&◌, ◌||◌, nat_lt, suc, Bool, true, false, cond, List, [], ◌∷◌, map, filter, length, get_or, sum_by, count_by, All, Contains, refl, sym, ap, ap₂, subst, ◌∙◌, arith}
+use Rattle.std.proofs.Common.{◌≡◌, ◌≢◌, ℕ, ◌+◌, ◌-◌, ◌<◌, ◌&&◌, ◌||◌, nat_lt, suc, Bool, true, false, cond, List, [], ◌∷◌, map, length, get_or, sum_by, count_by, All, Contains, refl, sym, ap, ap₂, subst, ◌∙◌, arith}
 use Rattle.std.specs.List.{range_with_len}
 use Rattle.std.specs.List.Sorted.{IsPermutation}
 use Rattle.std.specs.declared.cmp.Ordering.{Ordering}
@@ -20,15 +20,10 @@ use Rattle.er_event.specs.declared.tallies.Tally.{Tally}
 use Rattle.er_event.specs.Event.{EventValue}
 use Rattle.er_event.specs.Sound.{IsSoundButForSeeds}
 use Rattle.er_event.specs.Tallies.{tally_by, tallies, meetings}
-use Rattle.er_event.specs.Lines as event
-use Rattle.er_event.specs.Lines.{lines}
 use Rattle.er_event.specs.declared.totals.Totals.{Totals}
 use Rattle.er_event.specs.Totals.{totals}
-use Rattle.er_event.specs.Totals as event_totals
-use Rattle.er_rank.specs.declared.lines.Line.{Line}
 use Rattle.er_rank.specs.declared.placings.Placing.{Placing}
-use Rattle.er_rank.specs.Seen.{seen}
-use Rattle.er_rank.specs.Tally.{games_of, points_of, own_lines, totals_in, no_totals, IsKnown, opponents_in, match_win_of, game_win_of}
+use Rattle.er_rank.specs.Tally.{no_totals, IsKnown, match_win_of, game_win_of}
 use Rattle.er_rank.specs.Meeting.{encounters, opponents_of, totals_of}
 use Rattle.er_rank.specs.Merit.{IsMerit}
 use Rattle.er_rank.specs.Placing.{merit_cmp, placing_cmp, is_above, ArePlacings}
@@ -36,15 +31,7 @@ use Rattle.er_rank.specs.Standings.{game_win, opponents, opponents_match_win, op
 use Rattle.er_rank.proofs.PlacingLemmas.{merit_cmp-total, first_apart}
 use Rattle.er_rank.proofs.MeetingLemmas.{opponents-met}
 
--- ---- the lines as they are seen come to the same
-
-filter-map : {X Y : Type 0} (p : Y → Bool) (f : X → Y) (xs : List X) → filter p (map f xs) ≡ map f (filter (λ x. p (f x)) xs)
-filter-map p f [] = refl
-filter-map p f (x ∷ xs) = kept (p (f x)) (filter-map p f xs)
-  where
-    kept : (b : Bool) → filter p (map f xs) ≡ map f (filter (λ y. p (f y)) xs) → cond b (f x ∷ filter p (map f xs)) (filter p (map f xs)) ≡ map f (cond b (x ∷ filter (λ y. p (f y)) xs) (filter (λ y. p (f y)) xs))
-    kept true rest = ap (λ ys. f x ∷ ys) rest
-    kept false rest = rest
+-- ---- lists
 
 sum_by-map : {X Y : Type 0} (g : Y → ℕ) (f : X → Y) (xs : List X) → sum_by g (map f xs) ≡ sum_by (λ x. g (f x)) xs
 sum_by-map g f [] = refl
@@ -53,29 +40,6 @@ sum_by-map g f (x ∷ xs) = sum_by-cons g (f x) (map f xs) ∙ (ap (λ n. g (f x
 pub map-map : {X Y Z : Type 0} (g : Y → Z) (f : X → Y) (xs : List X) → map g (map f xs) ≡ map (λ x. g (f x)) xs
 map-map g f [] = refl
 map-map g f (x ∷ xs) = ap (λ ys. g (f x) ∷ ys) (map-map g f xs)
-
-own_lines-seen : (ls : List event.Line) (player : ℕ) → own_lines (map seen ls) player ≡ map seen (filter (λ (l : event.Line). l.player == player) ls)
-own_lines-seen ls player = filter-map (λ (l : Line). l.player == player) seen ls
-
-abbrev totals_by : ℕ → ℕ → ℕ → ℕ → Totals
-totals_by points rounds game_points games = record { points = points; rounds = rounds; game_points = game_points; games = games }
-
-same_totals : (a b c d a' b' c' d' : ℕ) → a ≡ a' → b ≡ b' → c ≡ c' → d ≡ d' → totals_by a b c d ≡ totals_by a' b' c' d'
-same_totals a b c d a' b' c' d' first second third fourth = cc
-
-pub totals_in-seen : (e : EventValue) (player : ℕ) → totals_in (map seen (lines e)) player ≡ totals e player
-totals_in-seen e player =
-    let own : List event.Line = filter (λ (l : event.Line). l.player == player) (lines e) in
-    let are = own_lines-seen (lines e) player in
-    let points : sum_by points_of (own_lines (map seen (lines e)) player) ≡ sum_by event_totals.points_of own = ap (sum_by points_of) are ∙ sum_by-map points_of seen own in
-    let rounds : length (own_lines (map seen (lines e)) player) ≡ length own = ap length are ∙ length-map own seen in
-    let game_points : sum_by (λ (l : Line). 3 * l.won + l.drawn) (own_lines (map seen (lines e)) player) ≡ sum_by (λ (l : event.Line). 3 * l.won + l.drawn) own = ap (sum_by (λ (l : Line). 3 * l.won + l.drawn)) are ∙ sum_by-map (λ (l : Line). 3 * l.won + l.drawn) seen own in
-    let games : sum_by games_of (own_lines (map seen (lines e)) player) ≡ sum_by (λ (l : event.Line). l.won + l.lost + l.drawn) own = ap (sum_by games_of) are ∙ sum_by-map games_of seen own in
-    same_totals _ _ _ _ _ _ _ _ points rounds game_points games
-
-pub opponents_in-seen : (e : EventValue) (player : ℕ) → opponents_in (map seen (lines e)) player ≡ opponents e player
-opponents_in-seen e player =
-    ap (filter (λ q. nat_lt 0 q)) (ap (map (λ (l : Line). l.opponent)) (own_lines-seen (lines e) player) ∙ map-map (λ (l : Line). l.opponent) seen (filter (λ (l : event.Line). l.player == player) (lines e)))
 
 -- two functions that agree at each element
 pub map-agree : {X Y : Type 0} (f g : X → Y) (P : X → Type 0) → ((x : X) → P x → f x ≡ g x) → (xs : List X) → All P xs → map f xs ≡ map g xs
@@ -93,14 +57,6 @@ pub record IsPlacing (e : EventValue) (p : Placing) : Type 0 where
   pub omw : IsShareOf p.merit.omw.0 (opponents_match_win e p.player)
   pub gwp : IsShareOf p.merit.gwp.0 (game_win e p.player)
   pub ogw : IsShareOf p.merit.ogw.0 (opponents_game_win e p.player)
-
--- the totals that the code adds up, player by player
-pub totals-numbered : (e : EventValue) → IsSoundButForSeeds e
-    → map (totals_in (map seen (lines e))) (range_with_len 1 (length e.players)) ≡ map (λ (p : Player). totals e p.no) e.players
-totals-numbered e sound =
-    let all = range_with_len 1 (length e.players) in
-    map-agree (totals_in (map seen (lines e))) (totals e) (λ q. q ≡ q) (λ q is. totals_in-seen e q) all (λ k d below. refl)
-    ∙ (ap (map (totals e)) (sym sound.players.numbered) ∙ map-map (totals e) (λ (p : Player). p.no) e.players)
 
 -- the tally at a known player's place
 pub totals_of-known : (e : EventValue) → IsSoundButForSeeds e → (player : ℕ) → IsKnown (length e.players) player → totals_of (tallies e) player ≡ totals e player

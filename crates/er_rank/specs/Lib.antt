@@ -1,5 +1,4 @@
 pub mod Counting
-pub mod Seen
 pub mod Standings
 pub mod Tally
 pub mod Placing

@@ -11,7 +11,7 @@ use Rattle.er_event.specs.Event.{EventValue}
 use Rattle.er_event.specs.Round.{is_bye}
 use Rattle.er_event.specs.Sound.{IsSoundButForSeeds}
 use Rattle.er_event.specs.Tallies.{tallies, meetings}
-use Rattle.er_rank.specs.declared.lines.TheConstants.{MAX_GAMES_OF_MATCH}
+use Rattle.er_rank.specs.declared.lists.TheConstants.{MAX_GAMES_OF_MATCH}
 use Rattle.er_rank.specs.Tally.{IsKnown, no_totals}
 
 -- a player, and what the matches of an opponent come to

@@ -3,9 +3,11 @@ ghost use Rattle.er_event.specs.Event.{EventValue};
 ghost use Rattle.er_rank.specs.Counting.{with_match, AreCountsOf};
 ghost use Rattle.er_rank.specs.Meeting.{Encounter, encounters, IsRecord, AreTallies, AreEncounters, AreLists, AreListsOf};
 
-use crate::lines::MAX_GAMES_OF_MATCH;
 use er_event::{MAX_PLAYERS, MAX_ROUNDS, Meeting, PlayerNo, Tally, Totals};
 use std::alloc::{AllocError, Global};
+
+/// The most games that one match has: three that one of the two wins, and three drawn.
+pub const MAX_GAMES_OF_MATCH: u8 = 6;
 
 /// Whether the totals keep the limits of one player's.
 fn is_record(totals: Totals) -> bool

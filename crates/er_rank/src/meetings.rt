@@ -5,7 +5,6 @@ ghost use Rattle.er_event.specs.Tallies.{counted_matches, meeting_by};
 ghost use Rattle.er_rank.specs.Meeting.{totals_of, AreKnownTo};
 ghost use Rattle.er_rank.specs.Tally.{IsKnown};
 
-use crate::lines::is_complete;
 use er_event::{Match, Meeting, Round, Tally};
 use std::alloc::{AllocError, Global};
 
@@ -54,9 +53,8 @@ pub fn meetings_of(
 {
     let mut meetings = Vec::new(alloc);
     for round in rounds {
-        let matches = round.matches.as_slice();
-        if is_complete(matches) {
-            push_meetings(&mut meetings, tallies, matches)?;
+        if round.is_complete() {
+            push_meetings(&mut meetings, tallies, round.matches.as_slice())?;
         }
     }
     Ok(meetings)

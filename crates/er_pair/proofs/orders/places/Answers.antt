@@ -1,8 +1,6 @@
-use Rattle.std.proofs.Common.{rules, ◌≡◌, ◌∙◌, ◌<◌, List, length, ap, arith}
+use Rattle.std.proofs.Common.{rules, ◌≡◌, ◌<◌, List, length, ap, arith}
 use Rattle.er_event.specs.declared.players.Player.{Player}
-use Rattle.er_event.specs.declared.rounds.Round.{Round}
-use Rattle.er_event.specs.Lines.{lines_from}
-use Rattle.er_pair.specs.Points.{points_over}
+use Rattle.er_event.specs.declared.totals.Totals.{Totals}
 use Rattle.er_pair.proofs.Placing.{active_in, active_below, placed_more}
 use Rattle.er_pair.proofs.orders.places.Goals as goal
 
@@ -24,9 +22,8 @@ loop-player-preserved c =
     let below = active_below c.players-players.result.now c.loop-player.player-index c.player-item.result c.loop-player-test.true c.player-item.is c.if-player.false in
     let all = ap (λ (l : List Player). length (active_in l)) c.players-players.ensures.value in
     let count : c.len.result ≡ length c.loop-player.places.items = omega arith in
-    let points = c.match_points.ensures ∙ ap (λ (l : List Round). points_over c.get-number.result (lines_from 1 l)) c.stored.ensures.value in
     let more = placed_more c.args.event.now c.players-players.result.now c.args.keys.now c.loop-player.player-index c.player-item.result
-    c.loop-player.places.items c.push.new.self.items c.get-number.result c.match_points.result c.len.result
-    c.loop-player-test.true c.player-item.is c.if-player.false c.get-number.ensures.value points
+    c.loop-player.places.items c.push.new.self.items c.get.result c.totals.result.points c.len.result
+    c.loop-player-test.true c.player-item.is c.if-player.false c.get.ensures.value (ap (λ (t : Totals). t.points) c.totals.ensures)
     c.loop-player.invariant.value c.loop-player.invariant.count count (omega (arith, below, all)) c.in_ok-push.ensures.items in
     record { value = more.0; count = more.1 }

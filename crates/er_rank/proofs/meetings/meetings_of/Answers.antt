@@ -17,14 +17,14 @@ loop-round-preserved c =
     let come_to = totals_of c.args.tallies.now in
     let round = c.round-item.result in
     let list = c.loop-round.meetings.items in
-    let counted : c.is_complete.result ≡ is_counted round.matches = c.is_complete.ensures ∙ ap is_counted c.as_slice-matches.ensures in
+    let counted : c.is_complete.result ≡ is_counted round.matches = c.is_complete.ensures in
     let made : List Match → List _ = λ ms. list ++ map (meeting_by come_to) (filter is_met ms) in
     let pushed : c.if-is_complete.meetings.items ≡ made (if is_counted round.matches then round.matches else []) =
     elim c.if-is_complete.branch [
       | then-is_complete+in_ok-push_meetings w ↦
           ap (λ v. v.items) w.meetings-is
           ∙ (w.in_ok-push_meetings.ensures
-          ∙ (ap made c.as_slice-matches.ensures
+          ∙ (ap made w.as_slice.ensures
           ∙ ap (λ (b : Bool). made (if b then round.matches else [])) (sym (sym counted ∙ w.if-is_complete.true))))
       | else-is_complete w ↦
           ap (λ v. v.items) w.meetings-is
