@@ -101,13 +101,16 @@ fn receipts(replies: &[Reply]) -> Option<usize> {
     all.then_some(count)
 }
 
-/// Sends a case's commands from the serial on and before this place. The count of all that were acknowledged then.
+/// Sends a case's commands from the serial on and before this place. The count of all that were acknowledged then. A desk that was stopped takes
+/// no other command.
 fn send<S: Alter>(alloc: Global, desk: &mut Desk<S>, case: Case, to: usize) -> Option<usize> {
     let serial = desk.serial().ok()? as usize;
     let replies = desk
         .run(alloc, commands(alloc, case.lines, serial, to)?)
         .ok()?;
-    serial.checked_add(receipts(replies.as_slice())?)
+    let count = serial.checked_add(receipts(replies.as_slice())?)?;
+    let waits = count == to || desk.submit(alloc, Command::Start) == Err(Refusal::NeedsReopen);
+    waits.then_some(count)
 }
 
 /// A session over empty files, which creates the event and sends the commands before this place.

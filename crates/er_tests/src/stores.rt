@@ -291,11 +291,17 @@ fn tables_after(desk: Option<Desk<MemStore>>, statements: &str) -> Option<Connec
     }
 }
 
-/// The refusal to adopt the tables.
+/// The refusal to adopt the tables, of a store and of a desk alike.
 fn refused(alloc: Global, conn: Option<Connection<MemStore>>) -> Option<Refusal>
     requires { IfSome conn (λ conn. conn.in_transaction ≡ false) }
 {
-    Some(adopt(alloc, conn?).err()?.1)
+    match Store::adopt(alloc, conn?) {
+        Ok(_found) => None,
+        Err((conn, why)) => match Desk::adopt(alloc, conn) {
+            Ok(_desk) => None,
+            Err((_conn, again)) => (again == why).then_some(why),
+        },
+    }
 }
 
 /// The refusal after these statements of another program.
@@ -674,5 +680,32 @@ fn broken_brackets_are_damage(rt: HostRuntime) -> Result<(), Fail> {
             Place::BracketTable
         )
     );
+    Ok(())
+}
+
+/// The better seed of the first slot named second, with the same winner.
+const OTHER_SEEDS: &str =
+    "UPDATE bracket SET a = 3, b = 5, x = 0, y = 2 WHERE stage = 1 AND slot = 1";
+
+/// Whether a store takes the tables, and a desk does not.
+fn has_other_seeds(alloc: Global, conn: Option<Connection<MemStore>>) -> Option<bool>
+    requires { IfSome conn (λ conn. conn.in_transaction ≡ false) }
+{
+    let (store, _event, _serial) = adopt(alloc, conn?).ok()?;
+    match Desk::adopt(alloc, store.into_connection()) {
+        Ok(_desk) => Some(false),
+        Err((_conn, why)) => {
+            let table = Place::BracketTable;
+            Some(why == Refusal::Damaged { table })
+        }
+    }
+}
+
+/// A bracket whose winners are right and whose seeds are not those of the standings.
+#[test]
+fn other_seeds_are_damage(rt: HostRuntime) -> Result<(), Fail> {
+    let alloc = rt.alloc();
+    let tables = tables_after(playoff(alloc, ALL_OF_IT), OTHER_SEEDS);
+    assert_eq!(rt; has_other_seeds(alloc, tables), Some(true));
     Ok(())
 }
