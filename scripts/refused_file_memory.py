@@ -1,19 +1,17 @@
 """Runs command lines over a file with one growth of memory refused, each in turn. The answer is as ever, or `refused 24 Memory` with status
 4. The file then holds the event as it was, or as the command leaves it, and so where it was answered as ever. An import for which
-memory ran out has enrolled as many names as it says, or one more.
+memory ran out has enrolled as many names as it says, or one more. What the file holds then the program shows, once nothing is refused.
 
 An opening alone grows some 4,300 times, so that of a command line's growths each STRIDE-th is refused, and then each of the last 150.
 """
-import glob
 import os
-import shutil
 import subprocess
 import sys
 import tempfile
 
-from event_files import rows_of_copy
+from event_files import copied, rows_of_copy
+from refusing import no_cause_no_fault, refusing
 
-program, library, stride = os.path.abspath(sys.argv[1]), sys.argv[2], int(sys.argv[3])
 LAST = 150
 
 ZERO = "0" * 64
@@ -30,74 +28,106 @@ COMMANDS = [
     (["pair", "1", "no key"], True),
 ]
 # two new names before one that is there, and one behind it
-NAMES = ["name\n", "Q1\n", "Q2\n", "P1\n", "Q3\n"]
+NAMES = ["Q1", "Q2", "P1", "Q3"]
 # where the words themselves could not be kept, they don't tell a script from a command line
 MEMORY = (4, b"", b"refused 24 Memory\n"), (4, b"refused 24 Memory\n", b"")
 
 
-def run(file, words, nth=None):
-    """What a command line is answered, with this growth refused."""
-    env = dict(os.environ) if nth is None else {**os.environ, "LD_PRELOAD": library, "REFUSE_NTH": str(nth)}
-    ran = subprocess.run([program, words[0], file, *words[1:]], stdin=subprocess.DEVNULL, capture_output=True, env=env, cwd=os.path.dirname(file), timeout=60)
-    return ran.returncode, ran.stdout, ran.stderr
+def write_list(file, names, heading="name"):
+    with open(file, "w", encoding="utf-8") as it:
+        it.writelines(f"{name}\n" for name in [heading, *names])
 
 
-def copied(file, room):
-    for name in [*glob.glob(f"{file}*"), f"{os.path.dirname(file)}/names.csv"]:
-        shutil.copy(name, room)
-    return f"{room}/{os.path.basename(file)}"
+def write_lists(room, names):
+    """The list that is imported, and one with another heading."""
+    write_list(f"{room}/names.csv", names)
+    write_list(f"{room}/other.csv", names, "names")
 
 
-def imported(file, count):
-    """What importing the first names prints, and the rows of the file then."""
-    with tempfile.TemporaryDirectory() as room:
-        at = copied(file, room)
-        with open(f"{room}/first.csv", "w", encoding="utf-8") as it:
-            it.writelines(NAMES[: count + 1])
-        return run(at, ["import", "first.csv"])[1], rows_of_copy(at)
+def bytes_of(file):
+    """The bytes of the file and of its log, or None where one isn't there."""
+    return tuple(open(it, "rb").read() if os.path.exists(it) else None for it in (file, f"{file}-wal"))
 
 
-def half_done(file, words):
-    """The answers of an import that was not ended, each with the rows that the file may hold then."""
-    steps = [imported(file, count) for count in range(len(NAMES))] if words[0] == "import" else []
-    return [((4, out, b"refused 24 Memory\n"), (rows, later)) for (out, rows), (_, later) in zip(steps, steps[1:])]
+class Line:
+    """A command line over a file in which an event stands, or over none. Lists that are imported lie beside the file."""
 
-
-def tries(file, words):
-    """How many growths there are, and what was wrong where one of them was refused."""
-    with tempfile.TemporaryDirectory() as room:
-        after_file = copied(file, room)
-        due = run(after_file, words)
-        after = rows_of_copy(after_file)
-    with tempfile.TemporaryDirectory() as room:
-        count = int(run(copied(file, room), words, 0)[2].split()[-1])
-    before, wrong, halves = rows_of_copy(file), [], half_done(file, words)
-    tried = sorted({*range(1, count + 1, stride), *range(max(1, count - LAST + 1), count + 1)})
-    for nth in tried:
+    def __init__(self, program, library, file, words, names=()):
+        self.program, self.library, self.file, self.words, self.names = os.path.abspath(program), library, file, words, names
+        self.seen = {}
+        self.before = self.seen_of(file)
         with tempfile.TemporaryDirectory() as room:
-            at = copied(file, room)
-            got, rows = run(at, words, nth), rows_of_copy(at)
-            is_half = any(got == answer and rows in held for answer, held in halves)
-            if not (got == due and rows == after or got in MEMORY and rows in (before, after) or is_half):
-                wrong.append(f"{words}, growth {nth} of {count}: {got}, {rows}")
-    return len(tried), wrong
+            at = self.copy(room)
+            self.due = self.run(at, words)
+            self.after = self.seen_of(at)
+        with tempfile.TemporaryDirectory() as room:
+            self.count = int(self.run(self.copy(room), words, 0)[2].split()[-1])
+        self.halves = self.half_done() if words == ["import", "names.csv"] else []
+
+    def copy(self, room):
+        write_lists(room, self.names)
+        return copied(self.file, room)
+
+    def run(self, file, words, nth=None):
+        """What a command line is answered, with this growth refused."""
+        env = dict(os.environ) if nth is None else refusing(self.library, nth)
+        ran = subprocess.run([self.program, words[0], file, *words[1:]], stdin=subprocess.DEVNULL, capture_output=True, env=env, cwd=os.path.dirname(file), timeout=60)
+        return ran.returncode, ran.stdout, ran.stderr
+
+    def seen_of(self, file):
+        """The rows of a file, and what the program shows of it. A file with the same bytes is looked at once."""
+        held = bytes_of(file)
+        if held not in self.seen:
+            with tempfile.TemporaryDirectory() as room:
+                at = copied(file, room)
+                self.seen[held] = rows_of_copy(file), self.run(at, ["players"]), self.run(at, ["standings"])
+        return self.seen[held]
+
+    def imported(self, count):
+        """What importing the first names prints, and what the file holds then."""
+        with tempfile.TemporaryDirectory() as room:
+            at = self.copy(room)
+            write_list(f"{room}/first.csv", self.names[:count])
+            return self.run(at, ["import", "first.csv"])[1], self.seen_of(at)
+
+    def half_done(self):
+        """The answers of an import that was not ended, each with what the file may hold then."""
+        steps = [self.imported(count) for count in range(len(self.names) + 1)]
+        return [((4, out, b"refused 24 Memory\n"), (held, later)) for (out, held), (_, later) in zip(steps, steps[1:])]
+
+    def fault(self, nth):
+        """What is wrong where this growth is refused, or None."""
+        with tempfile.TemporaryDirectory() as room:
+            at = self.copy(room)
+            got, held = self.run(at, self.words, nth), self.seen_of(at)
+            is_half = any(got == answer and held in lawful for answer, lawful in self.halves)
+            if got == self.due and held == self.after or got in MEMORY and held in (self.before, self.after) or is_half:
+                return None
+            return f"{self.words}, growth {nth} of {self.count}: {got}, {held}"
+
+    def faults(self, each, growths):
+        """What is wrong where these growths are refused, which `each` goes through, as `map` does."""
+        calm = [out for _, *shown in (self.before, self.after, [None, self.due]) for answer in shown for out in answer[1:]]
+        wrong = [] if no_cause_no_fault(calm) else [f"{self.words}: a fault without a cause"]
+        return wrong + [it for it in each(self.fault, growths) if it]
 
 
-def main():
+def main(program, library, stride):
     growths, wrong = 0, []
     with tempfile.TemporaryDirectory() as room:
         file = f"{room}/e.event"
-        with open(f"{room}/names.csv", "w", encoding="utf-8") as it:
-            it.writelines(NAMES)
         for words, is_tried in COMMANDS:
+            it = Line(program, library, file, words, NAMES)
             if is_tried:
-                count, faults = tries(file, words)
-                growths, wrong = growths + count, wrong + faults
-            run(file, words)
+                tried = sorted({*range(1, it.count + 1, stride), *range(max(1, it.count - LAST + 1), it.count + 1)})
+                growths, wrong = growths + len(tried), wrong + it.faults(map, tried)
+            write_lists(room, NAMES)
+            it.run(file, words)
     print("\n".join(wrong), file=sys.stderr, end="\n" if wrong else "")
     print(f"refused memory in a file: {growths} growths, each refused once")
     print(f"{growths - len(wrong)} passed, {len(wrong)} failed")
     return 1 if wrong else 0
 
 
-sys.exit(main())
+if __name__ == "__main__":
+    sys.exit(main(*sys.argv[1:3], int(sys.argv[3])))

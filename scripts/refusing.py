@@ -1,0 +1,16 @@
+"""A program with one growth of memory refused: how it is run, and what no command may be answered in which nothing was refused."""
+import os
+
+FAULTS = (b"refused 24 ", b"refused 25 ", b'"refused":24}', b'"refused":25}', b"HTTP/1.1 503 ")
+
+
+def refusing(library, nth):
+    """The environment in which this growth is refused. With 0 none is, and the last line of the errors says how many there were."""
+    return {**os.environ, "LD_PRELOAD": library, "REFUSE_NTH": str(nth)}
+
+
+def no_cause_no_fault(answers):
+    """Whether none of these answers says that memory or the store was at fault. It is asked of commands in which nothing was refused, on a desk
+    that needs no reopening.
+    """
+    return not any(fault in answer for answer in answers for fault in FAULTS)
