@@ -10,7 +10,7 @@ use Rattle.er_event.specs.Event.{EventValue}
 use Rattle.er_event.specs.Lines.{Line, own, as_second, lines_of_score, lines_of_match, counted_lines, lines_from}
 use Rattle.er_event.specs.Round.{is_counted}
 use Rattle.er_event.specs.Score.{is_swiss_score}
-use Rattle.er_event.specs.Seen.{IsSeatedOnce, AreFew, AreOver}
+use Rattle.er_event.specs.inside.Seen.{IsSeatedOnce, AreFew, AreOver}
 use Rattle.er_event.specs.Sound.{IsRound, IsSoundButForSeeds}
 use Rattle.er_event.specs.Tallies.{AreReadable}
 use Rattle.er_event.specs.Totals.{points_of, totals_of, totals, plus}

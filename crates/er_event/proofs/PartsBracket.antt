@@ -11,10 +11,10 @@ use Rattle.er_event.specs.Event.{EventValue}
 use Rattle.er_event.specs.Bracket.{IsDecided}
 use Rattle.er_event.specs.Change.{with_phase}
 use Rattle.er_event.specs.Parts.{HasRoundRows, HasAllRows, IsFirstFault, IsOf}
-use Rattle.er_event.specs.Reading.{before_playoff, FitsStages, IsPaired, IsWhole}
+use Rattle.er_event.specs.inside.Reading.{before_playoff, FitsStages, IsPaired, IsWhole}
 use Rattle.er_event.specs.Rows.{player_rows, keyed_pairing_rows, bracket_rows, bracket_rows_from}
 use Rattle.er_event.specs.Sound.{numbers, HasBracket, IsBracket, IsInPlayoff, IsSoundButForSeeds}
-use Rattle.er_event.specs.Stages.{IsShownStage}
+use Rattle.er_event.specs.inside.Stages.{IsShownStage}
 use Rattle.er_event.proofs.PartsLemmas.{parts_same}
 use Rattle.er_event.proofs.PartsRounds.{rounds_moved, rounds_of}
 use Rattle.er_event.proofs.StagesShown.{stages_shown}

@@ -17,7 +17,7 @@ use Rattle.er_event.specs.Rows.{player_row, keyed_rows_from}
 use Rattle.er_event.specs.Parts.{IsBlank, IsEventRow, HasRoundRows, IsFirstFault, IsOf}
 use Rattle.er_event.specs.Pairings.{AreShown}
 use Rattle.er_event.specs.Change.{with_phase}
-use Rattle.er_event.specs.Reading.{before_playoff, IsListed, IsPaired}
+use Rattle.er_event.specs.inside.Reading.{before_playoff, IsListed, IsPaired}
 use Rattle.er_event.proofs.PartsLemmas.{here, same_players, same_phase, row_name, row_rounds, row_cut, has_players}
 use Rattle.er_event.proofs.ShownLemmas.{rounds_shown, rounds_few}
 

@@ -11,7 +11,7 @@ use Rattle.er_event.specs.Event.{EventValue}
 use Rattle.er_event.specs.Round.{numbered_from}
 use Rattle.er_event.specs.Bracket.{open_match}
 use Rattle.er_event.specs.Change.{scored, score_table, scored_slot, with_score, Fits}
-use Rattle.er_event.specs.Seen.{IsSeatedOnce, HasTable, rescored}
+use Rattle.er_event.specs.inside.Seen.{IsSeatedOnce, HasTable, rescored}
 use Rattle.er_event.proofs.ScoreLemmas.{Found, found, within-get}
 use Rattle.er_event.proofs.TableLemmas.{at-place, score-place}
 

@@ -10,7 +10,7 @@ use Rattle.er_event.specs.declared.rows.BracketRow.{BracketRow}
 use Rattle.er_event.specs.declared.rounds.Match.{Match}
 use Rattle.er_event.specs.Round.{numbered_from}
 use Rattle.er_event.specs.Rows.{bracket_row, stage_rows, bracket_rows_from}
-use Rattle.er_event.specs.Stages.{IsShownSlot, IsShownStage, slot_rows, is_of_stage}
+use Rattle.er_event.specs.inside.Stages.{IsShownSlot, IsShownStage, slot_rows, is_of_stage}
 use Rattle.er_event.proofs.PairingLemmas.{and_true, numbered-push}
 
 -- ---- rows that agree in each column

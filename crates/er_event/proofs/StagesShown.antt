@@ -10,7 +10,7 @@ use Rattle.er_event.specs.Score.{is_playoff_score}
 use Rattle.er_event.specs.Round.{seats}
 use Rattle.er_event.specs.Bracket.{winner_with, next_stage, SameSlots, FollowOn}
 use Rattle.er_event.specs.Sound.{IsBracket}
-use Rattle.er_event.specs.Stages.{IsShownSlot, IsShownStage}
+use Rattle.er_event.specs.inside.Stages.{IsShownSlot, IsShownStage}
 use Rattle.er_event.proofs.PairingLemmas.{some_same}
 use Rattle.er_event.proofs.ShownLemmas.{below}
 

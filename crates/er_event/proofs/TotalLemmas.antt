@@ -15,7 +15,7 @@ use Rattle.er_event.specs.Lines.{Line, own, as_second, lines_of_score, lines_of_
 use Rattle.er_event.specs.Round.{seats}
 use Rattle.er_event.specs.Totals.{points_of, game_points_of, games_of, totals_of, totals_of_games, plus}
 use Rattle.er_event.proofs.ScoreLemmas.{set-All}
-use Rattle.er_event.specs.Seen.{IsSeatedOnce, AreOver, rescored}
+use Rattle.er_event.specs.inside.Seen.{IsSeatedOnce, AreOver, rescored}
 
 zero-right : (n : ℕ) → n + 0 ≡ n
 zero-right n = omega arith

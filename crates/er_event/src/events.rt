@@ -67,7 +67,7 @@ impl Model for Event {
 
     ghost Value = { EventValue };
 
-    ghost use Rattle.er_event.specs.EventFields.{value_of, IsSound};
+    ghost use Rattle.er_event.specs.inside.EventFields.{value_of, IsSound};
 
     ghost view = { value_of };
 

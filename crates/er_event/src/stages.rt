@@ -3,7 +3,7 @@ ghost use Rattle.std.specs.List.{prefix_len};
 ghost use Rattle.er_event.specs.declared.rounds.Match.{Match};
 ghost use Rattle.er_event.specs.declared.refusals.Place.{Place};
 ghost use Rattle.er_event.specs.Rows.{bracket_row, stage_rows, bracket_rows_from};
-ghost use Rattle.er_event.specs.Stages.{IsShownSlot, IsShownStage, is_of_stage};
+ghost use Rattle.er_event.specs.inside.Stages.{IsShownSlot, IsShownStage, is_of_stage};
 ghost use Rattle.er_event.specs.declared.stages.TheConstants.{MAX_STAGES};
 
 use crate::items::Items;

@@ -4,7 +4,7 @@ ghost use Rattle.er_event.specs.Lines.{own, lines_of_match, counted_lines, lines
 ghost use Rattle.er_event.specs.Totals.{totals_of, totals_of_games, plus, totals};
 ghost use Rattle.er_event.specs.Round.{is_counted};
 ghost use Rattle.er_event.specs.Change.{scored_slot, after, Fits};
-ghost use Rattle.er_event.specs.Seen.{AreSeen, AreFew, AreOver, IsSeatedOnce, HasTable, rescored};
+ghost use Rattle.er_event.specs.inside.Seen.{AreSeen, AreFew, AreOver, IsSeatedOnce, HasTable, rescored};
 
 use crate::changes::Change;
 use crate::events::{Event, MAX_ROUNDS};

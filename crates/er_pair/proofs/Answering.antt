@@ -12,7 +12,7 @@ use Rattle.er_pair.specs.declared.pairings.TheConstants.{MAX_STEPS}
 use Rattle.er_pair.specs.Pairing.{Pair, positions, all_positions, IsLegal, IsEarliest}
 use Rattle.er_pair.specs.Rows.{has_place, is_ahead, row_at}
 use Rattle.er_pair.specs.Steps.{NeedsMore, met_at}
-use Rattle.er_pair.specs.Search.{Answer, Answers, search_of, met_in, free_ahead}
+use Rattle.er_pair.specs.inside.Search.{Answer, Answers, search_of, met_in, free_ahead}
 use Rattle.er_pair.proofs.Bounds.{search_of-short, search_of-fresh}
 use Rattle.er_pair.proofs.Entries.{search_of-agree, earliest_found, none_found, more_needed, no_more_needed}
 use Rattle.er_pair.proofs.Passing.{passing, passing-first}

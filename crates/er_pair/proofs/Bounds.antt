@@ -2,7 +2,7 @@
 use Rattle.std.proofs.Common.{◌≡◌, ◌⊎◌, inl, inr, ℕ, zero, suc, ◌+◌, ◌*◌, ◌%◌, ◌<◌, ◌≤◌, ◌&&◌, nat_lt, Bool, true, false, IsFalse, List, [], ◌∷◌, ◌++◌, length, AllPairs, Option, Some, None, refl, sym, ap, ◌∙◌, subst, arith, append_assoc, length-append, not-suc-le-zero}
 use Rattle.std.proofs.lemmas.Bool.Decides.{nat_tests}
 use Rattle.er_pair.specs.Pairing.{Pair}
-use Rattle.er_pair.specs.Search.{Answer, after_step, tries, search_within, search_of}
+use Rattle.er_pair.specs.inside.Search.{Answer, after_step, tries, search_within, search_of}
 use Rattle.er_pair.proofs.Searching.{after_step-paired, after_step-dead, tries-none, tries-met, tries-new, search_within-none, search_within-cons, search_of-none, search_of-cons, search_of-within}
 
 -- each candidate costs at most one step and those of the others

@@ -2,7 +2,7 @@
 use Rattle.std.proofs.Common.{◌≡◌, ℕ, ◌+◌, ◌*◌, ◌≤◌, List, length, ap, ◌∙◌, arith}
 use Rattle.er_pair.specs.declared.rows.Cursor.{Cursor}
 use Rattle.er_pair.specs.declared.rows.Row.{Row}
-use Rattle.er_pair.specs.Search.{search_of, met_in, free_ahead, IsDeadAhead}
+use Rattle.er_pair.specs.inside.Search.{search_of, met_in, free_ahead, IsDeadAhead}
 use Rattle.er_pair.proofs.Ahead.{ahead-last}
 use Rattle.er_pair.proofs.Passing.{passing-same}
 

@@ -4,7 +4,7 @@ use Rattle.std.specs.List.{range_with_len}
 use Rattle.std.proofs.lemmas.List.FromFn.{length-range_with_len}
 use Rattle.er_pair.specs.Pairing.{Pair, IsLegal, IsEarliest, all_positions}
 use Rattle.er_pair.specs.Steps.{met_at, Needs, NeedsMore}
-use Rattle.er_pair.specs.Search.{Answer, after_step, tries, search_within, search_of}
+use Rattle.er_pair.specs.inside.Search.{Answer, after_step, tries, search_within, search_of}
 use Rattle.er_pair.proofs.Picking.{Above, Rises}
 use Rattle.er_pair.proofs.Searching.{tries-none, tries-met, tries-new, search_within-none, search_within-zero, search_within-cons, search_of-within}
 use Rattle.er_pair.proofs.Bounds.{search_of-short}

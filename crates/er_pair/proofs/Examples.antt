@@ -5,7 +5,7 @@ use Rattle.er_event.specs.Bracket.{open_match}
 use Rattle.er_pair.specs.declared.meetings.TheConstants.{NUMBERS}
 use Rattle.er_pair.specs.declared.pairings.TheConstants.{MAX_STEPS}
 use Rattle.er_pair.specs.Pairing.{round_of}
-use Rattle.er_pair.specs.Search.{search_of, search_within, tries, after_step}
+use Rattle.er_pair.specs.inside.Search.{search_of, search_within, tries, after_step}
 
 -- ---- each limit as the rules have it, so that the code's constant can't move from it
 

@@ -10,7 +10,7 @@ use Rattle.er_event.specs.Event.{EventValue}
 use Rattle.er_event.specs.Sound.{IsSoundButForSeeds}
 use Rattle.er_event.specs.Totals.{totals}
 use Rattle.er_pair.specs.Order.{AreKeys, active_numbers, place_among, comes_before, seats_of, IsOrder}
-use Rattle.er_pair.specs.Place.{is_before, place_of, placed}
+use Rattle.er_pair.specs.inside.Place.{is_before, place_of, placed}
 use Rattle.std.proofs.lemmas.List.{length-map, get_or-map, get_or_default}
 use Rattle.std.proofs.lemmas.List.Elements.{Contains-get_or}
 use Rattle.std.proofs.lemmas.List.Quantifiers.{all_pairs_push}

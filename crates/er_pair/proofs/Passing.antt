@@ -4,7 +4,7 @@ use Rattle.std.specs.Prelude.{filter}
 use Rattle.std.specs.List.{range_with_len}
 use Rattle.std.proofs.lemmas.Bool.{cond-true, cond-false, cases_Bool}
 use Rattle.std.proofs.lemmas.List.Elements.{filter-append}
-use Rattle.er_pair.specs.Search.{Answer, after_step, tries}
+use Rattle.er_pair.specs.inside.Search.{Answer, after_step, tries}
 use Rattle.er_pair.proofs.Searching.{tries-met, tries-new}
 
 -- those of the so many positions from a on

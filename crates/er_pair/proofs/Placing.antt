@@ -4,7 +4,7 @@ use Rattle.er_event.specs.declared.players.Player.{Player}
 use Rattle.er_event.specs.Event.{EventValue}
 use Rattle.er_pair.specs.declared.places.Place.{Place}
 use Rattle.er_event.specs.Totals.{totals}
-use Rattle.er_pair.specs.Place.{place_of, placed}
+use Rattle.er_pair.specs.inside.Place.{place_of, placed}
 
 abbrev pub active_in : List Player → List ℕ
 active_in players = map (λ p. p.no) (filter (λ p. not p.dropped) players)

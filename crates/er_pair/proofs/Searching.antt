@@ -1,7 +1,7 @@
 -- The search as a function, clause by clause.
 use Rattle.std.proofs.Common.{◌⊎◌, inl, inr, length-append, arith, append_assoc, not-suc-le-zero, ◌≡◌, ℕ, zero, suc, ◌+◌, ◌≤◌, Bool, true, false, if◌then◌else◌, List, [], ◌∷◌, ◌++◌, length, Some, None, refl, sym, ap, ◌∙◌}
 use Rattle.er_pair.specs.Pairing.{Pair}
-use Rattle.er_pair.specs.Search.{Answer, after_step, tries, search_within, search_of}
+use Rattle.er_pair.specs.inside.Search.{Answer, after_step, tries, search_within, search_of}
 
 pub after_step-paired : (pair : Pair) (more : List Pair) (steps : ℕ) (later : Answer) → after_step pair (Some more) steps later ≡ (Some (pair ∷ more), suc steps)
 unfolding after_step

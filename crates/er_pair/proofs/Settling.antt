@@ -4,7 +4,7 @@ use Rattle.er_pair.specs.Pairing.{Pair, IsLegalOf, IsEarlier, IsEarliestOf}
 use Rattle.er_pair.specs.Steps.{CanPair, met_at, Needs, Tries}
 use Rattle.er_pair.specs.Steps.Needs.{empty, first_with}
 use Rattle.er_pair.specs.Steps.Tries.{none_left, has_met, partner, dead_end}
-use Rattle.er_pair.specs.Search.{Answer, after_step, tries, search_within}
+use Rattle.er_pair.specs.inside.Search.{Answer, after_step, tries, search_within}
 use Rattle.er_pair.proofs.Picking.{Rises, Picked, Above-In, Picked-In, Picked-Rises, Picked-unique, Picked-length, Picked-after, Rises-append}
 use Rattle.er_pair.proofs.Picking.Picked.{here, there}
 use Rattle.er_pair.proofs.Opening.{opens, closes, legal_none}

@@ -6,7 +6,7 @@ use Rattle.er_pair.specs.declared.meetings.TheConstants.{NUMBERS}
 use Rattle.er_pair.specs.declared.rows.TheConstants.{WORDS}
 use Rattle.er_pair.specs.declared.rows.Cursor.{Cursor}
 use Rattle.er_pair.specs.Met.{has_met}
-use Rattle.er_pair.specs.Seats.{AreByNumber, CountsAll, AreByPosition}
+use Rattle.er_pair.specs.inside.Seats.{AreByNumber, CountsAll, AreByPosition}
 use Rattle.er_pair.proofs.Meeting.{no_word}
 use Rattle.er_pair.specs.declared.rows.Row.{Row}
 use Rattle.er_pair.specs.Rows.{has_place, is_ahead, row_at}

@@ -11,7 +11,7 @@ use Rattle.er_pair.specs.declared.search.Outcome.TheVariants.{Paired, DeadEnd, O
 use Rattle.er_pair.specs.declared.rows.TheConstants.{WORDS}
 use Rattle.er_pair.specs.Pairing.{Pair}
 use Rattle.er_pair.specs.Rows.{has_place, ahead_of, is_later, row_at}
-use Rattle.er_pair.specs.Search.{Answer, Answers, after_step, tries, search_of, met_in, free_ahead, answer_ahead, AreDeadEnds}
+use Rattle.er_pair.specs.inside.Search.{Answer, Answers, after_step, tries, search_of, met_in, free_ahead, answer_ahead, AreDeadEnds}
 use Rattle.er_pair.proofs.Searching.{after_step-paired, after_step-dead, tries-none, tries-met, tries-new, search_of-none, search_of-cons}
 use Rattle.er_pair.proofs.Ahead.{ahead-same, later_free}
 use Rattle.er_pair.proofs.Passing.{passing, passing-none, passing-same, passing-from, passes_run, steps_at, passing-without, passing-append, passing-first}

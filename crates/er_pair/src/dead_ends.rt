@@ -1,5 +1,5 @@
 ghost use Rattle.std.specs.Prelude.{◌<◌, List, length, IfOk, IfSome};
-ghost use Rattle.er_pair.specs.Search.{IsDeadAhead, AreDeadEnds};
+ghost use Rattle.er_pair.specs.inside.Search.{IsDeadAhead, AreDeadEnds};
 ghost use Rattle.er_pair.specs.declared.rows.Row.{Row};
 ghost use Rattle.er_pair.specs.declared.rows.TheConstants.{WORDS};
 

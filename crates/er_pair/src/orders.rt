@@ -1,7 +1,7 @@
 ghost use Rattle.std.specs.Prelude.{◌≡◌, ◌≢◌, ℕ, List, AllPairs, ◌%◌, ◌≤◌, length, map, IfOk};
 ghost use Rattle.er_event.specs.Sound.{IsSoundButForSeeds};
 ghost use Rattle.er_pair.specs.Order.{active_numbers, AreKeys, IsOrder, seats_of};
-ghost use Rattle.er_pair.specs.Place.{placed};
+ghost use Rattle.er_pair.specs.inside.Place.{placed};
 
 use crate::places::{Place, sort_places};
 use er_event::{Event, MAX_PLAYERS};

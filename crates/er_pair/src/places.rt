@@ -1,5 +1,5 @@
 ghost use Rattle.std.specs.List.Sorted.{IsPermutation, IsSortedBy};
-ghost use Rattle.er_pair.specs.Place.{is_before};
+ghost use Rattle.er_pair.specs.inside.Place.{is_before};
 
 use std::cmp::Reverse;
 

@@ -1,6 +1,6 @@
 ghost use Rattle.std.specs.Prelude.{◌≡◌, ℕ, ◌*◌, ◌<◌, ◌≤◌, length};
 ghost use Rattle.er_pair.specs.Rows.{has_place};
-ghost use Rattle.er_pair.specs.Search.{free_ahead, answer_ahead, Answers, AreDeadEnds};
+ghost use Rattle.er_pair.specs.inside.Search.{free_ahead, answer_ahead, Answers, AreDeadEnds};
 ghost use Rattle.er_pair.specs.declared.rows.TheConstants.{WORDS};
 
 use crate::dead_ends::{KnownDeadEnd, keep, steps_of};

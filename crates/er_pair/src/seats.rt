@@ -1,6 +1,6 @@
 ghost use Rattle.std.specs.Prelude.{◌≡◌, ℕ, ◌<◌, ◌≤◌, length, All, IsFalse, IfOk};
 ghost use Rattle.er_pair.specs.Rows.{has_place, row_at};
-ghost use Rattle.er_pair.specs.Seats.{IsSeatedWith, AreByNumber, CountsAll, AreByPosition};
+ghost use Rattle.er_pair.specs.inside.Seats.{IsSeatedWith, AreByNumber, CountsAll, AreByPosition};
 
 use crate::meetings::{Met, NUMBERS};
 use crate::rows::{Cursor, PLACES, Row, empty_rows};

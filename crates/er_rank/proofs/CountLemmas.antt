@@ -8,7 +8,7 @@ use Rattle.std.proofs.lemmas.List.Elements.{All-push}
 use Rattle.std.proofs.lemmas.List.Sums.{sum_by-append, sum_by_push}
 use Rattle.er_event.specs.declared.events.TheConstants.{MAX_ROUNDS}
 use Rattle.er_event.specs.declared.totals.Totals.{Totals}
-use Rattle.er_rank.specs.Counting.{with_match, AreCountsOf}
+use Rattle.er_rank.specs.inside.Counting.{with_match, AreCountsOf}
 use Rattle.er_rank.specs.Meeting.{Encounter, IsRecord, AreEncounters}
 use Rattle.er_rank.specs.Tally.{IsKnown}
 use Rattle.er_rank.proofs.OpponentLemmas.{All-here}

@@ -21,7 +21,7 @@ use Rattle.er_event.specs.Totals.{totals}
 use Rattle.er_rank.specs.declared.placings.Placing.{Placing}
 use Rattle.er_rank.specs.declared.rows.Row.{Row}
 use Rattle.er_rank.specs.Meeting.{Encounter, encounters}
-use Rattle.er_rank.specs.Placing.{placing_cmp, ranked, ArePlacingsInOrder}
+use Rattle.er_rank.specs.inside.Placing.{placing_cmp, ranked, ArePlacingsInOrder}
 use Rattle.er_rank.specs.Standings.{opponents_match_win, opponents_game_win, game_win, standing_cmp, is_better, is_listed_before, IsRowOf, AreStandings, OneStandings, OneTop, first_active}
 use Rattle.er_rank.proofs.PlacingLemmas.{row_in, sorted_apart}
 use Rattle.er_rank.proofs.OrderLemmas.{apart_from_range, one_order}

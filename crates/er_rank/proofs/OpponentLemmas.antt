@@ -15,8 +15,8 @@ use Rattle.er_event.specs.declared.tallies.Meeting.{Meeting}
 use Rattle.er_event.specs.declared.totals.Totals.{Totals}
 use Rattle.er_rank.specs.declared.opponents.Opponents.{Opponents}
 use Rattle.er_rank.specs.Meeting.{Encounter, encounters_of, encounters, opponents_of, IsRecord, AreEncounters}
-use Rattle.er_rank.specs.Merit.{AreOpponents}
-use Rattle.er_rank.specs.Opponents.{AreOpponentsOf, HasRoom}
+use Rattle.er_rank.specs.inside.Merit.{AreOpponents}
+use Rattle.er_rank.specs.inside.Opponents.{AreOpponentsOf, HasRoom}
 use Rattle.er_rank.specs.Tally.{IsKnown}
 
 -- as many shares came as there are opponents

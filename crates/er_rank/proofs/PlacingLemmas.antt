@@ -16,12 +16,12 @@ use Rattle.std.proofs.lemmas.List.Sums.{sum_by-cons}
 use Rattle.er_share.specs.Order.{share_cmp, share_cmp-total, share_cmp-eq}
 use Rattle.er_event.specs.declared.tallies.Tally.{Tally}
 use Rattle.er_rank.specs.Meeting.{Encounter, opponents_of, totals_of}
-use Rattle.er_rank.specs.Merit.{IsMerit}
+use Rattle.er_rank.specs.inside.Merit.{IsMerit}
 use Rattle.er_rank.specs.Tally.{no_totals}
 use Rattle.er_rank.specs.declared.merits.Merit.{Merit}
 use Rattle.er_rank.specs.declared.placings.Placing.{Placing}
 use Rattle.er_rank.specs.declared.rows.Row.{Row}
-use Rattle.er_rank.specs.Placing.{merit_cmp, placing_cmp, is_above, is_level, row_of, rank_in, ArePlacings}
+use Rattle.er_rank.specs.inside.Placing.{merit_cmp, placing_cmp, is_above, is_level, row_of, rank_in, ArePlacings}
 
 pub merit_cmp-total : IsTotalOrder merit_cmp
 merit_cmp-total =

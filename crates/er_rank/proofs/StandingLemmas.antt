@@ -25,8 +25,8 @@ use Rattle.er_event.specs.Totals.{totals}
 use Rattle.er_rank.specs.declared.placings.Placing.{Placing}
 use Rattle.er_rank.specs.Tally.{no_totals, IsKnown, match_win_of, game_win_of}
 use Rattle.er_rank.specs.Meeting.{encounters, opponents_of, totals_of}
-use Rattle.er_rank.specs.Merit.{IsMerit}
-use Rattle.er_rank.specs.Placing.{merit_cmp, placing_cmp, is_above, ArePlacings}
+use Rattle.er_rank.specs.inside.Merit.{IsMerit}
+use Rattle.er_rank.specs.inside.Placing.{merit_cmp, placing_cmp, is_above, ArePlacings}
 use Rattle.er_rank.specs.Standings.{game_win, opponents, opponents_match_win, opponents_game_win, standing_cmp, is_better, is_listed_before}
 use Rattle.er_rank.proofs.PlacingLemmas.{merit_cmp-total, first_apart}
 use Rattle.er_rank.proofs.MeetingLemmas.{opponents-met}

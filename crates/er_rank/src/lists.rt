@@ -1,6 +1,6 @@
 ghost use Rattle.std.specs.Prelude.{◌↔◌, List, IsTrue, IfOk, length};
 ghost use Rattle.er_event.specs.Event.{EventValue};
-ghost use Rattle.er_rank.specs.Counting.{with_match, AreCountsOf};
+ghost use Rattle.er_rank.specs.inside.Counting.{with_match, AreCountsOf};
 ghost use Rattle.er_rank.specs.Meeting.{Encounter, encounters, IsRecord, AreTallies, AreEncounters, AreLists, AreListsOf};
 
 use er_event::{MAX_PLAYERS, MAX_ROUNDS, Meeting, PlayerNo, Tally, Totals};

@@ -1,7 +1,7 @@
 ghost use Rattle.std.specs.Prelude.{List};
 ghost use Rattle.er_event.specs.declared.totals.Totals.{Totals};
 ghost use Rattle.er_rank.specs.Meeting.{IsRecord};
-ghost use Rattle.er_rank.specs.Merit.{AreOpponents, IsMerit};
+ghost use Rattle.er_rank.specs.inside.Merit.{AreOpponents, IsMerit};
 
 use crate::opponents::{Opponents, game_win};
 use er_event::Totals;

@@ -3,8 +3,8 @@ ghost use Rattle.er_event.specs.declared.events.TheConstants.{MAX_ROUNDS};
 ghost use Rattle.er_event.specs.declared.totals.Totals.{Totals};
 ghost use Rattle.er_share.specs.Share.{IsShareOf, IsBase};
 ghost use Rattle.er_rank.specs.Meeting.{Encounter, encounters, IsRecord, AreEncounters};
-ghost use Rattle.er_rank.specs.Merit.{AreOpponents};
-ghost use Rattle.er_rank.specs.Opponents.{AreOpponentsOf, HasRoom};
+ghost use Rattle.er_rank.specs.inside.Merit.{AreOpponents};
+ghost use Rattle.er_rank.specs.inside.Opponents.{AreOpponentsOf, HasRoom};
 ghost use Rattle.er_rank.specs.Tally.{IsKnown, match_win_of, game_win_of};
 
 use er_event::{Meeting, PlayerNo, Totals};

@@ -2,8 +2,8 @@ ghost use Rattle.std.specs.Prelude.{◌≡◌, ◌≤◌, IfOk, List, length};
 ghost use Rattle.std.specs.List.Sorted.{IsSorted};
 ghost use Rattle.er_event.specs.declared.players.TheConstants.{MAX_PLAYERS};
 ghost use Rattle.er_rank.specs.Meeting.{Encounter, AreTallies};
-ghost use Rattle.er_rank.specs.Opponents.{AreOpponentsOf};
-ghost use Rattle.er_rank.specs.Placing.{placing_cmp, is_level, row_of, ranked, ArePlacings, ArePlacingsInOrder};
+ghost use Rattle.er_rank.specs.inside.Opponents.{AreOpponentsOf};
+ghost use Rattle.er_rank.specs.inside.Placing.{placing_cmp, is_level, row_of, ranked, ArePlacings, ArePlacingsInOrder};
 
 use crate::merits::{Merit, merit_of};
 use crate::opponents::Opponents;

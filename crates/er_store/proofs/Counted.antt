@@ -25,7 +25,7 @@ use Rattle.er_event.specs.Totals.{totals}
 use Rattle.er_store.specs.declared.rows.MeetingRow.{MeetingRow}
 use Rattle.er_store.proofs.Exact.{map-same}
 use Rattle.er_store.proofs.Joined.{IsMatch, all_matches, some_number}
-use Rattle.er_store.specs.Meetings.{meeting_row, meetings_from, meeting_rows, open_round, is_over, counted_rows, sides_in, sides_of}
+use Rattle.er_store.specs.inside.Meetings.{meeting_row, meetings_from, meeting_rows, open_round, is_over, counted_rows, sides_in, sides_of}
 
 abbrev is_open : MeetingRow → Bool
 is_open row = int_eq row.done (pos 0)

@@ -8,7 +8,7 @@ use Rattle.sqlite.proofs.StateLemmas.{survives_then}
 use Rattle.er_event.specs.Event.{EventValue}
 use Rattle.er_store.specs.Rows.{stored_event}
 use Rattle.er_store.specs.Standing.{StandsFor, IsNew, IsStored, Shows, Either, KeepsOthers}
-use Rattle.er_store.specs.Steps.{Makes, Puts, CreatesAll}
+use Rattle.er_store.specs.inside.Steps.{Makes, Puts, CreatesAll}
 use Rattle.er_store.proofs.Together.{moves_then, event_put}
 
 -- while the store is open, a crash leaves the last commit alone

@@ -28,7 +28,7 @@ use Rattle.er_event.specs.declared.rows.TallyRow.{TallyRow}
 use Rattle.er_store.specs.Tables.{player, set_dropped}
 use Rattle.er_store.specs.Rows.{number, player_places, stored_player, shown}
 use Rattle.er_store.specs.Standing.{HasTables, StandsWith}
-use Rattle.er_store.specs.Steps.{Goes, MakesWith}
+use Rattle.er_store.specs.inside.Steps.{Goes, MakesWith}
 use Rattle.er_store.proofs.Picking.{picks, is_another, row_of, rows_of, dropped, picks_one}
 use Rattle.er_store.proofs.Values.{cast_int, cast_null}
 use Rattle.er_store.proofs.Inserts.{first_fresh}

@@ -33,7 +33,7 @@ use Rattle.er_event.specs.declared.rows.TallyRow.{TallyRow}
 use Rattle.er_store.specs.Tables.{event, player, pairing, bracket, tally, insert_event, insert_player, insert_pairing, insert_slot, insert_tally, set_serial, set_phase}
 use Rattle.er_store.specs.Rows.{number, event_columns, pairing_columns, bracket_columns, tally_columns, event_places, stored_event, stored_player, stored_pairing, stored_slot, stored_tally, shown}
 use Rattle.er_store.specs.Standing.{HasTables, StandsWith, CanRead}
-use Rattle.er_store.specs.Steps.{Goes, Puts}
+use Rattle.er_store.specs.inside.Steps.{Goes, Puts}
 use Rattle.er_store.proofs.Values.{cast_int, cast_null}
 use Rattle.er_store.proofs.Inserts.{puts_one}
 use Rattle.er_store.proofs.Updates.{update_goes, sets_off_nothing, event_rows}

@@ -39,7 +39,7 @@ use Rattle.er_event.specs.Rows.{pairing_row, round_rows, pairing_rows_from, pair
 use Rattle.er_event.specs.Sound.{numbers, IsSoundButForSeeds}
 use Rattle.er_event.specs.Totals.{totals}
 use Rattle.er_store.specs.declared.rows.MeetingRow.{MeetingRow}
-use Rattle.er_store.specs.Meetings.{meeting_row, meetings_from, meeting_rows}
+use Rattle.er_store.specs.inside.Meetings.{meeting_row, meetings_from, meeting_rows}
 use Rattle.er_store.specs.Reading.{by_first_two, Lists, first_columns}
 use Rattle.er_store.specs.Rows.{number, pairing_columns, tally_columns, meeting_columns, shown, pairing_places, tally_places}
 use Rattle.er_store.specs.Standing.{StandsFor}

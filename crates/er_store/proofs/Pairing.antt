@@ -20,7 +20,7 @@ use Rattle.er_event.specs.Rows.{pairing_row, round_rows, pairing_rows_from, pair
 use Rattle.er_event.specs.declared.rows.TallyRow.{TallyRow}
 use Rattle.er_store.specs.Rows.{pairing_columns, stored_pairing, shown, pairing_places}
 use Rattle.er_store.specs.Standing.{StandsWith, IsKeyed, KeepsOthers}
-use Rattle.er_store.specs.Steps.{Puts, Moves, MakesWith}
+use Rattle.er_store.specs.inside.Steps.{Puts, Moves, MakesWith}
 use Rattle.er_store.proofs.Together.{shows_more, pairings_set, moves_then}
 
 -- ---- the rows of one more round

@@ -21,8 +21,8 @@ use Rattle.er_event.specs.Rows.{tally_row, tally_rows, tally_rows_by}
 use Rattle.er_event.specs.Sound.{numbers}
 use Rattle.er_event.specs.Totals.{totals}
 use Rattle.er_store.specs.Standing.{IsOther}
-use Rattle.er_store.specs.Steps.{Moves}
-use Rattle.er_store.specs.Totals.{set_for, sits, set_for_all}
+use Rattle.er_store.specs.inside.Steps.{Moves}
+use Rattle.er_store.specs.inside.Totals.{set_for, sits, set_for_all}
 use Rattle.er_store.proofs.Picking.{numbers-dropped_at}
 
 -- ---- a transaction in which nothing was done

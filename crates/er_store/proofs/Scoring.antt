@@ -43,7 +43,7 @@ use Rattle.er_event.specs.declared.rows.TallyRow.{TallyRow}
 use Rattle.er_store.specs.Tables.{pairing, bracket, set_score, set_slot_score}
 use Rattle.er_store.specs.Rows.{number, pairing_columns, bracket_columns, pairing_places, bracket_places, stored_pairing, stored_slot, shown}
 use Rattle.er_store.specs.Standing.{HasTables, StandsWith, IsKeyed, IsOther}
-use Rattle.er_store.specs.Steps.{Goes, MakesWith}
+use Rattle.er_store.specs.inside.Steps.{Goes, MakesWith}
 use Rattle.er_store.proofs.PickingTable.{picks_table, is_elsewhere, picks_one_table}
 use Rattle.er_store.proofs.Values.{cast_int}
 use Rattle.er_store.proofs.Inserts.{first_fresh}

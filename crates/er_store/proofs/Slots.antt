@@ -14,7 +14,7 @@ use Rattle.er_event.specs.Rows.{bracket_row, stage_rows, bracket_rows_from, brac
 use Rattle.er_event.specs.declared.rows.TallyRow.{TallyRow}
 use Rattle.er_store.specs.Rows.{bracket_columns, stored_slot, shown, bracket_places}
 use Rattle.er_store.specs.Standing.{StandsWith, IsKeyed}
-use Rattle.er_store.specs.Steps.{Puts, Moves, MakesWith}
+use Rattle.er_store.specs.inside.Steps.{Puts, Moves, MakesWith}
 use Rattle.er_store.proofs.Together.{shows_more, bracket_set, moves_then}
 use Rattle.er_store.proofs.Pairing.{keyed_put, Same, same_moves}
 

@@ -11,7 +11,7 @@ use Rattle.er_event.specs.Event.{EventValue}
 use Rattle.er_event.specs.Bracket.{next_stage, SameSlots, FollowOn}
 use Rattle.er_event.specs.Change.{with_bracket, with_slot_score, with_bracket_score}
 use Rattle.er_event.specs.Sound.{IsInPlayoff, IsSoundButForSeeds}
-use Rattle.er_store.specs.Steps.{IsStage}
+use Rattle.er_store.specs.inside.Steps.{IsStage}
 
 half : (ms : List Match) → length (next_stage ms) + length (next_stage ms) ≤ length ms
 half [] = omega arith

@@ -24,7 +24,7 @@ use Rattle.er_event.specs.declared.rows.TallyRow.{TallyRow}
 use Rattle.er_store.specs.Tables.{our_schema}
 use Rattle.er_store.specs.Rows.{event_columns, player_columns, pairing_columns, bracket_columns, tally_columns, stored_event, stored_player, stored_tally, shown, event_places, player_places, pairing_places, bracket_places, tally_places}
 use Rattle.er_store.specs.Standing.{HasTables, StandsWith, StandsFor, IsKeyed, IsNew, IsOther, KeepsOthers}
-use Rattle.er_store.specs.Steps.{Goes, Puts, Moves, MakesWith, CreatesAll}
+use Rattle.er_store.specs.inside.Steps.{Goes, Puts, Moves, MakesWith, CreatesAll}
 
 pub on_ok : {A E : Type 0} (r : Result A E) (P Q : Type 0) → (P → Q) → OnOk r P → OnOk r Q
 on_ok (Ok a) P Q f h = f h

@@ -29,8 +29,8 @@ use Rattle.er_event.specs.Sound.{numbers}
 use Rattle.er_store.specs.Tables.{tally, set_tally}
 use Rattle.er_store.specs.Rows.{number, tally_columns, tally_places, stored_tally, shown}
 use Rattle.er_store.specs.Standing.{HasTables, StandsWith}
-use Rattle.er_store.specs.Steps.{Goes, MakesWith}
-use Rattle.er_store.specs.Totals.{set_for}
+use Rattle.er_store.specs.inside.Steps.{Goes, MakesWith}
+use Rattle.er_store.specs.inside.Totals.{set_for}
 use Rattle.er_store.proofs.Picking.{picks, is_another}
 use Rattle.er_store.proofs.PickingTotals.{AreRowsBy, picks_row}
 use Rattle.er_store.proofs.Values.{cast_int, cast_null}

@@ -2,7 +2,7 @@ ghost use Rattle.std.specs.Prelude.{◌≡◌, OnOk};
 ghost use Rattle.sqlite.specs.State.{HasCleanDisk, KeepsCommit, Survives};
 ghost use Rattle.sqlite.specs.Held.{state};
 ghost use Rattle.er_store.specs.Tables.{no_schema, event_schema, player_schema, pairing_schema, bracket_schema, our_schema};
-ghost use Rattle.er_store.specs.Steps.{Creates, CreatesAll};
+ghost use Rattle.er_store.specs.inside.Steps.{Creates, CreatesAll};
 
 use sqlite::{Alter, Error, Transaction};
 

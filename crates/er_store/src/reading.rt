@@ -11,7 +11,7 @@ ghost use Rattle.er_event.specs.declared.refusals.Refusal.{Refusal};
 ghost use Rattle.er_store.specs.Damage.{ReadsEvents, ReadsPlayers, ReadsPairings, ReadsBracket, ReadsTallies, IsMisread};
 ghost use Rattle.er_store.specs.Fault.{reading_refusal, IsLoadFault};
 ghost use Rattle.er_store.specs.Reading.{Lists, by_first, by_first_two, out_of_memory, IsReadRefused, KeepsTables};
-ghost use Rattle.er_store.specs.Meetings.{meeting_rows};
+ghost use Rattle.er_store.specs.inside.Meetings.{meeting_rows};
 ghost use Rattle.er_store.specs.Slip.{named_pairings};
 
 use crate::rows::{MeetingRow, NamedPairing, push_row, typed};

@@ -11,10 +11,10 @@ ghost use Rattle.er_event.specs.Bracket.{slot_at};
 ghost use Rattle.er_event.specs.Change.{with_phase, with_dropped, with_round, with_score, with_stage, with_slot_score};
 ghost use Rattle.er_store.specs.Rows.{stored_player, stored_event};
 ghost use Rattle.er_event.specs.Rows.{phase_code, games_of, tally_row, tally_rows_by};
-ghost use Rattle.er_store.specs.Totals.{set_for};
+ghost use Rattle.er_store.specs.inside.Totals.{set_for};
 ghost use Rattle.er_event.specs.declared.totals.Totals.{Totals};
 ghost use Rattle.er_store.specs.Standing.{HasTables, StandsWith};
-ghost use Rattle.er_store.specs.Steps.{Puts, MakesWith};
+ghost use Rattle.er_store.specs.inside.Steps.{Puts, MakesWith};
 
 use er_event::{Event, Games, Match, Phase, Score, Totals};
 use sqlite::{Alter, Error, Transaction, params};

@@ -11,7 +11,7 @@ ghost use Rattle.er_event.specs.Sound.{IsSoundButForSeeds};
 ghost use Rattle.er_event.specs.Tallies.{tally_by, tallies, meeting_by, meetings};
 ghost use Rattle.er_event.specs.Totals.{totals};
 ghost use Rattle.er_store.specs.Fault.{IsFault, IsReadFault, IsListFault};
-ghost use Rattle.er_store.specs.Meetings.{meeting_rows, open_round, is_over, counted_rows, sides_in, sides_of};
+ghost use Rattle.er_store.specs.inside.Meetings.{meeting_rows, open_round, is_over, counted_rows, sides_in, sides_of};
 ghost use Rattle.er_store.specs.Reading.{KeepsTables};
 ghost use Rattle.er_store.specs.Standing.{StandsFor};
 

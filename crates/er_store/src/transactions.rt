@@ -15,12 +15,12 @@ ghost use Rattle.er_event.specs.Recounted.{AreOf};
 ghost use Rattle.er_event.specs.Rows.{tally_row, tally_rows_by};
 ghost use Rattle.er_event.specs.Sound.{numbers};
 ghost use Rattle.er_event.specs.Totals.{totals};
-ghost use Rattle.er_store.specs.Totals.{set_for, set_for_all};
+ghost use Rattle.er_store.specs.inside.Totals.{set_for, set_for_all};
 ghost use Rattle.er_event.specs.declared.rounds.Match.{Match};
-ghost use Rattle.er_store.specs.Steps.{IsStage};
+ghost use Rattle.er_store.specs.inside.Steps.{IsStage};
 ghost use Rattle.er_store.specs.Tables.{no_schema};
 ghost use Rattle.er_store.specs.Standing.{StandsFor, StandsWith, IsStored, IsNew, Shows, Leaves, Either, KeepsOthers, CanRead, ReadsEvent};
-ghost use Rattle.er_store.specs.Steps.{Moves, Makes, MakesWith};
+ghost use Rattle.er_store.specs.inside.Steps.{Moves, Makes, MakesWith};
 ghost use Rattle.er_store.specs.Reading.{KeepsTables};
 
 use crate::creation::create_all;

@@ -2,7 +2,7 @@ ghost use Rattle.std.specs.Prelude.{◌≡◌, ◌≢◌, ◌↔◌, Err, IfOk, 
 ghost use Rattle.er_event.specs.declared.refusals.Place.{Place};
 ghost use Rattle.er_event.specs.Event.{EventValue};
 ghost use Rattle.er_event.specs.Parts.{IsBlank, IsOf, IsFirstFault};
-ghost use Rattle.er_event.specs.Reading.{before_playoff, FitsStages, IsListed, IsPaired, IsWhole};
+ghost use Rattle.er_event.specs.inside.Reading.{before_playoff, FitsStages, IsListed, IsPaired, IsWhole};
 ghost use Rattle.er_event.specs.Sound.{HasPlayers, IsSoundButForSeeds, AllRoundsDone};
 
 use super::{Event, Phase};

@@ -4,8 +4,8 @@ use Rattle.er_event.specs.declared.tallies.Meeting.{Meeting}
 use Rattle.er_event.specs.declared.tallies.Tally.{Tally}
 use Rattle.er_event.specs.Tallies.{tallies, meetings}
 use Rattle.er_rank.specs.Meeting.{encounters}
-use Rattle.er_rank.specs.Opponents.{AreOpponentsOf}
-use Rattle.er_rank.specs.Placing.{ranked, ArePlacingsInOrder}
+use Rattle.er_rank.specs.inside.Opponents.{AreOpponentsOf}
+use Rattle.er_rank.specs.inside.Placing.{ranked, ArePlacingsInOrder}
 use Rattle.er_rank.specs.Standings.{AreStandings}
 use Rattle.er_rank.proofs.ListLemmas.{AreStandings-placings, length-placings, OneStandings-sound}
 use Rattle.er_rank.proofs.standings_of.Goals as goal

@@ -1,5 +1,5 @@
 use Rattle.std.proofs.Common.{◌≡◌, ◌+◌, ◌++◌, [], ◌∷◌, length, sym, ap, ◌∙◌, append-nil, length-append}
-use Rattle.er_event.specs.Stages.{slot_rows}
+use Rattle.er_event.specs.inside.Stages.{slot_rows}
 use Rattle.er_event.proofs.PairingLemmas.{never_none, some_same}
 use Rattle.er_event.proofs.StageLemmas.{here_shown, rows_more, nothing_left}
 use Rattle.er_event.proofs.stages.read_slots.Goals as goal

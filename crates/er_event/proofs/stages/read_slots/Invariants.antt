@@ -1,6 +1,6 @@
 use Rattle.std.proofs.Common.{◌≡◌, ◌+◌, ◌++◌, List, length, take, drop, All}
 use Rattle.er_event.specs.declared.rounds.Match.{Match}
-use Rattle.er_event.specs.Stages.{IsShownSlot, slot_rows}
+use Rattle.er_event.specs.inside.Stages.{IsShownSlot, slot_rows}
 use Rattle.er_event.proofs.stages.read_slots.Given as goal
 
 abbrev pub invariant-loop-place : goal.invariant-loop-place

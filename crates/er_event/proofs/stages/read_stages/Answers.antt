@@ -4,7 +4,7 @@ use Rattle.std.proofs.lemmas.Grind.{common_steps}
 use Rattle.er_event.specs.declared.rounds.Match.{Match}
 use Rattle.er_event.specs.declared.parts.PartsFault.TheVariants.{Memory}
 use Rattle.er_event.specs.Rows.{bracket_rows_from}
-use Rattle.er_event.specs.Stages.{IsShownStage}
+use Rattle.er_event.specs.inside.Stages.{IsShownStage}
 use Rattle.er_event.proofs.StageLemmas.{next_shown, rest_from, value_more, drop_more, no_rows, rest_of}
 use Rattle.er_event.proofs.stages.read_stages.Goals as goal
 

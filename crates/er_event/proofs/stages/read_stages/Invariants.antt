@@ -1,7 +1,7 @@
 use Rattle.std.proofs.Common.{◌≡◌, ◌≤◌, ◌+◌, ◌-◌, ◌++◌, List, length, take, drop, All}
 use Rattle.er_event.specs.declared.rounds.Match.{Match}
 use Rattle.er_event.specs.Rows.{bracket_rows_from}
-use Rattle.er_event.specs.Stages.{IsShownStage}
+use Rattle.er_event.specs.inside.Stages.{IsShownStage}
 use Rattle.er_event.proofs.stages.read_stages.Given as goal
 
 abbrev pub invariant-loop-read : goal.invariant-loop-read

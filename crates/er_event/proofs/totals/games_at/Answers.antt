@@ -1,7 +1,7 @@
 use Rattle.std.proofs.Common.{◌∙◌, List, sym, ap, subst}
 use Rattle.er_event.specs.declared.rounds.Match.{Match}
 use Rattle.er_event.specs.declared.rounds.Round.{Round}
-use Rattle.er_event.specs.Seen.{IsSeatedOnce}
+use Rattle.er_event.specs.inside.Seen.{IsSeatedOnce}
 use Rattle.er_event.specs.Change.{scored_slot}
 use Rattle.er_event.proofs.TotalLemmas.{seated-here, seated-there}
 use Rattle.er_event.proofs.totals.games_at.Goals as goal

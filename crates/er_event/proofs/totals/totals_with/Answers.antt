@@ -1,7 +1,7 @@
 use Rattle.std.proofs.Common.{◌≡◌, ◌<◌, ◌∙◌, [], length, get_or, ap, Some, arith}
 use Rattle.std.proofs.lemmas.List.{get_or_default}
 use Rattle.er_event.specs.declared.rounds.Round.{Round}
-use Rattle.er_event.specs.Seen.{rescored}
+use Rattle.er_event.specs.inside.Seen.{rescored}
 use Rattle.er_event.specs.Totals.{totals_of_games}
 use Rattle.er_event.proofs.TotalLemmas.{totals-more, totals-same, over-more, rescored-length}
 use Rattle.er_event.proofs.totals.totals_with.Goals as goal

@@ -1,5 +1,5 @@
 use Rattle.std.proofs.Common.{◌≡◌, length, take}
-use Rattle.er_pair.specs.Place.{placed}
+use Rattle.er_pair.specs.inside.Place.{placed}
 use Rattle.er_pair.proofs.Placing.{active_in}
 use Rattle.er_pair.proofs.orders.places.Given as goal
 

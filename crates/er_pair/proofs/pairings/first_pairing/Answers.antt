@@ -1,7 +1,7 @@
 use Rattle.std.proofs.Common.{◌∙◌, inr, length, refl, sym, ap, subst, arith}
 use Rattle.er_pair.specs.declared.search.Outcome.TheVariants.{Paired, DeadEnd, OutOfSteps}
 use Rattle.er_pair.specs.Met.{has_met}
-use Rattle.er_pair.specs.Search.{AreDeadEnds}
+use Rattle.er_pair.specs.inside.Search.{AreDeadEnds}
 use Rattle.er_pair.proofs.Entries.{short_needs}
 use Rattle.er_pair.proofs.Answering.{as_long, of_order, earliest, within_order, paired_within, no_pairing, dead_within, needs_more, short_within, fresh_within, fresh_pairs}
 use Rattle.er_pair.proofs.Seating.{first_before_second, each_sits, none_has_met}

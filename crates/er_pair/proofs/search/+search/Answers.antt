@@ -1,6 +1,6 @@
 use Rattle.std.proofs.Common.{length, length-set, set, ◌-◌, refl, ◌∙◌, subst, arith}
 use Rattle.er_pair.specs.declared.search.Outcome.{Outcome}
-use Rattle.er_pair.specs.Search.{free_ahead, search_of, met_in, Answers}
+use Rattle.er_pair.specs.inside.Search.{free_ahead, search_of, met_in, Answers}
 use Rattle.er_pair.proofs.Trying.{IsAt, IsRest, rest_found, pairs_none, free_none, free_first, starts, without_step, some_pair, none_is_left, rest_two_by_two, goes_on, answers_with, rest_size, pair_and_more}
 use Rattle.er_pair.proofs.search.+search.Goals.{then-more-eq1, else-more-eq1}
 use Rattle.er_pair.proofs.search.+search.Goals as goal

@@ -1,5 +1,5 @@
 use Rattle.std.proofs.Common.{length}
-use Rattle.er_pair.specs.Search.{free_ahead, AreDeadEnds}
+use Rattle.er_pair.specs.inside.Search.{free_ahead, AreDeadEnds}
 use Rattle.er_pair.proofs.Trying.{IsAt}
 use Rattle.er_pair.proofs.search.+search.Given as goal
 

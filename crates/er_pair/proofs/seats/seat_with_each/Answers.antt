@@ -1,5 +1,5 @@
 use Rattle.std.proofs.Common.{length, length-set, subst, ◌<◌, ℕ, arith}
-use Rattle.er_pair.specs.Search.{free_ahead}
+use Rattle.er_pair.specs.inside.Search.{free_ahead}
 use Rattle.er_pair.proofs.Trying.{fewer_ahead}
 use Rattle.er_pair.proofs.seats.seat_with_each.Goals as goal
 

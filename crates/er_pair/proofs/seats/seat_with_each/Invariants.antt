@@ -1,5 +1,5 @@
 use Rattle.std.proofs.Common.{length}
-use Rattle.er_pair.specs.Search.{free_ahead}
+use Rattle.er_pair.specs.inside.Search.{free_ahead}
 use Rattle.er_pair.proofs.Sharing.{IsSeating}
 use Rattle.er_pair.proofs.seats.seat_with_each.Given as goal
 

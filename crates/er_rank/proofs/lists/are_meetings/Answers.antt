@@ -1,5 +1,5 @@
 use Rattle.std.proofs.Common.{◌≡◌, List, [], ◌∷◌, ◌++◌, length, take, true≢false, sym, subst, ◌∙◌, append_assoc, arith}
-use Rattle.er_rank.specs.Counting.{AreCountsOf}
+use Rattle.er_rank.specs.inside.Counting.{AreCountsOf}
 use Rattle.er_rank.specs.Meeting.{Encounter, encounters, AreEncounters}
 use Rattle.er_rank.proofs.CountLemmas.{AreEncounters-front}
 use Rattle.er_rank.proofs.OpponentLemmas.{first_of, second_of, encounters-more, encounters-split}

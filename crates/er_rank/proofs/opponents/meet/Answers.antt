@@ -1,7 +1,7 @@
 use Rattle.std.proofs.Common.{◌≡◌, ◌+◌, ◌-◌, ◌<◌, length, subst, sym, arith}
 use Rattle.er_rank.specs.declared.opponents.Opponents.{Opponents}
 use Rattle.er_rank.specs.Meeting.{opponents_of}
-use Rattle.er_rank.specs.Merit.{AreOpponents}
+use Rattle.er_rank.specs.inside.Merit.{AreOpponents}
 use Rattle.er_rank.proofs.OpponentLemmas.{AreOpponentsOf-met}
 use Rattle.er_rank.proofs.opponents.meet.Goals as goal
 

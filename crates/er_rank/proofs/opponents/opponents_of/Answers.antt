@@ -4,8 +4,8 @@ use Rattle.std.proofs.lemmas.List.{length-replicate, get_or-replicate, take_all,
 use Rattle.er_event.specs.declared.tallies.Meeting.{Meeting}
 use Rattle.er_rank.specs.declared.opponents.Opponents.{Opponents}
 use Rattle.er_rank.specs.Meeting.{Encounter, encounters}
-use Rattle.er_rank.specs.Merit.{AreOpponents}
-use Rattle.er_rank.specs.Opponents.{AreOpponentsOf}
+use Rattle.er_rank.specs.inside.Merit.{AreOpponents}
+use Rattle.er_rank.specs.inside.Opponents.{AreOpponentsOf}
 use Rattle.er_rank.proofs.OpponentLemmas.{both-here, first-room, second-room, encounters-more, first_of, second_of}
 use Rattle.er_rank.proofs.opponents.opponents_of.Goals as goal
 

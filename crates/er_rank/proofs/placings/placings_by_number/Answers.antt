@@ -2,7 +2,7 @@ use Rattle.std.proofs.Common.{◌+◌, ◌<◌, ℕ, length, subst, sym, arith, 
 use Rattle.er_event.specs.declared.totals.Totals.{Totals}
 use Rattle.er_rank.specs.declared.opponents.Opponents.{Opponents}
 use Rattle.er_rank.specs.Meeting.{opponents_of}
-use Rattle.er_rank.specs.Merit.{AreOpponents, IsMerit}
+use Rattle.er_rank.specs.inside.Merit.{AreOpponents, IsMerit}
 use Rattle.er_rank.proofs.PlacingLemmas.{AreFirst-none, AreFirst-more, ArePlacings-first, number-here, totals-here}
 use Rattle.er_rank.proofs.placings.placings_by_number.Goals as goal
 

@@ -7,7 +7,7 @@ use Rattle.sqlite.specs.Schema.{Schema}
 use Rattle.sqlite.specs.State.{State, HasCleanDisk, IsUnchanged, Survives, CommitsShowing, FailsToQuery, Shown}
 use Rattle.sqlite.proofs.Callers.{unchanged_then}
 use Rattle.sqlite.proofs.StateLemmas.{survives_then}
-use Rattle.er_store.specs.Meetings.{meeting_rows}
+use Rattle.er_store.specs.inside.Meetings.{meeting_rows}
 use Rattle.er_store.specs.Tables as sql
 use Rattle.er_store.specs.Reading.{out_of_memory, IsReadRefused, first_columns}
 use Rattle.er_store.specs.Rows.{meeting_columns}

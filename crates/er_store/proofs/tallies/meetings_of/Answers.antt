@@ -3,7 +3,7 @@ use Rattle.std.proofs.lemmas.List.{take_all}
 use Rattle.er_event.proofs.PairingLemmas.{never_none}
 use Rattle.er_event.specs.Tallies.{meetings}
 use Rattle.er_store.specs.declared.rows.MeetingRow.{MeetingRow}
-use Rattle.er_store.specs.Meetings.{is_over, counted_rows, sides_in}
+use Rattle.er_store.specs.inside.Meetings.{is_over, counted_rows, sides_in}
 use Rattle.er_store.proofs.Counted.{meetings-counted, meetings-same, IsMeetingRow, all-show}
 use Rattle.er_store.proofs.tallies.meetings_of.Goals as goal
 

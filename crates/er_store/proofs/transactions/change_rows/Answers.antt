@@ -7,7 +7,7 @@ use Rattle.er_event.specs.declared.changes.Change.{Change}
 use Rattle.er_event.specs.declared.changes.Change.TheVariants.{SetDropped, SetScore, SetBracketScore}
 use Rattle.er_event.specs.declared.rounds.Match.{Match}
 use Rattle.er_store.specs.Rows.{stored_player}
-use Rattle.er_store.specs.Steps.{Puts, MakesWith, IsStage}
+use Rattle.er_store.specs.inside.Steps.{Puts, MakesWith, IsStage}
 use Rattle.er_store.proofs.Picking.{numbered_before}
 use Rattle.er_store.proofs.Together.{player_added, on_ok, makes_then}
 use Rattle.er_store.proofs.Crash.{was_clean}

@@ -8,7 +8,7 @@ use Rattle.er_event.specs.Change.{after}
 use Rattle.er_event.specs.Rows.{tally_row, tally_rows, tally_rows_by}
 use Rattle.er_event.specs.Totals.{totals}
 use Rattle.er_store.specs.Standing.{StandsWith}
-use Rattle.er_store.specs.Steps.{MakesWith}
+use Rattle.er_store.specs.inside.Steps.{MakesWith}
 use Rattle.er_store.proofs.Crash.{was_clean}
 use Rattle.er_store.proofs.Together.{on_ok, makes_then}
 use Rattle.er_store.proofs.Recounting.{moves_self, same_players, same_numbers, one_more_player}

@@ -4,7 +4,7 @@ use Rattle.sqlite.specs.Held.{Held, state}
 use Rattle.er_store.specs.Tables.{no_schema}
 use Rattle.er_store.specs.Rows.{stored_event}
 use Rattle.er_store.specs.Standing.{Shows}
-use Rattle.er_store.specs.Steps.{Puts, CreatesAll}
+use Rattle.er_store.specs.inside.Steps.{Puts, CreatesAll}
 use Rattle.er_store.proofs.Together.{on_ok, ours_has}
 use Rattle.er_store.proofs.Crash.{was_clean, made, leaves_none_or_new, shows_leaves}
 use Rattle.sqlite.proofs.InsideLemmas.{keeps_then}

@@ -6,7 +6,7 @@ use Rattle.sqlite.proofs.StateLemmas.{survives_then}
 use Rattle.er_event.specs.declared.rounds.Match.{Match}
 use Rattle.er_event.specs.Change.{with_stage}
 use Rattle.er_store.specs.Standing.{StandsWith}
-use Rattle.er_store.specs.Steps.{MakesWith}
+use Rattle.er_store.specs.inside.Steps.{MakesWith}
 use Rattle.er_store.proofs.Committed.{commit_stays}
 use Rattle.er_store.proofs.Crash.{was_clean, survives_self}
 use Rattle.er_store.proofs.Slots.{slots_start, slots_next}

@@ -13,8 +13,8 @@ use Rattle.er_event.specs.Round.{is_bye}
 use Rattle.er_event.specs.Sound.{numbers}
 use Rattle.er_event.specs.Rows.{tally_rows_by}
 use Rattle.er_event.specs.Totals.{totals}
-use Rattle.er_store.specs.Steps.{MakesWith}
-use Rattle.er_store.specs.Totals.{set_for_all}
+use Rattle.er_store.specs.inside.Steps.{MakesWith}
+use Rattle.er_store.specs.inside.Totals.{set_for_all}
 use Rattle.er_store.proofs.Committed.{commit_stays}
 use Rattle.er_store.proofs.Crash.{was_clean, survives_self}
 use Rattle.er_store.proofs.Together.{makes_then}

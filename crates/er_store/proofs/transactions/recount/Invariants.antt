@@ -7,8 +7,8 @@ use Rattle.er_event.specs.Rows.{tally_rows_by}
 use Rattle.er_event.specs.Sound.{numbers}
 use Rattle.er_event.specs.Totals.{totals}
 use Rattle.er_store.specs.Standing.{StandsWith}
-use Rattle.er_store.specs.Steps.{Moves, MakesWith}
-use Rattle.er_store.specs.Totals.{set_for_all}
+use Rattle.er_store.specs.inside.Steps.{Moves, MakesWith}
+use Rattle.er_store.specs.inside.Totals.{set_for_all}
 use Rattle.er_store.proofs.transactions.recount.Given as goal
 
 abbrev pub invariant-loop-played : goal.invariant-loop-played

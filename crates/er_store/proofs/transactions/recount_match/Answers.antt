@@ -4,8 +4,8 @@ use Rattle.sqlite.specs.Held.{state}
 use Rattle.er_event.specs.declared.rows.TallyRow.{TallyRow}
 use Rattle.er_event.specs.Change.{after}
 use Rattle.er_event.specs.Totals.{totals}
-use Rattle.er_store.specs.Steps.{MakesWith}
-use Rattle.er_store.specs.Totals.{set_for, set_for_all}
+use Rattle.er_store.specs.inside.Steps.{MakesWith}
+use Rattle.er_store.specs.inside.Totals.{set_for, set_for_all}
 use Rattle.er_store.proofs.Crash.{was_clean}
 use Rattle.er_store.proofs.Together.{makes_then}
 use Rattle.er_store.proofs.Recounting.{in_range, numbered_too, rows_agree, one_set, two_set}

@@ -5,8 +5,8 @@ use Rattle.er_event.specs.Change.{after}
 use Rattle.er_event.specs.Rows.{tally_rows_by}
 use Rattle.er_event.specs.Sound.{numbers}
 use Rattle.er_event.specs.Totals.{totals}
-use Rattle.er_store.specs.Steps.{MakesWith}
-use Rattle.er_store.specs.Totals.{set_for}
+use Rattle.er_store.specs.inside.Steps.{MakesWith}
+use Rattle.er_store.specs.inside.Totals.{set_for}
 use Rattle.er_store.proofs.transactions.recount_player.Goals as goal
 
 pub returns-clause-makes : goal.returns-clause-makes

@@ -5,7 +5,7 @@ use Rattle.sqlite.proofs.InsideLemmas.{keeps_then}
 use Rattle.er_event.specs.declared.rounds.Match.{Match}
 use Rattle.er_event.specs.Event.{EventValue}
 use Rattle.er_event.specs.Change.{with_slot_score, with_bracket_score}
-use Rattle.er_store.specs.Steps.{MakesWith}
+use Rattle.er_store.specs.inside.Steps.{MakesWith}
 use Rattle.er_store.proofs.Together.{on_ok, makes_then}
 use Rattle.er_store.proofs.Crash.{was_clean}
 use Rattle.er_store.proofs.transactions.score_stages.Goals as goal

@@ -6,7 +6,7 @@ use Rattle.sqlite.proofs.InsideLemmas.{keeps_then}
 use Rattle.er_store.specs.Standing.{Shows, KeepsOthers}
 use Rattle.er_store.specs.Reading.{KeepsTables}
 use Rattle.er_event.specs.Rows.{tally_rows}
-use Rattle.er_store.specs.Steps.{Makes}
+use Rattle.er_store.specs.inside.Steps.{Makes}
 use Rattle.er_store.proofs.Together.{on_ok}
 use Rattle.er_store.proofs.LoadLemmas.{all_err, each_err}
 use Rattle.er_store.proofs.Committed.{undone_keeps, uncommitted_keeps}

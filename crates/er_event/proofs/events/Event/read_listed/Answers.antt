@@ -6,7 +6,7 @@ use Rattle.er_event.specs.Event.{EventValue}
 use Rattle.er_event.specs.Sound.{HasPlayers}
 use Rattle.er_event.specs.Change.{with_phase}
 use Rattle.er_event.specs.Parts.{IsFirstFault}
-use Rattle.er_event.specs.Reading.{IsListed}
+use Rattle.er_event.specs.inside.Reading.{IsListed}
 use Rattle.er_event.proofs.PartsLemmas.{damaged_same, fault_event, fault_players, fault_play}
 use Rattle.er_event.proofs.PartsRounds.{starts, is_listed}
 use Rattle.er_event.proofs.events.Event.read_listed.Goals as goal

@@ -2,7 +2,7 @@ use Rattle.std.proofs.Common.{◌≡◌, ap, subst, sym, ◌∙◌, List}
 use Rattle.er_event.specs.declared.rounds.Match.{Match}
 use Rattle.er_event.specs.declared.changes.Change.TheVariants.{SetBracketScore}
 use Rattle.er_event.specs.Event.{EventValue}
-use Rattle.er_event.specs.EventFields.{value_of}
+use Rattle.er_event.specs.inside.EventFields.{value_of}
 use Rattle.er_event.specs.Sound.{IsSoundButForSeeds}
 use Rattle.er_event.specs.Change.{one_more, with_bracket_score, Fits}
 use Rattle.er_event.proofs.PlayoffLemmas.{in_playoff}

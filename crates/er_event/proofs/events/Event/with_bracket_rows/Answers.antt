@@ -2,7 +2,7 @@ use Rattle.std.proofs.Common.{◌≡◌, rules, sym, subst, ◌∙◌, true≢fa
 use Rattle.er_event.specs.declared.parts.PartsFault.TheVariants.{Damaged}
 use Rattle.er_event.specs.declared.refusals.Place.TheVariants.{BracketTable}
 use Rattle.er_event.specs.Parts.{IsFirstFault}
-use Rattle.er_event.specs.Reading.{FitsStages, IsWhole}
+use Rattle.er_event.specs.inside.Reading.{FitsStages, IsWhole}
 use Rattle.er_event.proofs.PartsLemmas.{damaged_same, none-when, some-when}
 use Rattle.er_event.proofs.PartsBracket.{whole_early, some_bracket, no_stages_fault, unfit_fault, sound_there, whole_is}
 use Rattle.er_event.proofs.events.Event.with_bracket_rows.Goals as goal

@@ -5,7 +5,7 @@ use Rattle.er_event.specs.declared.refusals.Place.TheVariants.{PairingTable}
 use Rattle.er_event.specs.declared.rounds.Round.{Round}
 use Rattle.er_event.specs.Event.{EventValue}
 use Rattle.er_event.specs.Parts.{IsFirstFault}
-use Rattle.er_event.specs.Reading.{IsPaired}
+use Rattle.er_event.specs.inside.Reading.{IsPaired}
 use Rattle.er_event.specs.Sound.{AllRoundsDone, IsSoundButForSeeds}
 use Rattle.er_event.proofs.PartsLemmas.{damaged_same, none-of, some-of}
 use Rattle.er_event.proofs.PartsRounds.{no_rounds_fault, enrolling_fault, swiss_fault, open_fault, is_paired, enrolling_paired}

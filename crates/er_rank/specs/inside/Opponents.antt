@@ -4,7 +4,7 @@ use Rattle.er_event.specs.declared.events.TheConstants.{MAX_ROUNDS}
 use Rattle.er_event.specs.declared.totals.Totals.{Totals}
 use Rattle.er_rank.specs.declared.opponents.Opponents.{Opponents}
 use Rattle.er_rank.specs.Meeting.{Encounter, opponents_of}
-use Rattle.er_rank.specs.Merit.{AreOpponents}
+use Rattle.er_rank.specs.inside.Merit.{AreOpponents}
 
 -- what these encounters come to for each player
 abbrev pub AreOpponentsOf : List Encounter → List Opponents → Type 0

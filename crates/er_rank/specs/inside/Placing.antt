@@ -5,7 +5,7 @@ use Rattle.std.specs.Ordering.{nat_cmp, ordering_then, is_lt, is_eq, bool_cmp}
 use Rattle.er_share.specs.Order.{share_cmp}
 use Rattle.er_event.specs.declared.tallies.Tally.{Tally}
 use Rattle.er_rank.specs.Meeting.{Encounter, opponents_of, totals_of}
-use Rattle.er_rank.specs.Merit.{IsMerit}
+use Rattle.er_rank.specs.inside.Merit.{IsMerit}
 use Rattle.er_rank.specs.declared.merits.Merit.{Merit}
 use Rattle.er_rank.specs.declared.placings.Placing.{Placing}
 use Rattle.er_rank.specs.declared.rows.Row.{Row}

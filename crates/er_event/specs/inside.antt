@@ -1,0 +1,5 @@
+-- What private functions alone cite.
+pub mod EventFields
+pub mod Stages
+pub mod Reading
+pub mod Seen

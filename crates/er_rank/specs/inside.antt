@@ -1,0 +1,5 @@
+-- What private functions alone cite.
+pub mod Counting
+pub mod Placing
+pub mod Merit
+pub mod Opponents

@@ -1,0 +1,4 @@
+-- What private functions alone cite.
+pub mod Steps
+pub mod Totals
+pub mod Meetings
