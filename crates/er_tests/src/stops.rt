@@ -206,7 +206,15 @@ fn ends_well<S: Alter>(
     Some(may_find(acknowledged, serial) && begins_well && is_sent && ends_well)
 }
 
-/// Whether what a connection shows is an event that may be there, and leads to the end.
+/// Whether the tables hold the event of all commands, as whoever opens them next finds it.
+fn holds_all<S: Alter + Drop>(alloc: Global, case: Case, conn: Connection<S>) -> Option<bool>
+    requires { conn.in_transaction ≡ false }
+{
+    let desk = Desk::adopt(alloc, conn).ok()?;
+    is_unstopped(alloc, case, case.lines.lines().count(), desk.event().ok()?)
+}
+
+/// Whether what a connection shows is an event that may be there, leads to the end, and stays in the tables.
 fn goes_on_from<S: Alter + Drop>(
     alloc: Global,
     case: Case,
@@ -216,7 +224,11 @@ fn goes_on_from<S: Alter + Drop>(
     requires { conn.in_transaction ≡ false }
 {
     match Desk::adopt(alloc, conn) {
-        Ok(mut desk) => ends_well(alloc, &mut desk, case, acknowledged),
+        Ok(mut desk) => {
+            let is_well = ends_well(alloc, &mut desk, case, acknowledged);
+            let stays = holds_all(alloc, case, desk.close());
+            Some(is_well == Some(true) && stays == Some(true))
+        }
         Err((_conn, why)) => Some(acknowledged.is_none() && why == Refusal::NoEvent),
     }
 }
