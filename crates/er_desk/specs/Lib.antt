@@ -1,9 +1,9 @@
--- What er_desk promises: stop the program before or within any write, and reopening the file finds the event that a prefix of the accepted commands
--- gives, one that holds every acknowledged command.
+-- What er_desk promises: stop the program before or within any write, and reopening the file finds the event that a
+-- prefix of the accepted commands gives, one that holds every acknowledged command.
 --
--- Headline says just that, in few lines, each of which a public call cites; begin there. Reply says which replies to a command are lawful, Desk what
--- one command does to a desk, and Run what a list of them does. History is many sessions, one after the other, Resuming sessions that send from one
--- list, and Opening why a file was not opened.
+-- Headline says just that, in few lines, each of which a public call cites; begin there. Reply says which replies to a
+-- command are lawful, Desk what one command does to a desk, and Run what a list of them does. History is many sessions,
+-- one after the other, Resuming sessions that send from one list, and Opening why a file was not opened.
 pub mod Reply
 pub mod Desk
 pub mod Run

@@ -39,20 +39,24 @@ few_games s lawful = grind (arith, nat_tests)
 second_short : (r a b : ℕ) (s : Games) → s.x + s.y + s.d ≤ 6 → All IsShort (as_second r a b s)
 second_short r a b s games = second_by (b == 0)
   where
-    second_by : (zero : Bool) → All IsShort (if zero then [] else record { round = r; player = b; opponent = a; won = s.y; lost = s.x; drawn = s.d } ∷ [])
+    second_by : (zero : Bool)
+        → All IsShort (if zero then [] else record { round = r; player = b; opponent = a; won = s.y; lost = s.x; drawn = s.d } ∷ [])
     second_by true = All-nil IsShort
     second_by false = All-cons IsShort _ [] (omega arith) (All-nil IsShort)
 
-score_short : (r a b : ℕ) (score : Option Games) → IfSome score (λ s. IsTrue (is_swiss_score s)) → All IsShort (lines_of_score r a b score)
+score_short : (r a b : ℕ) (score : Option Games) → IfSome score (λ s. IsTrue (is_swiss_score s))
+    → All IsShort (lines_of_score r a b score)
 score_short r a b None lawful = All-nil IsShort
 score_short r a b (Some s) lawful =
     let games = few_games s lawful in
     All-cons IsShort _ _ games (second_short r a b s games)
 
-matches_short : (r : ℕ) (ms : List Match) → All (λ (m : Match). IfSome m.score (λ s. IsTrue (is_swiss_score s))) ms → All IsShort (flat_map (lines_of_match r) ms)
+matches_short : (r : ℕ) (ms : List Match) → All (λ (m : Match). IfSome m.score (λ s. IsTrue (is_swiss_score s))) ms
+    → All IsShort (flat_map (lines_of_match r) ms)
 matches_short r [] lawful = All-nil IsShort
 matches_short r (m ∷ ms) lawful =
-    All-append IsShort _ _ (score_short r m.a m.b m.score (lawful 0 m (omega arith))) (matches_short r ms (λ k d below. lawful (suc k) d (omega arith)))
+    All-append IsShort _ _ (score_short r m.a m.b m.score (lawful 0 m (omega arith)))
+    (matches_short r ms (λ k d below. lawful (suc k) d (omega arith)))
 
 counted_short : (players : List ℕ) (r : ℕ) (round : Round) → IsRound players round.matches → All IsShort (counted_lines r round)
 counted_short players r round sound = counted_by (is_counted round.matches)
@@ -61,10 +65,12 @@ counted_short players r round sound = counted_by (is_counted round.matches)
     counted_by true = matches_short r round.matches sound.scores
     counted_by false = All-nil IsShort
 
-rounds_short : (players : List ℕ) (r : ℕ) (rounds : List Round) → All (λ (round : Round). IsRound players round.matches) rounds → All IsShort (lines_from r rounds)
+rounds_short : (players : List ℕ) (r : ℕ) (rounds : List Round) → All (λ (round : Round). IsRound players round.matches) rounds
+    → All IsShort (lines_from r rounds)
 rounds_short players r [] sound = All-nil IsShort
 rounds_short players r (round ∷ rounds) sound =
-    All-append IsShort _ _ (counted_short players r round (sound 0 round (omega arith))) (rounds_short players (r + 1) rounds (λ k d below. sound (suc k) d (omega arith)))
+    All-append IsShort _ _ (counted_short players r round (sound 0 round (omega arith)))
+    (rounds_short players (r + 1) rounds (λ k d below. sound (suc k) d (omega arith)))
 
 -- ---- one line a round
 
@@ -98,52 +104,61 @@ once player (q ∷ qs) apart =
           omega arith
     ])
 
-second_once : (player r a b : ℕ) (s : Games) → count_by (is_of player) ((as_second r a b s)) ≤ cond (is_no player b) 1 0
+second_once : (player r a b : ℕ) (s : Games) → count_by (is_of player) (as_second r a b s) ≤ cond (is_no player b) 1 0
 second_once player r a b s = second_by (b == 0)
   where
-    second_by : (zero : Bool) → count_by (is_of player) ((if zero then [] else record { round = r; player = b; opponent = a; won = s.y; lost = s.x; drawn = s.d } ∷ [])) ≤ cond (is_no player b) 1 0
+    second_by : (zero : Bool)
+        → count_by (is_of player) (if zero then [] else record { round = r; player = b; opponent = a; won = s.y; lost = s.x; drawn = s.d } ∷ [])
+        ≤ cond (is_no player b) 1 0
     second_by true = omega arith
     second_by false = omega arith
 
-score_once : (player r a b : ℕ) (score : Option Games) → count_by (is_of player) ((lines_of_score r a b score)) ≤ count_by (is_no player) (a ∷ b ∷ [])
+score_once : (player r a b : ℕ) (score : Option Games)
+    → count_by (is_of player) (lines_of_score r a b score) ≤ count_by (is_no player) (a ∷ b ∷ [])
 score_once player r a b None = omega arith
 score_once player r a b (Some s) =
     let first : Line = record { round = r; player = a; opponent = b; won = s.x; lost = s.y; drawn = s.d } in
-    let split : count_by (is_of player) (first ∷ (as_second r a b s)) ≡ cond (is_no player a) 1 0 + count_by (is_of player) ((as_second r a b s)) = sum_by-cons (λ l. cond (is_of player l) 1 0) first ((as_second r a b s)) in
+    let split : count_by (is_of player) (first ∷ as_second r a b s) ≡ cond (is_no player a) 1 0 + count_by (is_of player) (as_second r a b s) =
+    sum_by-cons (λ l. cond (is_of player l) 1 0) first (as_second r a b s) in
     let second = second_once player r a b s in
     rw split (omega arith)
 
-matches_once : (player r : ℕ) (ms : List Match) → count_by (is_of player) ((flat_map (lines_of_match r) ms)) ≤ count_by (is_no player) (flat_map seats ms)
+matches_once : (player r : ℕ) (ms : List Match) → count_by (is_of player) (flat_map (lines_of_match r) ms) ≤ count_by (is_no player) (flat_map seats ms)
 matches_once player r [] = omega arith
 matches_once player r (m ∷ ms) =
     let here = score_once player r m.a m.b m.score in
     let rest = matches_once player r ms in
-    let lines_split : count_by (is_of player) ((lines_of_match r m ++ flat_map (lines_of_match r) ms)) ≡ count_by (is_of player) ((lines_of_match r m)) + count_by (is_of player) ((flat_map (lines_of_match r) ms)) =
-    sum_by-append (λ l. cond (is_of player l) 1 0) ((lines_of_match r m)) ((flat_map (lines_of_match r) ms)) in
+    let lines_split : count_by (is_of player) (lines_of_match r m ++ flat_map (lines_of_match r) ms)
+    ≡ count_by (is_of player) (lines_of_match r m) + count_by (is_of player) (flat_map (lines_of_match r) ms) =
+    sum_by-append (λ l. cond (is_of player l) 1 0) (lines_of_match r m) (flat_map (lines_of_match r) ms) in
     let seats_split : count_by (is_no player) (seats m ++ flat_map seats ms) ≡ count_by (is_no player) (seats m) + count_by (is_no player) (flat_map seats ms) = sum_by-append (λ q. cond (is_no player q) 1 0) (seats m) (flat_map seats ms) in
     rw (lines_split, seats_split) (omega (arith, here, rest))
 
-counted_once : (player r : ℕ) (round : Round) → AllPairs (λ p q. p ≢ q) (flat_map seats round.matches) → count_by (is_of player) ((counted_lines r round)) ≤ 1
+counted_once : (player r : ℕ) (round : Round) → AllPairs (λ p q. p ≢ q) (flat_map seats round.matches)
+    → count_by (is_of player) (counted_lines r round) ≤ 1
 counted_once player r round apart = counted_by (is_counted round.matches)
   where
-    counted_by : (counts : Bool) → count_by (is_of player) ((if counts then flat_map (lines_of_match r) round.matches else [])) ≤ 1
+    counted_by : (counts : Bool) → count_by (is_of player) (if counts then flat_map (lines_of_match r) round.matches else []) ≤ 1
     counted_by true = omega (arith, matches_once player r round.matches, once player (flat_map seats round.matches) apart)
     counted_by false = omega arith
 
-rounds_once : (player r : ℕ) (rounds : List Round) → All (λ (round : Round). AllPairs (λ p q. p ≢ q) (flat_map seats round.matches)) rounds → count_by (is_of player) ((lines_from r rounds)) ≤ length rounds
+rounds_once : (player r : ℕ) (rounds : List Round) → All (λ (round : Round). AllPairs (λ p q. p ≢ q) (flat_map seats round.matches)) rounds
+    → count_by (is_of player) (lines_from r rounds) ≤ length rounds
 rounds_once player r [] apart = omega arith
 rounds_once player r (round ∷ rounds) apart =
     let here = counted_once player r round (apart 0 round (omega arith)) in
     let rest = rounds_once player (r + 1) rounds (λ k d below. apart (suc k) d (omega arith)) in
-    let split : count_by (is_of player) ((counted_lines r round ++ lines_from (r + 1) rounds)) ≡ count_by (is_of player) ((counted_lines r round)) + count_by (is_of player) ((lines_from (r + 1) rounds)) =
-    sum_by-append (λ l. cond (is_of player l) 1 0) ((counted_lines r round)) ((lines_from (r + 1) rounds)) in
+    let split : count_by (is_of player) (counted_lines r round ++ lines_from (r + 1) rounds)
+    ≡ count_by (is_of player) (counted_lines r round) + count_by (is_of player) (lines_from (r + 1) rounds) =
+    sum_by-append (λ l. cond (is_of player l) 1 0) (counted_lines r round) (lines_from (r + 1) rounds) in
     rw split (omega (arith, here, rest))
 
 -- ---- a sound event
 
 pub AreWithin-sound : (e : EventValue) → IsSoundButForSeeds e → AreWithin (lines e)
 AreWithin-sound e sound = record {
-  few = λ player. omega (arith, rounds_once player 1 e.stored (λ k d below. (sound.rounds.each k d below).seated_once), sound.rounds.few, sound.set_up.rounds);
+  few = λ player.
+      omega (arith, rounds_once player 1 e.stored (λ k d below. (sound.rounds.each k d below).seated_once), sound.rounds.few, sound.set_up.rounds);
   short = rounds_short (numbers e.players) 1 e.stored sound.rounds.each;
 }
 
