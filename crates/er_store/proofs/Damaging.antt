@@ -20,9 +20,11 @@ use Rattle.er_event.specs.declared.parts.Parts.{Parts}
 use Rattle.er_event.specs.declared.rows.TallyRow.{TallyRow}
 use Rattle.er_store.specs.Reading.{out_of_memory}
 use Rattle.er_store.specs.Fault.{reading_refusal}
-use Rattle.er_store.specs.Damage.{Answered, IsUnread, IsRefused, IsMisreadAs, MayRead, IsMisread, ReadsBefore, IsRowFault, IsFirstMisread, IfDamaged}
+use Rattle.er_store.specs.Damage.{Answered, IsUnread, IsRefused, IsMisreadAs, MayRead, IsRowFault}
 use Rattle.er_store.specs.Reading.{first_columns}
-use Rattle.er_store.proofs.Selecting.{begins_select, never_returns}
+use Rattle.er_store.specs.inside.Lookup.{begins_select}
+use Rattle.er_store.specs.Shape.{Form, Shape}
+use Rattle.er_store.proofs.Selecting.{never_returns}
 
 -- the table that is named is the one that was read
 pub damaged_place : (place : Place) (e : Error) (at : Place) → reading_refusal place e ≡ Damaged at → at ≡ place
@@ -113,21 +115,14 @@ shown_answers sql old new rows is h =
 
 -- ---- what the typed rows of a read say
 
-module _ {R : Type 0} (columns : R → Row) (is_text : R → Type 0) (sql : List ℕ) (old new : State) (rows given : List Row) (is : begins_select (first sql) ≡ true) (same : given ≡ rows) (shown : Shown sql [] old new rows) where
-  pub may_read : (width : ℕ) (typed : List R) → map columns typed ≡ map (first_columns width) given → MayRead width columns old.now sql typed
-  may_read width typed are = (rows, shown_answers sql old new rows is shown, are ∙ ap (map (first_columns width)) same)
+module _ {R : Type 0} (form : Form R) (table : Shape R) (old new : State) (rows given : List Row) (is : begins_select (first table.read) ≡ true) (same : given ≡ rows) (shown : Shown table.read [] old new rows) where
+  pub may_read : (typed : List R) → map form.columns typed ≡ map (first_columns form.width) given → MayRead form table old.now typed
+  may_read typed are = (rows, shown_answers table.read old new rows is shown, are ∙ ap (map (first_columns form.width)) same)
 
-  pub has_wrong_kind : (place at : Place) (e : Error) → (e ≢ out_of_memory → (typed : List R) → All is_text typed → given ≢ map columns typed) → reading_refusal place e ≡ Damaged at → IsMisreadAs columns is_text old.now sql
-  has_wrong_kind place at e refused h = inr (rows, shown_answers sql old new rows is shown, λ typed texts are. refused (memory_never place at e h) typed texts (same ∙ are))
+  pub has_wrong_kind : (place at : Place) (e : Error) → (e ≢ out_of_memory → (typed : List R) → All form.is_text typed → given ≢ map form.columns typed) → reading_refusal place e ≡ Damaged at → IsMisreadAs form table old.now
+  has_wrong_kind place at e refused h = inr (rows, shown_answers table.read old new rows is shown, λ typed texts are. refused (memory_never place at e h) typed texts (same ∙ are))
 
 -- ---- the first table at fault
-
--- the tables before this one were read, and it was not
-pub first_misread : (table : Place) (first db : Database) (e : Error) (why : Refusal) → db ≡ first → ReadsBefore first table → ((at : Place) → reading_refusal table e ≡ Damaged at → IsMisread db table)
-    → why ≡ reading_refusal table e → IfDamaged (IsFirstMisread first) why
-first_misread table first db e why same before misread is place h =
-    let refused : reading_refusal table e ≡ Damaged place = sym is ∙ h in
-    subst (IsFirstMisread first) (sym (damaged_place table e place refused)) (before, subst (λ (d : Database). IsMisread d table) same (misread place refused))
 
 same_place : (a b : Place) → ◌≡◌ {A = Refusal} (Damaged a) (Damaged b) → a ≡ b
 same_place a b h = cc

@@ -50,12 +50,12 @@ text_of (Text bytes) = bytes
 text_of _ = []
 
 -- each value of a typed row is in its columns
-event_columns-same : (r s : EventRow) → event_columns r ≡ event_columns s → r ≡ s
+pub event_columns-same : (r s : EventRow) → event_columns r ≡ event_columns s → r ≡ s
 event_columns-same r s h =
     let of_columns : Row → EventRow = λ row. record { id = int_of (column row 0); version = int_of (column row 1); serial = int_of (column row 2); name = text_of (column row 3); rounds = int_of (column row 4); cut = int_of (column row 5); phase = int_of (column row 6) } in
     ap of_columns h
 
-player_columns-same : (r s : PlayerRow) → player_columns r ≡ player_columns s → r ≡ s
+pub player_columns-same : (r s : PlayerRow) → player_columns r ≡ player_columns s → r ≡ s
 player_columns-same r s h =
     let of_columns : Row → PlayerRow = λ row. record { no = int_of (column row 0); name = text_of (column row 1); dropped = int_of (column row 2) } in
     ap of_columns h
@@ -65,7 +65,7 @@ pairing_columns-same r s h =
     let of_columns : Row → PairingRow = λ row. record { round = int_of (column row 0); tab = int_of (column row 1); lo = int_of (column row 2); hi = int_of (column row 3); swapped = int_of (column row 4); done = int_of (column row 5); x = int_of (column row 6); y = int_of (column row 7); d = int_of (column row 8) } in
     ap of_columns h
 
-bracket_columns-same : (r s : BracketRow) → bracket_columns r ≡ bracket_columns s → r ≡ s
+pub bracket_columns-same : (r s : BracketRow) → bracket_columns r ≡ bracket_columns s → r ≡ s
 bracket_columns-same r s h =
     let of_columns : Row → BracketRow = λ row. record { stage = int_of (column row 0); slot = int_of (column row 1); a = int_of (column row 2); b = int_of (column row 3); done = int_of (column row 4); x = int_of (column row 5); y = int_of (column row 6); d = int_of (column row 7) } in
     ap of_columns h
@@ -99,9 +99,6 @@ level a = grind (arith, nat_tests)
 pub event_exact : (db : Database) (e : EventValue) (s : ℕ) (listed : List Row) → StandsFor db e s → Lists by_first (shown event_places (db.trees 0)) listed → listed ≡ map event_columns (event_row e s ∷ [])
 event_exact db e s listed stands h = one_permutation (event_columns (event_row e s)) listed (IsPermutation-trans _ _ _ (IsPermutation-sym _ _ stands.event) h.same)
 
-pub event_typed : (typed : List EventRow) (e : EventValue) (s : ℕ) → map event_columns typed ≡ map event_columns (event_row e s ∷ []) → typed ≡ event_row e s ∷ []
-event_typed typed e s = map-same event_columns event_columns-same typed (event_row e s ∷ [])
-
 -- ---- the players
 
 abbrev player_shows : Player → Row
@@ -129,12 +126,9 @@ players_exact db e s listed stands numbered h =
     sorted_unique by_first (on_total (λ (r : Row). column r 0) value_cmp_total) (map player_columns (player_rows e)) listed (players_rise 1 e.players numbered)
     (IsPermutation-trans _ _ _ (IsPermutation-sym _ _ stands.players) h.same) h.sorted
 
-pub players_typed : (typed : List PlayerRow) (e : EventValue) → map player_columns typed ≡ map player_columns (player_rows e) → typed ≡ player_rows e
-players_typed typed e = map-same player_columns player_columns-same typed (player_rows e)
-
 -- ---- the totals
 
-tally_columns-same : (r s : TallyRow) → tally_columns r ≡ tally_columns s → r ≡ s
+pub tally_columns-same : (r s : TallyRow) → tally_columns r ≡ tally_columns s → r ≡ s
 tally_columns-same r s h =
     let of_columns : Row → TallyRow = λ row.
     record { no = int_of (column row 0); points = int_of (column row 1); rounds = int_of (column row 2); gamepoints = int_of (column row 3); games = int_of (column row 4) } in
@@ -160,9 +154,6 @@ pub tallies_exact : (db : Database) (e : EventValue) (s : ℕ) (listed : List Ro
 tallies_exact db e s listed stands numbered h =
     sorted_unique by_first (on_total (λ (r : Row). column r 0) value_cmp_total) (map tally_columns (tally_rows e)) listed (tallies_rise (totals e) 1 e.players numbered)
     (IsPermutation-trans _ _ _ (IsPermutation-sym _ _ stands.tallies) h.same) h.sorted
-
-pub tallies_typed : (typed : List TallyRow) (e : EventValue) → map tally_columns typed ≡ map tally_columns (tally_rows e) → typed ≡ tally_rows e
-tallies_typed typed e = map-same tally_columns tally_columns-same typed (tally_rows e)
 
 -- ---- the matches of the playoff
 
@@ -211,9 +202,6 @@ bracket_exact db e s listed stands h =
     sorted_unique by_first_two (then_total (on_total (λ (r : Row). column r 0) value_cmp_total) (on_total (λ (r : Row). column r 1) value_cmp_total)) (map bracket_columns (bracket_rows e)) listed (bracket_rises 1 e.bracket.stages)
     (IsPermutation-trans _ _ _ (IsPermutation-sym _ _ stands.bracket) h.same) h.sorted
 
-pub bracket_typed : (typed : List BracketRow) (e : EventValue) → map bracket_columns typed ≡ map bracket_columns (bracket_rows e) → typed ≡ bracket_rows e
-bracket_typed typed e = map-same bracket_columns bracket_columns-same typed (bracket_rows e)
-
 -- ---- why a row is refused
 
 -- no other error but that of memory
@@ -237,9 +225,3 @@ pub players_text : (e : EventValue) → IsSoundButForSeeds e → All (λ (r : Pl
 players_text e sound =
     All-from_recursion (λ (r : PlayerRow). IsUtf8 r.name) (player_rows e)
     (player_texts e.players (recursion_from_All (λ name. IsTrue (is_lawful_name name)) (names e.players) sound.players.lawful))
-
-pub pairings_text : (rows : List PairingRow) → All (λ (r : PairingRow). ⊤) rows
-pairings_text rows k d below = tt
-
-pub bracket_text : (e : EventValue) → All (λ (r : BracketRow). ⊤) (bracket_rows e)
-bracket_text e k d below = tt

@@ -27,7 +27,7 @@ use Rattle.er_event.proofs.ShownLemmas.{rounds_shown}
 use Rattle.er_store.specs.Rows.{pairing_columns, shown, pairing_places}
 use Rattle.er_store.specs.Standing.{StandsFor}
 use Rattle.er_store.specs.Reading.{by_first_two, Lists}
-use Rattle.er_store.proofs.Exact.{IsBelow, lower, level, map-same, pairing_columns-same}
+use Rattle.er_store.proofs.Exact.{IsBelow, lower, level}
 
 -- ---- the same rows
 
@@ -126,6 +126,3 @@ pairings_exact db e s listed stands sound h =
     sorted_unique by_first_two (then_total (on_total (λ (r : Row). column r 0) value_cmp_total) (on_total (λ (r : Row). column r 1) value_cmp_total)) (map pairing_columns (keyed_pairing_rows e)) listed
     (rounds_rise 1 e.stored (rounds_shown e sound.players sound.rounds))
     (IsPermutation-trans _ _ _ (IsPermutation-sym _ _ (keyed_permutes e)) (IsPermutation-trans _ _ _ (IsPermutation-sym _ _ stands.pairings) h.same)) h.sorted
-
-pub pairings_typed : (typed : List PairingRow) (e : EventValue) → map pairing_columns typed ≡ map pairing_columns (keyed_pairing_rows e) → typed ≡ keyed_pairing_rows e
-pairings_typed typed e = map-same pairing_columns pairing_columns-same typed (keyed_pairing_rows e)

@@ -38,4 +38,6 @@ pub mod Loaded
 pub mod Selecting
 pub mod Committed
 pub mod Damaging
+pub mod TableLemmas
+pub mod LookupLemmas
 pub mod Reopening

@@ -47,7 +47,8 @@ use Rattle.er_store.proofs.Counted.{is_pair, is_pair_at, rows_of}
 use Rattle.er_store.proofs.Exact.{IsBelow, lower, level, map-same}
 use Rattle.er_store.proofs.Joined.{IsMatch, all_matches, some_number}
 use Rattle.er_store.proofs.Joining.{joined, numbered_as}
-use Rattle.er_store.proofs.Meaning.{Selects, meeting_query, meeting_tests}
+use Rattle.er_store.proofs.Meaning.{meeting_query, meeting_tests}
+use Rattle.er_store.specs.inside.Queries.{Selects}
 use Rattle.er_store.proofs.Picking.{picks}
 use Rattle.er_store.proofs.PickingTotals.{picks_row}
 use Rattle.er_store.proofs.ReadLemmas.{sorted_rows, two_agree}

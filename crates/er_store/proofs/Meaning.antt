@@ -1,11 +1,11 @@
 -- What the texts mean, whatever other tables there are.
-use Rattle.std.proofs.Common.{map, length, ◌≤◌, lit≤, ◌≡◌, Ok, Err, Result, codes, ℕ, refl, [], ◌∷◌, List, None, pos, negsuc, false, true, is_ok, sym, ◌∙◌, true≢false}
+use Rattle.std.proofs.Common.{map, lit≤, ◌≡◌, Ok, codes, ℕ, refl, [], ◌∷◌, List, pos, false, is_ok, sym, ◌∙◌, true≢false}
 use Rattle.sqlite.specs.Compile.{table_defined_by}
 use Rattle.sqlite.specs.Table.{Table}
 use Rattle.sqlite.specs.Schema.{Schema}
 use Rattle.sqlite.specs.Term.{Term, lit, col, op1, op2}
 use Rattle.sqlite.specs.Query.{Query, Join, inner, left, end}
-use Rattle.sqlite.specs.Command.TheVariants.{Insert, Select, Update}
+use Rattle.sqlite.specs.Command.TheVariants.{Insert, Update}
 use Rattle.sqlite.specs.Source.TheVariants.{Values}
 use Rattle.sqlite.specs.declared.types.Value.TheVariants.{Null, Int}
 use Rattle.sqlite.specs.Collation.TheVariants.{Binary}
@@ -14,14 +14,11 @@ use Rattle.sqlite_schema.specs.declared.schema.View.{View}
 use Rattle.sqlite_sql.specs.declared.ops.BinaryOp.TheVariants.{Compare}
 use Rattle.sqlite_sql.specs.declared.ops.CompareOp.TheVariants.{Eq, Gt}
 use Rattle.sqlite_sql.specs.declared.ops.UnaryOp.TheVariants.{ToNumeric}
-use Rattle.sqlite_typing.specs.Types.{accepts_program}
-use Rattle.sqlite_resolve.specs.declared.compiled.Compiled.{Compiled}
-use Rattle.sqlite_resolve.specs.declared.error.CompileError.{CompileError}
 use Rattle.sqlite_tied.specs.Compute.{everything}
-use Rattle.sqlite.specs.Listing.{understood, listing_schema, reads_listing}
+use Rattle.sqlite.specs.Listing.{understood, listing_schema}
 use Rattle.sqlite.proofs.Callers.{IsPlain, command_of}
 use Rattle.er_store.specs.Standing.{with_ours, CanRead}
-use Rattle.sqlite.specs.Order.{Row}
+use Rattle.er_store.specs.inside.Queries.{plain_query, table_query, SelectsWith, Selects}
 use Rattle.er_store.specs.Rows.{number, event_places, player_places, pairing_places, bracket_places, tally_places}
 use Rattle.er_store.specs.Tables.{no_schema, event_text, player_text, pairing_text, bracket_text, tally_text, event, player, pairing, bracket, tally, insert_event, insert_player, set_serial, set_phase, set_dropped, set_score, insert_pairing, insert_slot, set_slot_score, insert_tally, set_tally, find_event, read_event, read_players, read_pairings, read_bracket, read_tallies, read_meetings, read_slip}
 
@@ -59,9 +56,6 @@ slot_terms = lit Null ∷ col 0 0 ∷ col 0 1 ∷ col 0 2 ∷ col 0 3 ∷ col 0 
 
 abbrev pub tally_terms : List Term
 tally_terms = col 0 0 ∷ lit Null ∷ col 0 1 ∷ col 0 2 ∷ col 0 3 ∷ col 0 4 ∷ []
-
-abbrev plain_query : Join → List Term → List Term → Query
-plain_query from filter project = record { from = from; filter = filter; group = None; project = project; distinct = false; collations = []; order = []; limit = lit (Int (negsuc 0)); offset = lit (Int (pos 0)) }
 
 -- every row of the event's table, by these terms
 abbrev pub event_query : List Term → Query
@@ -115,28 +109,6 @@ slot_score_terms = col 1 0 ∷ col 1 0 ∷ col 1 1 ∷ col 1 2 ∷ col 1 3 ∷ c
 -- only the match of the stage and the slot that are given passes
 abbrev pub slot_score_query : Query
 slot_score_query = rows_query 6 score_tests slot_score_terms
-
--- the columns at these places of each row of a table, by some of them
-abbrev pub table_query : ℕ → List ℕ → List ℕ → Query
-table_query tree places keys = record (plain_query (inner tree end) [] (map (col 1) places)) { order = map (λ place. (col 1 place, record { collation = Binary; descending = false })) keys }
-
--- the text is one statement with so many parameters
-abbrev pub Takes : ℕ → List ℕ → Result Compiled CompileError → Type 0
-Takes n sql (Ok c) = (length sql ≤ c.tail) × (length c.names ≡ n)
-Takes n sql (Err e) = ⊥
-
--- the text is one SELECT of the schema, with these parameters, by this query
-pub record SelectsWith (params : Row) (sql : List ℕ) (q : Query) (schema : Schema) : Type 0 where
-  pub names : List (List ℕ)
-  pub is : command_of (understood schema sql) ≡ Select (record { lets = []; body = q }) names
-  pub plain : IsPlain (understood schema sql)
-  pub unlisted : reads_listing schema sql ≡ false
-  pub whole : Takes (length params) sql (understood schema sql)
-  pub typed : accepts_program schema [] q params ≡ true
-
--- and with none
-abbrev pub Selects : List ℕ → Query → Schema → Type 0
-Selects = SelectsWith []
 
 abbrev equals : Term → Term → Term
 equals x y = op2 (Compare Eq Binary) x y

@@ -20,8 +20,9 @@ use Rattle.sqlite_resolve.specs.Compile.{first}
 use Rattle.sqlite_resolve.specs.declared.compiled.Compiled.{Compiled}
 use Rattle.sqlite_resolve.specs.declared.error.CompileError.{CompileError}
 use Rattle.er_store.specs.Reading.{IsReadRefused}
-use Rattle.er_store.proofs.Meaning.{Selects}
-use Rattle.er_store.proofs.Selecting.{begins_select, never_returns}
+use Rattle.er_store.specs.inside.Queries.{Selects}
+use Rattle.er_store.specs.inside.Lookup.{begins_select}
+use Rattle.er_store.proofs.Selecting.{never_returns}
 
 -- ---- the query begins
 

@@ -7,19 +7,15 @@ use Rattle.std.specs.List.Sorted.{IsPermutation, IsSorted}
 use Rattle.std.proofs.lemmas.List.Sorted.{IsPermutation-map, All-permutation}
 use Rattle.std.proofs.lemmas.List.Elements.{All-from_recursion, recursion_from_All}
 use Rattle.std.proofs.Math.ListN.{get_or-map, length-map}
-use Rattle.sqlite.specs.declared.types.Value.TheVariants.{Null}
 use Rattle.sqlite.specs.Order.{Row, column, value_cmp}
 use Rattle.sqlite.specs.Term.{col, eval_all}
 use Rattle.sqlite_value.proofs.OrderLemmas.{then-Equal}
 use Rattle.sqlite.specs.Query.{IsAnswer, output, output_cmp, Output}
 use Rattle.sqlite.specs.Program.{overlay}
 use Rattle.sqlite.specs.Tree.{Trees}
-use Rattle.sqlite.specs.Command.TheVariants.{Select}
-use Rattle.sqlite.specs.State.{State, Shown}
-use Rattle.sqlite.proofs.Callers.{reads_as}
 use Rattle.er_store.specs.Rows.{shown}
 use Rattle.er_store.specs.Reading.{by_first, by_first_two, Lists, first_columns}
-use Rattle.er_store.proofs.Meaning.{table_query, Selects}
+use Rattle.er_store.specs.inside.Queries.{table_query}
 
 -- ---- the rows of one table, in the order of its key
 
@@ -64,7 +60,7 @@ module _ (tree : ℕ) (places keys : List ℕ) (order : Row → Row → Ordering
   each_keyed [] = tt
   each_keyed (r ∷ rows) = (by.keyed r, each_keyed rows)
 
-  answer_lists : (trees : Trees) (rows : List Row) → IsAnswer (table_query tree places keys) (overlay trees []) [] rows → Lists order (shown places (trees tree)) rows
+  pub answer_lists : (trees : Trees) (rows : List Row) → IsAnswer (table_query tree places keys) (overlay trees []) [] rows → Lists order (shown places (trees tree)) rows
   answer_lists trees rows a =
       let kept : a.kept ≡ each (trees tree) = a.distinct ∙ (ap (map (output (table_query tree places keys))) a.grouped ∙ ap each (bare trees tree)) in
       let same = subst (λ l. IsPermutation l a.ordered) kept a.same in
@@ -73,11 +69,6 @@ module _ (tree : ℕ) (places keys : List ℕ) (order : Row → Row → Ordering
         same = subst (λ l. IsPermutation l rows) (each_shown (trees tree)) (subst (IsPermutation (map (λ (o : Output). o.1) (each (trees tree)))) (sym a.shown) (IsPermutation-map (λ (o : Output). o.1) _ _ same));
         sorted = subst (IsSorted order) (sym a.shown) (sorted_rows by.Keyed (output_cmp (table_query tree places keys)) order by.agrees a.ordered keyed a.sorted);
       }
-
-  pub listed : (sql : List ℕ) (old new : State) (rows : List Row) → Selects sql (table_query tree places keys) old.now.schema → Shown sql [] old new rows → Lists order (shown places (old.now.trees tree)) rows
-  listed sql old new rows it h =
-      let read = reads_as sql [] old new old.now.schema refl (Select (record { lets = []; body = table_query tree places keys }) it.names) it.is it.plain it.unlisted rows h in
-      answer_lists old.now.trees rows (read.answer Null)
 
 -- ---- the two kinds of key
 

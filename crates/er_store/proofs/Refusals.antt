@@ -14,7 +14,8 @@ use Rattle.sqlite.specs.Listing.{understood, IsSourceOf}
 use Rattle.sqlite.specs.State.{State, FailsToQuery, FailsToShow, IsNotRun, IsNoStatement}
 use Rattle.sqlite.proofs.Callers.{IsPlain, command_of}
 use Rattle.er_store.specs.Reading.{IsReadRefused}
-use Rattle.er_store.proofs.Meaning.{Takes, Selects, SelectsWith, table_query, meeting_query, slip_query}
+use Rattle.er_store.proofs.Meaning.{meeting_query, slip_query}
+use Rattle.er_store.specs.inside.Queries.{Takes, Selects, SelectsWith, table_query}
 
 -- a text that is one statement, with as many parameters as are given, is a statement
 is_statement : (old : State) (sql : List ℕ) (params : Row) (e : Error) → IsPlain (understood old.now.schema sql) → Takes (length params) sql (understood old.now.schema sql) → ¬ IsNoStatement old sql params e

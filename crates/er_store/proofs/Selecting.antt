@@ -16,17 +16,9 @@ use Rattle.sqlite.specs.State.{State, Survives, CommitsShowing, Shown, ShowsRows
 use Rattle.sqlite.proofs.StateLemmas.{survives_weaker}
 use Rattle.sqlite_tied.specs.Compute.{everything}
 use Rattle.er_store.specs.Reading.{KeepsTables}
+use Rattle.er_store.specs.inside.Lookup.{is_select_by, begins_select}
 use Rattle.er_store.specs.Tables.{read_event, read_players, read_pairings, read_bracket, read_tallies, read_meetings, read_slip}
 use Rattle.er_store.proofs.LoadLemmas.{unchanged_keeps, refused_keeps}
-
-abbrev is_select_by : Statement → Bool
-is_select_by (written.Select s) = true
-is_select_by _ = false
-
--- the text begins with a SELECT, by its grammar alone
-abbrev pub begins_select : Checked Parsed → Bool
-begins_select (Ok p) = is_select_by p.statement
-begins_select (Err e) = false
 
 pub event_selects : begins_select (first read_event) ≡ true
 unfolding understood everything

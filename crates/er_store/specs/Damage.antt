@@ -1,5 +1,5 @@
 -- Which table is the first at fault, in any file.
-use Rattle.std.specs.Prelude.{◌≡◌, ◌≢◌, ◌≤◌, ◌⊎◌, ℕ, List, [], length, All, map, ⊤, Ok, Err, IsUtf8, None}
+use Rattle.std.specs.Prelude.{◌≡◌, ◌≢◌, ◌≤◌, ◌⊎◌, ℕ, List, [], length, All, map, ⊤, Ok, Err, None}
 use Rattle.sqlite.specs.Order.{Row}
 use Rattle.sqlite.specs.Clock.{timed}
 use Rattle.sqlite.specs.declared.error.Error.{Error}
@@ -13,17 +13,12 @@ use Rattle.er_event.specs.declared.refusals.Refusal.TheVariants.{Damaged}
 use Rattle.er_event.specs.declared.refusals.Place.{Place}
 use Rattle.er_event.specs.declared.refusals.Place.TheVariants.{EventTable, PlayerTable, PairingTable, BracketTable, TallyTable}
 use Rattle.er_event.specs.declared.parts.Parts.{Parts}
-use Rattle.er_event.specs.declared.rows.EventRow.{EventRow}
-use Rattle.er_event.specs.declared.rows.PlayerRow.{PlayerRow}
-use Rattle.er_event.specs.declared.rows.PairingRow.{PairingRow}
-use Rattle.er_event.specs.declared.rows.BracketRow.{BracketRow}
 use Rattle.er_event.specs.declared.rows.TallyRow.{TallyRow}
 use Rattle.er_event.specs.Event.{EventValue}
 use Rattle.er_event.specs.Parts.{IsFirstFault, parts_of}
 use Rattle.er_event.specs.Rows.{tally_rows}
 use Rattle.er_event.specs.Sound.{IsSoundButForSeeds}
-use Rattle.er_store.specs.Tables.{read_event, read_players, read_pairings, read_bracket, read_tallies}
-use Rattle.er_store.specs.Rows.{event_columns, player_columns, pairing_columns, bracket_columns, tally_columns}
+use Rattle.er_store.specs.Shape.{Form, Shape, event_form, player_form, pairing_form, bracket_form, tally_form, event_table, player_table, pairing_table, bracket_table, tally_table}
 use Rattle.er_store.specs.Reading.{first_columns}
 
 -- rows that the statement may answer
@@ -52,53 +47,44 @@ pub record IsRefused (db : Database) (sql : List ℕ) : Type 0 where
   pub refuses : RefusesToRead None compiled.command source (timed [] compiled.formats now) error
 
 -- a value of another kind than its column's
-abbrev pub HasWrongKind : {R : Type 0} → (R → Row) → (R → Type 0) → Database → List ℕ → Type 0
-HasWrongKind {R} columns is_text db sql = (rows : List Row) × Answered db sql rows × ((typed : List R) → All is_text typed → rows ≢ map columns typed)
+abbrev pub HasWrongKind : {R : Type 0} → Form R → Database → List ℕ → Type 0
+HasWrongKind {R} form db sql = (rows : List Row) × Answered db sql rows × ((typed : List R) → All form.is_text typed → rows ≢ map form.columns typed)
 
-abbrev pub IsMisreadAs : {R : Type 0} → (R → Row) → (R → Type 0) → Database → List ℕ → Type 0
-IsMisreadAs columns is_text db sql = (IsUnread db sql ⊎ IsRefused db sql) ⊎ HasWrongKind columns is_text db sql
+-- the reading of a table is at fault
+abbrev pub IsMisreadAs : {R : Type 0} → Form R → Shape R → Database → Type 0
+IsMisreadAs form table db = (IsUnread db table.read ⊎ IsRefused db table.read) ⊎ HasWrongKind form db table.read
 
--- the reading of this table is at fault
 abbrev pub IsMisread : Database → Place → Type 0
-IsMisread db EventTable = IsMisreadAs event_columns (λ (r : EventRow). IsUtf8 r.name) db read_event
-IsMisread db PlayerTable = IsMisreadAs player_columns (λ (r : PlayerRow). IsUtf8 r.name) db read_players
-IsMisread db PairingTable = IsMisreadAs pairing_columns (λ (r : PairingRow). ⊤) db read_pairings
-IsMisread db BracketTable = IsMisreadAs bracket_columns (λ (r : BracketRow). ⊤) db read_bracket
-IsMisread db TallyTable = IsMisreadAs tally_columns (λ (r : TallyRow). ⊤) db read_tallies
+IsMisread db EventTable = IsMisreadAs event_form event_table db
+IsMisread db PlayerTable = IsMisreadAs player_form player_table db
+IsMisread db PairingTable = IsMisreadAs pairing_form pairing_table db
+IsMisread db BracketTable = IsMisreadAs bracket_form bracket_table db
+IsMisread db TallyTable = IsMisreadAs tally_form tally_table db
 
--- the statement may answer these rows, which have so many columns
-abbrev pub MayRead : {R : Type 0} → ℕ → (R → Row) → Database → List ℕ → List R → Type 0
-MayRead width columns db sql typed = (rows : List Row) × Answered db sql rows × (map columns typed ≡ map (first_columns width) rows)
+-- the statement that reads a table may answer these rows, which have so many columns
+abbrev pub MayRead : {R : Type 0} → Form R → Shape R → Database → List R → Type 0
+MayRead form table db typed = (rows : List Row) × Answered db table.read rows × (map form.columns typed ≡ map (first_columns form.width) rows)
 
-abbrev pub ReadsEvents : Database → List EventRow → Type 0
-ReadsEvents db = MayRead 7 event_columns db read_event
-
-abbrev pub ReadsPlayers : Database → List PlayerRow → Type 0
-ReadsPlayers db = MayRead 3 player_columns db read_players
-
-abbrev pub ReadsPairings : Database → List PairingRow → Type 0
-ReadsPairings db = MayRead 9 pairing_columns db read_pairings
-
-abbrev pub ReadsBracket : Database → List BracketRow → Type 0
-ReadsBracket db = MayRead 8 bracket_columns db read_bracket
-
-abbrev pub ReadsTallies : Database → List TallyRow → Type 0
-ReadsTallies db = MayRead 5 tally_columns db read_tallies
+-- and it may answer some
+abbrev pub IsRead : {R : Type 0} → Form R → Shape R → Database → Type 0
+IsRead {R} form table db = (rows : List R) × MayRead form table db rows
 
 -- the tables before this one are read
 abbrev pub ReadsBefore : Database → Place → Type 0
 ReadsBefore db EventTable = ⊤
-ReadsBefore db PlayerTable = (rows : List EventRow) × ReadsEvents db rows
-ReadsBefore db PairingTable = ((rows : List EventRow) × ReadsEvents db rows) × ((rows : List PlayerRow) × ReadsPlayers db rows)
-ReadsBefore db BracketTable = ((rows : List EventRow) × ReadsEvents db rows) × ((rows : List PlayerRow) × ReadsPlayers db rows) × ((rows : List PairingRow) × ReadsPairings db rows)
-ReadsBefore db TallyTable = ((rows : List EventRow) × ReadsEvents db rows) × ((rows : List PlayerRow) × ReadsPlayers db rows) × ((rows : List PairingRow) × ReadsPairings db rows)
-    × ((rows : List BracketRow) × ReadsBracket db rows)
+ReadsBefore db PlayerTable = IsRead event_form event_table db
+ReadsBefore db PairingTable = IsRead event_form event_table db × IsRead player_form player_table db
+ReadsBefore db BracketTable = IsRead event_form event_table db × IsRead player_form player_table db × IsRead pairing_form pairing_table db
+ReadsBefore db TallyTable = IsRead event_form event_table db × IsRead player_form player_table db × IsRead pairing_form pairing_table db × IsRead bracket_form bracket_table db
 
 pub record ReadsParts (db : Database) (parts : Parts) : Type 0 where
-  pub event : ReadsEvents db parts.event
-  pub players : ReadsPlayers db parts.players
-  pub pairings : ReadsPairings db parts.pairings
-  pub bracket : ReadsBracket db parts.bracket
+  pub event : MayRead event_form event_table db parts.event
+  pub players : MayRead player_form player_table db parts.players
+  pub pairings : MayRead pairing_form pairing_table db parts.pairings
+  pub bracket : MayRead bracket_form bracket_table db parts.bracket
+
+abbrev pub ReadsTallies : Database → List TallyRow → Type 0
+ReadsTallies = MayRead tally_form tally_table
 
 -- The tables are read in this order, and this one cannot be.
 abbrev pub IsFirstMisread : Database → Place → Type 0

@@ -11,6 +11,7 @@ pub mod Tables
 pub mod Rows
 pub mod Standing
 pub mod Reading
+pub mod Shape
 pub mod Loading
 pub mod Fault
 pub mod Store

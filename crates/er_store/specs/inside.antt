@@ -2,3 +2,5 @@
 pub mod Steps
 pub mod Totals
 pub mod Meetings
+pub mod Queries
+pub mod Lookup

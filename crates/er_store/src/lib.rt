@@ -11,6 +11,7 @@ mod reading;
 mod rows;
 mod slips;
 mod statements;
+mod tables;
 mod tallies;
 mod transactions;
 

@@ -8,50 +8,45 @@ ghost use Rattle.er_event.specs.Sound.{IsSoundButForSeeds};
 ghost use Rattle.er_event.specs.Rows.{event_row, tally_rows};
 ghost use Rattle.er_event.specs.Parts.{IsFirstFault, parts_of};
 ghost use Rattle.er_store.specs.Standing.{HasTables, StandsFor};
-ghost use Rattle.er_store.specs.Loading.{ListsParts, ListsTallies, ShowsEvent};
-ghost use Rattle.er_store.specs.Damage.{ReadsParts, ReadsTallies, IsRowFault, IsFirstMisread, IsAtFault, IfDamaged};
-ghost use Rattle.er_store.specs.Fault.{IsFault, IsLoadFault, reading_refusal};
+ghost use Rattle.er_store.specs.Loading.{ShowsEvent};
+ghost use Rattle.er_store.specs.Damage.{ReadsParts, ReadsTallies, IsRowFault, IsAtFault, IfDamaged};
+ghost use Rattle.er_store.specs.Fault.{IsFault, IsLoadFault};
+ghost use Rattle.er_store.specs.inside.Lookup.{IsOurs, LooksUp, FindsRows, MissesRows, FindsParts, FindsTables, MissesTables};
 ghost use Rattle.er_store.specs.Reading.{KeepsTables};
 
-use crate::reading::{
-    read_bracket, read_event, read_pairings, read_players, read_tallies, reading_refusal,
+use crate::reading::{read_table, reading_refusal};
+use crate::tables::TableRow;
+use er_event::{
+    BracketRow, Event, EventRow, Items, PairingRow, Parts, PartsFault, Place, PlayerRow, Refusal,
+    TallyRow,
 };
-use er_event::{Event, EventRow, Items, Parts, PartsFault, Place, Refusal, TallyRow};
-use sqlite::{Alter, Connection, Error};
+use sqlite::{Alter, Connection};
 use std::alloc::Global;
 
-/// What was read of this table.
-fn rows_of<T>(table: Place, read: Result<Vec<T>, Error>) -> Result<Items<T>, Refusal>
-    ensures ok { IfOk result (λ rows. IsOkAnd read (λ vec. vec.items ≡ rows)) }
-    ensures err { IfErr result (λ why. IsErrAnd read (λ e. why ≡ reading_refusal table e)) }
-    ensures fault { IfErr result IsLoadFault }
+/// The rows of a table.
+fn load_rows<T: TableRow, S: Alter>(
+    alloc: Global,
+    conn: &mut Connection<S>,
+) -> Result<Items<T>, Refusal>
+    requires { IsOurs T.form T.table }
+    ensures mode { conn.old.in_transaction ≡ false → conn.new.in_transaction ≡ false }
+    ensures looks { LooksUp (FindsRows T.form T.table) (MissesRows T.form T.table) (state S.Store conn.old) (state S.Store conn.new) result }
 {
-    match read {
+    match read_table(alloc, conn) {
         Ok(rows) => Ok(Items::from(rows)),
-        Err(error) => Err(reading_refusal(table, error)),
+        Err(error) => Err(reading_refusal(T::place(), error)),
     }
 }
 
-/// The rows of the four tables.
+/// The rows of the four tables that an event is made of.
 fn read_parts<S: Alter>(alloc: Global, conn: &mut Connection<S>) -> Result<Parts, Refusal>
-    ensures clean { HasCleanDisk (state S.Store conn.new) → HasCleanDisk (state S.Store conn.old) }
     ensures mode { conn.old.in_transaction ≡ false → conn.new.in_transaction ≡ false }
-    ensures lists { HasCleanDisk (state S.Store conn.new) → HasTables (state S.Store conn.old).now.schema
-        → IfOk result (λ parts. ListsParts (state S.Store conn.old).now parts) }
-    ensures reads { HasCleanDisk (state S.Store conn.new) → IfOk result (ReadsParts (state S.Store conn.old).now) }
-    ensures misread { HasCleanDisk (state S.Store conn.new) → IfErr result (IfDamaged (IsFirstMisread (state S.Store conn.old).now)) }
-    ensures exact { HasCleanDisk (state S.Store conn.new) → (e : EventValue) (s : ℕ) → StandsFor (state S.Store conn.old).now e s → IsSoundButForSeeds e
-        → IfOk result (λ parts. parts ≡ parts_of e s) }
-    ensures refused { HasCleanDisk (state S.Store conn.new) → (e : EventValue) (s : ℕ) → StandsFor (state S.Store conn.old).now e s → IsSoundButForSeeds e → IfErr result IsFault }
-    ensures fault { IfErr result IsLoadFault }
-    ensures same { HasCleanDisk (state S.Store conn.new) → OnOk result (IsUnchanged (state S.Store conn.old) (state S.Store conn.new)) }
-    ensures kept { HasCleanDisk (state S.Store conn.new) → OnErr result (KeepsTables (state S.Store conn.old) (state S.Store conn.new)) }
-    ensures survives { Survives (state S.Store conn.old) (state S.Store conn.new) (λ _. ⊥) }
+    ensures looks { LooksUp FindsParts MissesTables (state S.Store conn.old) (state S.Store conn.new) result }
 {
-    let event = rows_of(Place::EventTable, read_event(alloc, conn))?;
-    let players = rows_of(Place::PlayerTable, read_players(alloc, conn))?;
-    let pairings = rows_of(Place::PairingTable, read_pairings(alloc, conn))?;
-    let bracket = rows_of(Place::BracketTable, read_bracket(alloc, conn))?;
+    let event = load_rows::<EventRow, S>(alloc, conn)?;
+    let players = load_rows::<PlayerRow, S>(alloc, conn)?;
+    let pairings = load_rows::<PairingRow, S>(alloc, conn)?;
+    let bracket = load_rows::<BracketRow, S>(alloc, conn)?;
     Ok(Parts {
         event,
         players,
@@ -65,22 +60,11 @@ fn read_tables<S: Alter>(
     alloc: Global,
     conn: &mut Connection<S>,
 ) -> Result<(Parts, Items<TallyRow>), Refusal>
-    ensures clean { HasCleanDisk (state S.Store conn.new) → HasCleanDisk (state S.Store conn.old) }
     ensures mode { conn.old.in_transaction ≡ false → conn.new.in_transaction ≡ false }
-    ensures lists { HasCleanDisk (state S.Store conn.new) → HasTables (state S.Store conn.old).now.schema
-        → IfOk result (λ it. ListsParts (state S.Store conn.old).now it.0 × ListsTallies (state S.Store conn.old).now it.1) }
-    ensures reads { HasCleanDisk (state S.Store conn.new) → IfOk result (λ it. ReadsParts (state S.Store conn.old).now it.0 × ReadsTallies (state S.Store conn.old).now it.1) }
-    ensures misread { HasCleanDisk (state S.Store conn.new) → IfErr result (IfDamaged (IsFirstMisread (state S.Store conn.old).now)) }
-    ensures exact { HasCleanDisk (state S.Store conn.new) → (e : EventValue) (s : ℕ) → StandsFor (state S.Store conn.old).now e s → IsSoundButForSeeds e
-        → IfOk result (λ it. (it.0 ≡ parts_of e s) × (it.1 ≡ tally_rows e)) }
-    ensures refused { HasCleanDisk (state S.Store conn.new) → (e : EventValue) (s : ℕ) → StandsFor (state S.Store conn.old).now e s → IsSoundButForSeeds e → IfErr result IsFault }
-    ensures fault { IfErr result IsLoadFault }
-    ensures same { HasCleanDisk (state S.Store conn.new) → OnOk result (IsUnchanged (state S.Store conn.old) (state S.Store conn.new)) }
-    ensures kept { HasCleanDisk (state S.Store conn.new) → OnErr result (KeepsTables (state S.Store conn.old) (state S.Store conn.new)) }
-    ensures survives { Survives (state S.Store conn.old) (state S.Store conn.new) (λ _. ⊥) }
+    ensures looks { LooksUp FindsTables MissesTables (state S.Store conn.old) (state S.Store conn.new) result }
 {
     let parts = read_parts(alloc, conn)?;
-    let tallies = rows_of(Place::TallyTable, read_tallies(alloc, conn))?;
+    let tallies = load_rows::<TallyRow, S>(alloc, conn)?;
     Ok((parts, tallies))
 }
 

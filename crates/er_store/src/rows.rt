@@ -1,7 +1,8 @@
 ghost use Rattle.std.specs.Prelude.{◌≡◌, ◌≢◌, ◌<◌, ◌++◌, ◌∷◌, [], ℕ, List, All, IfOk, IfErr, OnOk, IfSome, Option, map, length, ⊤, IsUtf8};
 ghost use Rattle.sqlite.specs.declared.types.Value.TheVariants.{Text};
 ghost use Rattle.sqlite.specs.Order.{Row, column};
-ghost use Rattle.er_store.specs.Rows.{event_columns, player_columns, pairing_columns, bracket_columns, tally_columns, meeting_columns, named_columns, text_or_null};
+ghost use Rattle.er_store.specs.Rows.{meeting_columns, named_columns, text_or_null};
+ghost use Rattle.er_store.specs.Shape.{Form, event_form, player_form, pairing_form, bracket_form, tally_form};
 ghost use Rattle.er_store.specs.Reading.{first_columns, out_of_memory};
 
 use er_event::{BracketRow, EventRow, Items, PairingRow, PlayerRow, TallyRow};
@@ -29,24 +30,15 @@ pub struct MeetingRow {
 
 /// A typed row of a table.
 pub trait FromRow: Sized + Drop {
-    ghost columns: { Self → Row };
-
-    ghost width: { ℕ };
-
-    // its texts are UTF-8
-    ghost is_text: { Self → Type 0 };
+    ghost form: { Form Self };
 
     fn from_row(row: &SqlRow) -> Result<Self, Error>
-        ensures value { IfOk result (λ r. columns r ≡ first_columns width row.now) }
-        ensures refused { IfErr result (λ e. e ≢ out_of_memory → (r : Self) → is_text r → row.now ≢ columns r) };
+        ensures value { IfOk result (λ r. form.columns r ≡ first_columns form.width row.now) }
+        ensures refused { IfErr result (λ e. e ≢ out_of_memory → (r : Self) → form.is_text r → row.now ≢ form.columns r) };
 }
 
 impl FromRow for EventRow {
-    ghost columns = { event_columns };
-
-    ghost width = { 7 };
-
-    ghost is_text = { λ r. IsUtf8 r.name };
+    ghost form = { event_form };
 
     fn from_row(row: &SqlRow) -> Result<EventRow, Error> {
         Ok(EventRow {
@@ -62,11 +54,7 @@ impl FromRow for EventRow {
 }
 
 impl FromRow for PlayerRow {
-    ghost columns = { player_columns };
-
-    ghost width = { 3 };
-
-    ghost is_text = { λ r. IsUtf8 r.name };
+    ghost form = { player_form };
 
     fn from_row(row: &SqlRow) -> Result<PlayerRow, Error> {
         Ok(PlayerRow {
@@ -78,11 +66,7 @@ impl FromRow for PlayerRow {
 }
 
 impl FromRow for PairingRow {
-    ghost columns = { pairing_columns };
-
-    ghost width = { 9 };
-
-    ghost is_text = { λ _. ⊤ };
+    ghost form = { pairing_form };
 
     fn from_row(row: &SqlRow) -> Result<PairingRow, Error> {
         Ok(PairingRow {
@@ -100,11 +84,7 @@ impl FromRow for PairingRow {
 }
 
 impl FromRow for BracketRow {
-    ghost columns = { bracket_columns };
-
-    ghost width = { 8 };
-
-    ghost is_text = { λ _. ⊤ };
+    ghost form = { bracket_form };
 
     fn from_row(row: &SqlRow) -> Result<BracketRow, Error> {
         Ok(BracketRow {
@@ -121,11 +101,7 @@ impl FromRow for BracketRow {
 }
 
 impl FromRow for TallyRow {
-    ghost columns = { tally_columns };
-
-    ghost width = { 5 };
-
-    ghost is_text = { λ _. ⊤ };
+    ghost form = { tally_form };
 
     fn from_row(row: &SqlRow) -> Result<TallyRow, Error> {
         Ok(TallyRow {
@@ -139,11 +115,7 @@ impl FromRow for TallyRow {
 }
 
 impl FromRow for MeetingRow {
-    ghost columns = { meeting_columns };
-
-    ghost width = { 13 };
-
-    ghost is_text = { λ _. ⊤ };
+    ghost form = { record { width = 13; columns = meeting_columns; is_text = λ _. ⊤ } };
 
     fn from_row(row: &SqlRow) -> Result<MeetingRow, Error> {
         Ok(MeetingRow {
@@ -169,11 +141,7 @@ impl FromRow for MeetingRow {
 }
 
 impl FromRow for NamedPairing {
-    ghost columns = { named_columns };
-
-    ghost width = { 11 };
-
-    ghost is_text = { λ r. IfSome r.lo_name IsUtf8 × IfSome r.hi_name IsUtf8 };
+    ghost form = { record { width = 11; columns = named_columns; is_text = λ r. IfSome r.lo_name IsUtf8 × IfSome r.hi_name IsUtf8 } };
 
     fn from_row(row: &SqlRow) -> Result<NamedPairing, Error> {
         Ok(NamedPairing {
@@ -217,8 +185,8 @@ fn bytes_of(row: &SqlRow, at: usize) -> Result<Items<u8>, Error>
 
 /// Appends the row as a typed row.
 pub fn push_row<T: FromRow>(typed: &mut Vec<T>, row: &SqlRow) -> Result<(), Error>
-    ensures value { OnOk result (map T.columns typed.new.items ≡ map T.columns typed.old.items ++ first_columns T.width row.now ∷ []) }
-    ensures refused { IfErr result (λ e. e ≢ out_of_memory → (r : T) → T.is_text r → row.now ≢ T.columns r) }
+    ensures value { OnOk result (map T.form.columns typed.new.items ≡ map T.form.columns typed.old.items ++ first_columns T.form.width row.now ∷ []) }
+    ensures refused { IfErr result (λ e. e ≢ out_of_memory → (r : T) → T.form.is_text r → row.now ≢ T.form.columns r) }
 {
     typed.push(T::from_row(row)?)?;
     Ok(())
@@ -226,8 +194,8 @@ pub fn push_row<T: FromRow>(typed: &mut Vec<T>, row: &SqlRow) -> Result<(), Erro
 
 /// The rows as typed rows.
 pub fn typed<T: FromRow>(alloc: Global, rows: &[SqlRow]) -> Result<Vec<T>, Error>
-    ensures value { IfOk result (λ typed. map T.columns typed.items ≡ map (first_columns T.width) rows.now) }
-    ensures refused { IfErr result (λ e. e ≢ out_of_memory → (typed : List T) → All T.is_text typed → rows.now ≢ map T.columns typed) }
+    ensures value { IfOk result (λ typed. map T.form.columns typed.items ≡ map (first_columns T.form.width) rows.now) }
+    ensures refused { IfErr result (λ e. e ≢ out_of_memory → (typed : List T) → All T.form.is_text typed → rows.now ≢ map T.form.columns typed) }
 {
     let mut typed = Vec::new(alloc);
     for row in rows {

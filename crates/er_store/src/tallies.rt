@@ -16,7 +16,7 @@ ghost use Rattle.er_store.specs.Reading.{KeepsTables};
 ghost use Rattle.er_store.specs.Standing.{StandsFor};
 
 use crate::faults::{BAD_ROW, refusal_of};
-use crate::reading::{read_meetings, read_players, read_tallies};
+use crate::reading::{read_meetings, read_table};
 use crate::rows::MeetingRow;
 use er_event::{Meeting, PlayerRow, Refusal, Tally, TallyRow, read_tally};
 use sqlite::{Alter, Connection};
@@ -144,11 +144,11 @@ pub fn find_tallies<S: Alter>(
     ensures kept { HasCleanDisk (state S.Store conn.new) → OnErr result (KeepsTables (state S.Store conn.old) (state S.Store conn.new)) }
     ensures survives { Survives (state S.Store conn.old) (state S.Store conn.new) (λ _. ⊥) }
 {
-    let players = match read_players(alloc, conn) {
+    let players = match read_table::<PlayerRow, S>(alloc, conn) {
         Ok(players) => players,
         Err(error) => return Err(refusal_of(error)),
     };
-    let rows = match read_tallies(alloc, conn) {
+    let rows = match read_table::<TallyRow, S>(alloc, conn) {
         Ok(rows) => rows,
         Err(error) => return Err(refusal_of(error)),
     };

@@ -24,12 +24,12 @@ ghost use Rattle.er_store.specs.inside.Steps.{Moves, Makes, MakesWith};
 ghost use Rattle.er_store.specs.Reading.{KeepsTables};
 
 use crate::creation::create_all;
-use crate::reading::READ_EVENT;
 use crate::statements::{
     insert_event, insert_pairing, insert_player, insert_slot, insert_tally, set_dropped, set_phase,
     set_score, set_serial, set_slot_score, set_tally,
 };
-use er_event::{Change, Event, Items, Match, Phase, PlayerNo, Score};
+use crate::tables::TableRow;
+use er_event::{Change, Event, EventRow, Items, Match, Phase, PlayerNo, Score};
 use sqlite::{Alter, Connection, Error, Transaction};
 
 /// Inserts the matches of one more round.
@@ -337,7 +337,7 @@ pub fn reads_event<S: Alter>(conn: &mut Connection<S>) -> Result<bool, Error>
     ensures kept { HasCleanDisk (state S.Store conn.new) → OnErr result (KeepsTables (state S.Store conn.old) (state S.Store conn.new)) }
     ensures survives { Survives (state S.Store conn.old) (state S.Store conn.new) (λ _. ⊥) }
 {
-    can_run(conn, READ_EVENT)
+    can_run(conn, EventRow::read())
 }
 
 pub const FIND_EVENT: &str = "SELECT 1 FROM event";

@@ -9,7 +9,8 @@ use Rattle.sqlite_resolve.specs.declared.error.CompileError.{CompileError}
 use Rattle.er_event.specs.Event.{EventValue}
 use Rattle.er_store.specs.Loading.{ShowsEvent}
 use Rattle.er_store.specs.Standing.{HasTables, AreKeyed, StandsFor, ReadsEvent, Shows}
-use Rattle.er_store.proofs.Meaning.{Takes, event_selected}
+use Rattle.er_store.proofs.Meaning.{event_selected}
+use Rattle.er_store.specs.inside.Queries.{Takes}
 use Rattle.er_store.proofs.Effects.{at_ours}
 use Rattle.er_store.proofs.Crash.{shows_leaves}
 use Rattle.er_store.proofs.LoadLemmas.{kept_tables, kept_stands}

@@ -12,7 +12,8 @@ use Rattle.er_store.specs.Tables as sql
 use Rattle.er_store.specs.Reading.{out_of_memory, IsReadRefused, first_columns}
 use Rattle.er_store.specs.Rows.{meeting_columns}
 use Rattle.er_store.specs.Standing.{HasTables}
-use Rattle.er_store.proofs.Meaning.{Selects, meeting_query, meetings_selected}
+use Rattle.er_store.proofs.Meaning.{meeting_query, meetings_selected}
+use Rattle.er_store.specs.inside.Queries.{Selects}
 use Rattle.er_store.proofs.Effects.{at_ours}
 use Rattle.er_store.proofs.Refusals.{meetings_refused}
 use Rattle.er_store.proofs.Selecting.{meetings_select, select_commits_nothing, select_fails}

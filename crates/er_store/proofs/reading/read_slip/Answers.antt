@@ -13,7 +13,8 @@ use Rattle.er_store.specs.Rows.{number, named_columns}
 use Rattle.er_store.specs.Slip.{named_pairings}
 use Rattle.er_store.specs.Standing.{HasTables, StandsFor}
 use Rattle.er_store.specs.Reading.{first_columns, out_of_memory, IsReadRefused}
-use Rattle.er_store.proofs.Meaning.{SelectsWith, slip_query, slip_selected}
+use Rattle.er_store.proofs.Meaning.{slip_query, slip_selected}
+use Rattle.er_store.specs.inside.Queries.{SelectsWith}
 use Rattle.er_store.proofs.Effects.{at_ours}
 use Rattle.er_store.proofs.Together.{if_ok, if_err}
 use Rattle.er_store.proofs.Refusals.{slip_refused}

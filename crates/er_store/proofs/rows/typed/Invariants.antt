@@ -3,4 +3,4 @@ use Rattle.er_store.specs.Reading.{first_columns}
 use Rattle.er_store.proofs.rows.typed.Given as goal
 
 abbrev pub invariant-loop-row : goal.invariant-loop-row
-invariant-loop-row g l = map g.T.FromRow.columns l.typed.items ≡ map (first_columns g.T.FromRow.width) (take l.row-index l.rows)
+invariant-loop-row g l = map g.T.FromRow.form.columns l.typed.items ≡ map (first_columns g.T.FromRow.form.width) (take l.row-index l.rows)

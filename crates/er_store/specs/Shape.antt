@@ -1,0 +1,97 @@
+-- The five tables: how each is named and read, where its rows are, and which of them an event has.
+use Rattle.std.specs.Prelude.{ℕ, List, [], ◌∷◌, ⊤, IsUtf8}
+use Rattle.std.specs.declared.cmp.Ordering.{Ordering}
+use Rattle.sqlite.specs.Order.{Row}
+use Rattle.er_event.specs.Event.{EventValue}
+use Rattle.er_event.specs.Rows.{event_row, player_rows, keyed_pairing_rows, bracket_rows, tally_rows}
+use Rattle.er_event.specs.declared.refusals.Place.{Place}
+use Rattle.er_event.specs.declared.refusals.Place.TheVariants.{EventTable, PlayerTable, PairingTable, BracketTable, TallyTable}
+use Rattle.er_event.specs.declared.rows.EventRow.{EventRow}
+use Rattle.er_event.specs.declared.rows.PlayerRow.{PlayerRow}
+use Rattle.er_event.specs.declared.rows.PairingRow.{PairingRow}
+use Rattle.er_event.specs.declared.rows.BracketRow.{BracketRow}
+use Rattle.er_event.specs.declared.rows.TallyRow.{TallyRow}
+use Rattle.er_store.specs.Tables.{read_event, read_players, read_pairings, read_bracket, read_tallies}
+use Rattle.er_store.specs.Rows.{event_columns, player_columns, pairing_columns, bracket_columns, tally_columns, event_places, player_places, pairing_places, bracket_places, tally_places}
+use Rattle.er_store.specs.Reading.{by_first, by_first_two}
+
+-- a typed row: how many columns it has, what they show, and when its texts are texts
+pub record Form (R : Type 0) : Type 1 where
+  pub width : ℕ
+  pub columns : R → Row
+  pub is_text : R → Type 0
+
+-- a table of such rows: how a refusal names it, the statement that reads it, its tree, the places of a stored row that
+-- are read, the order of its key, and the rows of an event with its serial
+pub record Shape (R : Type 0) : Type 1 where
+  pub place : Place
+  pub read : List ℕ
+  pub tree : ℕ
+  pub places : List ℕ
+  pub order : Row → Row → Ordering
+  pub rows : EventValue → ℕ → List R
+
+abbrev pub event_form : Form EventRow
+event_form = record { width = 7; columns = event_columns; is_text = λ (r : EventRow). IsUtf8 r.name }
+
+abbrev pub player_form : Form PlayerRow
+player_form = record { width = 3; columns = player_columns; is_text = λ (r : PlayerRow). IsUtf8 r.name }
+
+abbrev pub pairing_form : Form PairingRow
+pairing_form = record { width = 9; columns = pairing_columns; is_text = λ (r : PairingRow). ⊤ }
+
+abbrev pub bracket_form : Form BracketRow
+bracket_form = record { width = 8; columns = bracket_columns; is_text = λ (r : BracketRow). ⊤ }
+
+abbrev pub tally_form : Form TallyRow
+tally_form = record { width = 5; columns = tally_columns; is_text = λ (r : TallyRow). ⊤ }
+
+abbrev pub event_table : Shape EventRow
+event_table = record {
+  place = EventTable;
+  read = read_event;
+  tree = 0;
+  places = event_places;
+  order = by_first;
+  rows = λ e s. event_row e s ∷ [];
+}
+
+abbrev pub player_table : Shape PlayerRow
+player_table = record {
+  place = PlayerTable;
+  read = read_players;
+  tree = 1;
+  places = player_places;
+  order = by_first;
+  rows = λ e s. player_rows e;
+}
+
+abbrev pub pairing_table : Shape PairingRow
+pairing_table = record {
+  place = PairingTable;
+  read = read_pairings;
+  tree = 3;
+  places = pairing_places;
+  order = by_first_two;
+  rows = λ e s. keyed_pairing_rows e;
+}
+
+abbrev pub bracket_table : Shape BracketRow
+bracket_table = record {
+  place = BracketTable;
+  read = read_bracket;
+  tree = 6;
+  places = bracket_places;
+  order = by_first_two;
+  rows = λ e s. bracket_rows e;
+}
+
+abbrev pub tally_table : Shape TallyRow
+tally_table = record {
+  place = TallyTable;
+  read = read_tallies;
+  tree = 8;
+  places = tally_places;
+  order = by_first;
+  rows = λ e s. tally_rows e;
+}

@@ -1,0 +1,90 @@
+-- What a look at the tables finds, and what it leaves.
+use Rattle.std.specs.Prelude.{◌≡◌, ℕ, Bool, true, false, List, [], All, map, Result, Ok, Err, IfOk, IfErr, OnOk, OnErr}
+use Rattle.sqlite_ast.specs.declared.Statement.{Statement}
+use Rattle.sqlite_ast.specs.declared.Statement.TheVariants as written
+use Rattle.sqlite_syntax.specs.declared.statement.Parsed.{Parsed}
+use Rattle.sqlite_resolve.specs.Compile.{first}
+use Rattle.sqlite_resolve.specs.Lowering.{Checked}
+use Rattle.sqlite.specs.Order.{Row, column}
+use Rattle.sqlite.specs.Schema.{Schema}
+use Rattle.sqlite.specs.Tree.{Trees}
+use Rattle.sqlite.specs.Query.{IsAnswer}
+use Rattle.sqlite.specs.Program.{overlay}
+use Rattle.sqlite.specs.Effect.{Database}
+use Rattle.sqlite.specs.State.{State, HasCleanDisk, Survives, IsUnchanged}
+use Rattle.er_event.specs.Event.{EventValue}
+use Rattle.er_event.specs.Parts.{parts_of}
+use Rattle.er_event.specs.Sound.{IsSoundButForSeeds}
+use Rattle.er_event.specs.declared.parts.Parts.{Parts}
+use Rattle.er_event.specs.declared.refusals.Refusal.{Refusal}
+use Rattle.er_event.specs.declared.refusals.Refusal.TheVariants.{Damaged}
+use Rattle.er_event.specs.declared.refusals.Place.{Place}
+use Rattle.er_event.specs.declared.rows.TallyRow.{TallyRow}
+use Rattle.er_store.specs.Rows.{shown}
+use Rattle.er_store.specs.Shape.{Form, Shape, tally_form, tally_table}
+use Rattle.er_store.specs.Reading.{Lists, first_columns, KeepsTables}
+use Rattle.er_store.specs.Standing.{HasTables, StandsFor}
+use Rattle.er_store.specs.Loading.{IsListed, ListsParts}
+use Rattle.er_store.specs.Damage.{IsMisreadAs, MayRead, ReadsParts, IsFirstMisread, IfDamaged}
+use Rattle.er_store.specs.Fault.{IsFault, IsLoadFault}
+use Rattle.er_store.specs.inside.Queries.{table_query, Selects}
+
+abbrev pub is_select_by : Statement → Bool
+is_select_by (written.Select s) = true
+is_select_by _ = false
+
+-- the text begins with a SELECT, by its grammar alone
+abbrev pub begins_select : Checked Parsed → Bool
+begins_select (Ok p) = is_select_by p.statement
+begins_select (Err e) = false
+
+-- What is true of each of the five: its statement is a SELECT that lists its rows by its key, and the rows of an event
+-- are told by what they show.
+pub record IsOurs {R : Type 0} (form : Form R) (table : Shape R) : Type 0 where
+  pub begins : begins_select (first table.read) ≡ true
+  pub keys : List ℕ
+  pub selects : (schema : Schema) → HasTables schema → Selects table.read (table_query table.tree table.places keys) schema
+  pub lists : (trees : Trees) (rows : List Row) → IsAnswer (table_query table.tree table.places keys) (overlay trees []) [] rows
+      → Lists table.order (shown table.places (trees table.tree)) rows
+  pub whole : (r : Row) → first_columns form.width (map (column r) table.places) ≡ map (column r) table.places
+  pub exact : (db : Database) (e : EventValue) (s : ℕ) (rows : List Row) → StandsFor db e s → IsSoundButForSeeds e
+      → Lists table.order (shown table.places (db.trees table.tree)) rows → rows ≡ map form.columns (table.rows e s)
+  pub same : (r s : R) → form.columns r ≡ form.columns s → r ≡ s
+  pub texts : (e : EventValue) (s : ℕ) → IsSoundButForSeeds e → All form.is_text (table.rows e s)
+
+-- what is found is of the database before; whatever is answered, a crash leaves what it could before
+pub record LooksUp {A : Type 0} (Finds : Database → A → Type 0) (Misses : Database → Refusal → Type 0) (old new : State) (result : Result A Refusal)
+    : Type 0 where
+  pub clean : HasCleanDisk new → HasCleanDisk old
+  pub finds : HasCleanDisk new → IfOk result (Finds old.now)
+  pub misses : HasCleanDisk new → IfErr result (Misses old.now)
+  pub fault : IfErr result IsLoadFault
+  pub same : HasCleanDisk new → OnOk result (IsUnchanged old new)
+  pub kept : HasCleanDisk new → OnErr result (KeepsTables old new)
+  pub survives : Survives old new (λ _. ⊥)
+
+-- the rows of a table: as SQL alone says, as the tables list them, and as the event has them
+pub record FindsRows {R : Type 0} (form : Form R) (table : Shape R) (db : Database) (rows : List R) : Type 0 where
+  pub reads : MayRead form table db rows
+  pub lists : HasTables db.schema → IsListed form table db rows
+  pub exact : (e : EventValue) (s : ℕ) → StandsFor db e s → IsSoundButForSeeds e → rows ≡ table.rows e s
+
+-- where the tables stand, memory or the device; and damage is of this table
+pub record MissesRows {R : Type 0} (form : Form R) (table : Shape R) (db : Database) (why : Refusal) : Type 0 where
+  pub misread : (at : Place) → why ≡ Damaged at → (at ≡ table.place) × IsMisreadAs form table db
+  pub refused : (e : EventValue) (s : ℕ) → StandsFor db e s → IsSoundButForSeeds e → IsFault why
+
+-- the rows of the four tables that an event is made of
+pub record FindsParts (db : Database) (parts : Parts) : Type 0 where
+  pub reads : ReadsParts db parts
+  pub lists : HasTables db.schema → ListsParts db parts
+  pub exact : (e : EventValue) (s : ℕ) → StandsFor db e s → IsSoundButForSeeds e → parts ≡ parts_of e s
+
+-- those of all five
+abbrev pub FindsTables : Database → Parts × List TallyRow → Type 0
+FindsTables db it = FindsParts db it.0 × FindsRows tally_form tally_table db it.1
+
+-- where the tables stand, memory or the device; and damage is of the first table that is misread
+pub record MissesTables (db : Database) (why : Refusal) : Type 0 where
+  pub misread : IfDamaged (IsFirstMisread db) why
+  pub refused : (e : EventValue) (s : ℕ) → StandsFor db e s → IsSoundButForSeeds e → IsFault why
