@@ -5,9 +5,11 @@ use Rattle.sqlite.specs.declared.error.Error.{Error}
 use Rattle.sqlite.specs.State.{State, KeepsCommit, IsRolledBack, ExecutesInside}
 use Rattle.sqlite.specs.Steps.{FailsToCommit}
 use Rattle.sqlite.specs.Held.{Held, state}
-use Rattle.sqlite.proofs.InsideLemmas.{inside_keeps}
+use Rattle.sqlite.proofs.InsideLemmas.{inside_keeps, keeps_then}
 use Rattle.sqlite_trees.specs.declared.store.Store.{Ghosts}
 use Rattle.er_store.specs.Reading.{KeepsTables}
+use Rattle.er_store.specs.inside.Steps.{Stays}
+use Rattle.er_store.proofs.Crash.{was_clean, survives_self, survives_both}
 
 pub commit_stays : (s : State) → KeepsCommit s s
 commit_stays s = record { was_open = λ is_open. is_open; committed = λ _. refl }
@@ -20,6 +22,16 @@ step_keeps g old new sql params r e ended runs = go (state g old).in_transaction
     go : (b : Bool) → (state g old).in_transaction ≡ b → KeepsCommit (state g old) (state g new)
     go true is = inside_keeps (state g old) (state g new) 0 false sql params r (runs is)
     go false is = subst (λ h. KeepsCommit (state g old) (state g h)) (sym (ended is).1) (commit_stays (state g old))
+
+pub stays_self : (s : State) → Stays s s
+stays_self s = record { committed = λ _. commit_stays s; survives = survives_self s }
+
+-- one step after another
+pub stays_then : (a b c : State) → Stays a b → Stays b c → Stays a c
+stays_then a b c p q = record {
+  committed = λ clean. keeps_then a b c (p.committed (was_clean b c _ q.survives clean)) (q.committed clean);
+  survives = survives_both a b c p.survives q.survives;
+}
 
 -- what a transaction leaves that was undone
 pub undone_keeps : (old last end : State) → KeepsCommit (record old { in_transaction = true }) last → IsRolledBack last end → KeepsTables old end

@@ -6,10 +6,8 @@ use Rattle.sqlite.specs.State as sqlite
 use Rattle.sqlite.specs.State.{State, HasCleanDisk, Survives}
 use Rattle.sqlite.proofs.StateLemmas.{survives_then}
 use Rattle.er_event.specs.Event.{EventValue}
-use Rattle.er_store.specs.Rows.{stored_event}
-use Rattle.er_store.specs.Standing.{StandsFor, IsNew, IsStored, Shows, Either, KeepsOthers}
-use Rattle.er_store.specs.inside.Steps.{Makes, Puts, CreatesAll}
-use Rattle.er_store.proofs.Together.{moves_then, event_put}
+use Rattle.er_store.specs.Standing.{StandsFor, IsStored, Shows, Either}
+use Rattle.er_store.specs.inside.Steps.{IsReady}
 
 -- while the store is open, a crash leaves the last commit alone
 abbrev pub Settles : State → Type 0
@@ -32,25 +30,23 @@ pub only : {A : Type 0} → A ⊎ ⊥ → A
 only (inl a) = a
 only (inr none) = absurd none
 
-module _ (old mid last end : State) (e e' : EventValue) (s t : ℕ) (was : Shows old e s) (one : Makes (record old { in_transaction = true }) mid e' s) (two : Makes mid last e' t) where
-  pub written : sqlite.Shows last end last.now last.now false → Shows end e' t × KeepsOthers old.now end.now
-  written done = (
-    record { is_open = done.is_open; sound = subst IsDatabase (sym done.now_is) two.moves.sound; settled = done.now_is ∙ sym done.committed_is; stands = subst (λ d. StandsFor d e' t) (sym done.now_is) two.stands },
-    subst (KeepsOthers old.now) (sym done.now_is) (moves_then (record old { in_transaction = true }) mid last one.moves two.moves).keeps,
-  )
+module _ (last end : State) (e : EventValue) (s : ℕ) (ready : IsReady last e s) where
+  -- once it is committed, the connection sees it
+  pub written : sqlite.Shows last end last.now last.now false → Shows end e s
+  written done = record {
+    is_open = done.is_open;
+    sound = subst IsDatabase (sym done.now_is) ready.sound;
+    settled = done.now_is ∙ sym done.committed_is;
+    stands = subst (λ d. StandsFor d e s) (sym done.now_is) ready.stands;
+  }
 
-  pub leaves_new : (trees : Trees) → trees ≡ last.now.trees → IsStored e' t trees
-  leaves_new = stored_at last.now e' t two.moves.sound two.stands
-
-  -- a crash leaves what it could before, or the event after the change
-  pub leaves_either : Settles old → Survives (record old { in_transaction = true }) mid (λ _. ⊥) → Survives mid last (λ _. ⊥) → Survives last end (λ db. db ≡ last.now.trees)
-      → HasCleanDisk end → (trees : Trees) → end.may_leave trees → Either (IsStored e s) (IsStored e' t) trees
-  leaves_either settles first second third clean trees may =
-      let clean_last = was_clean last end _ third clean in
-      let clean_mid = was_clean mid last _ second clean_last in
-      elim (third.crash clean trees may) [
-        | inl early ↦ inl (shows_leaves old e s settles was trees (only (first.crash clean_mid trees (only (second.crash clean_last trees early)))))
-        | inr now ↦ inr (leaves_new trees now)
+  -- a crash leaves what it could before, or the event
+  pub leaves_either : (start : State) (Before : Trees → Type 0) → ((trees : Trees) → start.may_leave trees → Before trees) → Survives start last (λ _. ⊥) → Survives last end (λ db. db ≡ last.now.trees)
+      → HasCleanDisk end → (trees : Trees) → end.may_leave trees → Either Before (IsStored e s) trees
+  leaves_either start Before before quiet commits clean trees may =
+      elim (commits.crash clean trees may) [
+        | inl early ↦ inl (before trees (only (quiet.crash (was_clean last end _ commits clean) trees early)))
+        | inr now ↦ inr (stored_at last.now e s ready.sound ready.stands trees now)
       ]
 
 pub survives_both : (a b c : State) → Survives a b (λ _. ⊥) → Survives b c (λ _. ⊥) → Survives a c (λ _. ⊥)
@@ -59,23 +55,3 @@ survives_both a b c = survives_then a b c (λ _. ⊥) (λ _. ⊥) (λ _. ⊥) (�
 -- where nothing was committed, a crash leaves the event before the change
 pub leaves_old : (old end : State) (e : EventValue) (s : ℕ) → Settles old → Shows old e s → Survives (record old { in_transaction = true }) end (λ _. ⊥) → HasCleanDisk end → (trees : Trees) → end.may_leave trees → IsStored e s trees
 leaves_old old end e s settles was quiet clean trees may = shows_leaves old e s settles was trees (only (quiet.crash clean trees may))
-
--- the same of creation
-module _ (old mid last end : State) (e : EventValue) (fresh : IsNew e) (one : CreatesAll (record old { in_transaction = true }) mid) (two : Puts 0 (stored_event e 0) mid last) where
-  pub made : sqlite.Shows last end last.now last.now false → Shows end e 0
-  made done = record {
-    is_open = done.is_open;
-    sound = subst IsDatabase (sym done.now_is) two.goes.sound;
-    settled = done.now_is ∙ sym done.committed_is;
-    stands = subst (λ d. StandsFor d e 0) (sym done.now_is) (event_put (record old { in_transaction = true }) mid last e fresh one two);
-  }
-
-  pub leaves_none_or_new : Survives (record old { in_transaction = true }) mid (λ _. ⊥) → Survives mid last (λ _. ⊥) → Survives last end (λ db. db ≡ last.now.trees)
-      → HasCleanDisk end → (trees : Trees) → end.may_leave trees → Either old.may_leave (IsStored e 0) trees
-  leaves_none_or_new first second third clean trees may =
-      let clean_last = was_clean last end _ third clean in
-      let clean_mid = was_clean mid last _ second clean_last in
-      elim (third.crash clean trees may) [
-        | inl early ↦ inl (only (first.crash clean_mid trees (only (second.crash clean_last trees early))))
-        | inr now ↦ inr (stored_at last.now e 0 two.goes.sound (event_put (record old { in_transaction = true }) mid last e fresh one two) trees now)
-      ]

@@ -1,69 +1,62 @@
 ghost use Rattle.std.specs.Prelude.{◌≡◌, OnOk};
-ghost use Rattle.sqlite.specs.State.{HasCleanDisk, KeepsCommit, Survives};
+ghost use Rattle.sqlite.specs.State.{HasCleanDisk};
 ghost use Rattle.sqlite.specs.Held.{state};
 ghost use Rattle.er_store.specs.Tables.{no_schema, event_schema, player_schema, pairing_schema, bracket_schema, our_schema};
-ghost use Rattle.er_store.specs.inside.Steps.{Creates, CreatesAll};
+ghost use Rattle.er_store.specs.inside.Steps.{Stays, Creates, CreatesAll};
 
+use crate::statements::run;
 use sqlite::{Alter, Error, Transaction};
 
 pub const CREATE_EVENT: &str =
     "CREATE TABLE event(id INTEGER PRIMARY KEY CHECK(id = 1), version INTEGER NOT NULL, serial INTEGER NOT NULL, name TEXT NOT NULL, rounds INTEGER NOT NULL, cut INTEGER NOT NULL, phase INTEGER NOT NULL)";
 
-/// Makes the table `event`. A crash in it leaves what it could leave before.
+/// Makes the table `event`.
 fn create_event<S: Alter>(tx: &mut Transaction<'_, S>) -> Result<(), Error>
     ensures same_reference { tx.new.conn.ghost_name ≡ tx.old.conn.ghost_name }
     ensures creates { HasCleanDisk (state S.Store tx.new.conn.now) → (state S.Store tx.old.conn.now).now.schema ≡ no_schema
         → OnOk result (Creates no_schema event_schema (state S.Store tx.old.conn.now) (state S.Store tx.new.conn.now)) }
-    ensures committed { HasCleanDisk (state S.Store tx.new.conn.now) → KeepsCommit (state S.Store tx.old.conn.now) (state S.Store tx.new.conn.now) }
-    ensures survives { Survives (state S.Store tx.old.conn.now) (state S.Store tx.new.conn.now) (λ _. ⊥) }
+    ensures stays { Stays (state S.Store tx.old.conn.now) (state S.Store tx.new.conn.now) }
 {
-    tx.execute(CREATE_EVENT, &[])?;
-    Ok(())
+    run(tx, CREATE_EVENT, &[])
 }
 
 pub const CREATE_PLAYER: &str =
     "CREATE TABLE player(no INTEGER PRIMARY KEY, name TEXT NOT NULL UNIQUE, dropped INTEGER NOT NULL)";
 
-/// Makes the table `player`. A crash in it leaves what it could leave before.
+/// Makes the table `player`.
 fn create_player<S: Alter>(tx: &mut Transaction<'_, S>) -> Result<(), Error>
     ensures same_reference { tx.new.conn.ghost_name ≡ tx.old.conn.ghost_name }
     ensures creates { HasCleanDisk (state S.Store tx.new.conn.now) → (state S.Store tx.old.conn.now).now.schema ≡ event_schema
         → OnOk result (Creates event_schema player_schema (state S.Store tx.old.conn.now) (state S.Store tx.new.conn.now)) }
-    ensures committed { HasCleanDisk (state S.Store tx.new.conn.now) → KeepsCommit (state S.Store tx.old.conn.now) (state S.Store tx.new.conn.now) }
-    ensures survives { Survives (state S.Store tx.old.conn.now) (state S.Store tx.new.conn.now) (λ _. ⊥) }
+    ensures stays { Stays (state S.Store tx.old.conn.now) (state S.Store tx.new.conn.now) }
 {
-    tx.execute(CREATE_PLAYER, &[])?;
-    Ok(())
+    run(tx, CREATE_PLAYER, &[])
 }
 
 pub const CREATE_PAIRING: &str =
     "CREATE TABLE pairing(round INTEGER NOT NULL, tab INTEGER NOT NULL, lo INTEGER NOT NULL, hi INTEGER NOT NULL, swapped INTEGER NOT NULL, done INTEGER NOT NULL, x INTEGER NOT NULL, y INTEGER NOT NULL, d INTEGER NOT NULL, PRIMARY KEY(round, tab), UNIQUE(lo, hi), CHECK(lo < hi))";
 
-/// Makes the table `pairing`. A crash in it leaves what it could leave before.
+/// Makes the table `pairing`.
 fn create_pairing<S: Alter>(tx: &mut Transaction<'_, S>) -> Result<(), Error>
     ensures same_reference { tx.new.conn.ghost_name ≡ tx.old.conn.ghost_name }
     ensures creates { HasCleanDisk (state S.Store tx.new.conn.now) → (state S.Store tx.old.conn.now).now.schema ≡ player_schema
         → OnOk result (Creates player_schema pairing_schema (state S.Store tx.old.conn.now) (state S.Store tx.new.conn.now)) }
-    ensures committed { HasCleanDisk (state S.Store tx.new.conn.now) → KeepsCommit (state S.Store tx.old.conn.now) (state S.Store tx.new.conn.now) }
-    ensures survives { Survives (state S.Store tx.old.conn.now) (state S.Store tx.new.conn.now) (λ _. ⊥) }
+    ensures stays { Stays (state S.Store tx.old.conn.now) (state S.Store tx.new.conn.now) }
 {
-    tx.execute(CREATE_PAIRING, &[])?;
-    Ok(())
+    run(tx, CREATE_PAIRING, &[])
 }
 
 pub const CREATE_BRACKET: &str =
     "CREATE TABLE bracket(stage INTEGER NOT NULL, slot INTEGER NOT NULL, a INTEGER NOT NULL, b INTEGER NOT NULL, done INTEGER NOT NULL, x INTEGER NOT NULL, y INTEGER NOT NULL, d INTEGER NOT NULL, PRIMARY KEY(stage, slot))";
 
-/// Makes the table `bracket`. A crash in it leaves what it could leave before.
+/// Makes the table `bracket`.
 fn create_bracket<S: Alter>(tx: &mut Transaction<'_, S>) -> Result<(), Error>
     ensures same_reference { tx.new.conn.ghost_name ≡ tx.old.conn.ghost_name }
     ensures creates { HasCleanDisk (state S.Store tx.new.conn.now) → (state S.Store tx.old.conn.now).now.schema ≡ pairing_schema
         → OnOk result (Creates pairing_schema bracket_schema (state S.Store tx.old.conn.now) (state S.Store tx.new.conn.now)) }
-    ensures committed { HasCleanDisk (state S.Store tx.new.conn.now) → KeepsCommit (state S.Store tx.old.conn.now) (state S.Store tx.new.conn.now) }
-    ensures survives { Survives (state S.Store tx.old.conn.now) (state S.Store tx.new.conn.now) (λ _. ⊥) }
+    ensures stays { Stays (state S.Store tx.old.conn.now) (state S.Store tx.new.conn.now) }
 {
-    tx.execute(CREATE_BRACKET, &[])?;
-    Ok(())
+    run(tx, CREATE_BRACKET, &[])
 }
 
 pub const CREATE_TALLY: &str =
@@ -74,11 +67,9 @@ fn create_tally<S: Alter>(tx: &mut Transaction<'_, S>) -> Result<(), Error>
     ensures same_reference { tx.new.conn.ghost_name ≡ tx.old.conn.ghost_name }
     ensures creates { HasCleanDisk (state S.Store tx.new.conn.now) → (state S.Store tx.old.conn.now).now.schema ≡ bracket_schema
         → OnOk result (Creates bracket_schema our_schema (state S.Store tx.old.conn.now) (state S.Store tx.new.conn.now)) }
-    ensures committed { HasCleanDisk (state S.Store tx.new.conn.now) → KeepsCommit (state S.Store tx.old.conn.now) (state S.Store tx.new.conn.now) }
-    ensures survives { Survives (state S.Store tx.old.conn.now) (state S.Store tx.new.conn.now) (λ _. ⊥) }
+    ensures stays { Stays (state S.Store tx.old.conn.now) (state S.Store tx.new.conn.now) }
 {
-    tx.execute(CREATE_TALLY, &[])?;
-    Ok(())
+    run(tx, CREATE_TALLY, &[])
 }
 
 /// Makes the five tables.
@@ -86,8 +77,7 @@ pub fn create_all<S: Alter>(tx: &mut Transaction<'_, S>) -> Result<(), Error>
     ensures same_reference { tx.new.conn.ghost_name ≡ tx.old.conn.ghost_name }
     ensures creates { HasCleanDisk (state S.Store tx.new.conn.now) → (state S.Store tx.old.conn.now).now.schema ≡ no_schema
         → OnOk result (CreatesAll (state S.Store tx.old.conn.now) (state S.Store tx.new.conn.now)) }
-    ensures committed { HasCleanDisk (state S.Store tx.new.conn.now) → KeepsCommit (state S.Store tx.old.conn.now) (state S.Store tx.new.conn.now) }
-    ensures survives { Survives (state S.Store tx.old.conn.now) (state S.Store tx.new.conn.now) (λ _. ⊥) }
+    ensures stays { Stays (state S.Store tx.old.conn.now) (state S.Store tx.new.conn.now) }
 {
     create_event(tx)?;
     create_player(tx)?;

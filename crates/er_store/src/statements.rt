@@ -1,6 +1,7 @@
 ghost use Rattle.std.specs.Prelude.{◌≡◌, ◌≤◌, ◌+◌, ◌++◌, ◌∷◌, [], ℕ, List, Some, OnOk, Contains, IsTrue, IsFalse, length};
 ghost use Rattle.std.specs.List.{range_with_len};
-ghost use Rattle.sqlite.specs.State.{HasCleanDisk, KeepsCommit, Survives};
+ghost use Rattle.sqlite.specs.State.{HasCleanDisk};
+ghost use Rattle.sqlite.specs.Values.{bound};
 ghost use Rattle.sqlite.specs.Held.{state};
 ghost use Rattle.er_event.specs.declared.refusals.TheConstants.{MAX_SERIAL};
 ghost use Rattle.er_event.specs.declared.rows.TallyRow.{TallyRow};
@@ -14,14 +15,29 @@ ghost use Rattle.er_event.specs.Rows.{phase_code, games_of, tally_row, tally_row
 ghost use Rattle.er_store.specs.inside.Totals.{set_for};
 ghost use Rattle.er_event.specs.declared.totals.Totals.{Totals};
 ghost use Rattle.er_store.specs.Standing.{HasTables, StandsWith};
-ghost use Rattle.er_store.specs.inside.Steps.{Puts, MakesWith};
+ghost use Rattle.er_store.specs.inside.Steps.{Ran, Stays, Puts, MakesWith};
 
 use er_event::{Event, Games, Match, Phase, Score, Totals};
+use sqlite::types::ValueRef;
 use sqlite::{Alter, Error, Transaction, params};
+
+/// Runs one statement. A crash in it leaves what it could leave before.
+pub fn run<S: Alter>(
+    tx: &mut Transaction<'_, S>,
+    sql: &str,
+    params: &[ValueRef<'_>],
+) -> Result<(), Error>
+    ensures same_reference { tx.new.conn.ghost_name ≡ tx.old.conn.ghost_name }
+    ensures ran { HasCleanDisk (state S.Store tx.new.conn.now) → OnOk result (Ran sql.now (bound params.now) (state S.Store tx.old.conn.now) (state S.Store tx.new.conn.now)) }
+    ensures stays { Stays (state S.Store tx.old.conn.now) (state S.Store tx.new.conn.now) }
+{
+    tx.execute(sql, params)?;
+    Ok(())
+}
 
 pub const INSERT_PLAYER: &str = "INSERT INTO player (no, name, dropped) VALUES (?1, ?2, ?3)";
 
-/// Inserts one player. A crash in it leaves what it could leave before.
+/// Inserts one player.
 pub fn insert_player<S: Alter>(
     tx: &mut Transaction<'_, S>,
     number: u32,
@@ -31,11 +47,9 @@ pub fn insert_player<S: Alter>(
     ensures same_reference { tx.new.conn.ghost_name ≡ tx.old.conn.ghost_name }
     ensures puts { HasCleanDisk (state S.Store tx.new.conn.now) → HasTables (state S.Store tx.old.conn.now).now.schema
         → OnOk result (Puts 1 (stored_player number name.now dropped) (state S.Store tx.old.conn.now) (state S.Store tx.new.conn.now)) }
-    ensures committed { HasCleanDisk (state S.Store tx.new.conn.now) → KeepsCommit (state S.Store tx.old.conn.now) (state S.Store tx.new.conn.now) }
-    ensures survives { Survives (state S.Store tx.old.conn.now) (state S.Store tx.new.conn.now) (λ _. ⊥) }
+    ensures stays { Stays (state S.Store tx.old.conn.now) (state S.Store tx.new.conn.now) }
 {
-    tx.execute(INSERT_PLAYER, params![number, name, dropped])?;
-    Ok(())
+    run(tx, INSERT_PLAYER, params![number, name, dropped])
 }
 
 pub const INSERT_EVENT: &str =
@@ -51,17 +65,16 @@ pub fn insert_event<S: Alter>(
     ensures puts { HasCleanDisk (state S.Store tx.new.conn.now) → HasTables (state S.Store tx.old.conn.now).now.schema
         → OnOk result (Puts 0 (stored_event event.now serial) (state S.Store tx.old.conn.now) (state S.Store tx.new.conn.now)) }
     ensures inside { HasCleanDisk (state S.Store tx.new.conn.now) → OnOk result (IsTrue (state S.Store tx.new.conn.now).in_transaction) }
-    ensures committed { HasCleanDisk (state S.Store tx.new.conn.now) → KeepsCommit (state S.Store tx.old.conn.now) (state S.Store tx.new.conn.now) }
-    ensures survives { Survives (state S.Store tx.old.conn.now) (state S.Store tx.new.conn.now) (λ _. ⊥) }
+    ensures stays { Stays (state S.Store tx.old.conn.now) (state S.Store tx.new.conn.now) }
 {
     let rounds = u32::from(event.rounds());
     let cut = u32::from(event.cut());
     let phase = u32::from(event.phase().code());
-    tx.execute(
+    run(
+        tx,
         INSERT_EVENT,
         params![serial, event.name().as_str(), rounds, cut, phase],
-    )?;
-    Ok(())
+    )
 }
 
 pub const SET_SERIAL: &str = "UPDATE event SET serial = ?1";
@@ -73,11 +86,9 @@ pub fn set_serial<S: Alter>(tx: &mut Transaction<'_, S>, serial: u32) -> Result<
     ensures makes { HasCleanDisk (state S.Store tx.new.conn.now) → (e : EventValue) (s : ℕ) (t : List TallyRow) → StandsWith (state S.Store tx.old.conn.now).now e s t
         → OnOk result (MakesWith (state S.Store tx.old.conn.now) (state S.Store tx.new.conn.now) e serial t) }
     ensures inside { HasCleanDisk (state S.Store tx.new.conn.now) → OnOk result (IsTrue (state S.Store tx.new.conn.now).in_transaction) }
-    ensures committed { HasCleanDisk (state S.Store tx.new.conn.now) → KeepsCommit (state S.Store tx.old.conn.now) (state S.Store tx.new.conn.now) }
-    ensures survives { Survives (state S.Store tx.old.conn.now) (state S.Store tx.new.conn.now) (λ _. ⊥) }
+    ensures stays { Stays (state S.Store tx.old.conn.now) (state S.Store tx.new.conn.now) }
 {
-    tx.execute(SET_SERIAL, params![serial])?;
-    Ok(())
+    run(tx, SET_SERIAL, params![serial])
 }
 
 pub const SET_PHASE: &str = "UPDATE event SET phase = ?1";
@@ -87,11 +98,9 @@ pub fn set_phase<S: Alter>(tx: &mut Transaction<'_, S>, phase: Phase) -> Result<
     ensures same_reference { tx.new.conn.ghost_name ≡ tx.old.conn.ghost_name }
     ensures makes { HasCleanDisk (state S.Store tx.new.conn.now) → (e : EventValue) (s : ℕ) (t : List TallyRow) → StandsWith (state S.Store tx.old.conn.now).now e s t
         → OnOk result (MakesWith (state S.Store tx.old.conn.now) (state S.Store tx.new.conn.now) (with_phase e phase) s t) }
-    ensures committed { HasCleanDisk (state S.Store tx.new.conn.now) → KeepsCommit (state S.Store tx.old.conn.now) (state S.Store tx.new.conn.now) }
-    ensures survives { Survives (state S.Store tx.old.conn.now) (state S.Store tx.new.conn.now) (λ _. ⊥) }
+    ensures stays { Stays (state S.Store tx.old.conn.now) (state S.Store tx.new.conn.now) }
 {
-    tx.execute(SET_PHASE, params![u32::from(phase.code())])?;
-    Ok(())
+    run(tx, SET_PHASE, params![u32::from(phase.code())])
 }
 
 pub const SET_DROPPED: &str = "UPDATE player SET dropped = 1 WHERE no = ?1";
@@ -102,11 +111,9 @@ pub fn set_dropped<S: Alter>(tx: &mut Transaction<'_, S>, number: u32) -> Result
     ensures makes { HasCleanDisk (state S.Store tx.new.conn.now) → (e : EventValue) (s : ℕ) (t : List TallyRow) → StandsWith (state S.Store tx.old.conn.now).now e s t
         → numbers e.players ≡ range_with_len 1 (length e.players) → Contains (numbers e.players) number
         → OnOk result (MakesWith (state S.Store tx.old.conn.now) (state S.Store tx.new.conn.now) (with_dropped e number) s t) }
-    ensures committed { HasCleanDisk (state S.Store tx.new.conn.now) → KeepsCommit (state S.Store tx.old.conn.now) (state S.Store tx.new.conn.now) }
-    ensures survives { Survives (state S.Store tx.old.conn.now) (state S.Store tx.new.conn.now) (λ _. ⊥) }
+    ensures stays { Stays (state S.Store tx.old.conn.now) (state S.Store tx.new.conn.now) }
 {
-    tx.execute(SET_DROPPED, params![number])?;
-    Ok(())
+    run(tx, SET_DROPPED, params![number])
 }
 
 pub const SET_SCORE: &str =
@@ -123,15 +130,14 @@ pub fn set_score<S: Alter>(
     ensures makes { HasCleanDisk (state S.Store tx.new.conn.now) → (e : EventValue) (s : ℕ) (t : List TallyRow) → StandsWith (state S.Store tx.old.conn.now).now e s t
         → (m : Match) → match_at e round table ≡ Some m → IsFalse (is_bye m)
         → OnOk result (MakesWith (state S.Store tx.old.conn.now) (state S.Store tx.new.conn.now) (with_score e round table score) s t) }
-    ensures committed { HasCleanDisk (state S.Store tx.new.conn.now) → KeepsCommit (state S.Store tx.old.conn.now) (state S.Store tx.new.conn.now) }
-    ensures survives { Survives (state S.Store tx.old.conn.now) (state S.Store tx.new.conn.now) (λ _. ⊥) }
+    ensures stays { Stays (state S.Store tx.old.conn.now) (state S.Store tx.new.conn.now) }
 {
     let Games { x, y, d } = score.games();
-    tx.execute(
+    run(
+        tx,
         SET_SCORE,
         params![round, table, u32::from(x), u32::from(y), u32::from(d)],
-    )?;
-    Ok(())
+    )
 }
 
 pub const INSERT_PAIRING: &str =
@@ -148,15 +154,15 @@ pub fn insert_pairing<S: Alter>(
     ensures makes { HasCleanDisk (state S.Store tx.new.conn.now) → (e : EventValue) (before : List Match) (s : ℕ) (t : List TallyRow) → StandsWith (state S.Store tx.old.conn.now).now (with_round e before) s t
         → round ≡ length e.stored + 1 → place ≡ length before + 1
         → OnOk result (MakesWith (state S.Store tx.old.conn.now) (state S.Store tx.new.conn.now) (with_round e (before ++ played.now ∷ [])) s t) }
-    ensures committed { HasCleanDisk (state S.Store tx.new.conn.now) → KeepsCommit (state S.Store tx.old.conn.now) (state S.Store tx.new.conn.now) }
-    ensures survives { Survives (state S.Store tx.old.conn.now) (state S.Store tx.new.conn.now) (λ _. ⊥) }
+    ensures stays { Stays (state S.Store tx.old.conn.now) (state S.Store tx.new.conn.now) }
 {
     let table = if played.b == 0 { 0 } else { place };
     let lower = u32::from(played.a.min(played.b));
     let higher = u32::from(played.a.max(played.b));
     let swapped = played.b < played.a;
     let Games { x, y, d } = played.games();
-    tx.execute(
+    run(
+        tx,
         INSERT_PAIRING,
         params![
             round,
@@ -169,8 +175,7 @@ pub fn insert_pairing<S: Alter>(
             u32::from(y),
             u32::from(d)
         ],
-    )?;
-    Ok(())
+    )
 }
 
 pub const INSERT_SLOT: &str =
@@ -187,11 +192,11 @@ pub fn insert_slot<S: Alter>(
     ensures makes { HasCleanDisk (state S.Store tx.new.conn.now) → (e : EventValue) (before : List Match) (s : ℕ) (t : List TallyRow) → StandsWith (state S.Store tx.old.conn.now).now (with_stage e before) s t
         → stage ≡ length e.bracket.stages + 1 → slot ≡ length before + 1
         → OnOk result (MakesWith (state S.Store tx.old.conn.now) (state S.Store tx.new.conn.now) (with_stage e (before ++ played.now ∷ [])) s t) }
-    ensures committed { HasCleanDisk (state S.Store tx.new.conn.now) → KeepsCommit (state S.Store tx.old.conn.now) (state S.Store tx.new.conn.now) }
-    ensures survives { Survives (state S.Store tx.old.conn.now) (state S.Store tx.new.conn.now) (λ _. ⊥) }
+    ensures stays { Stays (state S.Store tx.old.conn.now) (state S.Store tx.new.conn.now) }
 {
     let Games { x, y, d } = played.games();
-    tx.execute(
+    run(
+        tx,
         INSERT_SLOT,
         params![
             stage,
@@ -203,8 +208,7 @@ pub fn insert_slot<S: Alter>(
             u32::from(y),
             u32::from(d)
         ],
-    )?;
-    Ok(())
+    )
 }
 
 pub const SET_SLOT_SCORE: &str =
@@ -221,15 +225,14 @@ pub fn set_slot_score<S: Alter>(
     ensures makes { HasCleanDisk (state S.Store tx.new.conn.now) → (e : EventValue) (s : ℕ) (t : List TallyRow) → StandsWith (state S.Store tx.old.conn.now).now e s t
         → (m : Match) → slot_at e stage slot ≡ Some m
         → OnOk result (MakesWith (state S.Store tx.old.conn.now) (state S.Store tx.new.conn.now) (with_slot_score e stage slot score) s t) }
-    ensures committed { HasCleanDisk (state S.Store tx.new.conn.now) → KeepsCommit (state S.Store tx.old.conn.now) (state S.Store tx.new.conn.now) }
-    ensures survives { Survives (state S.Store tx.old.conn.now) (state S.Store tx.new.conn.now) (λ _. ⊥) }
+    ensures stays { Stays (state S.Store tx.old.conn.now) (state S.Store tx.new.conn.now) }
 {
     let Games { x, y, d } = score.games();
-    tx.execute(
+    run(
+        tx,
         SET_SLOT_SCORE,
         params![stage, slot, u32::from(x), u32::from(y), u32::from(d)],
-    )?;
-    Ok(())
+    )
 }
 
 pub const INSERT_TALLY: &str =
@@ -244,18 +247,17 @@ pub fn insert_tally<S: Alter>(
     ensures same_reference { tx.new.conn.ghost_name ≡ tx.old.conn.ghost_name }
     ensures makes { HasCleanDisk (state S.Store tx.new.conn.now) → (e : EventValue) (s : ℕ) (t : List TallyRow) → StandsWith (state S.Store tx.old.conn.now).now e s t
         → OnOk result (MakesWith (state S.Store tx.old.conn.now) (state S.Store tx.new.conn.now) e s (t ++ tally_row number totals ∷ [])) }
-    ensures committed { HasCleanDisk (state S.Store tx.new.conn.now) → KeepsCommit (state S.Store tx.old.conn.now) (state S.Store tx.new.conn.now) }
-    ensures survives { Survives (state S.Store tx.old.conn.now) (state S.Store tx.new.conn.now) (λ _. ⊥) }
+    ensures stays { Stays (state S.Store tx.old.conn.now) (state S.Store tx.new.conn.now) }
 {
     let points = u32::from(totals.points);
     let rounds = u32::from(totals.rounds);
     let game_points = u32::from(totals.game_points);
     let games = u32::from(totals.games);
-    tx.execute(
+    run(
+        tx,
         INSERT_TALLY,
         params![number, points, rounds, game_points, games],
-    )?;
-    Ok(())
+    )
 }
 
 pub const SET_TALLY: &str =
@@ -271,16 +273,15 @@ pub fn set_tally<S: Alter>(
     ensures makes { HasCleanDisk (state S.Store tx.new.conn.now) → (e : EventValue) (s : ℕ) (come_to : ℕ → Totals) → StandsWith (state S.Store tx.old.conn.now).now e s (tally_rows_by come_to e.players)
         → numbers e.players ≡ range_with_len 1 (length e.players) → Contains (numbers e.players) number
         → OnOk result (MakesWith (state S.Store tx.old.conn.now) (state S.Store tx.new.conn.now) e s (tally_rows_by (set_for number totals come_to) e.players)) }
-    ensures committed { HasCleanDisk (state S.Store tx.new.conn.now) → KeepsCommit (state S.Store tx.old.conn.now) (state S.Store tx.new.conn.now) }
-    ensures survives { Survives (state S.Store tx.old.conn.now) (state S.Store tx.new.conn.now) (λ _. ⊥) }
+    ensures stays { Stays (state S.Store tx.old.conn.now) (state S.Store tx.new.conn.now) }
 {
     let points = u32::from(totals.points);
     let rounds = u32::from(totals.rounds);
     let game_points = u32::from(totals.game_points);
     let games = u32::from(totals.games);
-    tx.execute(
+    run(
+        tx,
         SET_TALLY,
         params![number, points, rounds, game_points, games],
-    )?;
-    Ok(())
+    )
 }

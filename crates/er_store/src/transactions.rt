@@ -1,6 +1,6 @@
 ghost use Rattle.std.specs.Prelude.{◌≡◌, ◌+◌, ◌<◌, ◌≤◌, length, false, ℕ, List, [], ◌∷◌, ◌++◌, Contains, Some, option_map, OnOk, OnErr, IfOk, IsOk, IfSome, ◌↔◌, IsTrue};
 ghost use Rattle.std.specs.List.{range_with_len};
-ghost use Rattle.sqlite.specs.State.{HasCleanDisk, KeepsCommit, Survives, IsUnchanged};
+ghost use Rattle.sqlite.specs.State.{HasCleanDisk, Survives, IsUnchanged};
 ghost use Rattle.sqlite.specs.Held.{state};
 ghost use Rattle.sqlite.specs.Listing.{understood};
 ghost use Rattle.sqlite.specs.Tree.{Trees};
@@ -20,7 +20,7 @@ ghost use Rattle.er_event.specs.declared.rounds.Match.{Match};
 ghost use Rattle.er_store.specs.inside.Steps.{IsStage};
 ghost use Rattle.er_store.specs.Tables.{no_schema};
 ghost use Rattle.er_store.specs.Standing.{StandsFor, StandsWith, IsStored, IsNew, Shows, Leaves, Either, KeepsOthers, CanRead, ReadsEvent};
-ghost use Rattle.er_store.specs.inside.Steps.{Moves, Makes, MakesWith};
+ghost use Rattle.er_store.specs.inside.Steps.{Stays, Moves, Makes, MakesWith, IsReady};
 ghost use Rattle.er_store.specs.Reading.{KeepsTables};
 
 use crate::creation::create_all;
@@ -42,8 +42,7 @@ fn insert_round<S: Alter>(
     ensures same_reference { tx.new.conn.ghost_name ≡ tx.old.conn.ghost_name }
     ensures makes { HasCleanDisk (state S.Store tx.new.conn.now) → (s : ℕ) (t : List TallyRow) → StandsWith (state S.Store tx.old.conn.now).now event.now s t
         → OnOk result (MakesWith (state S.Store tx.old.conn.now) (state S.Store tx.new.conn.now) (with_round event.now matches.now) s t) }
-    ensures committed { HasCleanDisk (state S.Store tx.new.conn.now) → KeepsCommit (state S.Store tx.old.conn.now) (state S.Store tx.new.conn.now) }
-    ensures survives { Survives (state S.Store tx.old.conn.now) (state S.Store tx.new.conn.now) (λ _. ⊥) }
+    ensures stays { Stays (state S.Store tx.old.conn.now) (state S.Store tx.new.conn.now) }
 {
     let round = event.stored().len() as u32 + 1;
     for (place, played) in matches.iter().enumerate() {
@@ -62,8 +61,7 @@ fn insert_stage<S: Alter>(
     ensures same_reference { tx.new.conn.ghost_name ≡ tx.old.conn.ghost_name }
     ensures makes { HasCleanDisk (state S.Store tx.new.conn.now) → (e : EventValue) (s : ℕ) (t : List TallyRow) → StandsWith (state S.Store tx.old.conn.now).now e s t → stage ≡ length e.bracket.stages + 1
         → OnOk result (MakesWith (state S.Store tx.old.conn.now) (state S.Store tx.new.conn.now) (with_stage e matches.now) s t) }
-    ensures committed { HasCleanDisk (state S.Store tx.new.conn.now) → KeepsCommit (state S.Store tx.old.conn.now) (state S.Store tx.new.conn.now) }
-    ensures survives { Survives (state S.Store tx.old.conn.now) (state S.Store tx.new.conn.now) (λ _. ⊥) }
+    ensures stays { Stays (state S.Store tx.old.conn.now) (state S.Store tx.new.conn.now) }
 {
     for (place, played) in matches.iter().enumerate() {
         insert_slot(tx, stage, place as u32 + 1, played)?;
@@ -88,8 +86,7 @@ fn begin_playoff<S: Alter>(
     ensures same_reference { tx.new.conn.ghost_name ≡ tx.old.conn.ghost_name }
     ensures makes { HasCleanDisk (state S.Store tx.new.conn.now) → (s : ℕ) (t : List TallyRow) → StandsWith (state S.Store tx.old.conn.now).now event.now s t
         → OnOk result (MakesWith (state S.Store tx.old.conn.now) (state S.Store tx.new.conn.now) (with_bracket event.now matches.now) s t) }
-    ensures committed { HasCleanDisk (state S.Store tx.new.conn.now) → KeepsCommit (state S.Store tx.old.conn.now) (state S.Store tx.new.conn.now) }
-    ensures survives { Survives (state S.Store tx.old.conn.now) (state S.Store tx.new.conn.now) (λ _. ⊥) }
+    ensures stays { Stays (state S.Store tx.old.conn.now) (state S.Store tx.new.conn.now) }
 {
     insert_stage(tx, next_number(event), matches)?;
     set_phase(tx, Phase::Playoff)
@@ -109,8 +106,7 @@ fn score_stages<S: Alter>(
     ensures same_reference { tx.new.conn.ghost_name ≡ tx.old.conn.ghost_name }
     ensures makes { HasCleanDisk (state S.Store tx.new.conn.now) → (s : ℕ) (t : List TallyRow) → StandsWith (state S.Store tx.old.conn.now).now event.now s t
         → OnOk result (MakesWith (state S.Store tx.old.conn.now) (state S.Store tx.new.conn.now) (with_bracket_score event.now stage slot score (option_map (λ m. m.now) next.entry) false) s t) }
-    ensures committed { HasCleanDisk (state S.Store tx.new.conn.now) → KeepsCommit (state S.Store tx.old.conn.now) (state S.Store tx.new.conn.now) }
-    ensures survives { Survives (state S.Store tx.old.conn.now) (state S.Store tx.new.conn.now) (λ _. ⊥) }
+    ensures stays { Stays (state S.Store tx.old.conn.now) (state S.Store tx.new.conn.now) }
 {
     set_slot_score(tx, u32::from(stage), u32::from(slot), score)?;
     match next {
@@ -129,8 +125,7 @@ fn change_rows<S: Alter>(
     ensures same_reference { tx.new.conn.ghost_name ≡ tx.old.conn.ghost_name }
     ensures makes { HasCleanDisk (state S.Store tx.new.conn.now) → (s : ℕ) (t : List TallyRow) → StandsWith (state S.Store tx.old.conn.now).now event.now s t
         → OnOk result (MakesWith (state S.Store tx.old.conn.now) (state S.Store tx.new.conn.now) (after event.now change.now) s t) }
-    ensures committed { HasCleanDisk (state S.Store tx.new.conn.now) → KeepsCommit (state S.Store tx.old.conn.now) (state S.Store tx.new.conn.now) }
-    ensures survives { Survives (state S.Store tx.old.conn.now) (state S.Store tx.new.conn.now) (λ _. ⊥) }
+    ensures stays { Stays (state S.Store tx.old.conn.now) (state S.Store tx.new.conn.now) }
 {
     match change {
         Change::AddPlayer { name } => {
@@ -175,8 +170,7 @@ fn recount_player<S: Alter>(
     ensures makes { HasCleanDisk (state S.Store tx.new.conn.now) → (e : EventValue) (s : ℕ) (before : ℕ → Totals) → StandsWith (state S.Store tx.old.conn.now).now e s (tally_rows_by before e.players)
         → numbers e.players ≡ range_with_len 1 (length e.players) → Contains (numbers e.players) number
         → OnOk result (MakesWith (state S.Store tx.old.conn.now) (state S.Store tx.new.conn.now) e s (tally_rows_by (set_for number (totals (after event.now change.now) number) before) e.players)) }
-    ensures committed { HasCleanDisk (state S.Store tx.new.conn.now) → KeepsCommit (state S.Store tx.old.conn.now) (state S.Store tx.new.conn.now) }
-    ensures survives { Survives (state S.Store tx.old.conn.now) (state S.Store tx.new.conn.now) (λ _. ⊥) }
+    ensures stays { Stays (state S.Store tx.old.conn.now) (state S.Store tx.new.conn.now) }
 {
     let Some(player) = PlayerNo::try_new(number) else {
         unreachable!()
@@ -199,8 +193,7 @@ fn recount_match<S: Alter>(
     ensures makes { HasCleanDisk (state S.Store tx.new.conn.now) → (e : EventValue) (s : ℕ) (before : ℕ → Totals) → numbers e.players ≡ numbers event.now.players
         → StandsWith (state S.Store tx.old.conn.now).now e s (tally_rows_by before e.players)
         → OnOk result (MakesWith (state S.Store tx.old.conn.now) (state S.Store tx.new.conn.now) e s (tally_rows_by (set_for_all (played.now ∷ []) (totals (after event.now change.now)) before) e.players)) }
-    ensures committed { HasCleanDisk (state S.Store tx.new.conn.now) → KeepsCommit (state S.Store tx.old.conn.now) (state S.Store tx.new.conn.now) }
-    ensures survives { Survives (state S.Store tx.old.conn.now) (state S.Store tx.new.conn.now) (λ _. ⊥) }
+    ensures stays { Stays (state S.Store tx.old.conn.now) (state S.Store tx.new.conn.now) }
 {
     recount_player(tx, event, change, played.a)?;
     if played.b != 0 {
@@ -220,8 +213,7 @@ fn recount<S: Alter>(
     ensures makes { HasCleanDisk (state S.Store tx.new.conn.now) → (e : EventValue) (s : ℕ) → numbers e.players ≡ numbers event.now.players
         → Moves (state S.Store tx.old.conn.now) (state S.Store tx.old.conn.now) → StandsWith (state S.Store tx.old.conn.now).now e s (tally_rows_by (totals event.now) e.players)
         → OnOk result (MakesWith (state S.Store tx.old.conn.now) (state S.Store tx.new.conn.now) e s (tally_rows_by (totals (after event.now change.now)) e.players)) }
-    ensures committed { HasCleanDisk (state S.Store tx.new.conn.now) → KeepsCommit (state S.Store tx.old.conn.now) (state S.Store tx.new.conn.now) }
-    ensures survives { Survives (state S.Store tx.old.conn.now) (state S.Store tx.new.conn.now) (λ _. ⊥) }
+    ensures stays { Stays (state S.Store tx.old.conn.now) (state S.Store tx.new.conn.now) }
 {
     for played in event.recounted(change) {
         recount_match(tx, event, change, played)?;
@@ -240,8 +232,7 @@ fn count_player<S: Alter>(
     ensures same_reference { tx.new.conn.ghost_name ≡ tx.old.conn.ghost_name }
     ensures makes { HasCleanDisk (state S.Store tx.new.conn.now) → (e : EventValue) (s : ℕ) (t : List TallyRow) → StandsWith (state S.Store tx.old.conn.now).now e s t
         → OnOk result (MakesWith (state S.Store tx.old.conn.now) (state S.Store tx.new.conn.now) e s (t ++ tally_row (length event.now.players + 1) (totals (after event.now change.now) (length event.now.players + 1)) ∷ [])) }
-    ensures committed { HasCleanDisk (state S.Store tx.new.conn.now) → KeepsCommit (state S.Store tx.old.conn.now) (state S.Store tx.new.conn.now) }
-    ensures survives { Survives (state S.Store tx.old.conn.now) (state S.Store tx.new.conn.now) (λ _. ⊥) }
+    ensures stays { Stays (state S.Store tx.old.conn.now) (state S.Store tx.new.conn.now) }
 {
     let number = event.players().len() as u16 + 1;
     let Some(player) = PlayerNo::try_new(number) else {
@@ -260,14 +251,32 @@ fn change_tables<S: Alter>(
     ensures same_reference { tx.new.conn.ghost_name ≡ tx.old.conn.ghost_name }
     ensures makes { HasCleanDisk (state S.Store tx.new.conn.now) → (s : ℕ) → StandsFor (state S.Store tx.old.conn.now).now event.now s
         → OnOk result (Makes (state S.Store tx.old.conn.now) (state S.Store tx.new.conn.now) (after event.now change.now) s) }
-    ensures committed { HasCleanDisk (state S.Store tx.new.conn.now) → KeepsCommit (state S.Store tx.old.conn.now) (state S.Store tx.new.conn.now) }
-    ensures survives { Survives (state S.Store tx.old.conn.now) (state S.Store tx.new.conn.now) (λ _. ⊥) }
+    ensures stays { Stays (state S.Store tx.old.conn.now) (state S.Store tx.new.conn.now) }
 {
     change_rows(tx, event, change)?;
     match change {
         Change::AddPlayer { .. } => count_player(tx, event, change),
         _ => recount(tx, event, change),
     }
+}
+
+/// Makes the change, and sets the next serial.
+fn change_event<S: Alter>(
+    tx: &mut Transaction<'_, S>,
+    event: &Event,
+    change: &Change,
+    serial: u32,
+) -> Result<(), Error>
+    requires fits { Fits event.now change.now }
+    requires low { serial < MAX_SERIAL }
+    ensures same_reference { tx.new.conn.ghost_name ≡ tx.old.conn.ghost_name }
+    ensures makes { HasCleanDisk (state S.Store tx.new.conn.now) → StandsFor (state S.Store tx.old.conn.now).now event.now serial
+        → OnOk result (Makes (state S.Store tx.old.conn.now) (state S.Store tx.new.conn.now) (after event.now change.now) (serial + 1)) }
+    ensures inside { HasCleanDisk (state S.Store tx.new.conn.now) → OnOk result (IsTrue (state S.Store tx.new.conn.now).in_transaction) }
+    ensures stays { Stays (state S.Store tx.old.conn.now) (state S.Store tx.new.conn.now) }
+{
+    change_tables(tx, event, change)?;
+    set_serial(tx, serial + 1)
 }
 
 /// Writes the change and the next serial in one transaction.
@@ -291,9 +300,21 @@ pub fn write_tables<S: Alter>(
         → Leaves (state S.Store conn.new) (Either (IsStored event.now serial) (IsStored (after event.now change.now) (serial + 1))) }
 {
     let mut tx = conn.transaction();
-    change_tables(&mut tx, event, change)?;
-    set_serial(&mut tx, serial + 1)?;
+    change_event(&mut tx, event, change, serial)?;
     tx.commit()
+}
+
+/// Makes the five tables and the event's row.
+fn make_event<S: Alter>(tx: &mut Transaction<'_, S>, event: &Event) -> Result<(), Error>
+    requires fresh { IsNew event.now }
+    ensures same_reference { tx.new.conn.ghost_name ≡ tx.old.conn.ghost_name }
+    ensures readies { HasCleanDisk (state S.Store tx.new.conn.now) → (state S.Store tx.old.conn.now).now.schema ≡ no_schema
+        → OnOk result (IsReady (state S.Store tx.new.conn.now) event.now 0) }
+    ensures inside { HasCleanDisk (state S.Store tx.new.conn.now) → OnOk result (IsTrue (state S.Store tx.new.conn.now).in_transaction) }
+    ensures stays { Stays (state S.Store tx.old.conn.now) (state S.Store tx.new.conn.now) }
+{
+    create_all(tx)?;
+    insert_event(tx, event, 0)
 }
 
 /// Makes the tables and the event's row in one transaction.
@@ -309,8 +330,7 @@ pub fn create_tables<S: Alter>(conn: &mut Connection<S>, event: &Event) -> Resul
     ensures crash { (state S.Store conn.old).now.schema ≡ no_schema → Leaves (state S.Store conn.new) (Either (state S.Store conn.old).may_leave (IsStored event.now 0)) }
 {
     let mut tx = conn.transaction();
-    create_all(&mut tx)?;
-    insert_event(&mut tx, event, 0)?;
+    make_event(&mut tx, event)?;
     tx.commit()
 }
 

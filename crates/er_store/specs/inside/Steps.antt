@@ -1,19 +1,30 @@
 -- What one statement does within a transaction.
-use Rattle.std.specs.Prelude.{◌≡◌, ◌≢◌, ◌<◌, ◌≤◌, ℕ, true, false, List, [], length, IsTrue}
+use Rattle.std.specs.Prelude.{◌≡◌, ◌≢◌, ◌<◌, ◌≤◌, ℕ, Ok, true, false, List, [], length, IsTrue}
 use Rattle.std.specs.List.{AllByRecursion}
 use Rattle.sqlite.specs.Tree.{put_row}
 use Rattle.sqlite.specs.Schema.{Schema}
 use Rattle.sqlite.specs.Change.{next_tree, KeepsRows}
 use Rattle.sqlite.specs.Order.{Row}
 use Rattle.sqlite.specs.Effect.{IsDatabase}
-use Rattle.sqlite.specs.State.{State, Shows}
+use Rattle.sqlite.specs.State.{State, Shows, HasCleanDisk, KeepsCommit, Survives, ExecutesInside}
 use Rattle.sqlite_rules.specs.Edit.{is_taken}
 use Rattle.er_event.specs.declared.rounds.Match.{Match}
 use Rattle.er_event.specs.declared.rows.TallyRow.{TallyRow}
 use Rattle.er_event.specs.Event.{EventValue}
 use Rattle.er_event.specs.Rows.{tally_rows}
 use Rattle.er_store.specs.Tables.{our_schema}
-use Rattle.er_store.specs.Standing.{StandsWith, KeepsOthers}
+use Rattle.er_store.specs.Standing.{StandsWith, StandsFor, KeepsOthers}
+
+-- the statement went well, within a transaction
+pub record Ran (sql : List ℕ) (params : Row) (old new : State) : Type 0 where
+  pub was : IsTrue old.in_transaction
+  pub count : ℕ
+  pub executes : ExecutesInside 0 sql params old new (Ok count)
+
+-- However a step ends, a crash leaves what it could before, and the last commit is as it was.
+pub record Stays (old new : State) : Type 0 where
+  pub committed : HasCleanDisk new → KeepsCommit old new
+  pub survives : Survives old new (λ _. ⊥)
 
 -- the transaction goes on, and no other table has changed
 pub record Goes (tree : ℕ) (old new : State) : Type 0 where
@@ -44,6 +55,11 @@ pub record MakesWith (old new : State) (e : EventValue) (serial : ℕ) (totals :
 -- and with those of the event
 abbrev pub Makes : State → State → EventValue → ℕ → Type 0
 Makes old new e serial = MakesWith old new e serial (tally_rows e)
+
+-- only the commit is left: the tables stand for the event
+pub record IsReady (s : State) (e : EventValue) (serial : ℕ) : Type 0 where
+  pub sound : IsDatabase s.now
+  pub stands : StandsFor s.now e serial
 
 -- a stage of the playoff: at most four matches, and at least one
 abbrev pub IsStage : List Match → Type 0

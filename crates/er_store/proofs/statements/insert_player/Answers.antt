@@ -1,16 +1,9 @@
 use Rattle.sqlite.specs.Held.{state}
-use Rattle.er_store.proofs.Effects.{inside_ok, puts_player}
-use Rattle.er_store.proofs.Committed.{step_keeps}
+use Rattle.er_store.proofs.Effects.{puts_player}
+use Rattle.er_store.proofs.Together.{on_ok}
 use Rattle.er_store.proofs.statements.insert_player.Goals as goal
 
 pub returns-clause-puts : goal.returns-clause-puts
 returns-clause-puts g c clean has =
-    let inside = inside_ok _ c.in_ok-execute.field-0 _ (λ e. (c.in_ok-execute.ensures.ended e).0) in
-    puts_player (state g.S.Store c.args.tx.now.conn.now) (state g.S.Store c.execute.new.self.conn.now) c.args.number c.args.name.now c.args.dropped c.in_ok-execute.field-0 has inside
-    (rw (c.params-to_sql.ensures, c.params-to_sql-2.ensures, c.params-to_sql-3.ensures) at (c.in_ok-execute.ensures.runs clean inside))
-
-pub returns-in_err-execute-clause-committed : goal.returns-in_err-execute-clause-committed
-returns-in_err-execute-clause-committed g c clean = step_keeps g.S.Store c.args.tx.now.conn.now c.execute.new.self.conn.now _ _ c.execute.result _ c.execute.ensures.ended (c.execute.ensures.runs clean)
-
-pub returns-clause-committed : goal.returns-clause-committed
-returns-clause-committed g c clean = step_keeps g.S.Store c.args.tx.now.conn.now c.execute.new.self.conn.now _ _ c.execute.result _ c.execute.ensures.ended (c.execute.ensures.runs clean)
+    on_ok c.run.result _ _ (λ ran. puts_player (state g.S.Store c.args.tx.now.conn.now) (state g.S.Store c.run.new.tx.conn.now) c.args.number c.args.name.now c.args.dropped ran.count has ran.was
+    (rw (c.params-to_sql.ensures, c.params-to_sql-2.ensures, c.params-to_sql-3.ensures) at ran.executes)) (c.run.ensures.ran clean)

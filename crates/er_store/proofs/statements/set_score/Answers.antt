@@ -1,29 +1,21 @@
 use Rattle.std.proofs.Common.{◌≡◌, rules}
 use Rattle.sqlite.specs.Held.{state}
-use Rattle.er_store.proofs.Effects.{inside_ok}
 use Rattle.er_store.proofs.Scoring.{pairing_scored}
-use Rattle.er_store.proofs.Committed.{step_keeps}
+use Rattle.er_store.proofs.Together.{on_ok}
 use Rattle.er_store.proofs.statements.set_score.Goals as goal
 
-x : (g : _) (c : goal.In_ok-execute g) → c.from.result ≡ c.args.score.x
+x : (g : _) (c : goal.After-run g) → c.from.result ≡ c.args.score.x
 x g c = search rules
 
-y : (g : _) (c : goal.In_ok-execute g) → c.from-2.result ≡ c.args.score.y
+y : (g : _) (c : goal.After-run g) → c.from-2.result ≡ c.args.score.y
 y g c = search rules
 
-d : (g : _) (c : goal.In_ok-execute g) → c.from-3.result ≡ c.args.score.d
+d : (g : _) (c : goal.After-run g) → c.from-3.result ≡ c.args.score.d
 d g c = search rules
 
 pub returns-clause-makes : goal.returns-clause-makes
 returns-clause-makes g c clean e s rows stands m found seat =
     let old = state g.S.Store c.args.tx.now.conn.now in
-    let new = state g.S.Store c.execute.new.self.conn.now in
-    let inside = inside_ok _ c.in_ok-execute.field-0 _ (λ e. (c.in_ok-execute.ensures.ended e).0) in
-    let h = (rw (c.params-to_sql.ensures, c.params-to_sql-2.ensures, c.params-to_sql-3.ensures, c.params-to_sql-4.ensures, c.params-to_sql-5.ensures, x g c, y g c, d g c) at (c.in_ok-execute.ensures.runs clean inside)) in
-    pairing_scored old new e s c.args.round c.args.table c.args.score m c.in_ok-execute.field-0 stands found seat inside h
-
-pub returns-in_err-execute-clause-committed : goal.returns-in_err-execute-clause-committed
-returns-in_err-execute-clause-committed g c clean = step_keeps g.S.Store c.args.tx.now.conn.now c.execute.new.self.conn.now _ _ c.execute.result _ c.execute.ensures.ended (c.execute.ensures.runs clean)
-
-pub returns-clause-committed : goal.returns-clause-committed
-returns-clause-committed g c clean = step_keeps g.S.Store c.args.tx.now.conn.now c.execute.new.self.conn.now _ _ c.execute.result _ c.execute.ensures.ended (c.execute.ensures.runs clean)
+    let new = state g.S.Store c.run.new.tx.conn.now in
+    on_ok c.run.result _ _ (λ ran. let h = (rw (c.params-to_sql.ensures, c.params-to_sql-2.ensures, c.params-to_sql-3.ensures, c.params-to_sql-4.ensures, c.params-to_sql-5.ensures, x g c, y g c, d g c) at ran.executes) in
+    pairing_scored old new e s c.args.round c.args.table c.args.score m ran.count stands found seat ran.was h) (c.run.ensures.ran clean)

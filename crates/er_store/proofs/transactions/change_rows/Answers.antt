@@ -1,6 +1,5 @@
 use Rattle.std.proofs.Common.{◌≡◌, ℕ, ◌+◌, length, true, false, List, Option, Some, None, IfSome, OnOk, Bor, option_map, sym, ap, subst, ◌∙◌, rules}
 use Rattle.sqlite.specs.Held.{state}
-use Rattle.sqlite.proofs.InsideLemmas.{keeps_then}
 use Rattle.er_event.specs.Event.{EventValue}
 use Rattle.er_event.specs.Change.{after, with_player, with_bracket_score, Fits}
 use Rattle.er_event.specs.declared.changes.Change.{Change}
@@ -10,6 +9,7 @@ use Rattle.er_store.specs.Rows.{stored_player}
 use Rattle.er_store.specs.inside.Steps.{Puts, MakesWith, IsStage}
 use Rattle.er_store.proofs.Picking.{numbered_before}
 use Rattle.er_store.proofs.Together.{player_added, on_ok, makes_then}
+use Rattle.er_store.proofs.Committed.{stays_then}
 use Rattle.er_store.proofs.Crash.{was_clean}
 use Rattle.er_store.proofs.StageLemmas.{next_is}
 use Rattle.er_store.proofs.transactions.change_rows.Goals as goal
@@ -65,7 +65,7 @@ returns-in_ok-set_phase-in-SetBracketScore-clause-makes g c clean s rows stands 
     let new = state g.S.Store c.set_phase-then-finished.new.tx.conn.now in
     let e = c.args.event.now in
     let it = c.in-SetBracketScore in
-    let one = c.in_ok-score_stages-in-SetBracketScore.ensures.makes (was_clean mid new _ c.set_phase-then-finished.ensures.survives clean) s rows stands in
+    let one = c.in_ok-score_stages-in-SetBracketScore.ensures.makes (was_clean mid new _ c.set_phase-then-finished.ensures.stays.survives clean) s rows stands in
     let two = c.in_ok-set_phase-in-SetBracketScore.ensures.makes clean _ s rows one.stands in
     let both = subst (λ (o : Option (List Match)). MakesWith old new (with_bracket_score e it.stage it.slot it.score o true) s rows) c.as_ref.ensures.value (makes_then old mid new _ _ s one two) in
     subst (λ (x : Change). MakesWith old new (after e x) s rows) (ap (SetBracketScore it.stage it.slot it.score it.next) (sym c.if-finished.true) ∙ sym it.is) both
@@ -80,16 +80,16 @@ returns-else-finished-clause-makes g c clean s rows stands =
     let made = subst (λ (o : Option (List Match)). MakesWith old new (with_bracket_score e it.stage it.slot it.score o false) s rows) c.as_ref.ensures.value one in
     subst (λ (x : Change). MakesWith old new (after e x) s rows) (ap (SetBracketScore it.stage it.slot it.score it.next) (sym c.if-finished.false) ∙ sym it.is) made
 
-pub returns-in_ok-set_phase-in-SetBracketScore-clause-committed : goal.returns-in_ok-set_phase-in-SetBracketScore-clause-committed
-returns-in_ok-set_phase-in-SetBracketScore-clause-committed g c clean =
-    let old = state g.S.Store c.args.tx.now.conn.now in
-    let mid = state g.S.Store c.score_stages.new.tx.conn.now in
-    let new = state g.S.Store c.set_phase-then-finished.new.tx.conn.now in
-    keeps_then old mid new (c.score_stages.ensures.committed (was_clean mid new _ c.set_phase-then-finished.ensures.survives clean)) (c.set_phase-then-finished.ensures.committed clean)
+pub returns-in_ok-set_phase-in-SetBracketScore-clause-stays : goal.returns-in_ok-set_phase-in-SetBracketScore-clause-stays
+returns-in_ok-set_phase-in-SetBracketScore-clause-stays g c =
+    let s0 = state g.S.Store c.args.tx.now.conn.now in
+    let s1 = state g.S.Store c.score_stages.new.tx.conn.now in
+    let s2 = state g.S.Store c.set_phase-then-finished.new.tx.conn.now in
+    stays_then s0 s1 s2 c.score_stages.ensures.stays c.set_phase-then-finished.ensures.stays
 
-pub returns-in_err-set_phase-in-SetBracketScore-clause-committed : goal.returns-in_err-set_phase-in-SetBracketScore-clause-committed
-returns-in_err-set_phase-in-SetBracketScore-clause-committed g c clean =
-    let old = state g.S.Store c.args.tx.now.conn.now in
-    let mid = state g.S.Store c.score_stages.new.tx.conn.now in
-    let new = state g.S.Store c.set_phase-then-finished.new.tx.conn.now in
-    keeps_then old mid new (c.score_stages.ensures.committed (was_clean mid new _ c.set_phase-then-finished.ensures.survives clean)) (c.set_phase-then-finished.ensures.committed clean)
+pub returns-in_err-set_phase-in-SetBracketScore-clause-stays : goal.returns-in_err-set_phase-in-SetBracketScore-clause-stays
+returns-in_err-set_phase-in-SetBracketScore-clause-stays g c =
+    let s0 = state g.S.Store c.args.tx.now.conn.now in
+    let s1 = state g.S.Store c.score_stages.new.tx.conn.now in
+    let s2 = state g.S.Store c.set_phase-then-finished.new.tx.conn.now in
+    stays_then s0 s1 s2 c.score_stages.ensures.stays c.set_phase-then-finished.ensures.stays

@@ -1,14 +1,12 @@
 use Rattle.std.proofs.Common.{◌≡◌, ◌++◌, ◌∷◌, [], ◌+◌, List, length, take, refl, sym, ap, subst, ◌∙◌, arith}
 use Rattle.std.proofs.lemmas.List.{take_all, take_more, length-take-le}
 use Rattle.sqlite.specs.Held.{state}
-use Rattle.sqlite.proofs.InsideLemmas.{keeps_then}
-use Rattle.sqlite.proofs.StateLemmas.{survives_then}
 use Rattle.er_event.specs.declared.rounds.Match.{Match}
 use Rattle.er_event.specs.Change.{with_round}
 use Rattle.er_store.specs.Standing.{StandsWith}
 use Rattle.er_store.specs.inside.Steps.{MakesWith}
-use Rattle.er_store.proofs.Committed.{commit_stays}
-use Rattle.er_store.proofs.Crash.{was_clean, survives_self}
+use Rattle.er_store.proofs.Committed.{stays_self, stays_then}
+use Rattle.er_store.proofs.Crash.{was_clean}
 use Rattle.er_store.proofs.Pairing.{adds_none, adds_one}
 use Rattle.er_store.proofs.Rounds.{few_matches, some_matches}
 use Rattle.er_store.proofs.transactions.insert_round.Goals as goal
@@ -16,7 +14,7 @@ use Rattle.er_store.proofs.transactions.insert_round.Goals as goal
 pub loop-place-init : goal.loop-place-init
 loop-place-init g c =
     let old = state g.S.Store c.args.tx.now.conn.now in
-    (refl, survives_self old, λ clean s rows stands. adds_none old c.args.event.now s stands, λ _. commit_stays old)
+    (refl, stays_self old, λ clean s rows stands. adds_none old c.args.event.now s stands)
 
 pub overflow_cast-place : goal.overflow_cast-place
 overflow_cast-place g c =
@@ -43,12 +41,11 @@ loop-place-preserved g c =
     let stored = length-take-le at matches c.loop-place.auto.place-end in
     let more : take (at + 1) matches ≡ take at matches ++ m ∷ [] = take_more matches at m c.loop-place-test.true ∙ ap (λ x. take at matches ++ x ∷ []) (sym c.index-matches-place.is) in (
       c.insert_pairing.ensures.same_reference ∙ kept.0,
-      survives_then old mid new _ _ (λ _. ⊥) (λ _ db none. none) (λ _ db none. none) kept.1 c.insert_pairing.ensures.survives,
+      stays_then old mid new kept.1 c.insert_pairing.ensures.stays,
       λ clean s rows stands.
-          let was = kept.2 (was_clean mid new _ c.insert_pairing.ensures.survives clean) s rows stands in
+          let was = kept.2 (was_clean mid new _ c.insert_pairing.ensures.stays.survives clean) s rows stands in
           let made = c.in_ok-insert_pairing.ensures.makes clean e (take at matches) s rows was.stands (ap (λ rounds. length rounds + 1) c.stored.ensures.value) (sym (ap (λ n. n + 1) stored)) in
           adds_one old mid new e at (take at matches) (take (at + 1) matches) s was (subst (λ (ms : List Match). MakesWith mid new (with_round e ms) s rows) (sym more) made),
-      λ clean. keeps_then old mid new (kept.3 (was_clean mid new _ c.insert_pairing.ensures.survives clean)) (c.insert_pairing.ensures.committed clean),
     )
 
 pub returns-clause-makes : goal.returns-clause-makes
@@ -61,12 +58,13 @@ returns-clause-makes g c clean s rows stands =
     let whole = take_all c.loop-place.place c.args.matches.now past in
     record { moves = adds.some (omega arith); stands = subst (λ (ms : List Match). StandsWith new.now (with_round e ms) s rows) whole adds.stands }
 
-pub returns-clause-committed : goal.returns-clause-committed
-returns-clause-committed g c clean = c.loop-place.invariant.3 clean
+pub returns-clause-stays : goal.returns-clause-stays
+returns-clause-stays g c =
+    c.loop-place.invariant.1
 
-pub returns-in_err-insert_pairing-clause-committed : goal.returns-in_err-insert_pairing-clause-committed
-returns-in_err-insert_pairing-clause-committed g c clean =
-    let old = state g.S.Store c.args.tx.now.conn.now in
-    let mid = state g.S.Store c.loop-place.tx.conn.now in
-    let new = state g.S.Store c.insert_pairing.new.tx.conn.now in
-    keeps_then old mid new (c.loop-place.invariant.3 (was_clean mid new _ c.insert_pairing.ensures.survives clean)) (c.insert_pairing.ensures.committed clean)
+pub returns-in_err-insert_pairing-clause-stays : goal.returns-in_err-insert_pairing-clause-stays
+returns-in_err-insert_pairing-clause-stays g c =
+    let s0 = state g.S.Store c.args.tx.now.conn.now in
+    let s1 = state g.S.Store c.loop-place.tx.conn.now in
+    let s2 = state g.S.Store c.insert_pairing.new.tx.conn.now in
+    stays_then s0 s1 s2 c.loop-place.invariant.1 c.insert_pairing.ensures.stays

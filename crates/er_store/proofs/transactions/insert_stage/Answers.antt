@@ -1,21 +1,19 @@
 use Rattle.std.proofs.Common.{◌≡◌, ◌++◌, ◌∷◌, [], ◌+◌, List, take, refl, sym, ap, subst, ◌∙◌, arith}
 use Rattle.std.proofs.lemmas.List.{take_all, take_more, length-take-le}
 use Rattle.sqlite.specs.Held.{state}
-use Rattle.sqlite.proofs.InsideLemmas.{keeps_then}
-use Rattle.sqlite.proofs.StateLemmas.{survives_then}
 use Rattle.er_event.specs.declared.rounds.Match.{Match}
 use Rattle.er_event.specs.Change.{with_stage}
 use Rattle.er_store.specs.Standing.{StandsWith}
 use Rattle.er_store.specs.inside.Steps.{MakesWith}
-use Rattle.er_store.proofs.Committed.{commit_stays}
-use Rattle.er_store.proofs.Crash.{was_clean, survives_self}
+use Rattle.er_store.proofs.Committed.{stays_self, stays_then}
+use Rattle.er_store.proofs.Crash.{was_clean}
 use Rattle.er_store.proofs.Slots.{slots_start, slots_next}
 use Rattle.er_store.proofs.transactions.insert_stage.Goals as goal
 
 pub loop-place-init : goal.loop-place-init
 loop-place-init g c =
     let old = state g.S.Store c.args.tx.now.conn.now in
-    (refl, survives_self old, λ clean e s rows stands stage. slots_start old e s stands, λ _. commit_stays old)
+    (refl, stays_self old, λ clean e s rows stands stage. slots_start old e s stands)
 
 pub overflow_cast-place : goal.overflow_cast-place
 overflow_cast-place g c =
@@ -41,12 +39,11 @@ loop-place-preserved g c =
     let stored = length-take-le at matches c.loop-place.auto.place-end in
     let more : take (at + 1) matches ≡ take at matches ++ m ∷ [] = take_more matches at m c.loop-place-test.true ∙ ap (λ x. take at matches ++ x ∷ []) (sym c.index-matches-place.is) in (
       c.insert_slot.ensures.same_reference ∙ kept.0,
-      survives_then old mid new _ _ (λ _. ⊥) (λ _ db none. none) (λ _ db none. none) kept.1 c.insert_slot.ensures.survives,
+      stays_then old mid new kept.1 c.insert_slot.ensures.stays,
       λ clean e s rows stands stage.
-          let was = kept.2 (was_clean mid new _ c.insert_slot.ensures.survives clean) e s rows stands stage in
+          let was = kept.2 (was_clean mid new _ c.insert_slot.ensures.stays.survives clean) e s rows stands stage in
           let made = c.in_ok-insert_slot.ensures.makes clean e (take at matches) s rows was.stands stage (sym (ap (λ n. n + 1) stored)) in
           slots_next old mid new e at (take at matches) (take (at + 1) matches) s was (subst (λ (ms : List Match). MakesWith mid new (with_stage e ms) s rows) (sym more) made),
-      λ clean. keeps_then old mid new (kept.3 (was_clean mid new _ c.insert_slot.ensures.survives clean)) (c.insert_slot.ensures.committed clean),
     )
 
 pub returns-clause-makes : goal.returns-clause-makes
@@ -58,12 +55,13 @@ returns-clause-makes g c clean e s rows stands stage =
     let whole = take_all c.loop-place.place c.args.matches.now past in
     record { moves = adds.some (omega arith); stands = subst (λ (ms : List Match). StandsWith new.now (with_stage e ms) s rows) whole adds.stands }
 
-pub returns-clause-committed : goal.returns-clause-committed
-returns-clause-committed g c clean = c.loop-place.invariant.3 clean
+pub returns-clause-stays : goal.returns-clause-stays
+returns-clause-stays g c =
+    c.loop-place.invariant.1
 
-pub returns-in_err-insert_slot-clause-committed : goal.returns-in_err-insert_slot-clause-committed
-returns-in_err-insert_slot-clause-committed g c clean =
-    let old = state g.S.Store c.args.tx.now.conn.now in
-    let mid = state g.S.Store c.loop-place.tx.conn.now in
-    let new = state g.S.Store c.insert_slot.new.tx.conn.now in
-    keeps_then old mid new (c.loop-place.invariant.3 (was_clean mid new _ c.insert_slot.ensures.survives clean)) (c.insert_slot.ensures.committed clean)
+pub returns-in_err-insert_slot-clause-stays : goal.returns-in_err-insert_slot-clause-stays
+returns-in_err-insert_slot-clause-stays g c =
+    let s0 = state g.S.Store c.args.tx.now.conn.now in
+    let s1 = state g.S.Store c.loop-place.tx.conn.now in
+    let s2 = state g.S.Store c.insert_slot.new.tx.conn.now in
+    stays_then s0 s1 s2 c.loop-place.invariant.1 c.insert_slot.ensures.stays

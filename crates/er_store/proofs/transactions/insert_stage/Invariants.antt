@@ -1,9 +1,10 @@
 use Rattle.std.proofs.Common.{◌≡◌, ◌+◌, ℕ, List, take, length}
-use Rattle.sqlite.specs.State.{HasCleanDisk, KeepsCommit, Survives}
+use Rattle.sqlite.specs.State.{HasCleanDisk}
 use Rattle.sqlite.specs.Held.{state}
 use Rattle.er_event.specs.declared.rows.TallyRow.{TallyRow}
 use Rattle.er_event.specs.Event.{EventValue}
 use Rattle.er_store.specs.Standing.{StandsWith}
+use Rattle.er_store.specs.inside.Steps.{Stays}
 use Rattle.er_store.proofs.Slots.{AddsSlots}
 use Rattle.er_store.proofs.transactions.insert_stage.Given as goal
 
@@ -11,5 +12,5 @@ abbrev pub invariant-loop-place : goal.invariant-loop-place
 invariant-loop-place g l =
     let old = state g.S.Store l.fn.tx.conn.now in
     let now = state g.S.Store l.tx.conn.now in
-    (l.tx.conn.ghost_name ≡ l.fn.tx.conn.ghost_name) × Survives old now (λ _. ⊥)
-    × (HasCleanDisk now → (e : EventValue) (s : ℕ) (rows : List TallyRow) → StandsWith old.now e s rows → l.stage ≡ length e.bracket.stages + 1 → AddsSlots e l.place (take l.place l.matches) s rows old now) × (HasCleanDisk now → KeepsCommit old now)
+    (l.tx.conn.ghost_name ≡ l.fn.tx.conn.ghost_name) × Stays old now
+    × (HasCleanDisk now → (e : EventValue) (s : ℕ) (rows : List TallyRow) → StandsWith old.now e s rows → l.stage ≡ length e.bracket.stages + 1 → AddsSlots e l.place (take l.place l.matches) s rows old now)

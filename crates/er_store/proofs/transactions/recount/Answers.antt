@@ -2,8 +2,6 @@ use Rattle.std.proofs.Common.{◌≡◌, ◌+◌, ◌<◌, ℕ, List, length, Co
 use Rattle.std.proofs.lemmas.List.{take_all, take_more}
 use Rattle.std.proofs.lemmas.List.Elements.{All-nil, All-cons}
 use Rattle.sqlite.specs.Held.{state}
-use Rattle.sqlite.proofs.InsideLemmas.{keeps_then}
-use Rattle.sqlite.proofs.StateLemmas.{survives_then}
 use Rattle.er_event.specs.declared.rounds.Match.{Match}
 use Rattle.er_event.specs.declared.rows.TallyRow.{TallyRow}
 use Rattle.er_event.specs.Change.{after}
@@ -15,8 +13,8 @@ use Rattle.er_event.specs.Rows.{tally_rows_by}
 use Rattle.er_event.specs.Totals.{totals}
 use Rattle.er_store.specs.inside.Steps.{MakesWith}
 use Rattle.er_store.specs.inside.Totals.{set_for_all}
-use Rattle.er_store.proofs.Committed.{commit_stays}
-use Rattle.er_store.proofs.Crash.{was_clean, survives_self}
+use Rattle.er_store.proofs.Committed.{stays_self, stays_then}
+use Rattle.er_store.proofs.Crash.{was_clean}
 use Rattle.er_store.proofs.Together.{makes_then}
 use Rattle.er_store.proofs.Recounting.{numbered_too, rows_agree, set-more, all_set}
 use Rattle.er_store.proofs.transactions.recount.Goals as goal
@@ -24,7 +22,7 @@ use Rattle.er_store.proofs.transactions.recount.Goals as goal
 pub loop-played-init : goal.loop-played-init
 loop-played-init g c =
     let old = state g.S.Store c.args.tx.now.conn.now in
-    (refl, survives_self old, λ clean e s same moves stands. record { moves = moves; stands = stands }, λ _. commit_stays old)
+    (refl, stays_self old, λ clean e s same moves stands. record { moves = moves; stands = stands })
 
 -- what holds of all holds of one
 one_match : (event : EventValue) (items : List Match) (at : ℕ) (m : Match) → AreOf event items → at < length items → m ≡ get_or items at m → AreOf event (m ∷ [])
@@ -39,19 +37,12 @@ recount_match-requires-clause-known g c =
 pub returns-in_err-recount_match-clause-same_reference : goal.returns-in_err-recount_match-clause-same_reference
 returns-in_err-recount_match-clause-same_reference g c = c.recount_match.ensures.same_reference ∙ c.loop-played.invariant.0
 
-pub returns-in_err-recount_match-clause-committed : goal.returns-in_err-recount_match-clause-committed
-returns-in_err-recount_match-clause-committed g c clean =
-    let old = state g.S.Store c.args.tx.now.conn.now in
-    let mid = state g.S.Store c.loop-played.tx.conn.now in
-    let new = state g.S.Store c.recount_match.new.tx.conn.now in
-    keeps_then old mid new (c.loop-played.invariant.3 (was_clean mid new _ c.recount_match.ensures.survives clean)) (c.recount_match.ensures.committed clean)
-
-pub returns-in_err-recount_match-clause-survives : goal.returns-in_err-recount_match-clause-survives
-returns-in_err-recount_match-clause-survives g c =
-    let old = state g.S.Store c.args.tx.now.conn.now in
-    let mid = state g.S.Store c.loop-played.tx.conn.now in
-    let new = state g.S.Store c.recount_match.new.tx.conn.now in
-    survives_then old mid new _ _ (λ _. ⊥) (λ _ db none. none) (λ _ db none. none) c.loop-played.invariant.1 c.recount_match.ensures.survives
+pub returns-in_err-recount_match-clause-stays : goal.returns-in_err-recount_match-clause-stays
+returns-in_err-recount_match-clause-stays g c =
+    let s0 = state g.S.Store c.args.tx.now.conn.now in
+    let s1 = state g.S.Store c.loop-played.tx.conn.now in
+    let s2 = state g.S.Store c.recount_match.new.tx.conn.now in
+    stays_then s0 s1 s2 c.loop-played.invariant.1 c.recount_match.ensures.stays
 
 pub loop-played-preserved : goal.loop-played-preserved
 loop-played-preserved g c =
@@ -67,15 +58,14 @@ loop-played-preserved g c =
     let so_far = c.loop-played.invariant in
     let more : take (at + 1) items ≡ take at items ++ m ∷ [] = take_more items at m c.loop-played-test.true ∙ ap (λ x. take at items ++ x ∷ []) (sym c.played-item.is) in (
       c.recount_match.ensures.same_reference ∙ so_far.0,
-      survives_then old mid new _ _ (λ _. ⊥) (λ _ db none. none) (λ _ db none. none) so_far.1 c.recount_match.ensures.survives,
+      stays_then old mid new so_far.1 c.recount_match.ensures.stays,
       λ clean e s same moves stands.
-          let was = so_far.2 (was_clean mid new _ c.recount_match.ensures.survives clean) e s same moves stands in
+          let was = so_far.2 (was_clean mid new _ c.recount_match.ensures.stays.survives clean) e s same moves stands in
           let made = c.in_ok-recount_match.ensures.makes clean e s (set_for_all (take at items) now before) same was.stands in
           let numbered = numbered_too e.players event.players same (c.recounted-played-items.ensures.sound.players.numbered) in
           let rows = rows_agree (set_for_all (m ∷ []) now (set_for_all (take at items) now before)) (set_for_all (take at items ++ m ∷ []) now before) e.players numbered (λ q low. set-more (take at items) m q now before) in
           subst (λ (ms : List Match). MakesWith old new e s (tally_rows_by (set_for_all ms now before) e.players)) (sym more)
           (subst (λ (ts : List TallyRow). MakesWith old new e s ts) rows (makes_then old mid new e e s was made)),
-      λ clean. keeps_then old mid new (so_far.3 (was_clean mid new _ c.recount_match.ensures.survives clean)) (c.recount_match.ensures.committed clean),
     )
 
 pub returns-clause-same_reference : goal.returns-clause-same_reference
@@ -95,8 +85,6 @@ returns-clause-makes g c clean e s same moves stands =
     subst (λ (ts : List TallyRow). MakesWith old new e s ts)
     (rows_agree (set_for_all items now before) now e.players numbered (λ q low. all_set items now before c.recounted-played-items.ensures.others q)) made
 
-pub returns-clause-committed : goal.returns-clause-committed
-returns-clause-committed g c clean = c.loop-played.invariant.3 clean
-
-pub returns-clause-survives : goal.returns-clause-survives
-returns-clause-survives g c = c.loop-played.invariant.1
+pub returns-clause-stays : goal.returns-clause-stays
+returns-clause-stays g c =
+    c.loop-played.invariant.1

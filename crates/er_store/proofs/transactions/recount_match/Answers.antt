@@ -36,7 +36,7 @@ returns-in_ok-recount_player-2-clause-makes g c clean e s before same stands =
     let now = totals (after event c.args.change.now) in
     let known = c.requires.known 0 played (omega arith) in
     let numbered = numbered_too e.players event.players same c.requires.numbered in
-    let first = c.in_ok-recount_player.ensures.makes (was_clean mid new _ c.recount_player-then-played-ne0.ensures.survives clean) e s before stands numbered (rw same known.0) in
+    let first = c.in_ok-recount_player.ensures.makes (was_clean mid new _ c.recount_player-then-played-ne0.ensures.stays.survives clean) e s before stands numbered (rw same known.0) in
     let second = c.in_ok-recount_player-2.ensures.makes clean e s (set_for played.a (now played.a) before) first.stands numbered (rw same (known.1 (seated played.b c.if-played-ne0.true))) in
     subst (λ (rows : List TallyRow). MakesWith old new e s rows)
     (rows_agree (set_for played.b (now played.b) (set_for played.a (now played.a) before)) (set_for_all (played ∷ []) now before) e.players numbered (λ q low. two_set played.a played.b q now before))

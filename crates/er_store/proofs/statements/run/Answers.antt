@@ -1,0 +1,20 @@
+use Rattle.er_store.proofs.Effects.{inside_ok}
+use Rattle.er_store.proofs.Committed.{step_keeps}
+use Rattle.er_store.proofs.statements.run.Goals as goal
+
+pub returns-clause-ran : goal.returns-clause-ran
+returns-clause-ran g c clean =
+    let was = inside_ok _ c.in_ok-execute.field-0 _ (λ e. (c.in_ok-execute.ensures.ended e).0) in
+    record { was = was; count = c.in_ok-execute.field-0; executes = c.in_ok-execute.ensures.runs clean was }
+
+pub returns-clause-stays : goal.returns-clause-stays
+returns-clause-stays g c = record {
+  committed = λ clean. step_keeps g.S.Store c.args.tx.now.conn.now c.execute.new.self.conn.now _ _ c.execute.result _ c.execute.ensures.ended (c.execute.ensures.runs clean);
+  survives = c.execute.ensures.survives;
+}
+
+pub returns-in_err-execute-clause-stays : goal.returns-in_err-execute-clause-stays
+returns-in_err-execute-clause-stays g c = record {
+  committed = λ clean. step_keeps g.S.Store c.args.tx.now.conn.now c.execute.new.self.conn.now _ _ c.execute.result _ c.execute.ensures.ended (c.execute.ensures.runs clean);
+  survives = c.execute.ensures.survives;
+}
