@@ -20,6 +20,7 @@ use Rattle.sqlite_rules.specs.Action.{Writes}
 use Rattle.sqlite_rules.specs.Calls.{ids_of}
 use Rattle.sqlite_trees.proofs.ListLemmas.{filter-map}
 use Rattle.sqlite_keyed.proofs.ListLemmas.{IsPermutation-filter}
+use Rattle.er_event.specs.declared.refusals.Place.TheVariants.{PlayerTable}
 use Rattle.er_event.specs.declared.players.Player.{Player}
 use Rattle.er_event.specs.Event.{EventValue}
 use Rattle.er_event.specs.Sound.{numbers}
@@ -87,5 +88,5 @@ pub player_dropped : (old new : State) (e : EventValue) (s n count : ℕ) → {k
     → IsTrue old.in_transaction → ExecutesInside 0 set_dropped (number n ∷ []) old new (Ok count) → MakesWith old new (with_dropped e n) s kept
 player_dropped old new e s n count stands numbered known inside h =
     let one = picks_one e.players n numbered known in
-    let set = sets_dropped old new n e.players one.it count stands.tables stands.players one.alone one.is inside h in
+    let set = sets_dropped old new n e.players one.it count stands.tables (stands.rows PlayerTable) one.alone one.is inside h in
     players_set old new e (map (dropped_at n) e.players) s stands set.0 (IsPermutation-trans _ _ _ set.1 one.replaced)

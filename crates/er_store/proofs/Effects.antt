@@ -23,6 +23,7 @@ use Rattle.sqlite_rules.specs.Calls.{ids_of}
 use Rattle.sqlite.specs.declared.types.Value.{Value}
 use Rattle.sqlite_schema.specs.declared.schema.Index.{Index}
 use Rattle.sqlite_schema.specs.declared.schema.View.{View}
+use Rattle.er_event.specs.declared.refusals.Place.TheVariants.{EventTable}
 use Rattle.er_event.specs.declared.events.Phase.{Phase}
 use Rattle.er_event.specs.declared.rows.PairingRow.{PairingRow}
 use Rattle.er_event.specs.declared.rows.BracketRow.{BracketRow}
@@ -152,7 +153,7 @@ sets_event sql terms v old new e e' s t count is plain shows stands inside h =
     let trees = old.now.trees in
     let q : Program = record { lets = []; body = event_query terms } in
     let params : Row = v ∷ [] in
-    let it = one_of event_places (trees 0) (event_columns (event_row e s)) (one_permutation _ _ (IsPermutation-sym _ _ stands.event)) in
+    let it = one_of event_places (trees 0) (event_columns (event_row e s)) (one_permutation _ _ (IsPermutation-sym _ _ (stands.rows EventTable))) in
     let w = runs_as sql params old new schema refl (Update 0 q) (at_ours schema has (λ s. command_of (understood s sql) ≡ Update 0 q) (is _ _ _)) (at_ours schema has (λ s. IsPlain (understood s sql)) (plain _ _ _)) count h.0 in
     let task : Task = record { limit = old.step_limit; keys = (mode_of old).keys; schema = schema; table = event 0; params = params } in
     let found : slice_get schema.tables 0 ≡ Some (event 0) = ap (λ ts. slice_get ts 0) has.are in

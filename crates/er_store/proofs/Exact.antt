@@ -20,6 +20,7 @@ use Rattle.sqlite.proofs.Callers.{one_permutation}
 use Rattle.sqlite_value.proofs.OrderLemmas.{value_cmp_total, value_cmp-Int}
 use Rattle.sqlite_keyed.proofs.SortLemmas.{sorted_unique}
 use Rattle.sqlite_keyed.proofs.ListLemmas.{all-append, ascending-append}
+use Rattle.er_event.specs.declared.refusals.Place.TheVariants.{BracketTable, EventTable, PlayerTable, TallyTable}
 use Rattle.er_event.specs.Event.{EventValue}
 use Rattle.er_event.specs.declared.players.Player.{Player}
 use Rattle.er_event.specs.declared.rounds.Match.{Match}
@@ -97,7 +98,7 @@ level a = grind (arith, nat_tests)
 -- ---- the event's row
 
 pub event_exact : (db : Database) (e : EventValue) (s : ℕ) (listed : List Row) → StandsFor db e s → Lists by_first (shown event_places (db.trees 0)) listed → listed ≡ map event_columns (event_row e s ∷ [])
-event_exact db e s listed stands h = one_permutation (event_columns (event_row e s)) listed (IsPermutation-trans _ _ _ (IsPermutation-sym _ _ stands.event) h.same)
+event_exact db e s listed stands h = one_permutation (event_columns (event_row e s)) listed (IsPermutation-trans _ _ _ (IsPermutation-sym _ _ (stands.rows EventTable)) h.same)
 
 -- ---- the players
 
@@ -124,7 +125,7 @@ pub players_exact : (db : Database) (e : EventValue) (s : ℕ) (listed : List Ro
     → Lists by_first (shown player_places (db.trees 1)) listed → listed ≡ map player_columns (player_rows e)
 players_exact db e s listed stands numbered h =
     sorted_unique by_first (on_total (λ (r : Row). column r 0) value_cmp_total) (map player_columns (player_rows e)) listed (players_rise 1 e.players numbered)
-    (IsPermutation-trans _ _ _ (IsPermutation-sym _ _ stands.players) h.same) h.sorted
+    (IsPermutation-trans _ _ _ (IsPermutation-sym _ _ (stands.rows PlayerTable)) h.same) h.sorted
 
 -- ---- the totals
 
@@ -153,7 +154,7 @@ pub tallies_exact : (db : Database) (e : EventValue) (s : ℕ) (listed : List Ro
     → Lists by_first (shown tally_places (db.trees 8)) listed → listed ≡ map tally_columns (tally_rows e)
 tallies_exact db e s listed stands numbered h =
     sorted_unique by_first (on_total (λ (r : Row). column r 0) value_cmp_total) (map tally_columns (tally_rows e)) listed (tallies_rise (totals e) 1 e.players numbered)
-    (IsPermutation-trans _ _ _ (IsPermutation-sym _ _ stands.tallies) h.same) h.sorted
+    (IsPermutation-trans _ _ _ (IsPermutation-sym _ _ (stands.rows TallyTable)) h.same) h.sorted
 
 -- ---- the matches of the playoff
 
@@ -200,7 +201,7 @@ bracket_rises stage (ms ∷ later) =
 pub bracket_exact : (db : Database) (e : EventValue) (s : ℕ) (listed : List Row) → StandsFor db e s → Lists by_first_two (shown bracket_places (db.trees 6)) listed → listed ≡ map bracket_columns (bracket_rows e)
 bracket_exact db e s listed stands h =
     sorted_unique by_first_two (then_total (on_total (λ (r : Row). column r 0) value_cmp_total) (on_total (λ (r : Row). column r 1) value_cmp_total)) (map bracket_columns (bracket_rows e)) listed (bracket_rises 1 e.bracket.stages)
-    (IsPermutation-trans _ _ _ (IsPermutation-sym _ _ stands.bracket) h.same) h.sorted
+    (IsPermutation-trans _ _ _ (IsPermutation-sym _ _ (stands.rows BracketTable)) h.same) h.sorted
 
 -- ---- why a row is refused
 

@@ -15,6 +15,7 @@ use Rattle.sqlite.specs.Program.{overlay}
 use Rattle.sqlite.specs.Effect.{Database}
 use Rattle.sqlite_trees.proofs.ListLemmas.{filter-map}
 use Rattle.sqlite_keyed.proofs.ListLemmas.{IsPermutation-filter}
+use Rattle.er_event.specs.declared.refusals.Place.TheVariants.{PairingTable, PlayerTable}
 use Rattle.er_event.specs.declared.rounds.Match.{Match}
 use Rattle.er_event.specs.declared.rounds.Round.{Round}
 use Rattle.er_event.specs.declared.rows.PairingRow.{PairingRow}
@@ -102,11 +103,11 @@ module _ (e : EventValue) (sound : IsSoundButForSeeds e) where
   sits : (db : Database) (s n : ℕ) → StandsFor db e s → Known e n → (l : Row) × (numbered_as (number n) (db.trees 1) ≡ l ∷ []) × (column l 2 ≡ text_or_null (name_in (second_of e n)))
   sits db s n stands (inl none) =
       let out = picks_none n 1 e.players (omega (arith, none)) sound.players.numbered in
-      let all = none_picked player_places (picks n) (db.trees 1) (rows_of e.players) stands.players out.none in
+      let all = none_picked player_places (picks n) (db.trees 1) (rows_of e.players) (stands.rows PlayerTable) out.none in
       ([], ap or_nulls all, ap (λ k. text_or_null (name_in (second_of e k))) (sym none))
   sits db s n stands (inr known) =
       let one = picks_one e.players n sound.players.numbered known in
-      let it = one_picked player_places (picks n) (db.trees 1) (rows_of e.players) (row_of one.it) stands.players one.alone in
+      let it = one_picked player_places (picks n) (db.trees 1) (rows_of e.players) (row_of one.it) (stands.rows PlayerTable) one.alone in
       let name : column it.0 2 ≡ Text one.it.name = ap (λ (r : Row). column r 1) it.2 in
       (it.0, ap or_nulls it.1, name ∙ (ap Text (sym (picked-name n e.players one.it one.alone)) ∙ ap (λ (o : Side). text_or_null (name_in o)) (sym (somebody n known))))
 
@@ -262,7 +263,7 @@ module _ (e : EventValue) (sound : IsSoundButForSeeds e) (k t : ℕ) (n : ℕ ×
   slip_read : (db : Database) (s : ℕ) (rows : List Row) → StandsFor db e s → filter (picks_table k t) (map pairing_columns (pairing_rows e)) ≡ pairing_columns (pairing_row k n) ∷ []
       → IsAnswer slip_query (overlay db.trees []) (number k ∷ number t ∷ []) rows → rows ≡ named_columns (named_pairing slip) ∷ []
   slip_read db s rows stands alone a =
-      let it = one_picked pairing_places (picks_table k t) (db.trees 3) (map pairing_columns (pairing_rows e)) (pairing_columns (pairing_row k n)) stands.pairings alone in
+      let it = one_picked pairing_places (picks_table k t) (db.trees 3) (map pairing_columns (pairing_rows e)) (pairing_columns (pairing_row k n)) (stands.rows PairingTable) alone in
       let p = it.0 in
       let low = sits e sound db s (min n.1.a n.1.b) stands known_low in
       let high = sits e sound db s (max n.1.a n.1.b) stands known_high in
@@ -285,7 +286,7 @@ slip_exact db e s k t rows stands sound a =
     by_case : (o : Option (ℕ × Match)) → filter (picks_table k t) (map pairing_columns (pairing_rows e)) ≡ map (λ n. pairing_columns (pairing_row k n)) (option_to_list o)
         → match_at e k t ≡ option_map (λ (n : ℕ × Match). n.1) o → IfSome o (Finds (IsMatch (numbers e.players)) t) → rows ≡ map named_columns (named_pairings e k t)
     by_case None alone is found =
-        slip_none db.trees (number k ∷ number t ∷ []) rows (none_picked pairing_places (picks_table k t) (db.trees 3) (map pairing_columns (pairing_rows e)) stands.pairings alone) a
+        slip_none db.trees (number k ∷ number t ∷ []) rows (none_picked pairing_places (picks_table k t) (db.trees 3) (map pairing_columns (pairing_rows e)) (stands.rows PairingTable) alone) a
         ∙ ap (λ (o : Option Match). map named_columns (map named_pairing (option_to_list (option_map (slip_row e k t) o)))) (sym is)
     by_case (Some n) alone is found =
         slip_read e sound k t n found db s rows stands alone a

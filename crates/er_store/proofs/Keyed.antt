@@ -14,6 +14,7 @@ use Rattle.sqlite.specs.Effect.{Database}
 use Rattle.sqlite_value.proofs.OrderLemmas.{value_cmp_total, value_cmp-Int}
 use Rattle.sqlite_keyed.proofs.SortLemmas.{sorted_unique}
 use Rattle.sqlite_keyed.proofs.ListLemmas.{all-append, ascending-append}
+use Rattle.er_event.specs.declared.refusals.Place.TheVariants.{PairingTable}
 use Rattle.er_event.specs.Event.{EventValue}
 use Rattle.er_event.specs.declared.rounds.Match.{Match}
 use Rattle.er_event.specs.declared.rounds.Round.{Round}
@@ -125,4 +126,4 @@ pub pairings_exact : (db : Database) (e : EventValue) (s : ℕ) (listed : List R
 pairings_exact db e s listed stands sound h =
     sorted_unique by_first_two (then_total (on_total (λ (r : Row). column r 0) value_cmp_total) (on_total (λ (r : Row). column r 1) value_cmp_total)) (map pairing_columns (keyed_pairing_rows e)) listed
     (rounds_rise 1 e.stored (rounds_shown e sound.players sound.rounds))
-    (IsPermutation-trans _ _ _ (IsPermutation-sym _ _ (keyed_permutes e)) (IsPermutation-trans _ _ _ (IsPermutation-sym _ _ stands.pairings) h.same)) h.sorted
+    (IsPermutation-trans _ _ _ (IsPermutation-sym _ _ (keyed_permutes e)) (IsPermutation-trans _ _ _ (IsPermutation-sym _ _ (stands.rows PairingTable)) h.same)) h.sorted

@@ -10,6 +10,8 @@ use Rattle.er_event.specs.Event.{EventValue}
 use Rattle.er_event.specs.Rows.{tally_rows}
 use Rattle.er_event.specs.Parts.{HasRoundRows, IsFirstFault, parts_of}
 use Rattle.er_event.specs.Sound.{IsSoundButForSeeds}
+use Rattle.std.specs.List.Sorted.{IsPermutation}
+use Rattle.er_store.specs.Standing.{rows_in, rows_with}
 use Rattle.er_store.specs.Loading.{ListsParts, ListsTallies, ShowsEvent}
 use Rattle.er_store.specs.Damage.{IsRowFault}
 use Rattle.er_store.proofs.Keyed.{keyed_permutes}
@@ -45,13 +47,14 @@ no_row_fault parts e s low sound are rows counted place (inr totals) = totals.1.
 -- in any order, they are the rows that the tables show
 pub shows_event : (db : Database) (parts : Parts) (e : EventValue) (s : ℕ) → s ≤ 999999 → IsSoundButForSeeds e → parts ≡ parts_of e s → ListsParts db parts → (rows : List TallyRow) → rows ≡ tally_rows e → ListsTallies db rows → ShowsEvent db e s
 shows_event db parts e s low sound are lists rows counted totals =
-    let whole = subst (ListsParts db) are lists in
-    record {
-      low = low;
-      sound = sound;
-      event = whole.event.same;
-      players = whole.players.same;
-      pairings = IsPermutation-trans _ _ _ whole.pairings.same (IsPermutation-sym _ _ (keyed_permutes e));
-      bracket = whole.bracket.same;
-      tallies = (subst (ListsTallies db) counted totals).same;
-    }
+    record { low = low; sound = sound; rows = all }
+  where
+    whole : ListsParts db (parts_of e s)
+    whole = subst (ListsParts db) are lists
+
+    all : (table : Place) → IsPermutation (rows_in db table) (rows_with e s (tally_rows e) table)
+    all EventTable = whole.event.same
+    all PlayerTable = whole.players.same
+    all PairingTable = IsPermutation-trans _ _ _ whole.pairings.same (IsPermutation-sym _ _ (keyed_permutes e))
+    all BracketTable = whole.bracket.same
+    all TallyTable = (subst (ListsTallies db) counted totals).same

@@ -28,6 +28,7 @@ use Rattle.sqlite_value.proofs.OrderLemmas.{value_cmp_total, value_cmp-Int}
 use Rattle.sqlite_trees.proofs.ListLemmas.{filter-map, IsPermutation-flat_map}
 use Rattle.sqlite_keyed.proofs.ListLemmas.{IsPermutation-filter, all-append, ascending-append, map-map}
 use Rattle.sqlite_keyed.proofs.SortLemmas.{sorted_unique}
+use Rattle.er_event.specs.declared.refusals.Place.TheVariants.{PairingTable, TallyTable}
 use Rattle.er_event.specs.declared.players.Player.{Player}
 use Rattle.er_event.specs.declared.rounds.Match.{Match}
 use Rattle.er_event.specs.declared.rounds.Round.{Round}
@@ -159,7 +160,7 @@ module _ (db : Database) (e : EventValue) (s : ℕ) (stands : StandsFor db e s) 
       let picked = picks_row row_by row_by n (record { numbered = λ p. refl; others = λ p apart. refl }) e.players sound.players.numbered known in
       let rows : map row_by e.players ≡ map tally_columns (tally_rows e) = sym (map-map tally_columns (λ (p : Player). tally_row p.no (totals e p.no)) e.players) in
       let alone : filter (picks n) (map tally_columns (tally_rows e)) ≡ row_by picked.it ∷ [] = ap (filter (picks n)) (sym rows) ∙ picked.alone in
-      let it = one_picked tally_places (picks n) (db.trees 8) (map tally_columns (tally_rows e)) (row_by picked.it) stands.tallies alone in
+      let it = one_picked tally_places (picks n) (db.trees 8) (map tally_columns (tally_rows e)) (row_by picked.it) (stands.rows TallyTable) alone in
       (it.0, ap or_nulls it.1, it.2 ∙ ap (λ (k : ℕ). tally_columns (tally_row k (totals e k))) picked.is)
 
   pair-mates : (k j : ℕ) (m : Match) → IsMatch (numbers e.players) m → is_bye m ≡ false → mates db.trees (pairing_columns (pairing_row k (j, m))) ≡ meeting_columns (meeting_row (totals e) k (j, m)) ∷ []
@@ -287,7 +288,7 @@ pub meetings-exact : (db : Database) (e : EventValue) (s : ℕ) (rows : List Row
 meetings-exact db e s rows stands sound h =
     let stored = shown pairing_places (db.trees 3) in
     let kept = IsPermutation-flat_map (mates db.trees) (filter is_no_bye stored) (filter is_no_bye (map pairing_columns (pairing_rows e)))
-    (IsPermutation-filter is_no_bye stored (map pairing_columns (pairing_rows e)) stands.pairings) in
+    (IsPermutation-filter is_no_bye stored (map pairing_columns (pairing_rows e)) (stands.rows PairingTable)) in
     let are = rounds-mates db e s stands sound 1 e.stored (all_matches e sound) in
     let same : IsPermutation (flat_map (mates db.trees) (filter is_no_bye stored)) (map meeting_columns (meeting_rows e)) =
     subst (IsPermutation (flat_map (mates db.trees) (filter is_no_bye stored))) are kept in

@@ -10,6 +10,9 @@ use Rattle.sqlite.specs.Effect.{Database}
 use Rattle.sqlite.specs.State.{State}
 use Rattle.sqlite_rules.specs.Edit.{have_rowids}
 use Rattle.sqlite_trees.proofs.TreeLemmas.{IsTable-put_row}
+use Rattle.er_event.specs.declared.refusals.Place.{Place}
+use Rattle.er_store.specs.Standing.{rows_in, rows_with}
+use Rattle.er_event.specs.declared.refusals.Place.TheVariants.{BracketTable, EventTable, PairingTable, PlayerTable, TallyTable}
 use Rattle.er_event.specs.declared.rounds.Match.{Match}
 use Rattle.er_event.specs.declared.rounds.Round.{Round}
 use Rattle.er_event.specs.declared.rows.PairingRow.{PairingRow}
@@ -92,22 +95,20 @@ pairing_added old new e before m s id stands put =
     pairings_set old new (with_round e before) more.stored s stands put.goes
     (subst (λ rows. IsPermutation (shown pairing_places rows) (map pairing_columns (pairing_rows more))) (sym put.rows)
     (subst (IsPermutation (shown pairing_places (put_row row (old.now.trees 3)))) (sym all)
-    (shows_more pairing_places row (old.now.trees 3) (pairing_columns (next_row e before m)) (map pairing_columns (pairing_rows (with_round e before))) put.free refl stands.pairings)))
+    (shows_more pairing_places row (old.now.trees 3) (pairing_columns (next_row e before m)) (map pairing_columns (pairing_rows (with_round e before))) put.free refl (stands.rows PairingTable))))
     (subst IsKeyed (sym put.rows) (keyed_put id (pairing_columns (next_row e before m)) (old.now.trees 3) stands.pairings_keyed))
 
 -- a round of no match has no row
-none_added : (db : Database) (e : EventValue) (s : ℕ) → {kept : List TallyRow} → StandsWith db e s kept → StandsWith db (with_round e []) s kept
-none_added db e s stands = record {
-  low = stands.low;
-  tables = stands.tables;
-  event = stands.event;
-  players = stands.players;
-  pairings = subst (λ rows. IsPermutation (shown pairing_places (db.trees 3)) (map pairing_columns rows)) (sym (pairing_none e)) stands.pairings;
-  bracket = stands.bracket;
-  pairings_keyed = stands.pairings_keyed;
-  tallies = stands.tallies;
-  bracket_keyed = stands.bracket_keyed;
-}
+pub none_added : (db : Database) (e : EventValue) (s : ℕ) → {kept : List TallyRow} → StandsWith db e s kept → StandsWith db (with_round e []) s kept
+none_added db e s {kept} stands =
+    record { low = stands.low; tables = stands.tables; rows = rows; pairings_keyed = stands.pairings_keyed; bracket_keyed = stands.bracket_keyed }
+  where
+    rows : (table : Place) → IsPermutation (rows_in db table) (rows_with (with_round e []) s kept table)
+    rows EventTable = stands.rows EventTable
+    rows PlayerTable = stands.rows PlayerTable
+    rows PairingTable = subst (λ rows. IsPermutation (shown pairing_places (db.trees 3)) (map pairing_columns rows)) (sym (pairing_none e)) (stands.rows PairingTable)
+    rows BracketTable = stands.rows BracketTable
+    rows TallyTable = stands.rows TallyTable
 
 -- ---- matches, one after the other
 
@@ -126,17 +127,18 @@ same_moves old mid new same moves = record {
   keeps = subst (λ d. KeepsOthers d new.now) same.now_is moves.keeps;
 }
 
--- so many matches of a round are stored
-pub record Adds (e : EventValue) (count : ℕ) (matches : List Match) (serial : ℕ) (kept : List TallyRow) (old new : State) : Type 0 where
+-- so many matches are stored, of a round or a stage that an event has with them
+pub record Adds (event : List Match → EventValue) (count : ℕ) (matches : List Match) (serial : ℕ) (totals : List TallyRow) (old new : State) : Type 0 where
   pub none : count ≡ 0 → Same old new
   pub some : 0 < count → Moves old new
-  pub stands : StandsWith new.now (with_round e matches) serial kept
+  pub stands : StandsWith new.now (event matches) serial totals
 
-pub adds_none : (s : State) (e : EventValue) (serial : ℕ) → {kept : List TallyRow} → StandsWith s.now e serial kept → Adds e 0 [] serial kept s s
-adds_none s e serial stands = record { none = λ _. record { is_open = refl; mode = refl; now_is = refl; committed_is = refl }; some = λ never. absurd (not-suc-le-zero never); stands = none_added s.now e serial stands }
+pub adds_none : (s : State) (event : List Match → EventValue) (serial : ℕ) → {totals : List TallyRow} → StandsWith s.now (event []) serial totals → Adds event 0 [] serial totals s s
+adds_none s event serial stands = record { none = λ _. record { is_open = refl; mode = refl; now_is = refl; committed_is = refl }; some = λ never. absurd (not-suc-le-zero never); stands = stands }
 
-pub adds_one : (old mid new : State) (e : EventValue) (count : ℕ) (before after : List Match) (serial : ℕ) {kept : List TallyRow} → Adds e count before serial kept old mid → MakesWith mid new (with_round e after) serial kept → Adds e (count + 1) after serial kept old new
-adds_one old mid new e count before after serial was made = record { none = λ never. absurd (omega (arith, never)); some = λ _. moves count was.none was.some; stands = made.stands }
+pub adds_one : (old mid new : State) (event : List Match → EventValue) (count : ℕ) (before after : List Match) (serial : ℕ) {totals : List TallyRow}
+    → Adds event count before serial totals old mid → MakesWith mid new (event after) serial totals → Adds event (count + 1) after serial totals old new
+adds_one old mid new event count before after serial was made = record { none = λ never. absurd (omega (arith, never)); some = λ _. moves count was.none was.some; stands = made.stands }
   where
     moves : (n : ℕ) → (n ≡ 0 → Same old mid) → (0 < n → Moves old mid) → Moves old new
     moves zero none some = same_moves old mid new (none refl) made.moves

@@ -42,11 +42,7 @@ pub stands_again : (db : Database) (e : EventValue) (s : ℕ) → IsSound db.sch
 stands_again db e s sound it = record {
   low = it.stands.low;
   tables = has_again it.schema db.schema (schemas_agree it.schema db.schema db.trees it.sound sound) it.stands.tables;
-  event = it.stands.event;
-  players = it.stands.players;
-  pairings = it.stands.pairings;
-  bracket = it.stands.bracket;
-  tallies = it.stands.tallies;
+  rows = it.stands.rows;
   pairings_keyed = it.stands.pairings_keyed;
   bracket_keyed = it.stands.bracket_keyed;
 }

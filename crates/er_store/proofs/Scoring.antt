@@ -30,6 +30,7 @@ use Rattle.sqlite_trees.specs.View.{is_int}
 use Rattle.sqlite_trees.proofs.TreeLemmas.{later_rowids}
 use Rattle.sqlite_trees.proofs.ListLemmas.{filter-map, filter_all, all_weaker}
 use Rattle.sqlite_keyed.proofs.ListLemmas.{IsPermutation-filter, all-filter, ascending-filter, all_from_test, test_from_all}
+use Rattle.er_event.specs.declared.refusals.Place.TheVariants.{BracketTable, PairingTable}
 use Rattle.er_event.specs.declared.scores.Games.{Games}
 use Rattle.er_event.specs.declared.rounds.Match.{Match}
 use Rattle.er_event.specs.declared.rows.PairingRow.{PairingRow}
@@ -207,7 +208,7 @@ pairing_scored old new e s k t score m count stands found seat inside h =
     let set = sets_row (pairing 3) pairing_rest 2 set_score score_terms old new k t values (pairing_columns (pairing_row k one.it)) (pairing_columns row) (map pairing_columns (pairing_rows e)) count
     (at_ours schema has (λ s. command_of (understood s set_score) ≡ Update 2 p) (score_is _ _ _)) (at_ours schema has (λ s. IsPlain (understood s set_score)) (score_plain _ _ _))
     (λ db. refl) (ap (λ ts. slice_get ts 2) has.are) (λ x other. other.2) (λ r id own h. score_shows r k t score one.it id own h) (score_cast row) (λ id. refl)
-    has stands.pairings stands.pairings_keyed one.alone inside h in
+    has (stands.rows PairingTable) stands.pairings_keyed one.alone inside h in
     pairings_set old new e (with_score e k t score).stored s stands set.goes (IsPermutation-trans _ _ _ set.rows one.replaced) set.keyed
 
 -- ---- a match of the playoff
@@ -244,5 +245,5 @@ slot_scored old new e s k t score m count stands found inside h =
     let set = sets_row (bracket 6) bracket_rest 3 set_slot_score slot_score_terms old new k t values (bracket_columns (bracket_row k (t, m))) (bracket_columns row) (map bracket_columns (bracket_rows e)) count
     (at_ours schema has (λ s. command_of (understood s set_slot_score) ≡ Update 3 p) (slot_score_is _ _ _)) (at_ours schema has (λ s. IsPlain (understood s set_slot_score)) (slot_score_plain _ _ _))
     (λ db. refl) (ap (λ ts. slice_get ts 3) has.are) (λ x other. other.3) (λ r id own h. slot_shows r k t score m id own h) (slot_cast row) (λ id. refl)
-    has stands.bracket stands.bracket_keyed one.alone inside h in
+    has (stands.rows BracketTable) stands.bracket_keyed one.alone inside h in
     bracket_set old new e (with_slot_score e k t score).bracket.stages s stands set.goes (IsPermutation-trans _ _ _ set.rows one.replaced) set.keyed

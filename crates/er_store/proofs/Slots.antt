@@ -1,10 +1,13 @@
 -- What one more match of a stage makes of the tables.
-use Rattle.std.proofs.Common.{◌≡◌, ◌<◌, ◌+◌, ℕ, zero, suc, ℤ, length, List, [], ◌∷◌, ◌++◌, map, refl, sym, ap, subst, ◌∙◌, arith, append_assoc, append-nil, not-suc-le-zero}
+use Rattle.std.proofs.Common.{◌≡◌, ◌+◌, ℕ, ℤ, length, List, [], ◌∷◌, ◌++◌, map, refl, sym, ap, subst, ◌∙◌, arith, append_assoc, append-nil}
 use Rattle.std.specs.List.Sorted.{IsPermutation}
 use Rattle.std.proofs.lemmas.List.{map-append}
 use Rattle.sqlite.specs.Tree.{put_row}
 use Rattle.sqlite.specs.Effect.{Database}
 use Rattle.sqlite.specs.State.{State}
+use Rattle.er_event.specs.declared.refusals.Place.{Place}
+use Rattle.er_store.specs.Standing.{rows_in, rows_with}
+use Rattle.er_event.specs.declared.refusals.Place.TheVariants.{BracketTable, EventTable, PairingTable, PlayerTable, TallyTable}
 use Rattle.er_event.specs.declared.rounds.Match.{Match}
 use Rattle.er_event.specs.declared.rows.BracketRow.{BracketRow}
 use Rattle.er_event.specs.Event.{EventValue}
@@ -14,9 +17,9 @@ use Rattle.er_event.specs.Rows.{bracket_row, stage_rows, bracket_rows_from, brac
 use Rattle.er_event.specs.declared.rows.TallyRow.{TallyRow}
 use Rattle.er_store.specs.Rows.{bracket_columns, stored_slot, shown, bracket_places}
 use Rattle.er_store.specs.Standing.{StandsWith, IsKeyed}
-use Rattle.er_store.specs.inside.Steps.{Puts, Moves, MakesWith}
-use Rattle.er_store.proofs.Together.{shows_more, bracket_set, moves_then}
-use Rattle.er_store.proofs.Pairing.{keyed_put, Same, same_moves}
+use Rattle.er_store.specs.inside.Steps.{Puts, MakesWith}
+use Rattle.er_store.proofs.Together.{shows_more, bracket_set}
+use Rattle.er_store.proofs.Pairing.{keyed_put}
 
 -- ---- the rows of one more stage
 
@@ -67,37 +70,17 @@ slot_added old new e before m s id stands put =
     bracket_set old new (with_stage e before) more.bracket.stages s stands put.goes
     (subst (λ rows. IsPermutation (shown bracket_places rows) (map bracket_columns (bracket_rows more))) (sym put.rows)
     (subst (IsPermutation (shown bracket_places (put_row row (old.now.trees 6)))) (sym all)
-    (shows_more bracket_places row (old.now.trees 6) (bracket_columns (next_slot e before m)) (map bracket_columns (bracket_rows (with_stage e before))) put.free refl stands.bracket)))
+    (shows_more bracket_places row (old.now.trees 6) (bracket_columns (next_slot e before m)) (map bracket_columns (bracket_rows (with_stage e before))) put.free refl (stands.rows BracketTable))))
     (subst IsKeyed (sym put.rows) (keyed_put id (bracket_columns (next_slot e before m)) (old.now.trees 6) stands.bracket_keyed))
 
 -- a stage of no match has no row
-none_added : (db : Database) (e : EventValue) (s : ℕ) → {kept : List TallyRow} → StandsWith db e s kept → StandsWith db (with_stage e []) s kept
-none_added db e s stands = record {
-  low = stands.low;
-  tables = stands.tables;
-  event = stands.event;
-  players = stands.players;
-  pairings = stands.pairings;
-  bracket = subst (λ rows. IsPermutation (shown bracket_places (db.trees 6)) (map bracket_columns rows)) (sym (slots_none e)) stands.bracket;
-  pairings_keyed = stands.pairings_keyed;
-  tallies = stands.tallies;
-  bracket_keyed = stands.bracket_keyed;
-}
-
--- ---- matches, one after the other
-
--- so many matches of a stage are stored
-pub record AddsSlots (e : EventValue) (count : ℕ) (matches : List Match) (serial : ℕ) (kept : List TallyRow) (old new : State) : Type 0 where
-  pub none : count ≡ 0 → Same old new
-  pub some : 0 < count → Moves old new
-  pub stands : StandsWith new.now (with_stage e matches) serial kept
-
-pub slots_start : (s : State) (e : EventValue) (serial : ℕ) → {kept : List TallyRow} → StandsWith s.now e serial kept → AddsSlots e 0 [] serial kept s s
-slots_start s e serial stands = record { none = λ _. record { is_open = refl; mode = refl; now_is = refl; committed_is = refl }; some = λ never. absurd (not-suc-le-zero never); stands = none_added s.now e serial stands }
-
-pub slots_next : (old mid new : State) (e : EventValue) (count : ℕ) (before after : List Match) (serial : ℕ) {kept : List TallyRow} → AddsSlots e count before serial kept old mid → MakesWith mid new (with_stage e after) serial kept → AddsSlots e (count + 1) after serial kept old new
-slots_next old mid new e count before after serial was made = record { none = λ never. absurd (omega (arith, never)); some = λ _. moves count was.none was.some; stands = made.stands }
+pub no_slot_added : (db : Database) (e : EventValue) (s : ℕ) → {kept : List TallyRow} → StandsWith db e s kept → StandsWith db (with_stage e []) s kept
+no_slot_added db e s {kept} stands =
+    record { low = stands.low; tables = stands.tables; rows = rows; pairings_keyed = stands.pairings_keyed; bracket_keyed = stands.bracket_keyed }
   where
-    moves : (n : ℕ) → (n ≡ 0 → Same old mid) → (0 < n → Moves old mid) → Moves old new
-    moves zero none some = same_moves old mid new (none refl) made.moves
-    moves (suc n) none some = moves_then old mid new (some (omega arith)) made.moves
+    rows : (table : Place) → IsPermutation (rows_in db table) (rows_with (with_stage e []) s kept table)
+    rows EventTable = stands.rows EventTable
+    rows PlayerTable = stands.rows PlayerTable
+    rows PairingTable = stands.rows PairingTable
+    rows BracketTable = subst (λ rows. IsPermutation (shown bracket_places (db.trees 6)) (map bracket_columns rows)) (sym (slots_none e)) (stands.rows BracketTable)
+    rows TallyTable = stands.rows TallyTable

@@ -12,10 +12,12 @@ use Rattle.sqlite.specs.Tree.{Trees, put_row, rowid}
 use Rattle.sqlite.specs.Edit.{is_taken}
 use Rattle.sqlite.specs.Effect.{Database}
 use Rattle.sqlite.specs.State.{State}
+use Rattle.er_event.specs.declared.refusals.Place.{Place}
+use Rattle.er_event.specs.declared.refusals.Place.TheVariants.{EventTable, PlayerTable, PairingTable, BracketTable, TallyTable}
 use Rattle.er_event.specs.Event.{EventValue}
 use Rattle.er_event.specs.declared.events.Phase.{Phase}
 use Rattle.er_event.specs.Change.{new_player, with_player, with_phase}
-use Rattle.er_event.specs.Rows.{event_row, player_row, player_rows, pairing_rows, pairing_rows_from, bracket_rows, bracket_rows_from, tally_row, tally_rows}
+use Rattle.er_event.specs.Rows.{event_row, player_row, player_rows, pairing_rows_from, bracket_rows_from, tally_row, tally_rows}
 use Rattle.er_event.specs.Totals.{totals}
 use Rattle.er_event.specs.declared.players.Player.{Player}
 use Rattle.er_event.specs.declared.rounds.Round.{Round}
@@ -23,7 +25,7 @@ use Rattle.er_event.specs.declared.rounds.Match.{Match}
 use Rattle.er_event.specs.declared.rows.TallyRow.{TallyRow}
 use Rattle.er_store.specs.Tables.{our_schema}
 use Rattle.er_store.specs.Rows.{event_columns, player_columns, pairing_columns, bracket_columns, tally_columns, stored_event, stored_player, stored_tally, shown, event_places, player_places, pairing_places, bracket_places, tally_places}
-use Rattle.er_store.specs.Standing.{HasTables, StandsWith, StandsFor, IsKeyed, IsNew, IsOther, KeepsOthers}
+use Rattle.er_store.specs.Standing.{with_ours, tree_of, places_of, rows_in, rows_with, HasTables, StandsWith, StandsFor, IsKeyed, IsNew, IsOther, KeepsOthers}
 use Rattle.er_store.specs.inside.Steps.{Goes, Puts, Moves, MakesWith, CreatesAll}
 
 pub on_ok : {A E : Type 0} (r : Result A E) (P Q : Type 0) → (P → Q) → OnOk r P → OnOk r Q
@@ -61,17 +63,24 @@ shows_more places new rows shows before free is was =
 
 -- ---- what a statement on one table leaves of the others
 
-pub record Kept (tree : ℕ) (old new : Trees) : Type 0 where
-  pub event : 0 ≢ tree → new 0 ≡ old 0
-  pub player : 1 ≢ tree → new 1 ≡ old 1
-  pub pairing : 3 ≢ tree → new 3 ≡ old 3
-  pub bracket : 6 ≢ tree → new 6 ≡ old 6
-  pub tally : 8 ≢ tree → new 8 ≡ old 8
+kept : (tree : ℕ) (old new : State) → HasTables old.now.schema → Goes tree old new → (table : Place) → tree_of table ≢ tree → new.now.trees (tree_of table) ≡ old.now.trees (tree_of table)
+kept tree old new has goes = each
+  where
+    all : AllByRecursion (λ (t : Table). t.tree ≢ tree → new.now.trees t.tree ≡ old.now.trees t.tree) (with_ours has.others)
+    all = subst (λ ts. AllByRecursion (λ (t : Table). t.tree ≢ tree → new.now.trees t.tree ≡ old.now.trees t.tree) ts) has.are goes.others
 
-pub kept : (tree : ℕ) (old new : State) → HasTables old.now.schema → Goes tree old new → Kept tree old.now.trees new.now.trees
-kept tree old new has goes =
-    let all = subst (λ ts. AllByRecursion (λ (t : Table). t.tree ≢ tree → new.now.trees t.tree ≡ old.now.trees t.tree) ts) has.are goes.others in
-    record { event = all.0; player = all.1.0; pairing = all.1.1.0; bracket = all.1.1.1.0; tally = all.1.1.1.1.0 }
+    each : (table : Place) → tree_of table ≢ tree → new.now.trees (tree_of table) ≡ old.now.trees (tree_of table)
+    each EventTable = all.0
+    each PlayerTable = all.1.0
+    each PairingTable = all.1.1.0
+    each BracketTable = all.1.1.1.0
+    each TallyTable = all.1.1.1.1.0
+
+-- the other tables show what they did
+stay : (tree : ℕ) (old new : State) (e : EventValue) (s : ℕ) {rows : List TallyRow} → StandsWith old.now e s rows → Goes tree old new
+    → (table : Place) → tree_of table ≢ tree → IsPermutation (rows_in new.now table) (rows_with e s rows table)
+stay tree old new e s {rows} stands goes table apart =
+    subst (λ (stored : List Row). IsPermutation (shown (places_of table) stored) (rows_with e s rows table)) (sym (kept tree old new stands.tables goes table apart)) (stands.rows table)
 
 others_kept : (tree : ℕ) (old new : Trees) → ((t : ℕ) → IsOther t → t ≢ tree) → (tables : List Table) → AllByRecursion (λ (t : Table). t.tree ≢ tree → new t.tree ≡ old t.tree) tables
     → AllByRecursion (λ (t : Table). IsOther t.tree → new t.tree ≡ old t.tree) tables
@@ -108,92 +117,73 @@ makes_then a b c e f s p q = record { moves = moves_then a b c p.moves q.moves; 
 
 -- ---- the changes
 
-same_tallies : (old new : Database) (kept : List TallyRow) → new.trees 8 ≡ old.trees 8 → IsPermutation (shown tally_places (old.trees 8)) (map tally_columns kept)
-    → IsPermutation (shown tally_places (new.trees 8)) (map tally_columns kept)
-same_tallies old new kept same = subst (λ rows. IsPermutation (shown tally_places rows) (map tally_columns kept)) (sym same)
-
--- the tables of pairings, of the bracket and of totals are as they were
-record Aside (db : Database) (e : EventValue) (kept : List TallyRow) : Type 0 where
-  pub pairings : IsPermutation (shown pairing_places (db.trees 3)) (map pairing_columns (pairing_rows e))
-  pub bracket : IsPermutation (shown bracket_places (db.trees 6)) (map bracket_columns (bracket_rows e))
-  pub tallies : IsPermutation (shown tally_places (db.trees 8)) (map tally_columns kept)
-  pub pairings_keyed : IsKeyed (db.trees 3)
-  pub bracket_keyed : IsKeyed (db.trees 6)
-
-aside : (old new : Database) (e : EventValue) (s : ℕ) → {kept : List TallyRow} → StandsWith old e s kept → new.trees 3 ≡ old.trees 3 → new.trees 6 ≡ old.trees 6 → new.trees 8 ≡ old.trees 8 → Aside new e kept
-aside old new e s stands pairings bracket tally = record {
-  pairings = subst (λ rows. IsPermutation (shown pairing_places rows) (map pairing_columns (pairing_rows e))) (sym pairings) stands.pairings;
-  bracket = subst (λ rows. IsPermutation (shown bracket_places rows) (map bracket_columns (bracket_rows e))) (sym bracket) stands.bracket;
-  tallies = same_tallies old new _ tally stands.tallies;
-  pairings_keyed = subst IsKeyed (sym pairings) stands.pairings_keyed;
-  bracket_keyed = subst IsKeyed (sym bracket) stands.bracket_keyed;
-}
-
 -- the players' rows alone are others
-pub players_set : (old new : State) (e : EventValue) (players : List Player) (s : ℕ) → {kept : List TallyRow} → StandsWith old.now e s kept → Goes 1 old new
-    → IsPermutation (shown player_places (new.now.trees 1)) (map player_columns (map player_row players)) → MakesWith old new (record e { players = players }) s kept
-players_set old new e players s stands goes set =
-    let has = stands.tables in
-    let others = kept 1 old new has goes in
-    let rest = aside old.now new.now e s stands (others.pairing (λ e. cc)) (others.bracket (λ e. cc)) (others.tally (λ e. cc)) in
+pub players_set : (old new : State) (e : EventValue) (players : List Player) (s : ℕ) → {totals : List TallyRow} → StandsWith old.now e s totals → Goes 1 old new
+    → IsPermutation (shown player_places (new.now.trees 1)) (map player_columns (map player_row players)) → MakesWith old new (record e { players = players }) s totals
+players_set old new e players s {totals} stands goes set =
     record {
       moves = goes_moves 1 old new (λ t other. other.1) goes;
       stands = record {
         low = stands.low;
-        tables = subst HasTables (sym goes.schema) has;
-        event = subst (λ rows. IsPermutation (shown event_places rows) (event_columns (event_row e s) ∷ [])) (sym (others.event (λ e. cc))) stands.event;
-        players = set;
-        pairings = rest.pairings;
-        bracket = rest.bracket;
-        tallies = rest.tallies;
-        pairings_keyed = rest.pairings_keyed;
-        bracket_keyed = rest.bracket_keyed;
+        tables = subst HasTables (sym goes.schema) stands.tables;
+        rows = rows;
+        pairings_keyed = subst IsKeyed (sym (kept 1 old new stands.tables goes PairingTable (λ e. cc))) stands.pairings_keyed;
+        bracket_keyed = subst IsKeyed (sym (kept 1 old new stands.tables goes BracketTable (λ e. cc))) stands.bracket_keyed;
       };
     }
+  where
+    rows : (table : Place) → IsPermutation (rows_in new.now table) (rows_with (record e { players = players }) s totals table)
+    rows EventTable = stay 1 old new e s stands goes EventTable (λ e. cc)
+    rows PlayerTable = set
+    rows PairingTable = stay 1 old new e s stands goes PairingTable (λ e. cc)
+    rows BracketTable = stay 1 old new e s stands goes BracketTable (λ e. cc)
+    rows TallyTable = stay 1 old new e s stands goes TallyTable (λ e. cc)
 
 -- the pairings' rows alone are others
-pub pairings_set : (old new : State) (e : EventValue) (stored : List Round) (s : ℕ) → {kept : List TallyRow} → StandsWith old.now e s kept → Goes 3 old new
-    → IsPermutation (shown pairing_places (new.now.trees 3)) (map pairing_columns (pairing_rows_from 1 stored)) → IsKeyed (new.now.trees 3) → MakesWith old new (record e { stored = stored }) s kept
-pairings_set old new e stored s stands goes set keyed =
-    let has = stands.tables in
-    let others = kept 3 old new has goes in
+pub pairings_set : (old new : State) (e : EventValue) (stored : List Round) (s : ℕ) → {totals : List TallyRow} → StandsWith old.now e s totals → Goes 3 old new
+    → IsPermutation (shown pairing_places (new.now.trees 3)) (map pairing_columns (pairing_rows_from 1 stored)) → IsKeyed (new.now.trees 3) → MakesWith old new (record e { stored = stored }) s totals
+pairings_set old new e stored s {totals} stands goes set keyed =
     record {
       moves = goes_moves 3 old new (λ t other. other.2) goes;
       stands = record {
         low = stands.low;
-        tables = subst HasTables (sym goes.schema) has;
-        event = subst (λ rows. IsPermutation (shown event_places rows) (event_columns (event_row e s) ∷ [])) (sym (others.event (λ e. cc))) stands.event;
-        players = subst (λ rows. IsPermutation (shown player_places rows) (map player_columns (player_rows e))) (sym (others.player (λ e. cc))) stands.players;
-        pairings = set;
-        bracket = subst (λ rows. IsPermutation (shown bracket_places rows) (map bracket_columns (bracket_rows e))) (sym (others.bracket (λ e. cc))) stands.bracket;
-        tallies = same_tallies old.now new.now _ (others.tally (λ e. cc)) stands.tallies;
+        tables = subst HasTables (sym goes.schema) stands.tables;
+        rows = rows;
         pairings_keyed = keyed;
-        bracket_keyed = subst IsKeyed (sym (others.bracket (λ e. cc))) stands.bracket_keyed;
+        bracket_keyed = subst IsKeyed (sym (kept 3 old new stands.tables goes BracketTable (λ e. cc))) stands.bracket_keyed;
       };
     }
+  where
+    rows : (table : Place) → IsPermutation (rows_in new.now table) (rows_with (record e { stored = stored }) s totals table)
+    rows EventTable = stay 3 old new e s stands goes EventTable (λ e. cc)
+    rows PlayerTable = stay 3 old new e s stands goes PlayerTable (λ e. cc)
+    rows PairingTable = set
+    rows BracketTable = stay 3 old new e s stands goes BracketTable (λ e. cc)
+    rows TallyTable = stay 3 old new e s stands goes TallyTable (λ e. cc)
 
 -- the bracket's rows alone are others
-pub bracket_set : (old new : State) (e : EventValue) (stages : List (List Match)) (s : ℕ) → {kept : List TallyRow} → StandsWith old.now e s kept → Goes 6 old new
-    → IsPermutation (shown bracket_places (new.now.trees 6)) (map bracket_columns (bracket_rows_from 1 stages)) → IsKeyed (new.now.trees 6) → MakesWith old new (record e { bracket = record { stages = stages } }) s kept
-bracket_set old new e stages s stands goes set keyed =
-    let has = stands.tables in
-    let others = kept 6 old new has goes in
+pub bracket_set : (old new : State) (e : EventValue) (stages : List (List Match)) (s : ℕ) → {totals : List TallyRow} → StandsWith old.now e s totals → Goes 6 old new
+    → IsPermutation (shown bracket_places (new.now.trees 6)) (map bracket_columns (bracket_rows_from 1 stages)) → IsKeyed (new.now.trees 6) → MakesWith old new (record e { bracket = record { stages = stages } }) s totals
+bracket_set old new e stages s {totals} stands goes set keyed =
     record {
       moves = goes_moves 6 old new (λ t other. other.3) goes;
       stands = record {
         low = stands.low;
-        tables = subst HasTables (sym goes.schema) has;
-        event = subst (λ rows. IsPermutation (shown event_places rows) (event_columns (event_row e s) ∷ [])) (sym (others.event (λ e. cc))) stands.event;
-        players = subst (λ rows. IsPermutation (shown player_places rows) (map player_columns (player_rows e))) (sym (others.player (λ e. cc))) stands.players;
-        pairings = subst (λ rows. IsPermutation (shown pairing_places rows) (map pairing_columns (pairing_rows e))) (sym (others.pairing (λ e. cc))) stands.pairings;
-        bracket = set;
-        tallies = same_tallies old.now new.now _ (others.tally (λ e. cc)) stands.tallies;
-        pairings_keyed = subst IsKeyed (sym (others.pairing (λ e. cc))) stands.pairings_keyed;
+        tables = subst HasTables (sym goes.schema) stands.tables;
+        rows = rows;
+        pairings_keyed = subst IsKeyed (sym (kept 6 old new stands.tables goes PairingTable (λ e. cc))) stands.pairings_keyed;
         bracket_keyed = keyed;
       };
     }
+  where
+    rows : (table : Place) → IsPermutation (rows_in new.now table) (rows_with (record e { bracket = record { stages = stages } }) s totals table)
+    rows EventTable = stay 6 old new e s stands goes EventTable (λ e. cc)
+    rows PlayerTable = stay 6 old new e s stands goes PlayerTable (λ e. cc)
+    rows PairingTable = stay 6 old new e s stands goes PairingTable (λ e. cc)
+    rows BracketTable = set
+    rows TallyTable = stay 6 old new e s stands goes TallyTable (λ e. cc)
 
-pub player_added : (old new : State) (e : EventValue) (s : ℕ) (name : List ℕ) → {kept : List TallyRow} → StandsWith old.now e s kept → Puts 1 (stored_player (length e.players + 1) name false) old new → MakesWith old new (with_player e name) s kept
+pub player_added : (old new : State) (e : EventValue) (s : ℕ) (name : List ℕ) → {totals : List TallyRow} → StandsWith old.now e s totals → Puts 1 (stored_player (length e.players + 1) name false) old new → MakesWith old new (with_player e name) s totals
 player_added old new e s name stands put =
     let row = stored_player (length e.players + 1) name false in
     let p = new_player e.players name in
@@ -203,28 +193,28 @@ player_added old new e s name stands put =
     players_set old new e (e.players ++ p ∷ []) s stands put.goes
     (subst (λ rows. IsPermutation (shown player_places rows) (map player_columns (player_rows (with_player e name)))) (sym put.rows)
     (subst (IsPermutation (shown player_places (put_row row (old.now.trees 1)))) (sym all)
-    (shows_more player_places row (old.now.trees 1) (shows p) (map player_columns (player_rows e)) put.free refl stands.players)))
+    (shows_more player_places row (old.now.trees 1) (shows p) (map player_columns (player_rows e)) put.free refl (stands.rows PlayerTable))))
 
 -- the event's row alone is another
-pub row_set : (old new : State) (e : EventValue) (phase : Phase) (s t : ℕ) → t ≤ 999999 → {kept : List TallyRow} → StandsWith old.now e s kept → Goes 0 old new → new.now.trees 0 ≡ stored_event (with_phase e phase) t ∷ [] → MakesWith old new (with_phase e phase) t kept
-row_set old new e phase s t low stands goes set =
-    let has = stands.tables in
-    let others = kept 0 old new has goes in
-    let rest = aside old.now new.now e s stands (others.pairing (λ e. cc)) (others.bracket (λ e. cc)) (others.tally (λ e. cc)) in
+pub row_set : (old new : State) (e : EventValue) (phase : Phase) (s t : ℕ) → t ≤ 999999 → {totals : List TallyRow} → StandsWith old.now e s totals → Goes 0 old new → new.now.trees 0 ≡ stored_event (with_phase e phase) t ∷ [] → MakesWith old new (with_phase e phase) t totals
+row_set old new e phase s t low {totals} stands goes set =
     record {
       moves = goes_moves 0 old new (λ t other. other.0) goes;
       stands = record {
         low = low;
-        tables = subst HasTables (sym goes.schema) has;
-        event = subst (λ rows. IsPermutation (shown event_places rows) (event_columns (event_row (with_phase e phase) t) ∷ [])) (sym set) (IsPermutation-refl _);
-        players = subst (λ rows. IsPermutation (shown player_places rows) (map player_columns (player_rows e))) (sym (others.player (λ e. cc))) stands.players;
-        pairings = rest.pairings;
-        bracket = rest.bracket;
-        tallies = rest.tallies;
-        pairings_keyed = rest.pairings_keyed;
-        bracket_keyed = rest.bracket_keyed;
+        tables = subst HasTables (sym goes.schema) stands.tables;
+        rows = rows;
+        pairings_keyed = subst IsKeyed (sym (kept 0 old new stands.tables goes PairingTable (λ e. cc))) stands.pairings_keyed;
+        bracket_keyed = subst IsKeyed (sym (kept 0 old new stands.tables goes BracketTable (λ e. cc))) stands.bracket_keyed;
       };
     }
+  where
+    rows : (table : Place) → IsPermutation (rows_in new.now table) (rows_with (with_phase e phase) t totals table)
+    rows EventTable = subst (λ rows. IsPermutation (shown event_places rows) (event_columns (event_row (with_phase e phase) t) ∷ [])) (sym set) (IsPermutation-refl _)
+    rows PlayerTable = stay 0 old new e s stands goes PlayerTable (λ e. cc)
+    rows PairingTable = stay 0 old new e s stands goes PairingTable (λ e. cc)
+    rows BracketTable = stay 0 old new e s stands goes BracketTable (λ e. cc)
+    rows TallyTable = stay 0 old new e s stands goes TallyTable (λ e. cc)
 
 -- ---- creation
 
@@ -239,45 +229,49 @@ keyed_none rows none = subst IsKeyed (sym none) (record { rise = tt; numbers = r
 
 pub event_put : (old mid new : State) (e : EventValue) → IsNew e → CreatesAll old mid → Puts 0 (stored_event e 0) mid new → StandsFor new.now e 0
 event_put old mid new e fresh all put =
-    let has = ours_has mid.now.schema all.schema in
-    let others = kept 0 mid new has put.goes in
-    let set : new.now.trees 0 ≡ stored_event e 0 ∷ [] = put.rows ∙ ap (put_row (stored_event e 0)) all.event in
-    let players : new.now.trees 1 ≡ [] = others.player (λ e. cc) ∙ all.player in
-    let pairings : new.now.trees 3 ≡ [] = others.pairing (λ e. cc) ∙ all.pairing in
-    let bracket : new.now.trees 6 ≡ [] = others.bracket (λ e. cc) ∙ all.bracket in
-    let tally : new.now.trees 8 ≡ [] = others.tally (λ e. cc) ∙ all.tally in
     record {
       low = omega arith;
       tables = subst HasTables (sym put.goes.schema) has;
-      event = subst (λ rows. IsPermutation (shown event_places rows) (event_columns (event_row e 0) ∷ [])) (sym set) (IsPermutation-refl _);
-      players = no_rows player_places (new.now.trees 1) (map player_columns (player_rows e)) players (ap (λ ps. map player_columns (map player_row ps)) fresh.players);
-      pairings = no_rows pairing_places (new.now.trees 3) (map pairing_columns (pairing_rows e)) pairings (ap (λ rs. map pairing_columns (pairing_rows_from 1 rs)) fresh.stored);
-      bracket = no_rows bracket_places (new.now.trees 6) (map bracket_columns (bracket_rows e)) bracket (ap (λ ss. map bracket_columns (bracket_rows_from 1 ss)) fresh.bracket);
-      tallies = no_rows tally_places (new.now.trees 8) (map tally_columns (tally_rows e)) tally (ap (λ (ps : List Player). map tally_columns (map (λ (p : Player). tally_row p.no (totals e p.no)) ps)) fresh.players);
-      pairings_keyed = keyed_none (new.now.trees 3) pairings;
-      bracket_keyed = keyed_none (new.now.trees 6) bracket;
+      rows = rows;
+      pairings_keyed = keyed_none (new.now.trees 3) (none PairingTable (λ e. cc) all.pairing);
+      bracket_keyed = keyed_none (new.now.trees 6) (none BracketTable (λ e. cc) all.bracket);
     }
+  where
+    has : HasTables mid.now.schema
+    has = ours_has mid.now.schema all.schema
+
+    none : (table : Place) → tree_of table ≢ 0 → mid.now.trees (tree_of table) ≡ [] → new.now.trees (tree_of table) ≡ []
+    none table apart empty = kept 0 mid new has put.goes table apart ∙ empty
+
+    rows : (table : Place) → IsPermutation (rows_in new.now table) (rows_with e 0 (tally_rows e) table)
+    rows EventTable = subst (λ rows. IsPermutation (shown event_places rows) (event_columns (event_row e 0) ∷ [])) (sym (put.rows ∙ ap (put_row (stored_event e 0)) all.event)) (IsPermutation-refl _)
+    rows PlayerTable = no_rows player_places _ _ (none PlayerTable (λ e. cc) all.player) (ap (λ ps. map player_columns (map player_row ps)) fresh.players)
+    rows PairingTable = no_rows pairing_places _ _ (none PairingTable (λ e. cc) all.pairing) (ap (λ rs. map pairing_columns (pairing_rows_from 1 rs)) fresh.stored)
+    rows BracketTable = no_rows bracket_places _ _ (none BracketTable (λ e. cc) all.bracket) (ap (λ ss. map bracket_columns (bracket_rows_from 1 ss)) fresh.bracket)
+    rows TallyTable =
+        no_rows tally_places _ _ (none TallyTable (λ e. cc) all.tally) (ap (λ (ps : List Player). map tally_columns (map (λ (p : Player). tally_row p.no (totals e p.no)) ps)) fresh.players)
 
 -- the rows of totals alone are others
 pub tallies_set : (old new : State) (e : EventValue) (s : ℕ) (before after : List TallyRow) → StandsWith old.now e s before → Goes 8 old new
     → IsPermutation (shown tally_places (new.now.trees 8)) (map tally_columns after) → MakesWith old new e s after
 tallies_set old new e s before after stands goes set =
-    let has = stands.tables in
-    let others = kept 8 old new has goes in
     record {
       moves = goes_moves 8 old new (λ t other. other.4) goes;
       stands = record {
         low = stands.low;
-        tables = subst HasTables (sym goes.schema) has;
-        event = subst (λ rows. IsPermutation (shown event_places rows) (event_columns (event_row e s) ∷ [])) (sym (others.event (λ e. cc))) stands.event;
-        players = subst (λ rows. IsPermutation (shown player_places rows) (map player_columns (player_rows e))) (sym (others.player (λ e. cc))) stands.players;
-        pairings = subst (λ rows. IsPermutation (shown pairing_places rows) (map pairing_columns (pairing_rows e))) (sym (others.pairing (λ e. cc))) stands.pairings;
-        bracket = subst (λ rows. IsPermutation (shown bracket_places rows) (map bracket_columns (bracket_rows e))) (sym (others.bracket (λ e. cc))) stands.bracket;
-        tallies = set;
-        pairings_keyed = subst IsKeyed (sym (others.pairing (λ e. cc))) stands.pairings_keyed;
-        bracket_keyed = subst IsKeyed (sym (others.bracket (λ e. cc))) stands.bracket_keyed;
+        tables = subst HasTables (sym goes.schema) stands.tables;
+        rows = rows;
+        pairings_keyed = subst IsKeyed (sym (kept 8 old new stands.tables goes PairingTable (λ e. cc))) stands.pairings_keyed;
+        bracket_keyed = subst IsKeyed (sym (kept 8 old new stands.tables goes BracketTable (λ e. cc))) stands.bracket_keyed;
       };
     }
+  where
+    rows : (table : Place) → IsPermutation (rows_in new.now table) (rows_with (e) s after table)
+    rows EventTable = stay 8 old new e s stands goes EventTable (λ e. cc)
+    rows PlayerTable = stay 8 old new e s stands goes PlayerTable (λ e. cc)
+    rows PairingTable = stay 8 old new e s stands goes PairingTable (λ e. cc)
+    rows BracketTable = stay 8 old new e s stands goes BracketTable (λ e. cc)
+    rows TallyTable = set
 
 pub tally_added : (old new : State) (e : EventValue) (s : ℕ) (row : TallyRow) (before : List TallyRow) → StandsWith old.now e s before → Puts 8 (stored_tally row) old new
     → MakesWith old new e s (before ++ row ∷ [])
@@ -286,4 +280,4 @@ tally_added old new e s row before stands put =
     tallies_set old new e s before (before ++ row ∷ []) stands put.goes
     (subst (λ rows. IsPermutation (shown tally_places rows) (map tally_columns (before ++ row ∷ []))) (sym put.rows)
     (subst (IsPermutation (shown tally_places (put_row (stored_tally row) (old.now.trees 8)))) (sym all)
-    (shows_more tally_places (stored_tally row) (old.now.trees 8) (tally_columns row) (map tally_columns before) put.free refl stands.tallies)))
+    (shows_more tally_places (stored_tally row) (old.now.trees 8) (tally_columns row) (map tally_columns before) put.free refl (stands.rows TallyTable))))

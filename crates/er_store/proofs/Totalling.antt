@@ -21,6 +21,7 @@ use Rattle.sqlite_rules.specs.Action.{Writes}
 use Rattle.sqlite_rules.specs.Calls.{ids_of}
 use Rattle.sqlite_trees.proofs.ListLemmas.{filter-map}
 use Rattle.sqlite_keyed.proofs.ListLemmas.{IsPermutation-filter}
+use Rattle.er_event.specs.declared.refusals.Place.TheVariants.{TallyTable}
 use Rattle.er_event.specs.declared.players.Player.{Player}
 use Rattle.er_event.specs.declared.totals.Totals.{Totals}
 use Rattle.er_event.specs.Event.{EventValue}
@@ -113,7 +114,7 @@ totals_set old new e s n t come_to count stands numbered known inside h =
     let after = map-map tally_columns (λ (p : Player). tally_row p.no (set_for n t come_to p.no)) e.players in
     let one = picks_row (row_by come_to) (row_by (set_for n t come_to)) n (are_rows n t come_to) e.players numbered known in
     let all = map (row_by come_to) e.players in
-    let same = subst (IsPermutation (shown tally_places (old.now.trees 8))) before stands.tallies in
+    let same = subst (IsPermutation (shown tally_places (old.now.trees 8))) before (stands.rows TallyTable) in
     let set = sets_totals old new n t (come_to one.it.no) one.it.no all count stands.tables same one.alone one.is inside h in
     let own : row_by (set_for n t come_to) one.it ≡ tally_columns (tally_row n t) =
     ap (λ (b : Bool). tally_columns (tally_row one.it.no (cond b t (come_to one.it.no)))) (same_number one.it.no n one.is) ∙ ap (λ (k : ℕ). tally_columns (tally_row k t)) one.is in

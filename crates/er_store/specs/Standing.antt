@@ -15,10 +15,13 @@ use Rattle.sqlite_trees.specs.Tree.{IsTable}
 use Rattle.sqlite_rules.specs.Edit.{have_rowids}
 use Rattle.er_event.specs.declared.refusals.TheConstants.{MAX_SERIAL}
 use Rattle.er_event.specs.Event.{EventValue}
+use Rattle.er_event.specs.declared.refusals.Place.{Place}
+use Rattle.er_event.specs.declared.refusals.Place.TheVariants.{EventTable, PlayerTable, PairingTable, BracketTable, TallyTable}
 use Rattle.er_event.specs.declared.rows.TallyRow.{TallyRow}
 use Rattle.er_event.specs.Rows.{event_row, player_rows, pairing_rows, bracket_rows, tally_rows}
 use Rattle.er_store.specs.Tables.{event, player, pairing, bracket, tally, find_event, read_event}
-use Rattle.er_store.specs.Rows.{event_columns, player_columns, pairing_columns, bracket_columns, tally_columns, shown, event_places, player_places, pairing_places, bracket_places, tally_places}
+use Rattle.er_store.specs.Rows.{event_columns, player_columns, pairing_columns, bracket_columns, tally_columns, shown}
+use Rattle.er_store.specs.Shape.{event_table, player_table, pairing_table, bracket_table, tally_table}
 
 abbrev pub with_ours : List Table → List Table
 with_ours others = event 0 ∷ player 1 ∷ pairing 3 ∷ bracket 6 ∷ tally 8 ∷ others
@@ -47,15 +50,39 @@ pub record AreKeyed (db : Database) : Type 0 where
   pub pairings : IsKeyed (db.trees 3)
   pub bracket : IsKeyed (db.trees 6)
 
+-- where a table is stored
+abbrev pub tree_of : Place → ℕ
+tree_of EventTable = event_table.tree
+tree_of PlayerTable = player_table.tree
+tree_of PairingTable = pairing_table.tree
+tree_of BracketTable = bracket_table.tree
+tree_of TallyTable = tally_table.tree
+
+-- which places of its rows are read
+abbrev pub places_of : Place → List ℕ
+places_of EventTable = event_table.places
+places_of PlayerTable = player_table.places
+places_of PairingTable = pairing_table.places
+places_of BracketTable = bracket_table.places
+places_of TallyTable = tally_table.places
+
+-- the rows of a table, as SQL shows them
+abbrev pub rows_in : Database → Place → List Row
+rows_in db table = shown (places_of table) (db.trees (tree_of table))
+
+-- the rows of an event, with these of totals
+abbrev pub rows_with : EventValue → ℕ → List TallyRow → Place → List Row
+rows_with e serial totals EventTable = event_columns (event_row e serial) ∷ []
+rows_with e serial totals PlayerTable = map player_columns (player_rows e)
+rows_with e serial totals PairingTable = map pairing_columns (pairing_rows e)
+rows_with e serial totals BracketTable = map bracket_columns (bracket_rows e)
+rows_with e serial totals TallyTable = map tally_columns totals
+
 -- the tables have the schema, and their rows are the event's, in any order, with these rows of totals
 pub record StandsWith (db : Database) (e : EventValue) (serial : ℕ) (totals : List TallyRow) : Type 0 where
   pub low : serial ≤ MAX_SERIAL
   pub tables : HasTables db.schema
-  pub event : IsPermutation (shown event_places (db.trees 0)) (event_columns (event_row e serial) ∷ [])
-  pub players : IsPermutation (shown player_places (db.trees 1)) (map player_columns (player_rows e))
-  pub pairings : IsPermutation (shown pairing_places (db.trees 3)) (map pairing_columns (pairing_rows e))
-  pub bracket : IsPermutation (shown bracket_places (db.trees 6)) (map bracket_columns (bracket_rows e))
-  pub tallies : IsPermutation (shown tally_places (db.trees 8)) (map tally_columns totals)
+  pub rows : (table : Place) → IsPermutation (rows_in db table) (rows_with e serial totals table)
   -- the rowids of these two are shown by no column
   pub pairings_keyed : IsKeyed (db.trees 3)
   pub bracket_keyed : IsKeyed (db.trees 6)

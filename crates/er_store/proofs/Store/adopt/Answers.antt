@@ -63,11 +63,7 @@ shown_stands : (db : Database) (e : EventValue) (s : ℕ) → HasTables db.schem
 shown_stands db e s has keyed shows = record {
   low = shows.low;
   tables = has;
-  event = shows.event;
-  players = shows.players;
-  pairings = shows.pairings;
-  bracket = shows.bracket;
-  tallies = shows.tallies;
+  rows = shows.rows;
   pairings_keyed = keyed.pairings;
   bracket_keyed = keyed.bracket;
 }

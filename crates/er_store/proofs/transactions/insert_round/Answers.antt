@@ -7,14 +7,14 @@ use Rattle.er_store.specs.Standing.{StandsWith}
 use Rattle.er_store.specs.inside.Steps.{MakesWith}
 use Rattle.er_store.proofs.Committed.{stays_self, stays_then}
 use Rattle.er_store.proofs.Crash.{was_clean}
-use Rattle.er_store.proofs.Pairing.{adds_none, adds_one}
+use Rattle.er_store.proofs.Pairing.{none_added, adds_none, adds_one}
 use Rattle.er_store.proofs.Rounds.{few_matches, some_matches}
 use Rattle.er_store.proofs.transactions.insert_round.Goals as goal
 
 pub loop-place-init : goal.loop-place-init
 loop-place-init g c =
     let old = state g.S.Store c.args.tx.now.conn.now in
-    (refl, stays_self old, λ clean s rows stands. adds_none old c.args.event.now s stands)
+    (refl, stays_self old, λ clean s rows stands. adds_none old (with_round c.args.event.now) s (none_added old.now c.args.event.now s stands))
 
 pub overflow_cast-place : goal.overflow_cast-place
 overflow_cast-place g c =
@@ -45,7 +45,7 @@ loop-place-preserved g c =
       λ clean s rows stands.
           let was = kept.2 (was_clean mid new _ c.insert_pairing.ensures.stays.survives clean) s rows stands in
           let made = c.in_ok-insert_pairing.ensures.makes clean e (take at matches) s rows was.stands (ap (λ rounds. length rounds + 1) c.stored.ensures.value) (sym (ap (λ n. n + 1) stored)) in
-          adds_one old mid new e at (take at matches) (take (at + 1) matches) s was (subst (λ (ms : List Match). MakesWith mid new (with_round e ms) s rows) (sym more) made),
+          adds_one old mid new (with_round e) at (take at matches) (take (at + 1) matches) s was (subst (λ (ms : List Match). MakesWith mid new (with_round e ms) s rows) (sym more) made),
     )
 
 pub returns-clause-makes : goal.returns-clause-makes

@@ -7,13 +7,14 @@ use Rattle.er_store.specs.Standing.{StandsWith}
 use Rattle.er_store.specs.inside.Steps.{MakesWith}
 use Rattle.er_store.proofs.Committed.{stays_self, stays_then}
 use Rattle.er_store.proofs.Crash.{was_clean}
-use Rattle.er_store.proofs.Slots.{slots_start, slots_next}
+use Rattle.er_store.proofs.Pairing.{adds_none, adds_one}
+use Rattle.er_store.proofs.Slots.{no_slot_added}
 use Rattle.er_store.proofs.transactions.insert_stage.Goals as goal
 
 pub loop-place-init : goal.loop-place-init
 loop-place-init g c =
     let old = state g.S.Store c.args.tx.now.conn.now in
-    (refl, stays_self old, λ clean e s rows stands stage. slots_start old e s stands)
+    (refl, stays_self old, λ clean e s rows stands stage. adds_none old (with_stage e) s (no_slot_added old.now e s stands))
 
 pub overflow_cast-place : goal.overflow_cast-place
 overflow_cast-place g c =
@@ -43,7 +44,7 @@ loop-place-preserved g c =
       λ clean e s rows stands stage.
           let was = kept.2 (was_clean mid new _ c.insert_slot.ensures.stays.survives clean) e s rows stands stage in
           let made = c.in_ok-insert_slot.ensures.makes clean e (take at matches) s rows was.stands stage (sym (ap (λ n. n + 1) stored)) in
-          slots_next old mid new e at (take at matches) (take (at + 1) matches) s was (subst (λ (ms : List Match). MakesWith mid new (with_stage e ms) s rows) (sym more) made),
+          adds_one old mid new (with_stage e) at (take at matches) (take (at + 1) matches) s was (subst (λ (ms : List Match). MakesWith mid new (with_stage e ms) s rows) (sym more) made),
     )
 
 pub returns-clause-makes : goal.returns-clause-makes
