@@ -148,8 +148,6 @@ impl<S: Alter> Desk<S> {
             → MatchResult result (λ it. Leaves (state S.Store it) (λ db. db ≡ (sqlite.state S.Store conn).committed.trees)) (λ e. Leaves (sqlite.state S.Store e.0) (λ db. db ≡ (sqlite.state S.Store conn).committed.trees)) }
     {
         let (store, event, serial) = Store::adopt(alloc, conn)?;
-        // An event is always sound, as this tells the proof.
-        let _ = event.phase();
         match seeds_agree(alloc, &event) {
             Ok(true) => Ok(Desk {
                 store,
@@ -176,8 +174,6 @@ impl<S: Alter> Desk<S> {
         if self.needs_reopen {
             return Err(Refusal::NeedsReopen);
         }
-        // An event is always sound, as this tells the proof.
-        let _ = self.event.phase();
         Ok(&self.event)
     }
 

@@ -103,6 +103,7 @@ impl<S: Alter> Store<S> {
 
         ensures ready { IfOk result (λ it. IsFalse (is_stopped it.0)) }
         ensures low { IfOk result (λ it. it.2 ≤ MAX_SERIAL) }
+        ensures sound { IfOk result (λ it. IsSoundButForSeeds it.1) }
         ensures clean { MatchResult result (λ it. HasCleanDisk (store.state S.Store it.0) → HasCleanDisk (state S.Store conn)) (λ r. HasCleanDisk (state S.Store r.0) → HasCleanDisk (state S.Store conn)) }
 
         // Where the tables stand for a sound event, it is found, or memory or the store fails.

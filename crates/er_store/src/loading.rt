@@ -121,6 +121,7 @@ pub fn load_tables<S: Alter>(
     ensures clean { HasCleanDisk (state S.Store conn.new) → HasCleanDisk (state S.Store conn.old) }
     ensures mode { conn.old.in_transaction ≡ false → conn.new.in_transaction ≡ false }
     ensures low { IfOk result (λ it. it.1 ≤ MAX_SERIAL) }
+    ensures sound { IfOk result (λ it. IsSoundButForSeeds it.0) }
     ensures shows { HasCleanDisk (state S.Store conn.new) → HasTables (state S.Store conn.old).now.schema
         → IfOk result (λ it. ShowsEvent (state S.Store conn.old).now it.0 it.1) }
     ensures found { HasCleanDisk (state S.Store conn.new) → (e : EventValue) (s : ℕ) → StandsFor (state S.Store conn.old).now e s → IsSoundButForSeeds e

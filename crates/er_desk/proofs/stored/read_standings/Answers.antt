@@ -2,7 +2,6 @@ use Rattle.std.proofs.Common.{rules, ◌≡◌, ◌∙◌, IsTrue, IsFalse, fals
 use Rattle.sqlite.specs.Held as sqlite
 use Rattle.sqlite.specs.State.{State, HasCleanDisk, IsUnchanged}
 use Rattle.er_event.specs.Event.{EventValue}
-use Rattle.er_event.specs.Tallies.{tallies, meetings}
 use Rattle.er_rank.specs.Meeting.{AreListsOf}
 use Rattle.er_store.specs.Fault.{IsFault}
 use Rattle.er_store.specs.Standing.{StandsFor}

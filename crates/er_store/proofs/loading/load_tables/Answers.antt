@@ -25,6 +25,9 @@ returns-clause-found g c clean e s stands sound =
 pub returns-clause-low : goal.returns-clause-low
 returns-clause-low g c = if_ok c.counted_event_of.result _ _ (λ it read. read.2) c.counted_event_of.ensures.value
 
+pub returns-clause-sound : goal.returns-clause-sound
+returns-clause-sound g c = if_ok c.counted_event_of.result _ _ (λ it read. read.3) c.counted_event_of.ensures.value
+
 pub returns-clause-clean : goal.returns-clause-clean
 returns-clause-clean g c = c.in_ok-parts.ensures.looks.clean
 

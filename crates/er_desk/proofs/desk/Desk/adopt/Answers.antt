@@ -51,13 +51,13 @@ returns-in_err-store-clause-left g c is_open =
 -- ---- the seeds agree
 
 pub invariant_of-result-clause-sound : goal.invariant_of-result-clause-sound
-invariant_of-result-clause-sound g c = ∣ record { but_for_seeds = c.phase.ensures.sound; seeds = c.in-Ok-true.ensures.0 c.in-Ok-true.field-0-test } ∣₁
+invariant_of-result-clause-sound g c = ∣ record { but_for_seeds = c.in_ok-store.ensures.sound; seeds = c.in-Ok-true.ensures.0 c.in-Ok-true.field-0-test } ∣₁
 
 pub returns-in-Ok-true-clause-sound : goal.returns-in-Ok-true-clause-sound
-returns-in-Ok-true-clause-sound g c = (record { but_for_seeds = c.phase.ensures.sound; seeds = c.in-Ok-true.ensures.0 c.in-Ok-true.field-0-test }, c.in_ok-store.ensures.low)
+returns-in-Ok-true-clause-sound g c = (record { but_for_seeds = c.in_ok-store.ensures.sound; seeds = c.in-Ok-true.ensures.0 c.in-Ok-true.field-0-test }, c.in_ok-store.ensures.low)
 
 pub returns-in-Ok-true-clause-repeats : goal.returns-in-Ok-true-clause-repeats
-returns-in-Ok-true-clause-repeats g c = c.phase.ensures.sound.rounds.no_repeats
+returns-in-Ok-true-clause-repeats g c = c.in_ok-store.ensures.sound.rounds.no_repeats
 
 pub returns-in-Ok-true-clause-found : goal.returns-in-Ok-true-clause-found
 returns-in-Ok-true-clause-found g c point stands sound clean =
@@ -89,7 +89,7 @@ returns-in-Ok-false-clause-first g c clean =
     record {
       no_event = λ is. absurd (cc);
       readable = λ place is. read_whole (state g.S.Store c.args.conn).now _ reads.0;
-      first = λ place is. inr (let same : place ≡ BracketTable = cc in same, (c.in_ok-store.event, c.in_ok-store.serial, reads.0, reads.1, c.phase.ensures.sound, λ has. true≢false (sym (c.in-Ok-false.ensures.1 has) ∙ c.in-Ok-false.field-0-test)));
+      first = λ place is. inr (let same : place ≡ BracketTable = cc in same, (c.in_ok-store.event, c.in_ok-store.serial, reads.0, reads.1, c.in_ok-store.ensures.sound, λ has. true≢false (sym (c.in-Ok-false.ensures.1 has) ∙ c.in-Ok-false.field-0-test)));
     }
 
 pub returns-in-Ok-false-clause-other_seeds : goal.returns-in-Ok-false-clause-other_seeds

@@ -1,4 +1,3 @@
-use Rattle.std.proofs.Common.{sym, ◌∙◌}
 use Rattle.er_store.specs.Store as tables
 use Rattle.er_desk.proofs.Slips.{if_err, if_ok, read_others}
 use Rattle.er_desk.proofs.desk.Desk.stored_standings.Goals as goal
