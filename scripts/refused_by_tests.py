@@ -78,13 +78,14 @@ def apply(folder, edit):
 
 
 def outcomes(room, tests):
-    """What each test came to, by its name."""
+    """What each test came to, by its name. Where one failed, the line that says why is printed: a limit is no refusal."""
     keep_tests(f"{room}/crates/er_tests", tests)
     words = ["rt", "try", "--test", "--seconds", str(SECONDS), "--steps", "1"]
     ran = subprocess.run(words, cwd=f"{room}/crates/er_tests", stdin=subprocess.DEVNULL, stdout=subprocess.PIPE, stderr=subprocess.STDOUT, text=True, errors="replace")
     found = {name: re.search(rf"^test {name} \.\.\. (?:.*\n)*?.*?\b(ok|FAILED)\b", ran.stdout, re.M) for name in tests}
     if not all(found.values()):
         print(ran.stdout, file=sys.stderr)
+    print("".join(f"{it}\n" for it in ran.stdout.splitlines() if "assertion" in it or "panicked" in it or "limit" in it), end="", flush=True)
     return {name: it[1] if it else "not run" for name, it in found.items()}
 
 
