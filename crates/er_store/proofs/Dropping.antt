@@ -12,9 +12,8 @@ use Rattle.sqlite.specs.Rowids.TheVariants.{Given}
 use Rattle.sqlite.specs.Edit.{Edit, edit_of, taken_by, is_taken}
 use Rattle.sqlite.specs.Tree.{Trees, put_row, without_rowid}
 use Rattle.sqlite.specs.Rows.{Task}
-use Rattle.sqlite.specs.Listing.{understood}
 use Rattle.sqlite.specs.State.{State, mode_of, ExecutesInside}
-use Rattle.sqlite.proofs.Callers.{IsPlain, command_of, runs_as, one_step}
+use Rattle.sqlite.proofs.Callers.{runs_as, one_step}
 use Rattle.sqlite_schema.specs.declared.program.Program.{Program}
 use Rattle.sqlite_rules.specs.Action.{Writes}
 use Rattle.sqlite_rules.specs.Calls.{ids_of}
@@ -34,10 +33,10 @@ use Rattle.er_store.proofs.Picking.{picks, is_another, row_of, rows_of, dropped,
 use Rattle.er_store.proofs.Values.{cast_int, cast_null}
 use Rattle.er_store.proofs.Inserts.{first_fresh}
 use Rattle.er_store.proofs.Updates.{update_goes, sets_off_nothing}
-use Rattle.er_store.proofs.Effects.{at_ours}
+use Rattle.er_store.proofs.Effects.{meant}
 use Rattle.er_store.proofs.Where.{picked_rows, one_picked}
 use Rattle.er_store.proofs.Together.{shows_more, players_set}
-use Rattle.er_store.proofs.Meaning.{dropped_query, dropped_tests, dropped_terms, dropped_is, dropped_plain}
+use Rattle.er_store.proofs.Meaning.{dropped_query, dropped_tests, dropped_terms, dropped_means}
 
 dropped_shows : (r : Row) (n : ℕ) (q : Player) → q.no ≡ n → map (column r) player_places ≡ row_of q → eval_all dropped_terms ((number n ∷ []) ∷ r ∷ []) ≡ number n ∷ stored_player n q.name true
 dropped_shows r n q is h =
@@ -74,7 +73,8 @@ sets_dropped old new n ps q count has same one is inside h =
     let p : Program = record { lets = []; body = dropped_query } in
     let params : Row = number n ∷ [] in
     let it = one_picked player_places (picks n) (trees 1) (rows_of ps) (row_of q) same one in
-    let w = runs_as set_dropped params old new schema refl (Update 1 p) (at_ours schema has (λ s. command_of (understood s set_dropped) ≡ Update 1 p) (dropped_is _ _ _)) (at_ours schema has (λ s. IsPlain (understood s set_dropped)) (dropped_plain _ _ _)) count h.0 in
+    let means = meant schema has set_dropped (Update 1 p) dropped_means in
+    let w = runs_as set_dropped params old new schema refl (Update 1 p) means.is means.plain count h.0 in
     let task : Task = record { limit = old.step_limit; keys = (mode_of old).keys; schema = schema; table = player 1; params = params } in
     let found : slice_get schema.tables 1 ≡ Some (player 1) = ap (λ ts. slice_get ts 1) has.are in
     let u = update_goes task (mode_of old) trees 1 p w.tally new.now (rw found at w.changed) in

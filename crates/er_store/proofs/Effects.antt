@@ -15,9 +15,8 @@ use Rattle.sqlite.specs.Rowids.TheVariants.{Chosen, Given}
 use Rattle.sqlite.specs.Edit.{edit_of, edited, numbered, next_rowid, taken_by}
 use Rattle.sqlite.specs.Tree.{Trees, rowid, without_rowid, has_rowid}
 use Rattle.sqlite.specs.Rows.{Task}
-use Rattle.sqlite.specs.Listing.{understood}
 use Rattle.sqlite.specs.State.{State, mode_of, ExecutesInside}
-use Rattle.sqlite.proofs.Callers.{IsPlain, command_of, runs_as, one_step, one_permutation}
+use Rattle.sqlite.proofs.Callers.{runs_as, one_step, one_permutation}
 use Rattle.sqlite_schema.specs.declared.program.Program.{Program}
 use Rattle.sqlite_rules.specs.Calls.{ids_of}
 use Rattle.sqlite.specs.declared.types.Value.{Value}
@@ -38,11 +37,15 @@ use Rattle.er_store.specs.inside.Steps.{Goes, Puts}
 use Rattle.er_store.proofs.Values.{cast_int, cast_null}
 use Rattle.er_store.proofs.Inserts.{puts_one}
 use Rattle.er_store.proofs.Updates.{update_goes, sets_off_nothing, event_rows}
-use Rattle.er_store.proofs.Meaning.{full, event_terms, event_is, event_plain, player_terms, player_is, player_plain, pairing_terms, pairing_is, pairing_plain, slot_terms, slot_is, slot_plain, tally_terms, tally_is, tally_plain, event_query, serial_terms, serial_is, serial_plain, phase_terms, phase_is, phase_plain, readable}
+use Rattle.sqlite_schema.specs.declared.command.Command.{Command}
+use Rattle.er_store.proofs.Meaning.{Means, full, event_terms, event_means, player_terms, player_means, pairing_terms, pairing_means, slot_terms, slot_means, tally_terms, tally_means, event_query, serial_terms, serial_means, phase_terms, phase_means, readable}
 
 -- what holds of each schema with the four tables in front holds of this one
 pub at_ours : (schema : Schema) (has : HasTables schema) (P : Schema → Type 0) → P (full has.others schema.indexes schema.views) → P schema
 at_ours schema has P = subst P (sym (ap (λ ts. (let s : Schema = record { tables = ts; indexes = schema.indexes; views = schema.views } in s)) has.are))
+
+pub meant : (schema : Schema) → HasTables schema → (sql : List ℕ) (command : Command) → ((others : List Table) (indexes : List Index) (views : List View) → Means sql command (full others indexes views)) → Means sql command schema
+meant schema has sql command means = at_ours schema has (Means sql command) (means has.others schema.indexes schema.views)
 
 -- where the four tables are, the event's can be read
 pub can_read : (schema : Schema) → HasTables schema → CanRead schema
@@ -65,9 +68,9 @@ player_news num name dropped rows = rw (cast_int (pos num), cast_null, cast_int 
 pub puts_player : (old new : State) (num : ℕ) (name : List ℕ) (dropped : Bool) (count : ℕ) → HasTables old.now.schema → IsTrue old.in_transaction
     → ExecutesInside 0 insert_player (number num ∷ Text name ∷ Int (flag dropped) ∷ []) old new (Ok count) → Puts 1 (stored_player num name dropped) old new
 puts_player old new num name dropped count has inside h =
+    let means = meant old.now.schema has insert_player (Insert 1 (Values player_terms 4)) player_means in
     puts_one insert_player (number num ∷ Text name ∷ Int (flag dropped) ∷ []) old new 1 4 (player 1) player_terms (stored_player num name dropped) count
-    (at_ours old.now.schema has (λ s. command_of (understood s insert_player) ≡ Insert 1 (Values player_terms 4)) (player_is _ _ _))
-    (at_ours old.now.schema has (λ s. IsPlain (understood s insert_player)) (player_plain _ _ _))
+    means.is means.plain
     (ap (λ ts. slice_get ts 1) has.are) refl (player_news num name dropped (old.now.trees 1)) inside h
 
 -- ---- the event's row
@@ -78,9 +81,9 @@ event_news e serial rows = rw (cast_int (pos 1), cast_null, cast_int (pos serial
 pub puts_event : (old new : State) (e : EventValue) (serial count : ℕ) → HasTables old.now.schema → IsTrue old.in_transaction
     → ExecutesInside 0 insert_event (number serial ∷ Text e.name ∷ number e.rounds ∷ number e.cut ∷ number (phase_code e.phase) ∷ []) old new (Ok count) → Puts 0 (stored_event e serial) old new
 puts_event old new e serial count has inside h =
+    let means = meant old.now.schema has insert_event (Insert 0 (Values event_terms 8)) event_means in
     puts_one insert_event (number serial ∷ Text e.name ∷ number e.rounds ∷ number e.cut ∷ number (phase_code e.phase) ∷ []) old new 0 8 (event 0) event_terms (stored_event e serial) count
-    (at_ours old.now.schema has (λ s. command_of (understood s insert_event) ≡ Insert 0 (Values event_terms 8)) (event_is _ _ _))
-    (at_ours old.now.schema has (λ s. IsPlain (understood s insert_event)) (event_plain _ _ _))
+    means.is means.plain
     (ap (λ ts. slice_get ts 0) has.are) refl (event_news e serial (old.now.trees 0)) inside h
 
 -- ---- a pairing's row, which takes the next rowid
@@ -91,9 +94,9 @@ pairing_news r rows = rw (cast_null, cast_int r.round, cast_int r.tab, cast_int 
 pub puts_pairing : (old new : State) (r : PairingRow) (count : ℕ) → HasTables old.now.schema → IsTrue old.in_transaction
     → ExecutesInside 0 insert_pairing (pairing_columns r) old new (Ok count) → Puts 3 (stored_pairing (next_rowid (old.now.trees 3)) r) old new
 puts_pairing old new r count has inside h =
+    let means = meant old.now.schema has insert_pairing (Insert 2 (Values pairing_terms 10)) pairing_means in
     puts_one insert_pairing (pairing_columns r) old new 2 10 (pairing 3) pairing_terms (stored_pairing (next_rowid (old.now.trees 3)) r) count
-    (at_ours old.now.schema has (λ s. command_of (understood s insert_pairing) ≡ Insert 2 (Values pairing_terms 10)) (pairing_is _ _ _))
-    (at_ours old.now.schema has (λ s. IsPlain (understood s insert_pairing)) (pairing_plain _ _ _))
+    means.is means.plain
     (ap (λ ts. slice_get ts 2) has.are) refl (pairing_news r (old.now.trees 3)) inside h
 
 -- ---- a row of the bracket, which takes the next rowid too
@@ -104,9 +107,9 @@ slot_news r rows = rw (cast_null, cast_int r.stage, cast_int r.slot, cast_int r.
 pub puts_slot : (old new : State) (r : BracketRow) (count : ℕ) → HasTables old.now.schema → IsTrue old.in_transaction
     → ExecutesInside 0 insert_slot (bracket_columns r) old new (Ok count) → Puts 6 (stored_slot (next_rowid (old.now.trees 6)) r) old new
 puts_slot old new r count has inside h =
+    let means = meant old.now.schema has insert_slot (Insert 3 (Values slot_terms 9)) slot_means in
     puts_one insert_slot (bracket_columns r) old new 3 9 (bracket 6) slot_terms (stored_slot (next_rowid (old.now.trees 6)) r) count
-    (at_ours old.now.schema has (λ s. command_of (understood s insert_slot) ≡ Insert 3 (Values slot_terms 9)) (slot_is _ _ _))
-    (at_ours old.now.schema has (λ s. IsPlain (understood s insert_slot)) (slot_plain _ _ _))
+    means.is means.plain
     (ap (λ ts. slice_get ts 3) has.are) refl (slot_news r (old.now.trees 6)) inside h
 
 -- ---- a row of totals
@@ -117,9 +120,9 @@ tally_news r rows = rw (cast_int r.no, cast_null, cast_int r.points, cast_int r.
 pub puts_tally : (old new : State) (r : TallyRow) (count : ℕ) → HasTables old.now.schema → IsTrue old.in_transaction
     → ExecutesInside 0 insert_tally (tally_columns r) old new (Ok count) → Puts 8 (stored_tally r) old new
 puts_tally old new r count has inside h =
+    let means = meant old.now.schema has insert_tally (Insert 4 (Values tally_terms 6)) tally_means in
     puts_one insert_tally (tally_columns r) old new 4 6 (tally 8) tally_terms (stored_tally r) count
-    (at_ours old.now.schema has (λ s. command_of (understood s insert_tally) ≡ Insert 4 (Values tally_terms 6)) (tally_is _ _ _))
-    (at_ours old.now.schema has (λ s. IsPlain (understood s insert_tally)) (tally_plain _ _ _))
+    means.is means.plain
     (ap (λ ts. slice_get ts 4) has.are) refl (tally_news r (old.now.trees 8)) inside h
 
 -- ---- the row of the event
@@ -143,18 +146,18 @@ event_edit trees r e t rows one id are = ap (λ all. edited trees (edit_of trees
 
 -- an UPDATE of the event's table by one value
 sets_event : (sql : List ℕ) (terms : List Term) (v : Value) (old new : State) (e e' : EventValue) (s t count : ℕ)
-    → ((others : List Table) (indexes : List Index) (views : List View) → command_of (understood (full others indexes views) sql) ≡ Update 0 (record { lets = []; body = event_query terms }))
-    → ((others : List Table) (indexes : List Index) (views : List View) → IsPlain (understood (full others indexes views) sql))
+    → ((others : List Table) (indexes : List Index) (views : List View) → Means sql (Update 0 (record { lets = []; body = event_query terms })) (full others indexes views))
     → ((r : Row) → map (column r) event_places ≡ event_columns (event_row e s) → eval_all terms ((v ∷ []) ∷ r ∷ []) ≡ number 1 ∷ stored_event e' t)
     → {kept : List TallyRow} → StandsWith old.now e s kept → IsTrue old.in_transaction → ExecutesInside 0 sql (v ∷ []) old new (Ok count) → Goes 0 old new × (new.now.trees 0 ≡ stored_event e' t ∷ [])
-sets_event sql terms v old new e e' s t count is plain shows stands inside h =
+sets_event sql terms v old new e e' s t count means shows stands inside h =
     let has = stands.tables in
     let schema = old.now.schema in
     let trees = old.now.trees in
     let q : Program = record { lets = []; body = event_query terms } in
     let params : Row = v ∷ [] in
     let it = one_of event_places (trees 0) (event_columns (event_row e s)) (one_permutation _ _ (IsPermutation-sym _ _ (stands.rows EventTable))) in
-    let w = runs_as sql params old new schema refl (Update 0 q) (at_ours schema has (λ s. command_of (understood s sql) ≡ Update 0 q) (is _ _ _)) (at_ours schema has (λ s. IsPlain (understood s sql)) (plain _ _ _)) count h.0 in
+    let it_means = meant schema has sql (Update 0 q) means in
+    let w = runs_as sql params old new schema refl (Update 0 q) it_means.is it_means.plain count h.0 in
     let task : Task = record { limit = old.step_limit; keys = (mode_of old).keys; schema = schema; table = event 0; params = params } in
     let found : slice_get schema.tables 0 ≡ Some (event 0) = ap (λ ts. slice_get ts 0) has.are in
     let u = update_goes task (mode_of old) trees 0 q w.tally new.now (rw found at w.changed) in
@@ -176,7 +179,7 @@ serial_shows r e s t h =
 
 pub sets_serial : (old new : State) (e : EventValue) (s t count : ℕ) → {kept : List TallyRow} → StandsWith old.now e s kept → IsTrue old.in_transaction
     → ExecutesInside 0 set_serial (number t ∷ []) old new (Ok count) → Goes 0 old new × (new.now.trees 0 ≡ stored_event e t ∷ [])
-sets_serial old new e s t count = sets_event set_serial serial_terms (number t) old new e e s t count serial_is serial_plain (λ r h. serial_shows r e s t h)
+sets_serial old new e s t count = sets_event set_serial serial_terms (number t) old new e e s t count serial_means (λ r h. serial_shows r e s t h)
 
 phase_shows : (r : Row) (e : EventValue) (s : ℕ) (phase : Phase) → map (column r) event_places ≡ event_columns (event_row e s) → eval_all phase_terms ((number (phase_code phase) ∷ []) ∷ r ∷ []) ≡ number 1 ∷ stored_event (with_phase e phase) s
 phase_shows r e s phase h =
@@ -190,4 +193,4 @@ phase_shows r e s phase h =
 
 pub sets_phase : (old new : State) (e : EventValue) (s : ℕ) (phase : Phase) (count : ℕ) → {kept : List TallyRow} → StandsWith old.now e s kept → IsTrue old.in_transaction
     → ExecutesInside 0 set_phase (number (phase_code phase) ∷ []) old new (Ok count) → Goes 0 old new × (new.now.trees 0 ≡ stored_event (with_phase e phase) s ∷ [])
-sets_phase old new e s phase count = sets_event set_phase phase_terms (number (phase_code phase)) old new e (with_phase e phase) s s count phase_is phase_plain (λ r h. phase_shows r e s phase h)
+sets_phase old new e s phase count = sets_event set_phase phase_terms (number (phase_code phase)) old new e (with_phase e phase) s s count phase_means (λ r h. phase_shows r e s phase h)

@@ -5,6 +5,7 @@ use Rattle.sqlite.specs.Table.{Table}
 use Rattle.sqlite.specs.Schema.{Schema}
 use Rattle.sqlite.specs.Term.{Term, lit, col, op1, op2}
 use Rattle.sqlite.specs.Query.{Query, Join, inner, left, end}
+use Rattle.sqlite_schema.specs.declared.command.Command.{Command}
 use Rattle.sqlite.specs.Command.TheVariants.{Insert, Update}
 use Rattle.sqlite.specs.Source.TheVariants.{Values}
 use Rattle.sqlite.specs.declared.types.Value.TheVariants.{Null, Int}
@@ -142,97 +143,58 @@ meeting_query = record (plain_query meeting_from meeting_tests meeting_terms) {
   order = map (λ place. (col 1 place, record { collation = Binary; descending = false })) (1 ∷ 2 ∷ []);
 }
 
+-- the text is this command of the schema
+pub record Means (sql : List ℕ) (command : Command) (schema : Schema) : Type 0 where
+  pub is : command_of (understood schema sql) ≡ command
+  pub plain : IsPlain (understood schema sql)
+
 module _ (others : List Table) (indexes : List Index) (views : List View) where
   abbrev pub full : Schema
   full = record { tables = with_ours others; indexes = indexes; views = views }
 
-  pub player_is : command_of (understood full insert_player) ≡ Insert 1 (Values player_terms 4)
+  pub player_means : Means insert_player (Insert 1 (Values player_terms 4)) full
   unfolding understood everything
-  player_is = refl
+  player_means = record { is = refl; plain = (refl, refl) }
 
-  pub player_plain : IsPlain (understood full insert_player)
+  pub event_means : Means insert_event (Insert 0 (Values event_terms 8)) full
   unfolding understood everything
-  player_plain = (refl, refl)
+  event_means = record { is = refl; plain = (refl, refl) }
 
-  pub event_is : command_of (understood full insert_event) ≡ Insert 0 (Values event_terms 8)
+  pub pairing_means : Means insert_pairing (Insert 2 (Values pairing_terms 10)) full
   unfolding understood everything
-  event_is = refl
+  pairing_means = record { is = refl; plain = (refl, refl) }
 
-  pub event_plain : IsPlain (understood full insert_event)
+  pub tally_means : Means insert_tally (Insert 4 (Values tally_terms 6)) full
   unfolding understood everything
-  event_plain = (refl, refl)
+  tally_means = record { is = refl; plain = (refl, refl) }
 
-  pub pairing_is : command_of (understood full insert_pairing) ≡ Insert 2 (Values pairing_terms 10)
+  pub totals_means : Means set_tally (Update 4 (record { lets = []; body = totals_query })) full
   unfolding understood everything
-  pairing_is = refl
+  totals_means = record { is = refl; plain = (refl, refl) }
 
-  pub pairing_plain : IsPlain (understood full insert_pairing)
+  pub serial_means : Means set_serial (Update 0 (record { lets = []; body = event_query serial_terms })) full
   unfolding understood everything
-  pairing_plain = (refl, refl)
+  serial_means = record { is = refl; plain = (refl, refl) }
 
-  pub tally_is : command_of (understood full insert_tally) ≡ Insert 4 (Values tally_terms 6)
+  pub phase_means : Means set_phase (Update 0 (record { lets = []; body = event_query phase_terms })) full
   unfolding understood everything
-  tally_is = refl
+  phase_means = record { is = refl; plain = (refl, refl) }
 
-  pub tally_plain : IsPlain (understood full insert_tally)
+  pub dropped_means : Means set_dropped (Update 1 (record { lets = []; body = dropped_query })) full
   unfolding understood everything
-  tally_plain = (refl, refl)
+  dropped_means = record { is = refl; plain = (refl, refl) }
 
-  pub totals_is : command_of (understood full set_tally) ≡ Update 4 (record { lets = []; body = totals_query })
+  pub score_means : Means set_score (Update 2 (record { lets = []; body = score_query })) full
   unfolding understood everything
-  totals_is = refl
+  score_means = record { is = refl; plain = (refl, refl) }
 
-  pub totals_plain : IsPlain (understood full set_tally)
+  pub slot_means : Means insert_slot (Insert 3 (Values slot_terms 9)) full
   unfolding understood everything
-  totals_plain = (refl, refl)
+  slot_means = record { is = refl; plain = (refl, refl) }
 
-  pub serial_is : command_of (understood full set_serial) ≡ Update 0 (record { lets = []; body = event_query serial_terms })
+  pub slot_score_means : Means set_slot_score (Update 3 (record { lets = []; body = slot_score_query })) full
   unfolding understood everything
-  serial_is = refl
-
-  pub serial_plain : IsPlain (understood full set_serial)
-  unfolding understood everything
-  serial_plain = (refl, refl)
-
-  pub phase_is : command_of (understood full set_phase) ≡ Update 0 (record { lets = []; body = event_query phase_terms })
-  unfolding understood everything
-  phase_is = refl
-
-  pub phase_plain : IsPlain (understood full set_phase)
-  unfolding understood everything
-  phase_plain = (refl, refl)
-
-  pub dropped_is : command_of (understood full set_dropped) ≡ Update 1 (record { lets = []; body = dropped_query })
-  unfolding understood everything
-  dropped_is = refl
-
-  pub dropped_plain : IsPlain (understood full set_dropped)
-  unfolding understood everything
-  dropped_plain = (refl, refl)
-
-  pub score_is : command_of (understood full set_score) ≡ Update 2 (record { lets = []; body = score_query })
-  unfolding understood everything
-  score_is = refl
-
-  pub score_plain : IsPlain (understood full set_score)
-  unfolding understood everything
-  score_plain = (refl, refl)
-
-  pub slot_is : command_of (understood full insert_slot) ≡ Insert 3 (Values slot_terms 9)
-  unfolding understood everything
-  slot_is = refl
-
-  pub slot_plain : IsPlain (understood full insert_slot)
-  unfolding understood everything
-  slot_plain = (refl, refl)
-
-  pub slot_score_is : command_of (understood full set_slot_score) ≡ Update 3 (record { lets = []; body = slot_score_query })
-  unfolding understood everything
-  slot_score_is = refl
-
-  pub slot_score_plain : IsPlain (understood full set_slot_score)
-  unfolding understood everything
-  slot_score_plain = (refl, refl)
+  slot_score_means = record { is = refl; plain = (refl, refl) }
 
   pub event_selected : Selects read_event (table_query 0 event_places (0 ∷ [])) full
   unfolding understood everything

@@ -49,12 +49,12 @@ use Rattle.er_store.proofs.PickingTable.{picks_table, is_elsewhere, picks_one_ta
 use Rattle.er_store.proofs.Values.{cast_int}
 use Rattle.er_store.proofs.Inserts.{first_fresh}
 use Rattle.er_store.proofs.Updates.{update_goes, sets_off_nothing}
-use Rattle.er_store.proofs.Effects.{at_ours}
+use Rattle.er_store.proofs.Effects.{meant}
 use Rattle.er_store.proofs.Where.{picked_rows, one_picked}
 use Rattle.er_store.proofs.PickingSlot.{picks_one_slot}
 use Rattle.er_store.proofs.Together.{shows_more, pairings_set, bracket_set}
 use Rattle.er_store.proofs.Pairing.{keyed_put}
-use Rattle.er_store.proofs.Meaning.{rows_query, score_query, score_tests, score_terms, score_is, score_plain, slot_score_query, slot_score_terms, slot_score_is, slot_score_plain}
+use Rattle.er_store.proofs.Meaning.{rows_query, score_query, score_tests, score_terms, score_means, slot_score_query, slot_score_terms, slot_score_means}
 
 -- ---- the rows without the one that is picked
 
@@ -205,8 +205,9 @@ pairing_scored old new e s k t score m count stands found seat inside h =
     let one = picks_one_table e k t score m found seat in
     let values : Row = number score.x ∷ number score.y ∷ number score.d ∷ [] in
     let row = scored_row k score one.it in
+    let means = meant schema has set_score (Update 2 p) score_means in
     let set = sets_row (pairing 3) pairing_rest 2 set_score score_terms old new k t values (pairing_columns (pairing_row k one.it)) (pairing_columns row) (map pairing_columns (pairing_rows e)) count
-    (at_ours schema has (λ s. command_of (understood s set_score) ≡ Update 2 p) (score_is _ _ _)) (at_ours schema has (λ s. IsPlain (understood s set_score)) (score_plain _ _ _))
+    means.is means.plain
     (λ db. refl) (ap (λ ts. slice_get ts 2) has.are) (λ x other. other.2) (λ r id own h. score_shows r k t score one.it id own h) (score_cast row) (λ id. refl)
     has (stands.rows PairingTable) stands.pairings_keyed one.alone inside h in
     pairings_set old new e (with_score e k t score).stored s stands set.goes (IsPermutation-trans _ _ _ set.rows one.replaced) set.keyed
@@ -242,8 +243,9 @@ slot_scored old new e s k t score m count stands found inside h =
     let one = picks_one_slot e k t score m found in
     let values : Row = number score.x ∷ number score.y ∷ number score.d ∷ [] in
     let row = scored_slot_row k t score m in
+    let means = meant schema has set_slot_score (Update 3 p) slot_score_means in
     let set = sets_row (bracket 6) bracket_rest 3 set_slot_score slot_score_terms old new k t values (bracket_columns (bracket_row k (t, m))) (bracket_columns row) (map bracket_columns (bracket_rows e)) count
-    (at_ours schema has (λ s. command_of (understood s set_slot_score) ≡ Update 3 p) (slot_score_is _ _ _)) (at_ours schema has (λ s. IsPlain (understood s set_slot_score)) (slot_score_plain _ _ _))
+    means.is means.plain
     (λ db. refl) (ap (λ ts. slice_get ts 3) has.are) (λ x other. other.3) (λ r id own h. slot_shows r k t score m id own h) (slot_cast row) (λ id. refl)
     has (stands.rows BracketTable) stands.bracket_keyed one.alone inside h in
     bracket_set old new e (with_slot_score e k t score).bracket.stages s stands set.goes (IsPermutation-trans _ _ _ set.rows one.replaced) set.keyed

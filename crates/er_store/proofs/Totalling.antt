@@ -13,9 +13,8 @@ use Rattle.sqlite.specs.Rowids.TheVariants.{Given}
 use Rattle.sqlite.specs.Edit.{Edit, edit_of, taken_by, is_taken}
 use Rattle.sqlite.specs.Tree.{Trees, put_row, without_rowid}
 use Rattle.sqlite.specs.Rows.{Task}
-use Rattle.sqlite.specs.Listing.{understood}
 use Rattle.sqlite.specs.State.{State, mode_of, ExecutesInside}
-use Rattle.sqlite.proofs.Callers.{IsPlain, command_of, runs_as, one_step}
+use Rattle.sqlite.proofs.Callers.{runs_as, one_step}
 use Rattle.sqlite_schema.specs.declared.program.Program.{Program}
 use Rattle.sqlite_rules.specs.Action.{Writes}
 use Rattle.sqlite_rules.specs.Calls.{ids_of}
@@ -37,10 +36,10 @@ use Rattle.er_store.proofs.PickingTotals.{AreRowsBy, picks_row}
 use Rattle.er_store.proofs.Values.{cast_int, cast_null}
 use Rattle.er_store.proofs.Inserts.{first_fresh}
 use Rattle.er_store.proofs.Updates.{update_goes, sets_off_nothing}
-use Rattle.er_store.proofs.Effects.{at_ours}
+use Rattle.er_store.proofs.Effects.{meant}
 use Rattle.er_store.proofs.Where.{picked_rows, one_picked}
 use Rattle.er_store.proofs.Together.{shows_more, tallies_set}
-use Rattle.er_store.proofs.Meaning.{totals_query, dropped_tests, totals_terms, totals_is, totals_plain}
+use Rattle.er_store.proofs.Meaning.{totals_query, dropped_tests, totals_terms, totals_means}
 
 abbrev row_by : (ℕ → Totals) → Player → Row
 row_by come_to p = tally_columns (tally_row p.no (come_to p.no))
@@ -84,7 +83,8 @@ sets_totals old new n t u m all count has same one is inside h =
     let p : Program = record { lets = []; body = totals_query } in
     let params : Row = totals_row n t in
     let it = one_picked tally_places (picks n) (trees 8) all (tally_columns (tally_row m u)) same one in
-    let w = runs_as set_tally params old new schema refl (Update 4 p) (at_ours schema has (λ s. command_of (understood s set_tally) ≡ Update 4 p) (totals_is _ _ _)) (at_ours schema has (λ s. IsPlain (understood s set_tally)) (totals_plain _ _ _)) count h.0 in
+    let means = meant schema has set_tally (Update 4 p) totals_means in
+    let w = runs_as set_tally params old new schema refl (Update 4 p) means.is means.plain count h.0 in
     let task : Task = record { limit = old.step_limit; keys = (mode_of old).keys; schema = schema; table = tally 8; params = params } in
     let found : slice_get schema.tables 4 ≡ Some (tally 8) = ap (λ ts. slice_get ts 4) has.are in
     let u' = update_goes task (mode_of old) trees 4 p w.tally new.now (rw found at w.changed) in
