@@ -28,7 +28,7 @@ BODIES = {
 }
 # the modules that these tests stand in and on
 MODULES = ("desks", "helpers", "requests", "stops", "stores", "wires")
-SECONDS = 3000
+SECONDS = 7200
 
 
 def copy_crates(room):
