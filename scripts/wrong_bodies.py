@@ -14,8 +14,6 @@ short, on a machine that others use, what is left is named, and not tried.
 import argparse
 import concurrent.futures
 import dataclasses
-import importlib.machinery
-import importlib.util
 import os
 import re
 import shutil
@@ -26,19 +24,10 @@ import tempfile
 import threading
 import time
 
-
-def toolchain():
-    """The toolchain's own command as a module, whose edits these are."""
-    path = os.path.realpath(shutil.which("rt") or sys.exit("rt is not on the path"))
-    sys.path.insert(0, os.path.dirname(path))
-    loader = importlib.machinery.SourceFileLoader("rt", path)
-    module = importlib.util.module_from_spec(importlib.util.spec_from_loader("rt", loader))
-    sys.modules["rt"] = module
-    loader.exec_module(module)
-    return module
+import toolchain
 
 
-rt = toolchain()
+rt = toolchain.load()
 printing = threading.Lock()
 # a crate with more wrong bodies than this is tried in two parts, side by side
 MANY = 60
