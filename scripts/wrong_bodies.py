@@ -4,7 +4,7 @@ its contract.
 A wrong body is an edit in the form of must-fail edits: a line `file: src/NAME.rt`, and then pairs of lines `old:` and `new:`. A line
 `in: MODULE::FUNCTION` names the function that must be refused, where that is not the one around the change. As many as don't touch the same
 function are put into one copy of the crate, and one check says of each function whether it is still proved. What that check could not
-judge, as a function that calls another one that is refused, is tried again with fewer beside it, and at last alone.
+judge, as a function that calls another one that is refused, is tried again without these beside it, and at last alone.
 
 Beside the gate, which leaves processors idle while crates wait for those below them, a crate's wrong bodies are tried as soon as the gate
 has proved it, over copies of the libraries that it made. There those of public functions are tried each time, and those with a line
@@ -290,18 +290,24 @@ def has_time():
 
 def try_all(crate, bodies, shows):
     """What was found of each of these wrong bodies of a crate, by name."""
-    found, unclear = {}, []
+    found, alone = {}, []
     with tempfile.TemporaryDirectory(prefix="wrong-bodies-") as kept:
-        left = bodies
+        left, again = bodies, []
         while left and has_time():
             said, output = tried(crate, left, kept)
             if shows:
                 print(output)
-            found.update({name: what for name, what in said.items() if what == "refused"})
-            unclear += [it for it in left if it.name in said and it.name not in found]
+            refused = [name for name, what in said.items() if what == "refused"]
+            unclear = [it for it in left if it.name in said and it.name not in refused]
+            found.update(dict.fromkeys(refused, "refused"))
             left = [it for it in left if it.name not in said]
+            # those may have waited for others that were refused
+            again += unclear if refused else []
+            alone += [] if refused else unclear
+            if not left:
+                left, again = again, []
         # what was not refused so is tried alone, over the proofs of the whole crate
-        for body in unclear:
+        for body in alone:
             if has_time():
                 said, output = tried(crate, [body], kept, has_holes=False)
                 if shows:
@@ -402,7 +408,7 @@ def main():
     words.add_argument("--beside-gate", metavar="LOG", help="begin with each crate once rt ci, whose output goes to LOG, has proved it")
     words.add_argument("--turn", metavar="NUMBER", type=int, help=f"leave out those of private functions, but for one of {TURNS} parts")
     words.add_argument("--minutes", metavar="NUMBER", type=int, help="begin no check after so many; what is left is named, and is no fault")
-    words.add_argument("--only", metavar="EDIT", help="try this one alone")
+    words.add_argument("--only", metavar="EDIT", action="append", help="try this one, and no other that is not named so too")
     words.add_argument("--show", action="store_true", help="print what each check said")
     given = words.parse_args()
     if given.minutes:
@@ -415,7 +421,7 @@ def main():
         folder = f"{crate.folder}/wrong-bodies"
         if os.path.isdir(folder) and (not given.names or crate.name in given.names):
             bodies = [read(f"{folder}/{it}", crate) for it in sorted(os.listdir(folder)) if it.endswith(".edit")]
-            bodies = [it for it in bodies if given.only in (None, it.name)]
+            bodies = [it for it in bodies if not given.only or it.name in given.only]
             work.append((crate, bodies if given.turn is None else of_turn(crate, bodies, given.turn)))
     work.sort(key=lambda it: -it[0].count(rb"\n"))
     work = [(crate, part) for crate, bodies in work for part in parts_of(bodies)]
