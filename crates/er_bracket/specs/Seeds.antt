@@ -1,6 +1,6 @@
 -- Who meets whom in the first stage of the playoff.
 use Rattle.std.specs.Prelude.{ℕ, ◌==◌, if◌then◌else◌, List, [], ◌∷◌, length, map, slice_index_or}
-use Rattle.er_event.specs.declared.rounds.Match.{Match}
+use Rattle.er_event.specs.declared.matches.Match.{Match}
 use Rattle.er_event.specs.Bracket.{open_match}
 
 -- which seeds meet in the slots, the better one first

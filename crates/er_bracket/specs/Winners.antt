@@ -1,6 +1,6 @@
 -- The matches that somebody has won.
 use Rattle.std.specs.Prelude.{◌≢◌, MatchOption}
-use Rattle.er_event.specs.declared.rounds.Match.{Match}
+use Rattle.er_event.specs.declared.matches.Match.{Match}
 use Rattle.er_event.specs.declared.scores.Games.{Games}
 
 -- it has a score, by which one of the two won more games

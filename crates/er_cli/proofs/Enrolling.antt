@@ -5,9 +5,9 @@ use Rattle.std.proofs.lemmas.List.{length-map, take_all, take_more, map-append}
 use Rattle.std.specs.List.{take-map}
 use Rattle.std.proofs.lemmas.List.Elements.{filter-append}
 use Rattle.std.proofs.lemmas.List.Folds.{list_any-append}
-use Rattle.er_event.specs.declared.refusals.Command.{Command}
-use Rattle.er_event.specs.declared.refusals.Command.TheVariants.{Enrol}
-use Rattle.er_event.specs.declared.refusals.Receipt.{Receipt}
+use Rattle.er_event.specs.declared.commands.Command.{Command}
+use Rattle.er_event.specs.declared.commands.Command.TheVariants.{Enrol}
+use Rattle.er_event.specs.declared.commands.Receipt.{Receipt}
 use Rattle.er_event.specs.declared.refusals.Refusal.{Refusal}
 use Rattle.er_store.specs.Fault.{IsFault}
 use Rattle.er_desk.specs.Desk.{Standing, Turn}

@@ -7,11 +7,11 @@ use Rattle.er_event.specs.declared.refusals.Refusal.TheVariants.{Memory}
 use Rattle.er_desk.specs.declared.desk.Desk.{Desk}
 use Rattle.er_desk.specs.Desk.{Standing, Turn, Reads}
 use Rattle.er_desk.specs.Reply.{Reply}
-use Rattle.er_event.specs.declared.refusals.Command.{Command}
+use Rattle.er_event.specs.declared.commands.Command.{Command}
 use Rattle.er_words.specs.declared.action.Request.{Request}
 use Rattle.er_words.specs.declared.action.Request.TheVariants.{Submit, Players, Standings, Slips, Bracket, Export}
 use Rattle.er_cli.specs.declared.texts.Answer.{Answer}
-use Rattle.er_cli.specs.Answers.{Answers}
+use Rattle.er_cli.specs.Answers.{DeskAnswers}
 use Rattle.er_words.specs.declared.action.Action.{Action}
 use Rattle.er_cli.specs.declared.texts.Answer.TheVariants.{Refused}
 use Rattle.er_cli.specs.Script.{LineAnswers, standing_of}
@@ -37,7 +37,7 @@ ran_reading passing old new read (inr (inl it)) runs = it.0
 ran_reading passing old new read (inr (inr it)) runs = subst (λ (s : Standing). IsFalse s.stopped) it.1 runs
 
 -- a desk that no fault has stopped had none before
-pub ran_before : (Stood : Type 0) (old new : Standing) (request : Request) (answer : Answer) → Answers Stood old request answer new → IsFalse new.stopped → IsFalse old.stopped
+pub ran_before : (Stood : Type 0) (old new : Standing) (request : Request) (answer : Answer) → DeskAnswers Stood old request answer new → IsFalse new.stopped → IsFalse old.stopped
 ran_before Stood old new (Submit command) answer it runs = ran_on old new command it.0 it.1 runs
 ran_before Stood old new Players answer it runs = subst (λ (s : Standing). IsFalse s.stopped) it.1 runs
 ran_before Stood old new Standings answer it runs = ran_reading Memory old new it.0 it.1 runs
@@ -54,8 +54,8 @@ read_stood Stood Are passing old new (Ok it) stood (inr (inr (stopped, same, e))
 read_stood Stood Are passing old new (Err why) stood reads found = tt
 
 -- over tables that stand, the answers rest on nothing else
-pub stood_answers : (Stood : Type 0) (old new : Standing) (request : Request) (answer : Answer) → (IsFalse old.stopped → Stood) → Answers Stood old request answer new
-    → Answers ⊤ old request answer new
+pub stood_answers : (Stood : Type 0) (old new : Standing) (request : Request) (answer : Answer) → (IsFalse old.stopped → Stood) → DeskAnswers Stood old request answer new
+    → DeskAnswers ⊤ old request answer new
 stood_answers Stood old new (Submit command) answer stood it = it
 stood_answers Stood old new Players answer stood it = it
 stood_answers Stood old new Standings answer stood (read, reads, found, e) = (read, reads, (λ _. read_stood Stood _ Memory old new read stood reads found), e)

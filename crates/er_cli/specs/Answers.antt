@@ -53,11 +53,11 @@ IsRowsAnswer event (Ok rows) answer = (answer ≡ Text (rows_text event rows.ite
 IsRowsAnswer event (Err why) answer = answer ≡ Refused why
 
 -- What a desk answers, and where it stands then. A text of what it holds leaves it as it is. `Stood` is that its tables stood for its event, on a clean disk: on this rest the standings, which are read of them.
-abbrev pub Answers : Type 0 → Standing → Request → Answer → Standing → Type 0
-Answers Stood old (Submit command) answer new = (reply : Reply) × Turn old command reply new × (answer ≡ reply_answer reply)
-Answers Stood old Players answer new = IsShown old ShowsPlayers answer × (new ≡ old)
-Answers Stood old Standings answer new =
+abbrev pub DeskAnswers : Type 0 → Standing → Request → Answer → Standing → Type 0
+DeskAnswers Stood old (Submit command) answer new = (reply : Reply) × Turn old command reply new × (answer ≡ reply_answer reply)
+DeskAnswers Stood old Players answer new = IsShown old ShowsPlayers answer × (new ≡ old)
+DeskAnswers Stood old Standings answer new =
     (read : Result (Vec Row Global) Refusal) × ReadsRows old read new × (Stood → IfOk read (λ rows. AreTheStandings old.event rows.items)) × IsRowsAnswer old.event read answer
-Answers Stood old (Slips round) answer new = IsShown old (ShowsSlips round) answer × (new ≡ old)
-Answers Stood old Bracket answer new = IsShown old ShowsBracket answer × (new ≡ old)
-Answers Stood old (Export kind) answer new = IsShown old (ShowsExport kind) answer × (new ≡ old)
+DeskAnswers Stood old (Slips round) answer new = IsShown old (ShowsSlips round) answer × (new ≡ old)
+DeskAnswers Stood old Bracket answer new = IsShown old ShowsBracket answer × (new ≡ old)
+DeskAnswers Stood old (Export kind) answer new = IsShown old (ShowsExport kind) answer × (new ≡ old)

@@ -2,7 +2,7 @@
 use Rattle.std.specs.Prelude.{◌≡◌, ◌⊎◌, ◌≤◌, ℕ, false, IsFalse, List, Option, MatchOption, Ok, Err}
 use Rattle.er_event.specs.declared.refusals.Refusal.{Refusal}
 use Rattle.er_event.specs.declared.refusals.Refusal.TheVariants.{Memory, NoEvent, EventExists}
-use Rattle.er_event.specs.declared.refusals.TheConstants.{MAX_SERIAL}
+use Rattle.er_event.specs.declared.commands.TheConstants.{MAX_SERIAL}
 use Rattle.er_rules.specs.Commands.{first_refusal}
 use Rattle.er_rules.specs.Sound.{IsSound}
 use Rattle.sqlite_trees.specs.declared.store.Store.{Ghosts}
@@ -25,7 +25,7 @@ use Rattle.er_cli.specs.Help.{Says, Tells}
 use Rattle.er_cli.specs.Importing.{Imports}
 use Rattle.er_cli.specs.Serving.{PrintsServed}
 use Rattle.er_cli.specs.Setup.{init_checks}
-use Rattle.er_cli.specs.Answers.{Answers, reply_answer}
+use Rattle.er_cli.specs.Answers.{DeskAnswers, reply_answer}
 
 -- there is no event in the file, or it is damaged, or memory or the device fails
 abbrev pub IsNotOpened : Answer → Type 0
@@ -60,7 +60,7 @@ pub record IsOpened {S : Type 0} (g : Ghosts S) (desk : Desk S g) : Type 0 where
 -- what is done with an event that was opened, by its desk
 abbrev pub Does : {S : Type 0} (g : Ghosts S) → Desk S g → Task → (out out_then err err_then : Option (List ℕ)) → ℕ → Type 0
 Does {S} g desk (Ask request) out out_then err err_then status =
-    (answer : Answer) × (last : Desk S g) × Answers (HasCleanDisk (state g last) × ShowsOwn g desk) (standing desk) request answer (standing last)
+    (answer : Answer) × (last : Desk S g) × DeskAnswers (HasCleanDisk (state g last) × ShowsOwn g desk) (standing desk) request answer (standing last)
     × Tells answer out out_then err err_then status
 Does g desk (Import list) out out_then err err_then status = (last : Standing) × Imports (standing desk) last out out_then err err_then status
 Does g desk (Serve port count) out out_then err err_then status = Serves out out_then err err_then status count

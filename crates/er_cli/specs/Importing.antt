@@ -3,7 +3,7 @@ use Rattle.std.specs.Prelude.{◌≡◌, ◌⊎◌, ◌≤◌, ℕ, Bool, true, 
 use Rattle.std.specs.List.{filter, list_any}
 use Rattle.std.specs.Fmt.{decimal}
 use Rattle.std.specs.Io.KnownBytes.{Appends}
-use Rattle.er_event.specs.declared.refusals.Command.TheVariants.{Enrol}
+use Rattle.er_event.specs.declared.commands.Command.TheVariants.{Enrol}
 use Rattle.er_event.specs.declared.refusals.Refusal.{Refusal}
 use Rattle.er_event.specs.declared.refusals.Refusal.TheVariants.{NameTaken, Memory}
 use Rattle.er_desk.specs.Desk.{Standing}

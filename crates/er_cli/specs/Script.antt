@@ -18,7 +18,7 @@ use Rattle.er_cli.specs.declared.texts.Answer.{Answer}
 use Rattle.er_cli.specs.declared.texts.Answer.TheVariants.{Accepted, Refused, Usage}
 use Rattle.er_cli.specs.Setup.{init_checks}
 use Rattle.er_words.specs.Fields.{script_action}
-use Rattle.er_cli.specs.Answers.{Answers}
+use Rattle.er_cli.specs.Answers.{DeskAnswers}
 use Rattle.er_cli.specs.Texts.{answer_text, AppendsPart}
 
 -- where the desk of a script stands, once it has one
@@ -26,18 +26,18 @@ abbrev pub standing_of : {S : Type 0} {g : Ghosts S} → Option (Desk S g) → O
 standing_of desk = option_map standing desk
 
 -- an event is made, or memory or the store fails, and all stays as it is
-abbrev pub Makes : Option Standing → List ℕ → ℕ → ℕ → Answer → Option Standing → Type 0
-Makes old name rounds cut answer new =
+abbrev pub CreatesEvent : Option Standing → List ℕ → ℕ → ℕ → Answer → Option Standing → Type 0
+CreatesEvent old name rounds cut answer new =
     ((answer ≡ Accepted (record { serial = 0 })) × (new ≡ Some (record { event = created name rounds cut; serial = 0; stopped = false })))
     ⊎ ((why : Refusal) × IsFault why × (answer ≡ Refused why) × (new ≡ old))
 
 -- What an action is answered, and where the desk stands then. The tables in memory stand for its event. All but `init` want an event. A script imports no list, and serves no clients.
 abbrev pub Acts : Option Standing → Action → Answer → Option Standing → Type 0
 Acts old (Init name rounds cut) answer new =
-    MatchOption (first_refusal (init_checks (is_some old) name rounds cut)) (Makes old name rounds cut answer new) (λ why. ((answer ≡ Refused why) ⊎ (answer ≡ Refused Memory)) × (new ≡ old))
+    MatchOption (first_refusal (init_checks (is_some old) name rounds cut)) (CreatesEvent old name rounds cut answer new) (λ why. ((answer ≡ Refused why) ⊎ (answer ≡ Refused Memory)) × (new ≡ old))
 Acts old (Open (Import list)) answer new = (answer ≡ Usage) × (new ≡ old)
 Acts None (Open (Ask request)) answer new = (answer ≡ Refused NoEvent) × (new ≡ None)
-Acts (Some old) (Open (Ask request)) answer new = (next : Standing) × Answers ⊤ old request answer next × (new ≡ Some next)
+Acts (Some old) (Open (Ask request)) answer new = (next : Standing) × DeskAnswers ⊤ old request answer next × (new ≡ Some next)
 Acts old (Open (Serve port count)) answer new = (answer ≡ Usage) × (new ≡ old)
 
 -- What a line is answered. Memory may be wanting to read it.

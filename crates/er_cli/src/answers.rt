@@ -2,7 +2,7 @@ ghost use Rattle.std.specs.Prelude.{◌≡◌, ◌⊎◌, IfOk, IsFalse, MatchRe
 ghost use Rattle.sqlite.specs.State.{HasCleanDisk};
 ghost use Rattle.er_desk.specs.Desk.{ShowsOwn, standing, state};
 ghost use Rattle.er_paper.specs.Texts.{rows_text};
-ghost use Rattle.er_cli.specs.Answers.{Answers, IsShown, ShowsPlayers, ShowsSlips, ShowsBracket, ShowsExport, csv_of, reply_answer, slips_answer};
+ghost use Rattle.er_cli.specs.Answers.{DeskAnswers, IsShown, ShowsPlayers, ShowsSlips, ShowsBracket, ShowsExport, csv_of, reply_answer, slips_answer};
 ghost use Rattle.er_words.specs.declared.action.Request.TheVariants.{Standings};
 
 use crate::texts::Answer;
@@ -25,7 +25,8 @@ pub fn reply_answer(reply: Reply) -> Answer
 }
 
 fn text_answer(text: Result<Vec<u8>, AllocError>) -> Answer
-    ensures { MatchResult text (λ text. result ≡ Answer.Text text.items) (λ _. result ≡ Answer.Refused Refusal.Memory) }
+    ensures { MatchResult text (λ text. result ≡ Answer.Text text.items) (λ _. result
+        ≡ Answer.Refused Refusal.Memory) }
 {
     match text {
         Ok(text) => Answer::Text(Items::from(text)),
@@ -35,7 +36,9 @@ fn text_answer(text: Result<Vec<u8>, AllocError>) -> Answer
 
 /// A round that isn't stored has no slips.
 fn slips_answer(text: Result<Option<Vec<u8>>, AllocError>) -> Answer
-    ensures { MatchResult text (λ text. result ≡ slips_answer (option_map (λ t. t.items) text)) (λ _. result ≡ Answer.Refused Refusal.Memory) }
+    ensures { MatchResult text (λ text. result
+        ≡ slips_answer (option_map (λ t. t.items) text)) (λ _. result
+        ≡ Answer.Refused Refusal.Memory) }
 {
     match text {
         Ok(Some(text)) => Answer::Text(Items::from(text)),
@@ -55,7 +58,9 @@ fn players<S: Alter>(alloc: Global, desk: &Desk<S>) -> Answer
 
 /// The text of these rows of standings.
 fn rows_answer<S: Alter>(alloc: Global, desk: &Desk<S>, rows: &[Row]) -> Answer
-    ensures { IsFalse (standing desk.now).stopped → (result ≡ Answer.Text (rows_text desk.now.event rows.now)) ⊎ (result ≡ Answer.Refused Refusal.Memory) }
+    ensures { IsFalse (standing desk.now).stopped
+        → (result ≡ Answer.Text (rows_text desk.now.event rows.now))
+        ⊎ (result ≡ Answer.Refused Refusal.Memory) }
 {
     match desk.event() {
         Ok(event) => text_answer(rows_text(alloc, rows, event)),
@@ -65,8 +70,10 @@ fn rows_answer<S: Alter>(alloc: Global, desk: &Desk<S>, rows: &[Row]) -> Answer
 
 /// The standings, by the totals in the tables.
 fn standings<S: Alter>(alloc: Global, desk: &mut Desk<S>) -> Answer
-    ensures answers { Answers (HasCleanDisk (state S.Store desk.new) × ShowsOwn S.Store desk.old) (standing desk.old) Standings result (standing desk.new) }
-    ensures stands { HasCleanDisk (state S.Store desk.new) → ShowsOwn S.Store desk.old → IsFalse (standing desk.new).stopped → ShowsOwn S.Store desk.new }
+    ensures answers { DeskAnswers (HasCleanDisk (state S.Store desk.new)
+        × ShowsOwn S.Store desk.old) (standing desk.old) Standings result (standing desk.new) }
+    ensures stands { HasCleanDisk (state S.Store desk.new) → ShowsOwn S.Store desk.old
+        → IsFalse (standing desk.new).stopped → ShowsOwn S.Store desk.new }
 {
     match desk.stored_standings(alloc) {
         Ok(rows) => rows_answer(alloc, desk, rows.as_slice()),
@@ -113,8 +120,10 @@ fn export<S: Alter>(alloc: Global, desk: &Desk<S>, kind: ExportKind) -> Answer
 
 /// What a desk answers. A text leaves it as it is, but for the standings where its store has a fault: these are read.
 pub fn answer<S: Alter>(alloc: Global, desk: &mut Desk<S>, request: Request) -> Answer
-    ensures answers { Answers (HasCleanDisk (state S.Store desk.new) × ShowsOwn S.Store desk.old) (standing desk.old) request result (standing desk.new) }
-    ensures stands { HasCleanDisk (state S.Store desk.new) → ShowsOwn S.Store desk.old → IsFalse (standing desk.new).stopped → ShowsOwn S.Store desk.new }
+    ensures answers { DeskAnswers (HasCleanDisk (state S.Store desk.new)
+        × ShowsOwn S.Store desk.old) (standing desk.old) request result (standing desk.new) }
+    ensures stands { HasCleanDisk (state S.Store desk.new) → ShowsOwn S.Store desk.old
+        → IsFalse (standing desk.new).stopped → ShowsOwn S.Store desk.new }
 {
     match request {
         Request::Submit { command } => reply_answer(desk.submit(alloc, command)),

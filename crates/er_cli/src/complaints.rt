@@ -69,7 +69,8 @@ fn complaint_with(
     fault: UsageFault,
     advice: &str,
 ) -> Result<String, AllocError>
-    ensures { IfOk result (λ text. string_bytes text ≡ complaint_with (map string_bytes words.now) fault advice.now) }
+    ensures { IfOk result (λ text. string_bytes text
+        ≡ complaint_with (map string_bytes words.now) fault advice.now) }
 {
     let mut text = String::from_str(alloc, "event_reporter: ")?;
     if let Some(word) = words.get(place_of(fault)) {
@@ -84,7 +85,8 @@ fn complaint_with(
 
 /// What a person is told of words that are no command line.
 pub fn complaint(alloc: Global, words: &[String]) -> Result<String, AllocError>
-    ensures { line_of (map string_bytes words.now) ≡ None → IfOk result (λ text. Complains (map string_bytes words.now) (string_bytes text)) }
+    ensures { line_of (map string_bytes words.now) ≡ None
+        → IfOk result (λ text. Complains (map string_bytes words.now) (string_bytes text)) }
 {
     let [name, ..] = words else {
         return String::from_str(alloc, NO_TEXT);

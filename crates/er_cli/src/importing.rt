@@ -1,7 +1,7 @@
 ghost use Rattle.std.specs.Prelude.{◌≡◌, ◌⊎◌, ◌≤◌, IsFalse, IfOk, vec_len, OnOk, OnErr};
 ghost use Rattle.std.specs.Io.KnownBytes.{Appends};
 ghost use Rattle.sqlite.specs.State.{HasCleanDisk};
-ghost use Rattle.er_event.specs.declared.refusals.Command.TheVariants.{Enrol};
+ghost use Rattle.er_event.specs.declared.commands.Command.TheVariants.{Enrol};
 ghost use Rattle.er_desk.specs.Desk.{ShowsOwn, Turn, point_of, standing, state};
 ghost use Rattle.er_desk.specs.Headline.{LeavesJust};
 ghost use Rattle.er_cli.specs.Importing.{Enrols, Imports, PrintsTally, TakesList, fault_text, is_taken, names_of, tally_text};
@@ -66,8 +66,10 @@ fn fault_line(fault: CsvFault) -> ShortText
 }
 
 fn say_fault<W: Write>(writer: &mut W, fault: CsvFault) -> u8
-    ensures { ((result ≡ REFUSED) × Appends (W.contents writer.old) (W.contents writer.new) (fault_text fault))
-        ⊎ ((result ≡ DEVICE) × AppendsPart (W.contents writer.old) (W.contents writer.new) (fault_text fault)) }
+    ensures { ((result ≡ REFUSED)
+        × Appends (W.contents writer.old) (W.contents writer.new) (fault_text fault))
+        ⊎ ((result ≡ DEVICE)
+        × AppendsPart (W.contents writer.old) (W.contents writer.new) (fault_text fault)) }
 {
     match print_line(writer, &fault_line(fault)) {
         Ok(()) => REFUSED,
@@ -97,8 +99,11 @@ fn enrol<S: Alter>(alloc: Global, desk: &mut Desk<S>, name: &Name) -> Reply
     requires { IsFalse (standing desk.old).stopped }
     ensures turn { Turn (standing desk.old) (Enrol name.now) result (standing desk.new) }
     ensures clean { HasCleanDisk (state S.Store desk.new) → HasCleanDisk (state S.Store desk.old) }
-    ensures stands { HasCleanDisk (state S.Store desk.new) → ShowsOwn S.Store desk.old → IsFalse (standing desk.new).stopped → ShowsOwn S.Store desk.new }
-    ensures leaves { ShowsOwn S.Store desk.old → LeavesJust (state S.Store desk.old) (point_of (standing desk.old)) → IsFalse (standing desk.new).stopped
+    ensures stands { HasCleanDisk (state S.Store desk.new) → ShowsOwn S.Store desk.old
+        → IsFalse (standing desk.new).stopped → ShowsOwn S.Store desk.new }
+    ensures leaves { ShowsOwn S.Store desk.old
+        → LeavesJust (state S.Store desk.old) (point_of (standing desk.old))
+        → IsFalse (standing desk.new).stopped
         → LeavesJust (state S.Store desk.new) (point_of (standing desk.new)) }
 {
     let Ok(name) = Vec::from_slice(alloc, name.as_bytes()) else {
@@ -113,10 +118,13 @@ fn enrol_all<S: Alter>(alloc: Global, desk: &mut Desk<S>, lines: &[PlayerLine]) 
     requires { IsFalse (standing desk.old).stopped }
     ensures enrols { Enrols (names_of lines.now) (standing desk.old) result.tally result.stop (standing desk.new) }
     ensures clean { HasCleanDisk (state S.Store desk.new) → HasCleanDisk (state S.Store desk.old) }
-    ensures stands { HasCleanDisk (state S.Store desk.new) → ShowsOwn S.Store desk.old → IsFalse (standing desk.new).stopped → ShowsOwn S.Store desk.new }
+    ensures stands { HasCleanDisk (state S.Store desk.new) → ShowsOwn S.Store desk.old
+        → IsFalse (standing desk.new).stopped → ShowsOwn S.Store desk.new }
 
     // While the desk runs, a crash leaves just the event that it stands at.
-    ensures leaves { ShowsOwn S.Store desk.old → LeavesJust (state S.Store desk.old) (point_of (standing desk.old)) → IsFalse (standing desk.new).stopped
+    ensures leaves { ShowsOwn S.Store desk.old
+        → LeavesJust (state S.Store desk.old) (point_of (standing desk.old))
+        → IsFalse (standing desk.new).stopped
         → LeavesJust (state S.Store desk.new) (point_of (standing desk.new)) }
 {
     let mut tally = Tally {
@@ -160,11 +168,14 @@ fn import_list<S: Alter, O: Write, E: Write>(
     err: &mut E,
 ) -> u8
     requires { IsFalse (standing desk.old).stopped }
-    ensures imports { ((standing desk.new ≡ standing desk.old) × Tells (Answer.Refused Refusal.Memory) (O.contents out.old) (O.contents out.new) (E.contents err.old) (E.contents err.new) result)
-        ⊎ TakesList (standing desk.old) (standing desk.new) (O.contents out.old) (O.contents out.new) (E.contents err.old) (E.contents err.new) result list.now }
+    ensures imports { ((standing desk.new ≡ standing desk.old)
+        × Tells (Answer.Refused Refusal.Memory) (O.contents out.old) (O.contents out.new) (E.contents err.old) (E.contents err.new) result) ⊎ TakesList (standing desk.old) (standing desk.new) (O.contents out.old) (O.contents out.new) (E.contents err.old) (E.contents err.new) result list.now }
     ensures clean { HasCleanDisk (state S.Store desk.new) → HasCleanDisk (state S.Store desk.old) }
-    ensures stands { HasCleanDisk (state S.Store desk.new) → ShowsOwn S.Store desk.old → IsFalse (standing desk.new).stopped → ShowsOwn S.Store desk.new }
-    ensures leaves { ShowsOwn S.Store desk.old → LeavesJust (state S.Store desk.old) (point_of (standing desk.old)) → IsFalse (standing desk.new).stopped
+    ensures stands { HasCleanDisk (state S.Store desk.new) → ShowsOwn S.Store desk.old
+        → IsFalse (standing desk.new).stopped → ShowsOwn S.Store desk.new }
+    ensures leaves { ShowsOwn S.Store desk.old
+        → LeavesJust (state S.Store desk.old) (point_of (standing desk.old))
+        → IsFalse (standing desk.new).stopped
         → LeavesJust (state S.Store desk.new) (point_of (standing desk.new)) }
 {
     match read_players_csv(alloc, list) {
@@ -188,10 +199,13 @@ pub fn import<S: Alter, O: Write, E: Write>(
     requires { IsFalse (standing desk.old).stopped }
     ensures imports { Imports (standing desk.old) (standing desk.new) (O.contents out.old) (O.contents out.new) (E.contents err.old) (E.contents err.new) result }
     ensures clean { HasCleanDisk (state S.Store desk.new) → HasCleanDisk (state S.Store desk.old) }
-    ensures stands { HasCleanDisk (state S.Store desk.new) → ShowsOwn S.Store desk.old → IsFalse (standing desk.new).stopped → ShowsOwn S.Store desk.new }
+    ensures stands { HasCleanDisk (state S.Store desk.new) → ShowsOwn S.Store desk.old
+        → IsFalse (standing desk.new).stopped → ShowsOwn S.Store desk.new }
 
     // While the desk runs, a crash leaves just the event that it stands at.
-    ensures leaves { ShowsOwn S.Store desk.old → LeavesJust (state S.Store desk.old) (point_of (standing desk.old)) → IsFalse (standing desk.new).stopped
+    ensures leaves { ShowsOwn S.Store desk.old
+        → LeavesJust (state S.Store desk.old) (point_of (standing desk.old))
+        → IsFalse (standing desk.new).stopped
         → LeavesJust (state S.Store desk.new) (point_of (standing desk.new)) }
 {
     match read_list(rt, path) {

@@ -58,8 +58,10 @@ pub fn read_whole<R: Read>(
 ) -> Result<Vec<u8>, InputFault>
     requires { most < 2 ^ 32 }
     ensures small { IfOk result (λ input. vec_len input ≤ most) }
-    ensures whole { IfOk result (λ input. IfSome (R.remaining reader.old) (λ all. input.items ≡ all)) }
-    ensures too_long { result ≡ Err InputFault.TooLong → IfSome (R.remaining reader.old) (λ all. most < length all) }
+    ensures whole { IfOk result (λ input. IfSome (R.remaining reader.old) (λ all. input.items
+        ≡ all)) }
+    ensures too_long { result ≡ Err InputFault.TooLong
+        → IfSome (R.remaining reader.old) (λ all. most < length all) }
 {
     let Ok(mut input) = room(alloc, most) else {
         return Err(InputFault::Memory);
@@ -77,15 +79,18 @@ pub fn read_whole<R: Read>(
 /// Reads a whole script.
 pub fn read_script<R: Read>(alloc: Global, reader: &mut R) -> Result<Vec<u8>, InputFault>
     ensures small { IfOk result (λ script. vec_len script ≤ MAX_SCRIPT_BYTES) }
-    ensures whole { IfOk result (λ script. IfSome (R.remaining reader.old) (λ all. script.items ≡ all)) }
-    ensures too_long { result ≡ Err InputFault.TooLong → IfSome (R.remaining reader.old) (λ all. MAX_SCRIPT_BYTES < length all) }
+    ensures whole { IfOk result (λ script. IfSome (R.remaining reader.old) (λ all. script.items
+        ≡ all)) }
+    ensures too_long { result ≡ Err InputFault.TooLong
+        → IfSome (R.remaining reader.old) (λ all. MAX_SCRIPT_BYTES < length all) }
 {
     read_whole(alloc, reader, MAX_SCRIPT_BYTES)
 }
 
 /// The lines of a script, without those that are empty.
 pub fn lines_of(alloc: Global, script: &[u8]) -> Result<Vec<&[u8]>, AllocError>
-    ensures { IfOk result (λ lines. map (λ line. line.now) lines.items ≡ lines_of script.entry.now) }
+    ensures { IfOk result (λ lines. map (λ line. line.now) lines.items
+        ≡ lines_of script.entry.now) }
 {
     script
         .split(|byte| *byte == b'\n')

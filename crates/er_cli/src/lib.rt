@@ -139,7 +139,8 @@ fn tell<O: Write, E: Write>(out: &mut O, err: &mut E, answer: &Answer) -> u8
 /// Says a text on the one stream, and gives the status that comes with it.
 fn say_all<W: Write>(writer: &mut W, text: &str, due: u8) -> u8
     ensures { ((result ≡ due) × Appends (W.contents writer.old) (W.contents writer.new) text.now)
-        ⊎ ((result ≡ DEVICE) × AppendsPart (W.contents writer.old) (W.contents writer.new) text.now) }
+        ⊎ ((result ≡ DEVICE)
+        × AppendsPart (W.contents writer.old) (W.contents writer.new) text.now) }
 {
     match say(writer, text) {
         Ok(()) => due,
@@ -163,12 +164,12 @@ pub fn run<O: Write, E: Write>(rt: &HostRuntime, words: &[String], out: &mut O, 
     // A text that the words ask for goes to the output.
     ensures asked { IfSome (text_for (map string_bytes words.now)) (λ text. Says text DONE (record { meant = O.contents out.old; other = E.contents err.old }) (record { meant = O.contents out.new; other = E.contents err.new }) result) }
     // Of what is no command line, the errors get what is wrong with it, and the output stays as it is.
-    ensures unread { text_for (map string_bytes words.now) ≡ None → line_of (map string_bytes words.now) ≡ None
+    ensures unread { text_for (map string_bytes words.now) ≡ None
+        → line_of (map string_bytes words.now) ≡ None
         → EndsAsUsage (map string_bytes words.now) (O.contents out.old) (O.contents out.new) (E.contents err.old) (E.contents err.new) result }
     // What is one is answered as the event of the file has it, with the status of that answer. Memory may be wanting to read it.
-    ensures answered { text_for (map string_bytes words.now) ≡ None → IfSome (line_of (map string_bytes words.now))
-        (λ line. EndsLine ⟦<FileStore<FileFrom<Wary>> as Store>⟧ (action_of line) (O.contents out.old) (O.contents out.new) (E.contents err.old) (E.contents err.new) result
-        ⊎ Tells (Answer.Refused Refusal.Memory) (O.contents out.old) (O.contents out.new) (E.contents err.old) (E.contents err.new) result) }
+    ensures answered { text_for (map string_bytes words.now) ≡ None
+        → IfSome (line_of (map string_bytes words.now)) (λ line. EndsLine ⟦<FileStore<FileFrom<Wary>> as Store>⟧ (action_of line) (O.contents out.old) (O.contents out.new) (E.contents err.old) (E.contents err.new) result ⊎ Tells (Answer.Refused Refusal.Memory) (O.contents out.old) (O.contents out.new) (E.contents err.old) (E.contents err.new) result) }
 {
     if let Some(text) = text_for(words) {
         return say_all(out, text, DONE);
@@ -182,15 +183,16 @@ pub fn run<O: Write, E: Write>(rt: &HostRuntime, words: &[String], out: &mut O, 
 
 /// Tells a terminal that a script is awaited. Where that can't be said, the script is awaited all the same.
 pub fn say_awaiting<E: Write>(err: &mut E)
-    ensures { Appends (E.contents err.old) (E.contents err.new) AWAITING.now ⊎ AppendsPart (E.contents err.old) (E.contents err.new) AWAITING.now }
+    ensures { Appends (E.contents err.old) (E.contents err.new) AWAITING.now
+        ⊎ AppendsPart (E.contents err.old) (E.contents err.new) AWAITING.now }
 {
     let _ = say(err, AWAITING);
 }
 
 /// Answers where there was no memory to read the words of the command line, and gives the status to end with.
 pub fn refuse_memory<W: Write>(writer: &mut W) -> u8
-    ensures { ((result ≡ MEMORY) × Appends (W.contents writer.old) (W.contents writer.new) (answer_text (Answer.Refused Refusal.Memory)))
-        ⊎ ((result ≡ DEVICE) × AppendsPart (W.contents writer.old) (W.contents writer.new) (answer_text (Answer.Refused Refusal.Memory))) }
+    ensures { ((result ≡ MEMORY)
+        × Appends (W.contents writer.old) (W.contents writer.new) (answer_text (Answer.Refused Refusal.Memory))) ⊎ ((result ≡ DEVICE) × AppendsPart (W.contents writer.old) (W.contents writer.new) (answer_text (Answer.Refused Refusal.Memory))) }
 {
     match print_fault(writer, InputFault::Memory) {
         Ok(status) => status,

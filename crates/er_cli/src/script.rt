@@ -28,7 +28,8 @@ struct Runner {
 
 fn create_desk(alloc: Global, name: Name, rounds: u8, cut: u8) -> Result<Desk<MemStore>, Refusal>
     requires { AreLimits rounds cut }
-    ensures made { IfOk result (λ made. standing made ≡ record { event = created name rounds cut; serial = 0; stopped = false }) }
+    ensures made { IfOk result (λ made. standing made
+        ≡ record { event = created name rounds cut; serial = 0; stopped = false }) }
     ensures stands { IfOk result (ShowsOwn over_memory) }
     ensures refused { IfErr result IsFault }
 {

@@ -39,8 +39,11 @@ fn serve_client<S: Alter>(alloc: Global, desk: &mut Desk<S>, client: &TcpStream)
     ensures turn { Connects (standing desk.old) (standing desk.new) }
     ensures waits { IsTrue (standing desk.old).stopped → desk.new ≡ desk.old }
     ensures clean { HasCleanDisk (state S.Store desk.new) → HasCleanDisk (state S.Store desk.old) }
-    ensures stands { HasCleanDisk (state S.Store desk.new) → ShowsOwn S.Store desk.old → IsFalse (standing desk.new).stopped → ShowsOwn S.Store desk.new }
-    ensures leaves { ShowsOwn S.Store desk.old → LeavesJust (state S.Store desk.old) (point_of (standing desk.old)) → IsFalse (standing desk.new).stopped
+    ensures stands { HasCleanDisk (state S.Store desk.new) → ShowsOwn S.Store desk.old
+        → IsFalse (standing desk.new).stopped → ShowsOwn S.Store desk.new }
+    ensures leaves { ShowsOwn S.Store desk.old
+        → LeavesJust (state S.Store desk.old) (point_of (standing desk.old))
+        → IsFalse (standing desk.new).stopped
         → LeavesJust (state S.Store desk.new) (point_of (standing desk.new)) }
 {
     let (mut reader, mut writer) = (client, client);
@@ -61,8 +64,11 @@ fn serve_clients<S: Alter>(
     ensures turns { MatchResult result (λ _. ConnectsAll count (standing desk.old) (standing desk.new)) (λ _. ConnectsUpTo count (standing desk.old) (standing desk.new)) }
     ensures waits { IsTrue (standing desk.old).stopped → desk.new ≡ desk.old }
     ensures clean { HasCleanDisk (state S.Store desk.new) → HasCleanDisk (state S.Store desk.old) }
-    ensures stands { HasCleanDisk (state S.Store desk.new) → ShowsOwn S.Store desk.old → IsFalse (standing desk.new).stopped → ShowsOwn S.Store desk.new }
-    ensures leaves { ShowsOwn S.Store desk.old → LeavesJust (state S.Store desk.old) (point_of (standing desk.old)) → IsFalse (standing desk.new).stopped
+    ensures stands { HasCleanDisk (state S.Store desk.new) → ShowsOwn S.Store desk.old
+        → IsFalse (standing desk.new).stopped → ShowsOwn S.Store desk.new }
+    ensures leaves { ShowsOwn S.Store desk.old
+        → LeavesJust (state S.Store desk.old) (point_of (standing desk.old))
+        → IsFalse (standing desk.new).stopped
         → LeavesJust (state S.Store desk.new) (point_of (standing desk.new)) }
 {
     for _ in 0..count {
@@ -84,15 +90,19 @@ pub fn serve_on<S: Alter, W: Write>(
     out: &mut W,
 ) -> u8
     // Each client leaves the desk as it was, has it read its standings or a slip, or hands it one score.
-    ensures turns { ((result ≡ DONE) × ConnectsAll count (standing desk.old) (standing desk.new)) ⊎ ((result ≡ DEVICE) × ConnectsUpTo count (standing desk.old) (standing desk.new)) }
+    ensures turns { ((result ≡ DONE) × ConnectsAll count (standing desk.old) (standing desk.new))
+        ⊎ ((result ≡ DEVICE) × ConnectsUpTo count (standing desk.old) (standing desk.new)) }
     ensures printed { PrintsServed count (W.contents out.old) (W.contents out.new) result }
 
     ensures waits { IsTrue (standing desk.old).stopped → desk.new ≡ desk.old }
     ensures clean { HasCleanDisk (state S.Store desk.new) → HasCleanDisk (state S.Store desk.old) }
-    ensures stands { HasCleanDisk (state S.Store desk.new) → ShowsOwn S.Store desk.old → IsFalse (standing desk.new).stopped → ShowsOwn S.Store desk.new }
+    ensures stands { HasCleanDisk (state S.Store desk.new) → ShowsOwn S.Store desk.old
+        → IsFalse (standing desk.new).stopped → ShowsOwn S.Store desk.new }
 
     // While the desk runs, a crash leaves just the event that it stands at.
-    ensures leaves { ShowsOwn S.Store desk.old → LeavesJust (state S.Store desk.old) (point_of (standing desk.old)) → IsFalse (standing desk.new).stopped
+    ensures leaves { ShowsOwn S.Store desk.old
+        → LeavesJust (state S.Store desk.old) (point_of (standing desk.old))
+        → IsFalse (standing desk.new).stopped
         → LeavesJust (state S.Store desk.new) (point_of (standing desk.new)) }
 {
     let Ok(address) = listener.local_addr() else {

@@ -9,7 +9,8 @@ use std::alloc::Global;
 pub fn set_up(alloc: Global, name: &[u8], rounds: u8, cut: u8) -> Result<Name, Refusal>
     ensures ok { IfOk result (λ read. (read ≡ name.now) × IsTrue (is_setup name.now rounds cut)) }
     ensures within { IfOk result (λ _. AreLimits rounds cut) }
-    ensures refused { IfErr result (λ why. (why ≡ Refusal.BadSetup) × IsFalse (is_setup name.now rounds cut)) }
+    ensures refused { IfErr result (λ why. (why ≡ Refusal.BadSetup)
+        × IsFalse (is_setup name.now rounds cut)) }
 {
     let Ok(name) = Name::try_from_bytes(name) else {
         return Err(Refusal::BadSetup);

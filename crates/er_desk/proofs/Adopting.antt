@@ -9,7 +9,7 @@ use Rattle.sqlite.specs.Files.{HoldsDatabase}
 use Rattle.sqlite_wal.specs.Recovery.{Image}
 use Rattle.sqlite.specs.Held.{Held, state}
 use Rattle.er_event.specs.Event.{EventValue}
-use Rattle.er_event.specs.declared.parts.Parts.{Parts}
+use Rattle.er_event.specs.declared.events.parts.Parts.{Parts}
 use Rattle.er_store.specs.Damage.{ReadsParts}
 use Rattle.er_store.specs.Reading.{KeepsTables}
 use Rattle.er_store.specs.Standing.{StandsFor, IsStored, Shows, Leaves, ReadsEvent}

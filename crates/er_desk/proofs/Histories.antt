@@ -5,7 +5,7 @@ use Rattle.std.proofs.lemmas.Bool.Decides.{nat_tests}
 use Rattle.std.proofs.lemmas.List.{take-append-drop, take-take, drop-take, take_more}
 use Rattle.std.proofs.lemmas.List.Elements.{All-nil}
 use Rattle.std.proofs.lemmas.Option.{none-some, slice_get_within, get_or_from_slice_get}
-use Rattle.er_event.specs.declared.refusals.Command.{Command}
+use Rattle.er_event.specs.declared.commands.Command.{Command}
 use Rattle.er_event.specs.Event.{EventValue}
 use Rattle.er_event.specs.Change.{created}
 use Rattle.er_event.specs.Sound.{IsSetUp, IsInPlayoff}
@@ -83,7 +83,7 @@ fold_sound keeps first last (command ∷ more) sound (next, steps, rest) = fold_
 
 -- ---- a new event
 
-pub new_sound : (name : List ℕ) (rounds cut : ℕ) → IsSetUp (created name rounds cut) → IsSound (created name rounds cut)
+pub new_sound : (name : List ℕ) (rounds cut : ℕ) → IsSetUp name rounds cut → IsSound (created name rounds cut)
 new_sound name rounds cut set_up = record {
   but_for_seeds = record {
     set_up = set_up;
@@ -101,10 +101,10 @@ new_sound name rounds cut set_up = record {
       each = All-nil _;
       no_repeats = λ i j d below above. absurd (omega (arith, below, above));
       earlier_done = All-nil _;
+      done = λ over. absurd (early over);
     };
     bracket = record {
       none = λ _. refl;
-      rounds_done = λ over. absurd (early over);
       bracket = λ over. absurd (early over);
       decided = λ is. absurd (early (inr is));
       undecided = λ is decided. decided;

@@ -7,7 +7,7 @@ use Rattle.sqlite.specs.State.{HasCleanDisk}
 use Rattle.sqlite.specs.Files.{HoldsDatabase, file_state}
 use Rattle.sqlite.specs.Tree.{Trees}
 use Rattle.sqlite_wal.specs.Recovery.{Image}
-use Rattle.er_event.specs.declared.refusals.Command.{Command}
+use Rattle.er_event.specs.declared.commands.Command.{Command}
 use Rattle.er_rules.specs.Sound.{IsSound}
 use Rattle.er_store.specs.Standing.{IsStored, Leaves}
 use Rattle.er_desk.specs.declared.desk.Desk.{Desk}

@@ -8,8 +8,8 @@ use Rattle.sqlite.specs.Effect.{Database}
 use Rattle.sqlite.specs.State.{State, IsUnchanged}
 use Rattle.er_event.specs.declared.refusals.Cause.{Cause}
 use Rattle.er_event.specs.declared.refusals.Cause.TheVariants.{Refused}
-use Rattle.er_event.specs.declared.refusals.Command.{Command}
-use Rattle.er_event.specs.declared.refusals.Receipt.{Receipt}
+use Rattle.er_event.specs.declared.commands.Command.{Command}
+use Rattle.er_event.specs.declared.commands.Receipt.{Receipt}
 use Rattle.er_event.specs.declared.refusals.Refusal.{Refusal}
 use Rattle.er_event.specs.declared.refusals.Refusal.TheVariants.{Memory, Budget, SerialFull, Store, NeedsReopen}
 use Rattle.er_event.specs.Event.{EventValue}

@@ -10,7 +10,7 @@ use Rattle.sqlite.specs.Tree.{Trees}
 use Rattle.sqlite.specs.State.{State}
 use Rattle.sqlite.specs.Files.{HoldsDatabase}
 use Rattle.sqlite_wal.specs.Recovery.{Image}
-use Rattle.er_event.specs.declared.refusals.Command.{Command}
+use Rattle.er_event.specs.declared.commands.Command.{Command}
 use Rattle.er_event.specs.Event.{EventValue}
 use Rattle.er_event.specs.Change.{created}
 use Rattle.er_event.specs.Round.{is_same_pairing, matches_of}
@@ -70,7 +70,7 @@ pub record IsEndOf (new : Point) (ends : List Ended) (last : Point) : Type 0 whe
 
 -- every history of a new event ends so
 abbrev pub Histories : Type 0
-Histories = (name : List ℕ) (rounds cut : ℕ) → IsSetUp (created name rounds cut)
+Histories = (name : List ℕ) (rounds cut : ℕ) → IsSetUp name rounds cut
     → (ends : List Ended) (last : Point) → IsHistory (new_point name rounds cut) ends last → IsEndOf (new_point name rounds cut) ends last
 
 -- with one session more
@@ -89,6 +89,6 @@ pub record WasLeftBy (image : Image) (new : Point) (ends : List Ended) (first : 
   pub name : List ℕ
   pub limits : ℕ × ℕ
   pub is_new : new ≡ new_point name limits.0 limits.1
-  pub set_up : IsSetUp (created name limits.0 limits.1)
+  pub set_up : IsSetUp name limits.0 limits.1
   pub history : IsHistory new ends first
   pub left : WasLeft image first

@@ -1,6 +1,6 @@
 -- Many openings of one file, one after the other.
 use Rattle.std.specs.Prelude.{◌≡◌, ℕ, ◌+◌, ◌==◌, if◌then◌else◌, List, [], ◌∷◌, ◌++◌, length, Option, Some, None}
-use Rattle.er_event.specs.declared.refusals.Command.{Command}
+use Rattle.er_event.specs.declared.commands.Command.{Command}
 use Rattle.er_event.specs.Change.{created}
 use Rattle.er_rules.specs.Fold.{Folds}
 use Rattle.er_desk.specs.Desk.{Point}

@@ -1,7 +1,7 @@
 -- A list of commands, and the session that it makes.
 use Rattle.std.specs.Prelude.{◌≡◌, ◌⊎◌, ℕ, ◌+◌, ◌<◌, Bool, if◌then◌else◌, IsTrue, List, [], ◌∷◌, length, take, slice_get, Option, Some, None, Ok, Err, IfSome, MatchOption}
 use Rattle.sqlite.specs.Tree.{Trees}
-use Rattle.er_event.specs.declared.refusals.Command.{Command}
+use Rattle.er_event.specs.declared.commands.Command.{Command}
 use Rattle.er_event.specs.declared.refusals.Cause.{Cause}
 use Rattle.er_event.specs.declared.refusals.Refusal.{Refusal}
 use Rattle.er_event.specs.declared.refusals.Refusal.TheVariants.{Store, NeedsReopen}

@@ -1,6 +1,6 @@
 ghost use Rattle.std.specs.Prelude.{◌≡◌, ◌≤◌, IfOk, IfErr};
 ghost use Rattle.er_event.specs.Change.{after, Fits};
-ghost use Rattle.er_event.specs.declared.refusals.TheConstants.{MAX_SERIAL};
+ghost use Rattle.er_event.specs.declared.commands.TheConstants.{MAX_SERIAL};
 ghost use Rattle.er_rules.specs.Sound.{IsSound};
 ghost use Rattle.er_store.specs.Store as tables;
 
@@ -52,7 +52,7 @@ impl<S: Alter> Desk<S> {
     ghost use Rattle.er_event.specs.declared.refusals.Cause.{Cause};
     ghost use Rattle.er_event.specs.Change.{created, after, Fits};
     ghost use Rattle.er_event.specs.Sound.{IsSoundButForSeeds};
-    ghost use Rattle.er_event.specs.declared.refusals.TheConstants.{MAX_SERIAL};
+    ghost use Rattle.er_event.specs.declared.commands.TheConstants.{MAX_SERIAL};
     ghost use Rattle.er_rules.specs.Sound.{IsSound, HasSeeds};
     ghost use Rattle.er_rules.specs.Step.{NeedsMoreSteps};
     ghost use Rattle.er_store.specs.Fault.{IsFault, IsLoadFault};
@@ -77,27 +77,40 @@ impl<S: Alter> Desk<S> {
     ) -> Result<Desk<S>, (Connection<S>, Refusal)>
         requires mode { conn.in_transaction ≡ false }
 
-        ensures made { IfOk result (λ made. standing made ≡ record { event = created name rounds cut; serial = 0; stopped = false }) }
+        ensures made { IfOk result (λ made. standing made
+            ≡ record { event = created name rounds cut; serial = 0; stopped = false }) }
         ensures sound { IfOk result (λ made. IsSound made.event) }
 
         // `BadSetup` comes exactly where the limits are not met, and then the file was not touched.
         ensures within { IfOk result (λ _. AreLimits rounds cut) }
-        ensures beyond { IfErr result (λ e. e.1 ≡ Refusal.BadSetup → (e.0 ≡ conn) × (AreLimits rounds cut → ⊥)) }
-        ensures checked { (AreLimits rounds cut → ⊥) → IsErrAnd result (λ e. e.1 ≡ Refusal.BadSetup) }
-        ensures why { IfErr result (λ e. (e.1 ≡ Refusal.BadSetup) ⊎ (e.1 ≡ Refusal.EventExists) ⊎ IsFault e.1) }
+        ensures beyond { IfErr result (λ e. e.1 ≡ Refusal.BadSetup → (e.0 ≡ conn)
+            × (AreLimits rounds cut → ⊥)) }
+        ensures checked { (AreLimits rounds cut → ⊥)
+            → IsErrAnd result (λ e. e.1 ≡ Refusal.BadSetup) }
+        ensures why { IfErr result (λ e. (e.1 ≡ Refusal.BadSetup) ⊎ (e.1 ≡ Refusal.EventExists)
+            ⊎ IsFault e.1) }
 
         // `EventExists` comes only where something called `event` can be read, and nothing is made there.
-        ensures exists { IfErr result (λ e. e.1 ≡ Refusal.EventExists → HasCleanDisk (sqlite.state S.Store e.0) → CanRead (sqlite.state S.Store conn).now.schema × (IsEmptyFile (sqlite.state S.Store conn) → ⊥) × IsUnchanged (sqlite.state S.Store conn) (sqlite.state S.Store e.0)) }
-        ensures absent { IfOk result (λ made. HasCleanDisk (state S.Store made) → CanRead (sqlite.state S.Store conn).now.schema → ⊥) }
+        ensures exists { IfErr result (λ e. e.1 ≡ Refusal.EventExists
+            → HasCleanDisk (sqlite.state S.Store e.0)
+            → CanRead (sqlite.state S.Store conn).now.schema
+            × (IsEmptyFile (sqlite.state S.Store conn) → ⊥)
+            × IsUnchanged (sqlite.state S.Store conn) (sqlite.state S.Store e.0)) }
+        ensures absent { IfOk result (λ made. HasCleanDisk (state S.Store made)
+            → CanRead (sqlite.state S.Store conn).now.schema → ⊥) }
 
         // In an empty file the tables then stand for the new event, and so does each thing that a crash may leave.
-        ensures created { IfOk result (λ made. HasCleanDisk (state S.Store made) → IsEmptyFile (sqlite.state S.Store conn) → ShowsOwn S.Store made) }
-        ensures acknowledged { IfOk result (λ made. IsEmptyFile (sqlite.state S.Store conn) → LeavesJust (state S.Store made) (new_point name rounds cut)) }
+        ensures created { IfOk result (λ made. HasCleanDisk (state S.Store made)
+            → IsEmptyFile (sqlite.state S.Store conn) → ShowsOwn S.Store made) }
+        ensures acknowledged { IfOk result (λ made. IsEmptyFile (sqlite.state S.Store conn)
+            → LeavesJust (state S.Store made) (new_point name rounds cut)) }
 
         // A refusal changes no table. A crash in it leaves what it could before, or the new event whole.
         ensures mode { IfErr result (λ e. e.0.in_transaction ≡ false) }
-        ensures kept { IfErr result (λ e. HasCleanDisk (sqlite.state S.Store e.0) → KeepsTables (sqlite.state S.Store conn) (sqlite.state S.Store e.0)) }
-        ensures spares { IfErr result (λ e. CanRead (sqlite.state S.Store conn).now.schema → Leaves (sqlite.state S.Store e.0) (sqlite.state S.Store conn).may_leave) }
+        ensures kept { IfErr result (λ e. HasCleanDisk (sqlite.state S.Store e.0)
+            → KeepsTables (sqlite.state S.Store conn) (sqlite.state S.Store e.0)) }
+        ensures spares { IfErr result (λ e. CanRead (sqlite.state S.Store conn).now.schema
+            → Leaves (sqlite.state S.Store e.0) (sqlite.state S.Store conn).may_leave) }
         ensures crash { IfErr result (λ e. IsEmptyFile (sqlite.state S.Store conn)
             → Leaves (sqlite.state S.Store e.0) (Either (sqlite.state S.Store conn).may_leave (IsStored (created name rounds cut) 0))) }
     {
@@ -124,28 +137,45 @@ impl<S: Alter> Desk<S> {
         ensures ready { IfOk result (λ it. IsFalse (standing it).stopped) }
         ensures sound { IfOk result (λ it. IsSound it.event × (it.serial ≤ MAX_SERIAL)) }
         ensures repeats { IfOk result (λ it. RepeatsNobody it.event) }
-        ensures clean { MatchResult result (λ it. HasCleanDisk (state S.Store it) → HasCleanDisk (sqlite.state S.Store conn)) (λ e. HasCleanDisk (sqlite.state S.Store e.0) → HasCleanDisk (sqlite.state S.Store conn)) }
+        ensures clean { MatchResult result (λ it. HasCleanDisk (state S.Store it)
+            → HasCleanDisk (sqlite.state S.Store conn)) (λ e. HasCleanDisk (sqlite.state S.Store e.0) → HasCleanDisk (sqlite.state S.Store conn)) }
 
         // Of tables that stand for a sound event just that is found, or memory or the store fails.
-        ensures found { (point : Point) → StandsFor (sqlite.state S.Store conn).now point.event point.serial → IsSound point.event
-            → MatchResult result (λ it. HasCleanDisk (state S.Store it) → FindsAgain S.Store it point) (λ e. HasCleanDisk (sqlite.state S.Store e.0) → IsFault e.1) }
+        ensures found { (point : Point)
+            → StandsFor (sqlite.state S.Store conn).now point.event point.serial
+            → IsSound point.event
+            → MatchResult result (λ it. HasCleanDisk (state S.Store it)
+            → FindsAgain S.Store it point) (λ e. HasCleanDisk (sqlite.state S.Store e.0)
+            → IsFault e.1) }
         // Whatever the tables hold, what is found is what they show. Where they have the schema, they stand for it.
-        ensures shows { IfOk result (λ it. HasCleanDisk (state S.Store it) → HasTables (sqlite.state S.Store conn).now.schema → ShowsEvent (sqlite.state S.Store conn).now it.event it.serial) }
-        ensures stands { IfOk result (λ it. HasCleanDisk (state S.Store it) → HasTables (sqlite.state S.Store conn).now.schema → AreKeyed (sqlite.state S.Store conn).now → ShowsOwn S.Store it) }
+        ensures shows { IfOk result (λ it. HasCleanDisk (state S.Store it)
+            → HasTables (sqlite.state S.Store conn).now.schema
+            → ShowsEvent (sqlite.state S.Store conn).now it.event it.serial) }
+        ensures stands { IfOk result (λ it. HasCleanDisk (state S.Store it)
+            → HasTables (sqlite.state S.Store conn).now.schema
+            → AreKeyed (sqlite.state S.Store conn).now → ShowsOwn S.Store it) }
 
         // `NoEvent` and a damaged table come only for the first fault. The bracket's comes too where the seeds of the playoff are not those of the standings.
         ensures why { IfErr result (λ e. (e.1 ≡ Refusal.NoEvent) ⊎ IsLoadFault e.1) }
-        ensures first { IfErr result (λ e. HasCleanDisk (sqlite.state S.Store e.0) → NamesFirstFault (sqlite.state S.Store conn).now e.1) }
-        ensures other_seeds { (point : Point) → StandsFor (sqlite.state S.Store conn).now point.event point.serial → IsSoundButForSeeds point.event → (HasSeeds point.event → ⊥)
-            → MatchResult result (λ it. HasCleanDisk (state S.Store it) → ⊥) (λ e. HasCleanDisk (sqlite.state S.Store e.0) → IsFault e.1 ⊎ (e.1 ≡ Refusal.Damaged Place.BracketTable)) }
+        ensures first { IfErr result (λ e. HasCleanDisk (sqlite.state S.Store e.0)
+            → NamesFirstFault (sqlite.state S.Store conn).now e.1) }
+        ensures other_seeds { (point : Point)
+            → StandsFor (sqlite.state S.Store conn).now point.event point.serial
+            → IsSoundButForSeeds point.event → (HasSeeds point.event → ⊥)
+            → MatchResult result (λ it. HasCleanDisk (state S.Store it)
+            → ⊥) (λ e. HasCleanDisk (sqlite.state S.Store e.0) → IsFault e.1
+            ⊎ (e.1 ≡ Refusal.Damaged Place.BracketTable)) }
 
         // Whatever the schema is, no table changes, and a crash leaves what it could before: the last commit, while the connection was open.
         ensures mode { IfErr result (λ e. e.0.in_transaction ≡ false) }
-        ensures same { IfOk result (λ it. HasCleanDisk (state S.Store it) → IsUnchanged (sqlite.state S.Store conn) (state S.Store it)) }
-        ensures kept { IfErr result (λ e. HasCleanDisk (sqlite.state S.Store e.0) → KeepsTables (sqlite.state S.Store conn) (sqlite.state S.Store e.0)) }
+        ensures same { IfOk result (λ it. HasCleanDisk (state S.Store it)
+            → IsUnchanged (sqlite.state S.Store conn) (state S.Store it)) }
+        ensures kept { IfErr result (λ e. HasCleanDisk (sqlite.state S.Store e.0)
+            → KeepsTables (sqlite.state S.Store conn) (sqlite.state S.Store e.0)) }
         ensures crash { MatchResult result (λ it. Leaves (state S.Store it) (sqlite.state S.Store conn).may_leave) (λ e. Leaves (sqlite.state S.Store e.0) (sqlite.state S.Store conn).may_leave) }
         ensures left { IsTrue (sqlite.state S.Store conn).is_open
-            → MatchResult result (λ it. Leaves (state S.Store it) (λ db. db ≡ (sqlite.state S.Store conn).committed.trees)) (λ e. Leaves (sqlite.state S.Store e.0) (λ db. db ≡ (sqlite.state S.Store conn).committed.trees)) }
+            → MatchResult result (λ it. Leaves (state S.Store it) (λ db. db
+            ≡ (sqlite.state S.Store conn).committed.trees)) (λ e. Leaves (sqlite.state S.Store e.0) (λ db. db ≡ (sqlite.state S.Store conn).committed.trees)) }
     {
         let (store, event, serial) = Store::adopt(alloc, conn)?;
         match seeds_agree(alloc, &event) {
@@ -191,8 +221,7 @@ impl<S: Alter> Desk<S> {
     /// The standings of the event.
     pub fn standings(&self, alloc: Global) -> Result<Vec<Row>, Refusal>
         ensures value { IfOk result (λ rows. AreTheStandings self.now.event rows.items) }
-        ensures stopped { MatchResult result (λ _. IsFalse (standing self.now).stopped)
-            (λ why. (IsTrue (standing self.now).stopped × (why ≡ Refusal.NeedsReopen)) ⊎ (IsFalse (standing self.now).stopped × (why ≡ Refusal.Memory))) }
+        ensures stopped { MatchResult result (λ _. IsFalse (standing self.now).stopped) (λ why. (IsTrue (standing self.now).stopped × (why ≡ Refusal.NeedsReopen)) ⊎ (IsFalse (standing self.now).stopped × (why ≡ Refusal.Memory))) }
     {
         let event = self.event()?;
         match standings(alloc, event) {
@@ -207,16 +236,23 @@ impl<S: Alter> Desk<S> {
         ensures waits { IsTrue (standing self.old).stopped → self.new ≡ self.old }
 
         // Where the tables stand for the event, they are its standings. Of a desk that runs, memory or the store fails else.
-        ensures found { HasCleanDisk (state S.Store self.new) → ShowsOwn S.Store self.old → IfOk result (λ rows. AreTheStandings self.old.event rows.items) }
-        ensures fails { IsFalse (standing self.old).stopped → HasCleanDisk (state S.Store self.new) → ShowsOwn S.Store self.old → IfErr result IsFault }
+        ensures found { HasCleanDisk (state S.Store self.new) → ShowsOwn S.Store self.old
+            → IfOk result (λ rows. AreTheStandings self.old.event rows.items) }
+        ensures fails { IsFalse (standing self.old).stopped → HasCleanDisk (state S.Store self.new)
+            → ShowsOwn S.Store self.old → IfErr result IsFault }
 
         // The tables stand for the event, and those of others stay.
-        ensures clean { HasCleanDisk (state S.Store self.new) → HasCleanDisk (state S.Store self.old) }
-        ensures stands { HasCleanDisk (state S.Store self.new) → ShowsOwn S.Store self.old → IsFalse (standing self.new).stopped → ShowsOwn S.Store self.new }
-        ensures kept { HasCleanDisk (state S.Store self.new) → OnErr result (KeepsTables (state S.Store self.old) (state S.Store self.new)) }
-        ensures others { HasCleanDisk (state S.Store self.new) → ShowsOwn S.Store self.old → IsTrue (state S.Store self.new).is_open
+        ensures clean { HasCleanDisk (state S.Store self.new)
+            → HasCleanDisk (state S.Store self.old) }
+        ensures stands { HasCleanDisk (state S.Store self.new) → ShowsOwn S.Store self.old
+            → IsFalse (standing self.new).stopped → ShowsOwn S.Store self.new }
+        ensures kept { HasCleanDisk (state S.Store self.new)
+            → OnErr result (KeepsTables (state S.Store self.old) (state S.Store self.new)) }
+        ensures others { HasCleanDisk (state S.Store self.new) → ShowsOwn S.Store self.old
+            → IsTrue (state S.Store self.new).is_open
             → KeepsOthers (state S.Store self.old).now (state S.Store self.new).now }
-        ensures crash { ShowsOwn S.Store self.old → LeavesJust (state S.Store self.new) (point_of (standing self.old)) }
+        ensures crash { ShowsOwn S.Store self.old
+            → LeavesJust (state S.Store self.new) (point_of (standing self.old)) }
     {
         // What the tables stand for, a crash leaves, and an event is always sound: these tell the proof.
         shown_is_stored(&self.store);
@@ -235,16 +271,24 @@ impl<S: Alter> Desk<S> {
         ensures waits { IsTrue (standing self.old).stopped → self.new ≡ self.old }
 
         // Where the tables stand for the event, what is found is its slip. Of a desk that runs there is no such match else, or memory or the store fails.
-        ensures found { HasCleanDisk (state S.Store self.new) → ShowsOwn S.Store self.old → FindsSlip self.old.event round table result }
-        ensures fails { IsFalse (standing self.old).stopped → HasCleanDisk (state S.Store self.new) → ShowsOwn S.Store self.old → IfErr result (λ why. (why ≡ Refusal.NoSuchMatch) ⊎ IsFault why) }
+        ensures found { HasCleanDisk (state S.Store self.new) → ShowsOwn S.Store self.old
+            → FindsSlip self.old.event round table result }
+        ensures fails { IsFalse (standing self.old).stopped → HasCleanDisk (state S.Store self.new)
+            → ShowsOwn S.Store self.old
+            → IfErr result (λ why. (why ≡ Refusal.NoSuchMatch) ⊎ IsFault why) }
 
         // The tables stand for the event, and those of others stay.
-        ensures clean { HasCleanDisk (state S.Store self.new) → HasCleanDisk (state S.Store self.old) }
-        ensures stands { HasCleanDisk (state S.Store self.new) → ShowsOwn S.Store self.old → IsFalse (standing self.new).stopped → ShowsOwn S.Store self.new }
-        ensures kept { HasCleanDisk (state S.Store self.new) → OnErr result (KeepsTables (state S.Store self.old) (state S.Store self.new)) }
-        ensures others { HasCleanDisk (state S.Store self.new) → ShowsOwn S.Store self.old → IsTrue (state S.Store self.new).is_open
+        ensures clean { HasCleanDisk (state S.Store self.new)
+            → HasCleanDisk (state S.Store self.old) }
+        ensures stands { HasCleanDisk (state S.Store self.new) → ShowsOwn S.Store self.old
+            → IsFalse (standing self.new).stopped → ShowsOwn S.Store self.new }
+        ensures kept { HasCleanDisk (state S.Store self.new)
+            → OnErr result (KeepsTables (state S.Store self.old) (state S.Store self.new)) }
+        ensures others { HasCleanDisk (state S.Store self.new) → ShowsOwn S.Store self.old
+            → IsTrue (state S.Store self.new).is_open
             → KeepsOthers (state S.Store self.old).now (state S.Store self.new).now }
-        ensures crash { ShowsOwn S.Store self.old → LeavesJust (state S.Store self.new) (point_of (standing self.old)) }
+        ensures crash { ShowsOwn S.Store self.old
+            → LeavesJust (state S.Store self.new) (point_of (standing self.old)) }
     {
         // What the tables stand for, a crash leaves, and an event is always sound: these tell the proof.
         shown_is_stored(&self.store);
@@ -286,14 +330,22 @@ impl<S: Alter> Desk<S> {
         requires low { self.old.serial < MAX_SERIAL }
         requires sound { IsSound self.old.event → IsSound (after self.old.event change.now) }
 
-        ensures taken { IfOk result (λ receipt. (standing self.new ≡ record { event = after self.old.event change.now; serial = self.old.serial + 1; stopped = false }) × (receipt.serial ≡ self.old.serial + 1)) }
-        ensures refused { IfErr result (λ why. ((self.new ≡ self.old) × (why ≡ Refusal.Memory)) ⊎ ((standing self.new ≡ record (standing self.old) { stopped = true }) × IsFault why)) }
-        ensures clean { HasCleanDisk (state S.Store self.new) → HasCleanDisk (state S.Store self.old) }
-        ensures written { HasCleanDisk (state S.Store self.new) → ShowsOwn S.Store self.old → OnOk result (ShowsOwn S.Store self.new) }
-        ensures kept { HasCleanDisk (state S.Store self.new) → OnErr result (KeepsTables (state S.Store self.old) (state S.Store self.new)) }
-        ensures others { HasCleanDisk (state S.Store self.new) → ShowsOwn S.Store self.old → IsTrue (state S.Store self.new).is_open
+        ensures taken { IfOk result (λ receipt. (standing self.new
+            ≡ record { event = after self.old.event change.now; serial = self.old.serial + 1; stopped = false }) × (receipt.serial ≡ self.old.serial + 1)) }
+        ensures refused { IfErr result (λ why. ((self.new ≡ self.old) × (why ≡ Refusal.Memory))
+            ⊎ ((standing self.new ≡ record (standing self.old) { stopped = true })
+            × IsFault why)) }
+        ensures clean { HasCleanDisk (state S.Store self.new)
+            → HasCleanDisk (state S.Store self.old) }
+        ensures written { HasCleanDisk (state S.Store self.new) → ShowsOwn S.Store self.old
+            → OnOk result (ShowsOwn S.Store self.new) }
+        ensures kept { HasCleanDisk (state S.Store self.new)
+            → OnErr result (KeepsTables (state S.Store self.old) (state S.Store self.new)) }
+        ensures others { HasCleanDisk (state S.Store self.new) → ShowsOwn S.Store self.old
+            → IsTrue (state S.Store self.new).is_open
             → KeepsOthers (state S.Store self.old).now (state S.Store self.new).now }
-        ensures acknowledged { ShowsOwn S.Store self.old → OnOk result (LeavesJust (state S.Store self.new) (point_of (standing self.new))) }
+        ensures acknowledged { ShowsOwn S.Store self.old
+            → OnOk result (LeavesJust (state S.Store self.new) (point_of (standing self.new))) }
         ensures crash { ShowsOwn S.Store self.old
             → Leaves (state S.Store self.new) (Either (IsStored self.old.event self.old.serial) (IsStored (after self.old.event change.now) (self.old.serial + 1))) }
     {
@@ -319,23 +371,35 @@ impl<S: Alter> Desk<S> {
     fn take(&mut self, alloc: Global, command: &Command) -> Reply
         ensures turn { Turn (standing self.old) command.now result (standing self.new) }
         // A fault of the store stops the desk, and nothing else does. `NeedsReopen` comes exactly where it was stopped.
-        ensures stops { IsTrue (standing self.new).stopped ↔ (IsTrue (standing self.old).stopped ⊎ Stops (standing self.old) command.now result (standing self.new)) }
-        ensures fault { (cause : Cause) → result ≡ Err (Refusal.Store cause) → IsTrue (standing self.new).stopped }
+        ensures stops { IsTrue (standing self.new).stopped
+            ↔ (IsTrue (standing self.old).stopped
+            ⊎ Stops (standing self.old) command.now result (standing self.new)) }
+        ensures fault { (cause : Cause) → result ≡ Err (Refusal.Store cause)
+            → IsTrue (standing self.new).stopped }
         ensures asks { (result ≡ Err Refusal.NeedsReopen) ↔ IsTrue (standing self.old).stopped }
         ensures waits { IsTrue (standing self.old).stopped → self.new ≡ self.old }
-        ensures same { IfErr result (λ _. IsFalse (standing self.new).stopped → self.new ≡ self.old) }
+        ensures same { IfErr result (λ _. IsFalse (standing self.new).stopped
+            → self.new ≡ self.old) }
 
         // The tables stand for the event, and those of others stay. No refusal changes a table.
-        ensures clean { HasCleanDisk (state S.Store self.new) → HasCleanDisk (state S.Store self.old) }
-        ensures stands { HasCleanDisk (state S.Store self.new) → ShowsOwn S.Store self.old → IsFalse (standing self.new).stopped → ShowsOwn S.Store self.new }
-        ensures kept { HasCleanDisk (state S.Store self.new) → OnErr result (KeepsTables (state S.Store self.old) (state S.Store self.new)) }
-        ensures others { HasCleanDisk (state S.Store self.new) → ShowsOwn S.Store self.old → IsTrue (state S.Store self.new).is_open
+        ensures clean { HasCleanDisk (state S.Store self.new)
+            → HasCleanDisk (state S.Store self.old) }
+        ensures stands { HasCleanDisk (state S.Store self.new) → ShowsOwn S.Store self.old
+            → IsFalse (standing self.new).stopped → ShowsOwn S.Store self.new }
+        ensures kept { HasCleanDisk (state S.Store self.new)
+            → OnErr result (KeepsTables (state S.Store self.old) (state S.Store self.new)) }
+        ensures others { HasCleanDisk (state S.Store self.new) → ShowsOwn S.Store self.old
+            → IsTrue (state S.Store self.new).is_open
             → KeepsOthers (state S.Store self.old).now (state S.Store self.new).now }
 
         // With a receipt a crash leaves the event after the command, after a fault of the store the event before or after it, and else the event before it.
-        ensures acknowledged { ShowsOwn S.Store self.old → OnOk result (LeavesJust (state S.Store self.new) (point_of (standing self.new))) }
-        ensures undecided { IsFalse (standing self.old).stopped → ShowsOwn S.Store self.old → LeavesEither (state S.Store self.new) (point_of (standing self.old)) command.now }
-        ensures refused { ShowsOwn S.Store self.old → IfErr result (λ _. IsFalse (standing self.new).stopped → LeavesJust (state S.Store self.new) (point_of (standing self.old))) }
+        ensures acknowledged { ShowsOwn S.Store self.old
+            → OnOk result (LeavesJust (state S.Store self.new) (point_of (standing self.new))) }
+        ensures undecided { IsFalse (standing self.old).stopped → ShowsOwn S.Store self.old
+            → LeavesEither (state S.Store self.new) (point_of (standing self.old)) command.now }
+        ensures refused { ShowsOwn S.Store self.old
+            → IfErr result (λ _. IsFalse (standing self.new).stopped
+            → LeavesJust (state S.Store self.new) (point_of (standing self.old))) }
     {
         if self.needs_reopen {
             return Err(Refusal::NeedsReopen);
@@ -353,27 +417,42 @@ impl<S: Alter> Desk<S> {
     pub fn submit(&mut self, alloc: Global, command: Command) -> Reply
         ensures turn { Turn (standing self.old) command result (standing self.new) }
         // A fault of the store stops the desk, and nothing else does. `NeedsReopen` comes exactly where it was stopped.
-        ensures stops { IsTrue (standing self.new).stopped ↔ (IsTrue (standing self.old).stopped ⊎ Stops (standing self.old) command result (standing self.new)) }
-        ensures fault { (cause : Cause) → result ≡ Err (Refusal.Store cause) → IsTrue (standing self.new).stopped }
+        ensures stops { IsTrue (standing self.new).stopped
+            ↔ (IsTrue (standing self.old).stopped
+            ⊎ Stops (standing self.old) command result (standing self.new)) }
+        ensures fault { (cause : Cause) → result ≡ Err (Refusal.Store cause)
+            → IsTrue (standing self.new).stopped }
         ensures asks { (result ≡ Err Refusal.NeedsReopen) ↔ IsTrue (standing self.old).stopped }
         ensures waits { IsTrue (standing self.old).stopped → self.new ≡ self.old }
-        ensures same { IfErr result (λ _. IsFalse (standing self.new).stopped → self.new ≡ self.old) }
+        ensures same { IfErr result (λ _. IsFalse (standing self.new).stopped
+            → self.new ≡ self.old) }
 
         // `Budget` comes exactly where the search for a round needs more than its steps, but for memory.
-        ensures budget { (steps : ℕ) → result ≡ Err (Refusal.Budget steps) → NeedsMoreSteps self.old.event command }
-        ensures searched { IsFalse (standing self.old).stopped → NeedsMoreSteps self.old.event command → (result ≡ Err Refusal.Memory) ⊎ ((steps : ℕ) × (result ≡ Err (Refusal.Budget steps))) }
+        ensures budget { (steps : ℕ) → result ≡ Err (Refusal.Budget steps)
+            → NeedsMoreSteps self.old.event command }
+        ensures searched { IsFalse (standing self.old).stopped
+            → NeedsMoreSteps self.old.event command → (result ≡ Err Refusal.Memory)
+            ⊎ ((steps : ℕ) × (result ≡ Err (Refusal.Budget steps))) }
 
         // The tables stand for the event, and those of others stay. No refusal changes a table.
-        ensures clean { HasCleanDisk (state S.Store self.new) → HasCleanDisk (state S.Store self.old) }
-        ensures stands { HasCleanDisk (state S.Store self.new) → ShowsOwn S.Store self.old → IsFalse (standing self.new).stopped → ShowsOwn S.Store self.new }
-        ensures kept { HasCleanDisk (state S.Store self.new) → OnErr result (KeepsTables (state S.Store self.old) (state S.Store self.new)) }
-        ensures others { HasCleanDisk (state S.Store self.new) → ShowsOwn S.Store self.old → IsTrue (state S.Store self.new).is_open
+        ensures clean { HasCleanDisk (state S.Store self.new)
+            → HasCleanDisk (state S.Store self.old) }
+        ensures stands { HasCleanDisk (state S.Store self.new) → ShowsOwn S.Store self.old
+            → IsFalse (standing self.new).stopped → ShowsOwn S.Store self.new }
+        ensures kept { HasCleanDisk (state S.Store self.new)
+            → OnErr result (KeepsTables (state S.Store self.old) (state S.Store self.new)) }
+        ensures others { HasCleanDisk (state S.Store self.new) → ShowsOwn S.Store self.old
+            → IsTrue (state S.Store self.new).is_open
             → KeepsOthers (state S.Store self.old).now (state S.Store self.new).now }
 
         // With a receipt a crash leaves the event after the command, after a fault of the store the event before or after it, and else the event before it.
-        ensures acknowledged { ShowsOwn S.Store self.old → OnOk result (LeavesJust (state S.Store self.new) (point_of (standing self.new))) }
-        ensures undecided { IsFalse (standing self.old).stopped → ShowsOwn S.Store self.old → LeavesEither (state S.Store self.new) (point_of (standing self.old)) command }
-        ensures refused { ShowsOwn S.Store self.old → IfErr result (λ _. IsFalse (standing self.new).stopped → LeavesJust (state S.Store self.new) (point_of (standing self.old))) }
+        ensures acknowledged { ShowsOwn S.Store self.old
+            → OnOk result (LeavesJust (state S.Store self.new) (point_of (standing self.new))) }
+        ensures undecided { IsFalse (standing self.old).stopped → ShowsOwn S.Store self.old
+            → LeavesEither (state S.Store self.new) (point_of (standing self.old)) command }
+        ensures refused { ShowsOwn S.Store self.old
+            → IfErr result (λ _. IsFalse (standing self.new).stopped
+            → LeavesJust (state S.Store self.new) (point_of (standing self.old))) }
     {
         // What `Budget` says tells the proof this.
         budget_searches();
@@ -389,9 +468,12 @@ impl<S: Alter> Desk<S> {
         ensures waits { IsTrue (standing self.old).stopped → self.new ≡ self.old }
 
         // The tables stand for the fold of the acknowledged commands, and those of others stay.
-        ensures clean { HasCleanDisk (state S.Store self.new) → HasCleanDisk (state S.Store self.old) }
-        ensures stands { HasCleanDisk (state S.Store self.new) → ShowsOwn S.Store self.old → IsFalse (standing self.new).stopped → ShowsOwn S.Store self.new }
-        ensures others { HasCleanDisk (state S.Store self.new) → ShowsOwn S.Store self.old → IsTrue (state S.Store self.new).is_open
+        ensures clean { HasCleanDisk (state S.Store self.new)
+            → HasCleanDisk (state S.Store self.old) }
+        ensures stands { HasCleanDisk (state S.Store self.new) → ShowsOwn S.Store self.old
+            → IsFalse (standing self.new).stopped → ShowsOwn S.Store self.new }
+        ensures others { HasCleanDisk (state S.Store self.new) → ShowsOwn S.Store self.old
+            → IsTrue (state S.Store self.new).is_open
             → KeepsOthers (state S.Store self.old).now (state S.Store self.new).now }
 
         // A crash leaves the fold of the acknowledged commands, or that with the one in doubt.

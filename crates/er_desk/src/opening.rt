@@ -4,7 +4,7 @@ ghost use Rattle.sqlite.specs.Files.{HoldsDatabase, over_files, file_state, IsCl
 ghost use Rattle.sqlite_std_file.specs.File.{IsFresh};
 ghost use Rattle.sqlite_wal.specs.Files.{image_at};
 ghost use Rattle.sqlite.specs.Tree.{Trees};
-ghost use Rattle.er_event.specs.declared.refusals.TheConstants.{MAX_SERIAL};
+ghost use Rattle.er_event.specs.declared.commands.TheConstants.{MAX_SERIAL};
 ghost use Rattle.er_rules.specs.Sound.{IsSound};
 ghost use Rattle.er_store.specs.Fault.{refusal_of, IsFault, IsLoadFault};
 ghost use Rattle.er_store.specs.Standing.{HasTables, AreKeyed, Leaves};
@@ -84,22 +84,30 @@ pub fn open<S: Start>(
 
     // Of what a crash left of a sound event just that is found, or memory or the device fails.
     ensures found { (point : Point) → WasLeft (image_at S.Start) point → IsSound point.event
-        → MatchResult result (λ it. HasCleanDisk (state over_files it) → FindsAgain over_files it point) (λ why. IsCleanFault why → IsFault (why_of why)) }
+        → MatchResult result (λ it. HasCleanDisk (state over_files it)
+        → FindsAgain over_files it point) (λ why. IsCleanFault why → IsFault (why_of why)) }
     // Where the tables have the schema, they stand for what is found.
-    ensures stands { IfOk result (λ it. HasCleanDisk (state over_files it) → HasTables (state over_files it).now.schema → AreKeyed (state over_files it).now → ShowsOwn over_files it) }
+    ensures stands { IfOk result (λ it. HasCleanDisk (state over_files it)
+        → HasTables (state over_files it).now.schema → AreKeyed (state over_files it).now
+        → ShowsOwn over_files it) }
 
     // `NoEvent` and a damaged table come only for the first fault, and never where the files were not opened.
     ensures why { IfErr result (λ why. (why_of why ≡ Refusal.NoEvent) ⊎ IsLoadFault (why_of why)) }
     ensures unopened { IfErr result (λ why. WhereUnopened why (IsFault (why_of why))) }
-    ensures first { IfErr result (λ why. OnRefused why (λ conn. HasCleanDisk (file_state conn) → IsTrue (file_state conn).is_open → NamesFirstFault (file_state conn).now (why_of why))) }
+    ensures first { IfErr result (λ why. OnRefused why (λ conn. HasCleanDisk (file_state conn)
+        → IsTrue (file_state conn).is_open
+        → NamesFirstFault (file_state conn).now (why_of why))) }
 
     // Whatever the file held, no table changes, and a crash leaves just that.
     ensures kept { (db : Trees) → HoldsDatabase (image_at S.Start) db
         → MatchResult result (λ it. SeesStill (state over_files it) db) (λ why. OnRefused why (λ conn. SeesStill (file_state conn) db)) }
     ensures left { (db : Trees) → HoldsDatabase (image_at S.Start) db
-        → MatchResult result (λ it. Leaves (state over_files it) (λ trees. trees ≡ db)) (λ why. OnRefused why (λ conn. Leaves (file_state conn) (λ trees. trees ≡ db))) }
+        → MatchResult result (λ it. Leaves (state over_files it) (λ trees. trees
+        ≡ db)) (λ why. OnRefused why (λ conn. Leaves (file_state conn) (λ trees. trees
+        ≡ db))) }
     // Of files that were not opened, what is left stands for what they held, as the storage crate has it.
-    ensures spared { IfErr result (λ why. OnLeft why (λ left. (files : _) × IsFresh true files.log × IsFresh false files.db × (IsCleanLeft left → LeavesFiles files left))) }
+    ensures spared { IfErr result (λ why. OnLeft why (λ left. (files : _) × IsFresh true files.log
+        × IsFresh false files.db × (IsCleanLeft left → LeavesFiles files left))) }
 {
     // What a crash left stands for the event again: this tells the proof.
     stored_stands();

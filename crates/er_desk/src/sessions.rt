@@ -28,23 +28,21 @@ pub fn session<S: Start>(
 ) -> Result<(Desk<FileStore<FileFrom<S>>>, Result<Vec<Reply>, AllocError>), OpenFault<FileFrom<S>>>
     // Of a file that a history left, each thing that a crash may leave is an end of that history with this session after it. The next one
     // begins there.
-    ensures next { (new first : Point) (ends : List Ended) → WasLeftBy (image_at S.Start) new ends first
-        → MatchResult result
-        (λ it. MatchResult it.1
-        (λ replies. Leaves (state over_files it.0)
-        (NextBegins new ends (session_of commands.items replies.items (standing it.0).stopped)))
-        (λ _. Leaves (state over_files it.0) (NextBegins new ends no_session)))
-        (λ why. OnRefused why (λ conn. Leaves (file_state conn) (NextBegins new ends no_session))) }
+    ensures next { (new first : Point) (ends : List Ended)
+        → WasLeftBy (image_at S.Start) new ends first
+        → MatchResult result (λ it. MatchResult it.1 (λ replies. Leaves (state over_files it.0) (NextBegins new ends (session_of commands.items replies.items (standing it.0).stopped))) (λ _. Leaves (state over_files it.0) (NextBegins new ends no_session))) (λ why. OnRefused why (λ conn. Leaves (file_state conn) (NextBegins new ends no_session))) }
     // Each reply is lawful at the fold of the commands that were acknowledged before it, from where the history ended.
-    ensures lawful { (new first : Point) (ends : List Ended) → WasLeftBy (image_at S.Start) new ends first
+    ensures lawful { (new first : Point) (ends : List Ended)
+        → WasLeftBy (image_at S.Start) new ends first
         → IfOk result (λ it. HasCleanDisk (state over_files it.0)
         → IfOk it.1 (λ replies. IsRun (running_at first) commands.items replies.items (standing it.0))) }
     // It is refused for memory or by the device alone. Of files that were not opened, what is left stands for what they held, as the
     // storage crate has it.
-    ensures why { (new first : Point) (ends : List Ended) → WasLeftBy (image_at S.Start) new ends first
+    ensures why { (new first : Point) (ends : List Ended)
+        → WasLeftBy (image_at S.Start) new ends first
         → IfErr result (λ why. IsCleanFault why → IsFault (why_of why)) }
-    ensures spared { IfErr result (λ why. OnLeft why (λ left. (files : _) × IsFresh true files.log × IsFresh false files.db
-        × (IsCleanLeft left → LeavesFiles files left))) }
+    ensures spared { IfErr result (λ why. OnLeft why (λ left. (files : _) × IsFresh true files.log
+        × IsFresh false files.db × (IsCleanLeft left → LeavesFiles files left))) }
 {
     // A history ends at a sound event: this tells the proof.
     histories();

@@ -21,12 +21,19 @@ const BAD_ROW: Refusal = Refusal::Store {
 /// The standings by the totals and the meetings that the tables keep. Lists that are of no event end the store.
 pub fn read_standings<S: Alter>(alloc: Global, store: &mut Store<S>) -> Result<Vec<Row>, Refusal>
     requires running { IsFalse (tables.is_stopped store.old) }
-    ensures stops { MatchResult result (λ _. IsFalse (tables.is_stopped store.new)) (λ why. ((why ≡ Refusal.Memory) × IsFalse (tables.is_stopped store.new)) ⊎ (IsReadFault why × IsTrue (tables.is_stopped store.new))) }
-    ensures clean { HasCleanDisk (tables.state S.Store store.new) → HasCleanDisk (tables.state S.Store store.old) }
-    ensures found { HasCleanDisk (tables.state S.Store store.new) → (e : EventValue) (s : ℕ) → StandsFor (tables.state S.Store store.old).now e s → IsSoundButForSeeds e
+    ensures stops { MatchResult result (λ _. IsFalse (tables.is_stopped store.new)) (λ why. ((why
+        ≡ Refusal.Memory) × IsFalse (tables.is_stopped store.new))
+        ⊎ (IsReadFault why × IsTrue (tables.is_stopped store.new))) }
+    ensures clean { HasCleanDisk (tables.state S.Store store.new)
+        → HasCleanDisk (tables.state S.Store store.old) }
+    ensures found { HasCleanDisk (tables.state S.Store store.new) → (e : EventValue) (s : ℕ)
+        → StandsFor (tables.state S.Store store.old).now e s → IsSoundButForSeeds e
         → MatchResult result (λ rows. AreTheStandings e rows.items) IsFault }
-    ensures same { HasCleanDisk (tables.state S.Store store.new) → IsFalse (tables.is_stopped store.new) → IsUnchanged (tables.state S.Store store.old) (tables.state S.Store store.new) }
-    ensures kept { HasCleanDisk (tables.state S.Store store.new) → OnErr result (KeepsTables (tables.state S.Store store.old) (tables.state S.Store store.new)) }
+    ensures same { HasCleanDisk (tables.state S.Store store.new)
+        → IsFalse (tables.is_stopped store.new)
+        → IsUnchanged (tables.state S.Store store.old) (tables.state S.Store store.new) }
+    ensures kept { HasCleanDisk (tables.state S.Store store.new)
+        → OnErr result (KeepsTables (tables.state S.Store store.old) (tables.state S.Store store.new)) }
     ensures crash { Leaves (tables.state S.Store store.new) (tables.state S.Store store.old).may_leave }
 {
     let tallies = store.tallies(alloc)?;

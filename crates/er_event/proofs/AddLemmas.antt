@@ -1,16 +1,18 @@
 -- An event with one more round is sound exactly where its checks hold.
-use Rattle.std.proofs.Common.{◌≡◌, ◌≢◌, suc, ◌+◌, ◌-◌, ◌<◌, ◌||◌, not, Bool, true, false, inl, inr, List, [], ◌∷◌, ◌++◌, length, take, flat_map, All, AllPairs, IsTrue, IsFalse, refl, sym, ap, subst, ◌∙◌, true≢false, arith, length-append, append-nil}
+use Rattle.std.proofs.Common.{◌≡◌, ◌≢◌, ℕ, suc, ◌+◌, ◌-◌, ◌<◌, ◌||◌, not, Bool, true, false, inl, inr, List, [], ◌∷◌, ◌++◌, length, take, flat_map, All, AllPairs, IsTrue, IsFalse, refl, sym, ap, subst, ◌∙◌, true≢false, arith, length-append, append-nil}
 use Rattle.std.specs.List.{list_all, list_any, AllByRecursion}
 use Rattle.std.proofs.lemmas.Bool.Decides.{nat_tests}
 use Rattle.std.proofs.lemmas.List.Elements.{All-push, All-weaker, All-head, All-tail, All-from_recursion, recursion_from_All}
 use Rattle.std.proofs.lemmas.List.Concat.{flat_map-append}
 use Rattle.std.proofs.lemmas.List.Folds.{list_any-append}
+use Rattle.er_event.specs.declared.events.Phase.{Phase}
 use Rattle.er_event.specs.declared.events.Phase.TheVariants.{Enrolling, Swiss, Playoff, Finished}
-use Rattle.er_event.specs.declared.rounds.Match.{Match}
+use Rattle.er_event.specs.declared.matches.Match.{Match}
 use Rattle.er_event.specs.declared.rounds.Round.{Round}
 use Rattle.er_event.specs.Event.{EventValue}
 use Rattle.er_event.specs.Round.{is_counted, is_same_pairing, seats, matches_of}
-use Rattle.er_event.specs.Sound.{numbers, IsRound, HasRounds, IsInPlayoff, IsSoundButForSeeds}
+use Rattle.er_event.specs.Sound.{numbers, IsPlayoff, IsRound, AreRounds, IsSoundButForSeeds}
+use Rattle.er_event.specs.inside.Reading.{MayFollow}
 use Rattle.er_event.specs.Change.{with_round}
 use Rattle.er_event.proofs.Pairs.{Rec, from_rec, to_rec, rec_across, rec_append}
 use Rattle.er_event.proofs.RoundLemmas.{All-of, of-All}
@@ -18,9 +20,9 @@ use Rattle.er_event.proofs.RoundLemmas.{All-of, of-All}
 abbrev Differ : Match → Match → Type 0
 Differ m n = IsFalse (is_same_pairing m n)
 
--- none of the stored matches has the two of this one
-abbrev pub is_new : List Round → Match → Bool
-is_new stored m = not (list_any (λ (r : Round). list_any (λ n. is_same_pairing n m) r.matches) stored)
+-- none of these matches has the two of this one
+abbrev IsNew : List Round → Match → Type 0
+IsNew stored m = IsFalse (list_any (λ n. is_same_pairing n m) (matches_of stored))
 
 -- ---- within one round
 
@@ -37,7 +39,7 @@ seated_differ (m ∷ ms) h = (differs m ms h.0.1, seated_differ ms h.1.1)
 
 -- ---- with the rounds before
 
-pub any_stored : (p : Match → Bool) (rs : List Round) → list_any (λ (r : Round). list_any p r.matches) rs ≡ list_any p (matches_of rs)
+any_stored : (p : Match → Bool) (rs : List Round) → list_any (λ (r : Round). list_any p r.matches) rs ≡ list_any p (matches_of rs)
 any_stored p [] = refl
 any_stored p (r ∷ rs) = ap (λ b. list_any p r.matches || b) (any_stored p rs) ∙ sym (list_any-append p r.matches (matches_of rs))
 
@@ -49,6 +51,17 @@ or_false true b h = absurd (true≢false h)
 not_true : (b : Bool) → not b ≡ true → b ≡ false
 not_true false h = refl
 not_true true h = absurd (true≢false (sym h))
+
+-- the test of each stored round, one after the other
+abbrev pub is_new : List Round → Match → Bool
+is_new stored m = not (list_any (λ (r : Round). list_any (λ n. is_same_pairing n m) r.matches) stored)
+
+module _ (stored : List Round) (ms : List Match) where
+  pub All-new : list_all (is_new stored) ms ≡ true → All (IsNew stored) ms
+  All-new new = All-weaker (λ m. IsTrue (is_new stored m)) (IsNew stored) (λ m h. sym (any_stored (λ n. is_same_pairing n m) stored) ∙ not_true _ h) ms (All-of (is_new stored) ms new)
+
+  pub new-All : All (IsNew stored) ms → list_all (is_new stored) ms ≡ true
+  new-All h = of-All (is_new stored) ms (All-weaker (IsNew stored) (λ m. IsTrue (is_new stored m)) (λ m none. ap not (any_stored (λ n. is_same_pairing n m) stored ∙ none)) ms h)
 
 -- this match differs from all of these
 none_same : (m : Match) (ns : List Match) → list_any (λ n. is_same_pairing n m) ns ≡ false → AllByRecursion (λ n. Differ n m) ns
@@ -84,13 +97,16 @@ pair_all ns (m ∷ ms) h = (first ns h, pair_all ns ms (rest ns h))
     rest (k ∷ ks) h = (h.0.1, rest ks h.1)
 
 module _ (stored : List Round) where
-  all_new : (ms : List Match) → list_all (is_new stored) ms ≡ true → AllByRecursion (λ m. AllByRecursion (λ n. Differ n m) (matches_of stored)) ms
-  all_new ms new = recursion_from_All _ ms (All-weaker (λ m. IsTrue (is_new stored m)) (λ m. AllByRecursion (λ n. Differ n m) (matches_of stored)) (λ m h. none_same m (matches_of stored) (sym (any_stored (λ n. is_same_pairing n m) stored) ∙ not_true _ h)) ms (All-of (is_new stored) ms new))
+  abbrev Apart : Match → Type 0
+  Apart m = AllByRecursion (λ n. Differ n m) (matches_of stored)
 
-  new_all : (ms : List Match) → AllByRecursion (λ m. AllByRecursion (λ n. Differ n m) (matches_of stored)) ms → list_all (is_new stored) ms ≡ true
-  new_all ms h = of-All (is_new stored) ms (All-weaker (λ m. AllByRecursion (λ n. Differ n m) (matches_of stored)) (λ m. IsTrue (is_new stored m)) (λ m d. ap not (any_stored (λ n. is_same_pairing n m) stored ∙ same_none m (matches_of stored) d)) ms (All-from_recursion _ ms h))
+  all_new : (ms : List Match) → All (IsNew stored) ms → AllByRecursion Apart ms
+  all_new ms new = recursion_from_All _ ms (All-weaker (IsNew stored) Apart (λ m. none_same m (matches_of stored)) ms new)
 
--- ---- the event
+  new_all : (ms : List Match) → AllByRecursion Apart ms → All (IsNew stored) ms
+  new_all ms h = All-weaker Apart (IsNew stored) (λ m. same_none m (matches_of stored)) ms (All-from_recursion _ ms h)
+
+-- ---- one round more
 
 matches-with : (stored : List Round) (ms : List Match) → matches_of (stored ++ record { matches = ms } ∷ []) ≡ matches_of stored ++ ms
 matches-with stored ms = flat_map-append (λ (r : Round). r.matches) stored (record { matches = ms } ∷ []) ∙ ap (λ l. matches_of stored ++ l) (append-nil ms)
@@ -105,72 +121,74 @@ some-stored : (rs : List Round) (r : Round) → rs ++ r ∷ [] ≡ [] → ⊥
 some-stored [] r e = cc
 some-stored (s ∷ rs) r e = cc
 
-module _ (e : EventValue) (ms : List Match) where
+abbrev Counted : Round → Type 0
+Counted r = IsTrue (is_counted r.matches)
+
+module _ (known : List ℕ) (rs : List Round) (ms : List Match) where
   abbrev r : Round
   r = record { matches = ms }
 
   abbrev Plays : Round → Type 0
-  Plays s = IsRound (numbers e.players) s.matches
+  Plays s = IsRound known s.matches
 
-  HasRounds-with : HasRounds e → e.phase ≡ Swiss → length e.stored < e.rounds → list_all (λ (s : Round). is_counted s.matches) e.stored ≡ true → IsRound (numbers e.players) ms → list_all (is_new e.stored) ms ≡ true → HasRounds (with_round e ms)
-  HasRounds-with h swiss room done round new =
-      let count : length (e.stored ++ r ∷ []) ≡ length e.stored + 1 = length-append e.stored (r ∷ []) in
+  pub one_more : (limit most : ℕ) → AreRounds Swiss limit known rs → length rs < most → MayFollow known rs ms → AreRounds Swiss most known (rs ++ r ∷ [])
+  one_more limit most h room follows =
+      let count : length (rs ++ r ∷ []) ≡ length rs + 1 = length-append rs (r ∷ []) in
       record {
         few = omega arith;
-        enrolling = λ phase. absurd (let never = sym swiss ∙ phase in cc);
-        each = All-push Plays e.stored r h.each round;
-        no_repeats = subst (AllPairs Differ) (sym (matches-with e.stored ms)) (from_rec Differ _ (rec_append Differ (matches_of e.stored) ms (to_rec Differ _ h.no_repeats)
-            (seated_differ ms (to_rec _ _ round.seated_once)) (all_pair (matches_of e.stored) ms (all_new e.stored ms new))));
-        earlier_done = subst (All (λ (s : Round). IsTrue (is_counted s.matches))) (sym (take-before e.stored r)) (All-of (λ (s : Round). is_counted s.matches) e.stored done);
+        enrolling = λ phase. absurd (let never : Swiss ≡ Enrolling = phase in cc);
+        each = All-push Plays rs r h.each follows.round;
+        no_repeats = subst (AllPairs Differ) (sym (matches-with rs ms)) (from_rec Differ _ (rec_append Differ (matches_of rs) ms (to_rec Differ _ h.no_repeats)
+            (seated_differ ms (to_rec _ _ follows.round.seated_once)) (all_pair (matches_of rs) ms (all_new rs ms follows.new))));
+        earlier_done = subst (All Counted) (sym (take-before rs r)) follows.done;
+        done = λ over. absurd (not_over over);
       }
+    where
+      not_over : IsPlayoff Swiss → ⊥
+      not_over (inl is) = let never : Swiss ≡ Playoff = is in cc
+      not_over (inr is) = let never : Swiss ≡ Finished = is in cc
 
-  pub IsSound-round : IsSoundButForSeeds e → e.phase ≡ Swiss → length e.stored < e.rounds → list_all (λ (s : Round). is_counted s.matches) e.stored ≡ true → IsRound (numbers e.players) ms → list_all (is_new e.stored) ms ≡ true → IsSoundButForSeeds (with_round e ms)
-  IsSound-round h swiss room done round new = record {
-    set_up = record { name = h.set_up.name; rounds = h.set_up.rounds; cut = h.set_up.cut };
-    players = record { few = h.players.few; numbered = h.players.numbered; lawful = h.players.lawful; distinct = h.players.distinct; enrolling = h.players.enrolling; started = h.players.started };
-    rounds = HasRounds-with h.rounds swiss room done round new;
-    bracket = record {
-      none = h.bracket.none;
-      rounds_done = λ over. absurd (not_over swiss over);
-      bracket = h.bracket.bracket;
-      decided = h.bracket.decided;
-      undecided = h.bracket.undecided;
-    };
+  pub may_follow : (phase : Phase) (limit : ℕ) → AreRounds phase limit known (rs ++ r ∷ []) → MayFollow known rs ms
+  may_follow phase limit h = record {
+    done = subst (All Counted) (take-before rs r) h.earlier_done;
+    round = last rs h.each;
+    new = new_all rs ms (pair_all (matches_of rs) ms (rec_across Differ (matches_of rs) ms (to_rec Differ _ (subst (AllPairs Differ) (matches-with rs ms) h.no_repeats))));
   }
     where
-      not_over : e.phase ≡ Swiss → IsInPlayoff e → ⊥
-      not_over swiss (inl is) = let never = sym swiss ∙ is in cc
-      not_over swiss (inr is) = let never = sym swiss ∙ is in cc
+      last : (ss : List Round) → All Plays (ss ++ r ∷ []) → Plays r
+      last [] all = All-head Plays r [] all
+      last (t ∷ ss) all = last ss (All-tail Plays t (ss ++ r ∷ []) all)
+
+module _ (e : EventValue) (ms : List Match) where
+  pub IsSound-round : IsSoundButForSeeds e → e.phase ≡ Swiss → length e.stored < e.rounds → MayFollow (numbers e.players) e.stored ms → IsSoundButForSeeds (with_round e ms)
+  IsSound-round h swiss room follows =
+      let rounds = one_more (numbers e.players) e.stored ms e.rounds e.rounds (subst (λ (p : Phase). AreRounds p e.rounds (numbers e.players) e.stored) swiss h.rounds) room follows in
+      record {
+        set_up = h.set_up;
+        players = h.players;
+        rounds = subst (λ (p : Phase). AreRounds p e.rounds (numbers e.players) (e.stored ++ record { matches = ms } ∷ [])) (sym swiss) rounds;
+        bracket = h.bracket;
+      }
 
   module _ (h : IsSoundButForSeeds (with_round e ms)) where
     pub round-few : length e.stored < e.rounds
     round-few =
-        let count : length (e.stored ++ r ∷ []) ≡ length e.stored + 1 = length-append e.stored (r ∷ []) in
+        let count : length (e.stored ++ record { matches = ms } ∷ []) ≡ length e.stored + 1 = length-append e.stored (record { matches = ms } ∷ []) in
         let few = h.rounds.few in
         omega arith
 
-    pub round-counted : list_all (λ (s : Round). is_counted s.matches) e.stored ≡ true
-    round-counted = of-All (λ (s : Round). is_counted s.matches) e.stored (subst (All (λ (s : Round). IsTrue (is_counted s.matches))) (take-before e.stored r) h.rounds.earlier_done)
-
-    pub round-is : IsRound (numbers e.players) ms
-    round-is = last Plays e.stored r h.rounds.each
-      where
-        last : (P : Round → Type 0) (rs : List Round) (s : Round) → All P (rs ++ s ∷ []) → P s
-        last P [] s all = All-head P s [] all
-        last P (t ∷ rs) s all = last P rs s (All-tail P t (rs ++ s ∷ []) all)
-
-    pub round-new : list_all (is_new e.stored) ms ≡ true
-    round-new = new_all e.stored ms (pair_all (matches_of e.stored) ms (rec_across Differ (matches_of e.stored) ms (to_rec Differ _ (subst (AllPairs Differ) (matches-with e.stored ms) h.rounds.no_repeats))))
+    pub round-follows : MayFollow (numbers e.players) e.stored ms
+    round-follows = may_follow (numbers e.players) e.stored ms e.phase e.rounds h.rounds
 
     -- a sound event with all its rounds takes no more
     pub round-swiss : IsSoundButForSeeds e → e.phase ≡ Swiss
     round-swiss old = by_phase e.phase refl
       where
-        over : IsInPlayoff e → ⊥
-        over is = let all = (old.bracket.rounds_done is).0 in let few = round-few in omega arith
+        over : IsPlayoff e.phase → ⊥
+        over is = let all = (old.rounds.done is).0 in let few = round-few in omega arith
 
         by_phase : (p : _) → e.phase ≡ p → e.phase ≡ Swiss
-        by_phase Enrolling is = absurd (some-stored e.stored r (h.rounds.enrolling is))
+        by_phase Enrolling is = absurd (some-stored e.stored (record { matches = ms }) (h.rounds.enrolling is))
         by_phase Swiss is = is
         by_phase Playoff is = absurd (over (inl is))
         by_phase Finished is = absurd (over (inr is))

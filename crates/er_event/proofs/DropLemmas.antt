@@ -10,10 +10,9 @@ use Rattle.std.proofs.lemmas.List.FromFn.{length-range_with_len, get_or-range_wi
 use Rattle.er_event.specs.declared.events.Phase.{Phase}
 use Rattle.er_event.specs.declared.events.Phase.TheVariants.{Enrolling, Swiss, Playoff, Finished}
 use Rattle.er_event.specs.declared.players.Player.{Player}
-use Rattle.er_event.specs.declared.rounds.Round.{Round}
 use Rattle.er_event.specs.Event.{EventValue}
 use Rattle.er_event.specs.Name.{is_lawful_name}
-use Rattle.er_event.specs.Sound.{numbers, names, IsRound, IsBracket, HasPlayers, HasRounds, HasBracket, IsSoundButForSeeds}
+use Rattle.er_event.specs.Sound.{numbers, names, ArePlayers, AreRounds, AreStages, IsSoundButForSeeds}
 use Rattle.er_event.specs.declared.changes.Change.TheVariants.{SetDropped}
 use Rattle.er_event.specs.Change.{dropped_at, with_dropped, with_phase, Fits}
 
@@ -49,8 +48,8 @@ numbered-within ps k numbered has =
     let is = here.2 in
     (omega arith, omega arith)
 
-HasPlayers-dropped : (e : EventValue) (k : ℕ) → HasPlayers e → e.phase ≢ Enrolling → HasPlayers (with_dropped e k)
-HasPlayers-dropped e k h started =
+players-dropped : (e : EventValue) (k : ℕ) → ArePlayers e.phase e.players → e.phase ≢ Enrolling → ArePlayers e.phase (map (dropped_at k) e.players)
+players-dropped e k h started =
     let len = length-map {A = Player} {B = Player} e.players (dropped_at k) in
     let Apart : List ℕ → List ℕ → Type 0 = λ a b. a ≢ b in
     record {
@@ -62,31 +61,15 @@ HasPlayers-dropped e k h started =
       started = λ phase. let enough = h.started phase in omega arith;
     }
 
-HasRounds-dropped : (e : EventValue) (k : ℕ) → HasRounds e → HasRounds (with_dropped e k)
-HasRounds-dropped e k h = record {
-  few = h.few;
-  enrolling = h.enrolling;
-  each = subst (λ (known : List ℕ). All (λ (r : Round). IsRound known r.matches) e.stored) (sym (numbers-dropped k e.players)) h.each;
-  no_repeats = h.no_repeats;
-  earlier_done = h.earlier_done;
-}
-
-HasBracket-dropped : (e : EventValue) (k : ℕ) → HasBracket e → HasBracket (with_dropped e k)
-HasBracket-dropped e k h = record {
-  none = h.none;
-  rounds_done = h.rounds_done;
-  bracket = λ phase. subst (λ (known : List ℕ). IsBracket known e.cut e.bracket.stages) (sym (numbers-dropped k e.players)) (h.bracket phase);
-  decided = h.decided;
-  undecided = h.undecided;
-}
-
 pub IsSound-dropped : (e : EventValue) (k : ℕ) → IsSoundButForSeeds e → e.phase ≢ Enrolling → IsSoundButForSeeds (with_dropped e k)
-IsSound-dropped e k h started = record {
-  set_up = record { name = h.set_up.name; rounds = h.set_up.rounds; cut = h.set_up.cut };
-  players = HasPlayers-dropped e k h.players started;
-  rounds = HasRounds-dropped e k h.rounds;
-  bracket = HasBracket-dropped e k h.bracket;
-}
+IsSound-dropped e k h started =
+    let same = sym (numbers-dropped k e.players) in
+    record {
+      set_up = h.set_up;
+      players = players-dropped e k h.players started;
+      rounds = subst (λ (known : List ℕ). AreRounds e.phase e.rounds known e.stored) same h.rounds;
+      bracket = subst (λ (known : List ℕ). AreStages e.phase e.cut known e.bracket.stages) same h.bracket;
+    }
 
 same_number : (n k : ℕ) → n ≡ k → (n == k) ≡ true
 same_number n k e = grind (arith, nat_tests)
@@ -170,7 +153,7 @@ undropped-All (p ∷ ps) all =
 -- an event whose rounds are not paired goes back to enrolling where nobody is dropped
 pub IsSound-enrolling : (e : EventValue) → IsSoundButForSeeds e → e.phase ≡ Swiss → e.stored ≡ [] → All (λ (p : Player). IsFalse p.dropped) e.players → IsSoundButForSeeds (with_phase e Enrolling)
 IsSound-enrolling e h swiss none undropped = record {
-  set_up = record { name = h.set_up.name; rounds = h.set_up.rounds; cut = h.set_up.cut };
+  set_up = h.set_up;
   players = record {
     few = h.players.few;
     numbered = h.players.numbered;
@@ -185,10 +168,10 @@ IsSound-enrolling e h swiss none undropped = record {
     each = h.rounds.each;
     no_repeats = h.rounds.no_repeats;
     earlier_done = h.rounds.earlier_done;
+    done = λ phase. absurd (no_playoff phase);
   };
   bracket = record {
     none = λ phase. h.bracket.none (inr swiss);
-    rounds_done = λ phase. absurd (no_playoff phase);
     bracket = λ phase. absurd (no_playoff phase);
     decided = λ phase. absurd (no_playoff (inr phase));
     undecided = λ phase. absurd (no_playoff (inl phase));

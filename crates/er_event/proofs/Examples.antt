@@ -2,16 +2,16 @@
 use Rattle.std.specs.Prelude.{◌≡◌, ℕ, pos, Bool, true, false, List, [], ◌∷◌, ◌++◌, map, replicate, codes, Some, None, refl}
 use Rattle.std.specs.Str.{is_utf8, chars}
 use Rattle.er_event.specs.declared.events.TheConstants.{MAX_ROUNDS}
-use Rattle.er_event.specs.declared.events.playoff.TheConstants.{MAX_SLOTS}
+use Rattle.er_event.specs.declared.events.fits.TheConstants.{MAX_SLOTS}
 use Rattle.er_event.specs.declared.names.TheConstants.{MAX_NAME_BYTES}
 use Rattle.er_event.specs.declared.players.TheConstants.{MAX_PLAYERS}
-use Rattle.er_event.specs.declared.refusals.TheConstants.{MAX_SERIAL}
-use Rattle.er_event.specs.declared.stages.TheConstants.{MAX_STAGES}
+use Rattle.er_event.specs.declared.commands.TheConstants.{MAX_SERIAL}
+use Rattle.er_event.specs.declared.rows.bracket.TheConstants.{MAX_STAGES}
 use Rattle.er_event.specs.declared.events.Phase.TheVariants.{Swiss}
 use Rattle.er_event.specs.declared.players.Player.{Player}
-use Rattle.er_event.specs.declared.rounds.Match.{Match}
-use Rattle.er_event.specs.declared.rows.PairingRow.{PairingRow}
-use Rattle.er_event.specs.declared.rows.BracketRow.{BracketRow}
+use Rattle.er_event.specs.declared.matches.Match.{Match}
+use Rattle.er_event.specs.declared.rows.pairing.PairingRow.{PairingRow}
+use Rattle.er_event.specs.declared.rows.bracket.BracketRow.{BracketRow}
 use Rattle.er_event.specs.declared.scores.Games.{Games}
 use Rattle.er_event.specs.Bracket.{open_match}
 use Rattle.er_event.specs.Change.{with_player, with_dropped, with_score}
@@ -103,7 +103,7 @@ first_round = open_match 2 1 ∷ played 3 0 2 0 0 ∷ []
 abbrev paired : EventValue
 paired = event_of three (first_round ∷ []) []
 
-pub row_of_the_event : event_row paired 5 ≡ record { id = pos 1; version = pos 1; serial = pos 5; name = codes "Friday"; rounds = pos 3; cut = pos 0; phase = pos 1 }
+pub row_of_the_event : event_row 1 paired 5 ≡ record { id = pos 1; version = pos 1; serial = pos 5; name = codes "Friday"; rounds = pos 3; cut = pos 0; phase = pos 1 }
 row_of_the_event = refl
 
 pub rows_of_players : player_rows paired ≡

@@ -8,8 +8,7 @@ pub mod PrefixLemmas
 pub mod SeatLemmas
 pub mod PartsLemmas
 pub mod ShownLemmas
-pub mod PartsRounds
-pub mod PartsBracket
+pub mod ReadingLemmas
 pub mod PairingLemmas
 pub mod RoundRowLemmas
 pub mod TableLemmas

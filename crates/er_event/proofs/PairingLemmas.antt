@@ -8,9 +8,9 @@ use Rattle.std.specs.Ordering.{int_eq}
 use Rattle.std.specs.List.{prefix_len}
 use Rattle.er_event.specs.declared.rounds.Round.{Round}
 use Rattle.std.proofs.lemmas.Bool.Decides.{Decides-int_eq, nat_tests}
-use Rattle.er_event.specs.declared.rows.PairingRow.{PairingRow}
+use Rattle.er_event.specs.declared.rows.pairing.PairingRow.{PairingRow}
 use Rattle.er_event.specs.declared.scores.Games.{Games}
-use Rattle.er_event.specs.declared.rounds.Match.{Match}
+use Rattle.er_event.specs.declared.matches.Match.{Match}
 use Rattle.er_event.specs.Round.{is_bye, numbered_from}
 use Rattle.er_event.specs.Rows.{pairing_row, by_key, keyed_round_rows, keyed_rows_from}
 use Rattle.er_event.specs.Pairings.{IsShown, AreTables, AreShown, table_rows, is_of}

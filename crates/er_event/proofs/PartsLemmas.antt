@@ -11,47 +11,47 @@ use Rattle.std.proofs.lemmas.List.Quantifiers.{all_pairs_push}
 use Rattle.std.proofs.lemmas.List.FromFn.{get_or-range_with_len}
 use Rattle.std.proofs.lemmas.Slice.Eq.{bytes_eq-Decides}
 use Rattle.er_event.specs.declared.players.Player.{Player}
-use Rattle.er_event.specs.declared.rows.PlayerRow.{PlayerRow}
-use Rattle.er_event.specs.declared.rows.PairingRow.{PairingRow}
-use Rattle.er_event.specs.declared.rows.BracketRow.{BracketRow}
+use Rattle.er_event.specs.declared.rows.player.PlayerRow.{PlayerRow}
 use Rattle.er_event.proofs.PlayerLemmas.{range-push, has_name-none}
 use Rattle.er_event.specs.declared.events.Phase.{Phase}
 use Rattle.er_event.specs.declared.events.Phase.TheVariants.{Enrolling, Swiss, Playoff, Finished}
 use Rattle.er_event.specs.declared.players.TheConstants.{MAX_PLAYERS}
-use Rattle.er_event.specs.declared.rows.EventRow.{EventRow}
-use Rattle.er_event.specs.declared.refusals.TheConstants.{MAX_SERIAL}
+use Rattle.er_event.specs.declared.rows.event.EventRow.{EventRow}
+use Rattle.er_event.specs.declared.commands.TheConstants.{MAX_SERIAL}
 use Rattle.er_event.specs.declared.events.TheConstants.{MAX_ROUNDS}
 use Rattle.er_event.specs.Event.{EventValue}
 use Rattle.er_event.specs.Name.{is_lawful_name}
 use Rattle.er_event.specs.Rows.{flag, phase_code, event_row, player_row}
-use Rattle.er_event.specs.Sound.{numbers, names, IsSetUp, HasPlayers}
-use Rattle.er_event.specs.Change.{created, with_phase, has_name}
-use Rattle.er_event.specs.Parts.{IsBlank, IsEventRow, IsLawfulPlayer, Suits, HasPlayerRows, IsFirstFault}
-use Rattle.er_event.specs.declared.parts.Parts.{Parts}
-use Rattle.er_event.specs.declared.parts.PartsFault.{PartsFault}
-use Rattle.er_event.specs.declared.parts.PartsFault.TheVariants.{Damaged}
+use Rattle.er_event.specs.Sound.{numbers, names, is_lawful_cut, IsSetUp, ArePlayers}
+use Rattle.er_event.specs.Change.{has_name}
+use Rattle.er_event.specs.Parts.{IsEventRow}
+use Rattle.er_event.specs.inside.Reading.{IsSetUpAs, IsLawfulPlayer, Suits}
+use Rattle.er_event.specs.declared.rows.event.Setup.{Setup}
+use Rattle.er_event.specs.declared.events.parts.PartsFault.{PartsFault}
+use Rattle.er_event.specs.declared.events.parts.PartsFault.TheVariants.{Damaged}
 use Rattle.er_event.specs.declared.refusals.Place.{Place}
-use Rattle.er_event.specs.declared.refusals.Place.TheVariants.{EventTable, PlayerTable}
-
-blank : (name : List ℕ) (rounds cut : ℕ) → IsTrue (is_lawful_name name) → (1 ≤ rounds) × (rounds ≤ MAX_ROUNDS) → IsTrue (cut == 0 || cut == 2 || cut == 4 || cut == 8) → IsSetUp (created name rounds cut)
-blank name rounds cut lawful within fits = record { name = lawful; rounds = within; cut = fits }
 
 row_same : (row : EventRow) (i v s : ℤ) (n : List ℕ) (r c p : ℤ) → row.id ≡ i → row.version ≡ v → row.serial ≡ s → row.name ≡ n → row.rounds ≡ r → row.cut ≡ c → row.phase ≡ p
     → (let same : EventRow = record { id = i; version = v; serial = s; name = n; rounds = r; cut = c; phase = p } in row ≡ same)
 row_same row i v s n r c p e0 e1 e2 e3 e4 e5 e6 =
     subst (λ (x : ℤ). (let r : EventRow = record { id = i; version = v; serial = s; name = n; rounds = r; cut = c; phase = x } in row ≡ r)) e6 (subst (λ (x : ℤ). (let r : EventRow = record { id = i; version = v; serial = s; name = n; rounds = r; cut = x; phase = row.phase } in row ≡ r)) e5 (subst (λ (x : ℤ). (let r : EventRow = record { id = i; version = v; serial = s; name = n; rounds = x; cut = row.cut; phase = row.phase } in row ≡ r)) e4 (subst (λ (x : List ℕ). (let r : EventRow = record { id = i; version = v; serial = s; name = x; rounds = row.rounds; cut = row.cut; phase = row.phase } in row ≡ r)) e3 (subst (λ (x : ℤ). (let r : EventRow = record { id = i; version = v; serial = x; name = row.name; rounds = row.rounds; cut = row.cut; phase = row.phase } in row ≡ r)) e2 (subst (λ (x : ℤ). (let r : EventRow = record { id = i; version = x; serial = row.serial; name = row.name; rounds = row.rounds; cut = row.cut; phase = row.phase } in row ≡ r)) e1 (subst (λ (x : ℤ). (let r : EventRow = record { id = x; version = row.version; serial = row.serial; name = row.name; rounds = row.rounds; cut = row.cut; phase = row.phase } in row ≡ r)) e0 (refl)))))))
 
-pub read_is : (row : EventRow) (e : EventValue) (name : List ℕ) (rounds cut serial : ℕ) (phase : Phase)
-    → row.id ≡ pos 1 → row.version ≡ pos 1 → row.serial ≡ pos serial → row.name ≡ name → row.rounds ≡ pos rounds → row.cut ≡ pos cut → row.phase ≡ pos (phase_code phase)
-    → serial ≤ MAX_SERIAL → IsTrue (is_lawful_name name) → (1 ≤ rounds) × (rounds ≤ MAX_ROUNDS) × IsTrue (cut == 0 || cut == 2 || cut == 4 || cut == 8)
-    → e ≡ created name rounds cut → IsBlank e × IsEventRow (row ∷ []) (with_phase e phase)
-read_is row e name rounds cut serial phase id version counted named a b c low lawful within made =
-    let set_up = blank name rounds cut lawful (within.0, within.1) within.2 in
-    let same : row ∷ [] ≡ event_row (with_phase (created name rounds cut) phase) serial ∷ [] = ap (λ r. r ∷ []) (row_same row (pos 1) (pos 1) (pos serial) name (pos rounds) (pos cut) (pos (phase_code phase)) id version counted named a b c) in
-    subst (λ (f : EventValue). IsBlank f × IsEventRow (row ∷ []) (with_phase f phase)) (sym made) (
-      record { set_up = set_up; is = refl },
-      record { serial = serial; low = low; set_up = record { name = set_up.name; rounds = set_up.rounds; cut = set_up.cut }; row = same },
-    )
+set_up_as : (s : Setup) (e : EventValue) → IsSetUp s.name s.rounds s.cut → IsSetUpAs s e → IsSetUp e.name e.rounds e.cut
+set_up_as s e h so = record {
+  name = subst (λ (n : List ℕ). IsTrue (is_lawful_name n)) (sym so.name) h.name;
+  rounds = subst (λ (n : ℕ). (1 ≤ n) × (n ≤ MAX_ROUNDS)) (sym so.rounds) h.rounds;
+  cut = subst (λ (n : ℕ). IsTrue (is_lawful_cut n)) (sym so.cut) h.cut;
+}
+
+pub read_is : (row : EventRow) (s : Setup) (serial : ℕ) → row.id ≡ pos 1 → row.version ≡ pos 1 → row.serial ≡ pos serial → row.name ≡ s.name → row.rounds ≡ pos s.rounds → row.cut ≡ pos s.cut
+    → row.phase ≡ pos (phase_code s.phase) → serial ≤ MAX_SERIAL → IsSetUp s.name s.rounds s.cut → (e : EventValue) → IsSetUpAs s e → IsEventRow (row ∷ []) e
+read_is row s serial id version counted name rounds cut phase low set_up e so = record {
+  serial = serial;
+  low = low;
+  set_up = set_up_as s e set_up so;
+  row = ap (λ r. r ∷ []) (row_same row (pos 1) (pos 1) (pos serial) e.name (pos e.rounds) (pos e.cut) (pos (phase_code e.phase)) id version counted (name ∙ sym so.name) (rounds ∙ ap pos (sym so.rounds))
+      (cut ∙ ap pos (sym so.cut)) (phase ∙ ap (λ (p : Phase). pos (phase_code p)) (sym so.phase)));
+}
 
 pub one_row : {A : Type 0} (rows : List A) (x : A) → 1 ≤ length rows → length rows < 2 → x ≡ get_or rows 0 x → rows ≡ x ∷ []
 one_row [] x some few is = absurd (not-suc-le-zero some)
@@ -112,21 +112,15 @@ names-new ps i p below is apart found =
 -- ---- the players of an event, and of its rows
 
 -- what is left to ask of players who are numbered and have names of their own
-pub plays : (e : EventValue) (phase : Phase) (players : List Player) → e.phase ≡ phase → e.players ≡ players → length players ≤ MAX_PLAYERS → numbers players ≡ range_with_len 1 (length players)
-    → AllPairs (λ a b. a ≢ b) (names players) → All (λ (p : Player). IsTrue (is_lawful_name p.name)) players → Suits phase players → HasPlayers e
-plays e phase players is are few numbered apart lawful suits = record {
-  few = subst (λ (ps : List Player). length ps ≤ MAX_PLAYERS) (sym are) few;
-  numbered = subst (λ (ps : List Player). numbers ps ≡ range_with_len 1 (length ps)) (sym are) numbered;
-  lawful = subst (λ (ps : List Player). All (λ n. IsTrue (is_lawful_name n)) (names ps)) (sym are) (All-map (λ n. IsTrue (is_lawful_name n)) (λ (p : Player). p.name) players lawful);
-  distinct = subst (λ (ps : List Player). AllPairs (λ a b. a ≢ b) (names ps)) (sym are) apart;
-  enrolling = λ here. subst (λ (ps : List Player). All (λ (p : Player). IsFalse p.dropped) ps) (sym are) (suits.enrolling (sym is ∙ here));
-  started = λ other. subst (λ (ps : List Player). 2 ≤ length ps) (sym are) (suits.started (λ here. other (is ∙ here)));
-}
-
-pub suits : (e : EventValue) (phase : Phase) (players : List Player) → e.phase ≡ phase → e.players ≡ players → HasPlayers e → Suits phase players
-suits e phase players is are h = record {
-  enrolling = λ here. subst (λ (ps : List Player). All (λ (p : Player). IsFalse p.dropped) ps) are (h.enrolling (is ∙ here));
-  started = λ other. subst (λ (ps : List Player). 2 ≤ length ps) are (h.started (λ here. other (sym is ∙ here)));
+pub plays : (phase : Phase) (players : List Player) → length players ≤ MAX_PLAYERS → numbers players ≡ range_with_len 1 (length players) → AllPairs (λ a b. a ≢ b) (names players)
+    → All (λ (p : Player). IsTrue (is_lawful_name p.name)) players → Suits phase players → ArePlayers phase players
+plays phase players few numbered apart lawful suits = record {
+  few = few;
+  numbered = numbered;
+  lawful = All-map (λ n. IsTrue (is_lawful_name n)) (λ (p : Player). p.name) players lawful;
+  distinct = apart;
+  enrolling = suits.enrolling;
+  started = suits.started;
 }
 
 pos_same : (m n : ℕ) → pos m ≡ pos n → m ≡ n
@@ -177,70 +171,36 @@ phase-same Finished Playoff e = absurd (omega arith)
 -- the row tells the number of rounds
 pub row_rounds : (rows : List EventRow) (e f : EventValue) → IsEventRow rows e → IsEventRow rows f → e.rounds ≡ f.rounds
 row_rounds rows e f one other =
-    let same : event_row e one.serial ∷ [] ≡ event_row f other.serial ∷ [] = sym one.row ∙ other.row in
-    pos_same e.rounds f.rounds (ap (λ (rs : List EventRow). (get_or rs 0 (event_row e one.serial)).rounds) same)
+    let same : event_row 1 e one.serial ∷ [] ≡ event_row 1 f other.serial ∷ [] = sym one.row ∙ other.row in
+    pos_same e.rounds f.rounds (ap (λ (rs : List EventRow). (get_or rs 0 (event_row 1 e one.serial)).rounds) same)
 
 -- the row tells how many play in the playoff
 pub row_cut : (rows : List EventRow) (e f : EventValue) → IsEventRow rows e → IsEventRow rows f → e.cut ≡ f.cut
 row_cut rows e f one other =
-    let same : event_row e one.serial ∷ [] ≡ event_row f other.serial ∷ [] = sym one.row ∙ other.row in
-    pos_same e.cut f.cut (ap (λ (rs : List EventRow). (get_or rs 0 (event_row e one.serial)).cut) same)
+    let same : event_row 1 e one.serial ∷ [] ≡ event_row 1 f other.serial ∷ [] = sym one.row ∙ other.row in
+    pos_same e.cut f.cut (ap (λ (rs : List EventRow). (get_or rs 0 (event_row 1 e one.serial)).cut) same)
 
 -- the row tells the name
 pub row_name : (rows : List EventRow) (e f : EventValue) → IsEventRow rows e → IsEventRow rows f → e.name ≡ f.name
 row_name rows e f one other =
-    let same : event_row e one.serial ∷ [] ≡ event_row f other.serial ∷ [] = sym one.row ∙ other.row in
-    ap (λ (rs : List EventRow). (get_or rs 0 (event_row e one.serial)).name) same
+    let same : event_row 1 e one.serial ∷ [] ≡ event_row 1 f other.serial ∷ [] = sym one.row ∙ other.row in
+    ap (λ (rs : List EventRow). (get_or rs 0 (event_row 1 e one.serial)).name) same
 
 -- the row tells the phase
 pub row_phase : (rows : List EventRow) (e f : EventValue) → IsEventRow rows e → IsEventRow rows f → e.phase ≡ f.phase
 row_phase rows e f one other =
-    let same : event_row e one.serial ∷ [] ≡ event_row f other.serial ∷ [] = sym one.row ∙ other.row in
-    phase-same e.phase f.phase (pos_same (phase_code e.phase) (phase_code f.phase) (ap (λ (rs : List EventRow). (get_or rs 0 (event_row e one.serial)).phase) same))
+    let same : event_row 1 e one.serial ∷ [] ≡ event_row 1 f other.serial ∷ [] = sym one.row ∙ other.row in
+    phase-same e.phase f.phase (pos_same (phase_code e.phase) (phase_code f.phase) (ap (λ (rs : List EventRow). (get_or rs 0 (event_row 1 e one.serial)).phase) same))
 
-pub lawful_players : (e : EventValue) → HasPlayers e → All IsLawfulPlayer e.players
-lawful_players e h k d below =
-    let p = get_or e.players k d in
-    let default = get_or_default e.players k d p below in
-    let number = number_at e.players k p below default h.numbered in
+pub lawful_players : (phase : Phase) (players : List Player) → ArePlayers phase players → All IsLawfulPlayer players
+lawful_players phase players h k d below =
+    let p = get_or players k d in
+    let default = get_or_default players k d p below in
+    let number = number_at players k p below default h.numbered in
     let few = h.few in
-    let count = length-map {A = Player} {B = List ℕ} e.players (λ q. q.name) in
+    let count = length-map {A = Player} {B = List ℕ} players (λ q. q.name) in
     let lawful = h.lawful k d.name (omega arith) in
-    record { low = omega arith; high = omega arith; name = subst (λ n. IsTrue (is_lawful_name n)) (get_or-map (λ (q : Player). q.name) e.players k d) lawful }
-
--- ---- the first table at fault
-
-pub fault_event : (parts : Parts) (rows : List EventRow) (place : Place) → rows ≡ parts.event → (place ≡ EventTable) × ((e : EventValue) → IsEventRow rows e → ⊥) → IsFirstFault parts place
-fault_event parts rows place same never =
-    subst (IsFirstFault parts) (sym never.0) (λ e row. never.1 e (subst (λ (rs : List EventRow). IsEventRow rs e) (sym same) row))
-
-module _ (parts : Parts) (rows : List EventRow) (f : EventValue) (same : rows ≡ parts.event) (row : IsEventRow rows f) where
-  pub here : IsEventRow parts.event f
-  here = subst (λ (rs : List EventRow). IsEventRow rs f) same row
-
-  pub fault_players : (prows : List PlayerRow) (place : Place) → prows ≡ parts.players → (place ≡ PlayerTable) × ((ps : List Player) → All IsLawfulPlayer ps → prows ≢ map player_row ps) → IsFirstFault parts place
-  fault_players prows place are never =
-      subst (IsFirstFault parts) (sym never.0) ((f, here), λ e has. never.1 e.players (lawful_players e has.players) (are ∙ has.rows))
-
-  module _ (prows : List PlayerRow) (players : List Player) (are : prows ≡ parts.players) (read : prows ≡ map player_row players) where
-    pub same_players : (e : EventValue) → HasPlayerRows parts e → e.players ≡ players
-    same_players e has = players-same e.players players (sym has.rows ∙ (sym are ∙ read))
-
-    pub same_phase : (e : EventValue) → HasPlayerRows parts e → e.phase ≡ f.phase
-    same_phase e has = row_phase parts.event e f has.event here
-
-    pub fault_play : (test : Bool) → ((e : EventValue) → e.phase ≡ f.phase → e.players ≡ players → (IsTrue test → HasPlayers e) × (HasPlayers e → IsTrue test)) → test ≡ false → IsFirstFault parts PlayerTable
-    fault_play test plays no_play = ((f, here), λ e has. true≢false (sym ((plays e (same_phase e has) (same_players e has)).1 has.players) ∙ no_play))
-
-    abbrev pub listed : EventValue
-    listed = record f { players = players }
-
-    pub has_players : HasPlayers listed → HasPlayerRows parts listed
-    has_players has = record {
-      event = record { serial = here.serial; low = here.low; set_up = record { name = here.set_up.name; rounds = here.set_up.rounds; cut = here.set_up.cut }; row = here.row };
-      rows = sym are ∙ read;
-      players = has;
-    }
+    record { low = omega arith; high = omega arith; name = subst (λ n. IsTrue (is_lawful_name n)) (get_or-map (λ (q : Player). q.name) players k d) lawful }
 
 pub damaged_same : {A : Type 0} (table place : Place) → ◌≡◌ {A = Result A PartsFault} (Err (Damaged table)) (Err (Damaged place)) → table ≡ place
 damaged_same table place e = cc
@@ -258,11 +218,3 @@ some-of {A} xs count is some none = true≢false (sym (ap (λ n. n == 0) (is ∙
 pub none-of : {A : Type 0} (xs : List A) (count : ℕ) → count ≡ length xs → (count == 0) ≡ true → xs ≡ []
 none-of [] count is none = refl
 none-of (x ∷ xs) count is none = absurd (let n : ◌≡◌ {A = ℕ} count 0 = grind (arith, nat_tests) in omega arith)
-
-pub parts_same : (parts : Parts) (event : List EventRow) (players : List PlayerRow) (pairings : List PairingRow) (bracket : List BracketRow) → parts.event ≡ event → parts.players ≡ players → parts.pairings ≡ pairings → parts.bracket ≡ bracket
-    → (let same : Parts = record { event = event; players = players; pairings = pairings; bracket = bracket } in parts ≡ same)
-parts_same parts event players pairings bracket a b c d =
-    subst (λ (x : List EventRow). (let p : Parts = record { event = x; players = players; pairings = pairings; bracket = bracket } in parts ≡ p)) a
-    (subst (λ (x : List PlayerRow). (let p : Parts = record { event = parts.event; players = x; pairings = pairings; bracket = bracket } in parts ≡ p)) b
-    (subst (λ (x : List PairingRow). (let p : Parts = record { event = parts.event; players = parts.players; pairings = x; bracket = bracket } in parts ≡ p)) c
-    (subst (λ (x : List BracketRow). (let p : Parts = record { event = parts.event; players = parts.players; pairings = parts.pairings; bracket = x } in parts ≡ p)) d refl)))

@@ -6,13 +6,14 @@ use Rattle.std.proofs.lemmas.List.{map-append}
 use Rattle.std.proofs.lemmas.List.Elements.{All-push, All-weaker, Contains-append_left}
 use Rattle.std.proofs.lemmas.List.Quantifiers.{all_pairs_push}
 use Rattle.std.proofs.lemmas.Slice.Eq.{bytes_eq-Decides}
+use Rattle.er_event.specs.declared.events.Phase.{Phase}
 use Rattle.er_event.specs.declared.players.Player.{Player}
-use Rattle.er_event.specs.declared.rounds.Match.{Match}
+use Rattle.er_event.specs.declared.matches.Match.{Match}
 use Rattle.er_event.specs.declared.rounds.Round.{Round}
 use Rattle.er_event.specs.Event.{EventValue}
 use Rattle.er_event.specs.Name.{is_lawful_name}
 use Rattle.er_event.specs.Round.{is_bye, seats}
-use Rattle.er_event.specs.Sound.{numbers, names, IsRound, IsBracket, HasPlayers, HasRounds, HasBracket, IsSoundButForSeeds}
+use Rattle.er_event.specs.Sound.{numbers, names, IsRound, IsBracket, ArePlayers, AreRounds, AreStages, IsSoundButForSeeds}
 use Rattle.er_event.specs.Change.{has_name, new_player, with_player}
 
 -- more numbers are known
@@ -84,8 +85,9 @@ has_name-new (p ∷ ps) new distinct =
     let others = has_name-new ps new (λ i j d before within. distinct (suc i) (suc j) d (omega arith) (omega arith)) in
     cc
 
-HasPlayers-with : (e : EventValue) (name : List ℕ) → HasPlayers e → IsTrue (is_lawful_name name) → length e.players < 512 → has_name e.players name ≡ false → HasPlayers (with_player e name)
-HasPlayers-with e name h lawful room new =
+players-with : (e : EventValue) (name : List ℕ) → ArePlayers e.phase e.players → IsTrue (is_lawful_name name) → length e.players < 512 → has_name e.players name ≡ false
+    → ArePlayers e.phase (e.players ++ new_player e.players name ∷ [])
+players-with e name h lawful room new =
     let p = new_player e.players name in
     let Apart : List ℕ → List ℕ → Type 0 = λ a b. a ≢ b in
     let count : length (e.players ++ p ∷ []) ≡ length e.players + 1 = length-append e.players (p ∷ []) in
@@ -103,39 +105,31 @@ HasPlayers-with e name h lawful room new =
       started = λ phase. let enough = h.started phase in omega arith;
     }
 
-HasRounds-with : (e : EventValue) (name : List ℕ) → HasRounds e → HasRounds (with_player e name)
-HasRounds-with e name h =
-    let p = new_player e.players name in
-    let listed : numbers (e.players ++ p ∷ []) ≡ numbers e.players ++ p.no ∷ [] = map-append (λ (q : Player). q.no) e.players (p ∷ []) in
-    let Plays : List ℕ → Round → Type 0 = λ known r. IsRound known r.matches in
-    record {
-      few = h.few;
-      enrolling = h.enrolling;
-      each = subst (λ (known : List ℕ). All (Plays known) e.stored) (sym listed) (All-weaker (Plays (numbers e.players)) (Plays (numbers e.players ++ p.no ∷ [])) (λ r. IsRound-known (numbers e.players) (p.no ∷ []) r.matches) e.stored h.each);
-      no_repeats = h.no_repeats;
-      earlier_done = h.earlier_done;
-    }
+rounds-known : (phase : Phase) (limit : ℕ) (known more : List ℕ) (rounds : List Round) → AreRounds phase limit known rounds → AreRounds phase limit (known ++ more) rounds
+rounds-known phase limit known more rounds h = record {
+  few = h.few;
+  enrolling = h.enrolling;
+  each = All-weaker (λ (r : Round). IsRound known r.matches) (λ (r : Round). IsRound (known ++ more) r.matches) (λ r. IsRound-known known more r.matches) rounds h.each;
+  no_repeats = h.no_repeats;
+  earlier_done = h.earlier_done;
+  done = h.done;
+}
 
-HasBracket-with : (e : EventValue) (name : List ℕ) → HasBracket e → HasBracket (with_player e name)
-HasBracket-with e name h =
-    let p = new_player e.players name in
-    let listed : numbers (e.players ++ p ∷ []) ≡ numbers e.players ++ p.no ∷ [] = map-append (λ (q : Player). q.no) e.players (p ∷ []) in
-    record {
-      none = h.none;
-      rounds_done = h.rounds_done;
-      bracket = λ phase. subst (λ (known : List ℕ). IsBracket known e.cut e.bracket.stages) (sym listed) (IsBracket-known (numbers e.players) (p.no ∷ []) e.cut e.bracket.stages (h.bracket phase));
-      decided = h.decided;
-      undecided = h.undecided;
-    }
+stages-known : (phase : Phase) (cut : ℕ) (known more : List ℕ) (stages : List (List Match)) → AreStages phase cut known stages → AreStages phase cut (known ++ more) stages
+stages-known phase cut known more stages h =
+    record { none = h.none; bracket = λ over. IsBracket-known known more cut stages (h.bracket over); decided = h.decided; undecided = h.undecided }
 
 -- the event with one more player is sound
 pub IsSound-with : (e : EventValue) (name : List ℕ) → IsSoundButForSeeds e → IsTrue (is_lawful_name name) → length e.players < 512 → IsTrue (not (has_name e.players name)) → IsSoundButForSeeds (with_player e name)
-IsSound-with e name h lawful room new = record {
-  set_up = record { name = h.set_up.name; rounds = h.set_up.rounds; cut = h.set_up.cut };
-  players = HasPlayers-with e name h.players lawful room (not_true-from _ new);
-  rounds = HasRounds-with e name h.rounds;
-  bracket = HasBracket-with e name h.bracket;
-}
+IsSound-with e name h lawful room new =
+    let p = new_player e.players name in
+    let listed : numbers (e.players ++ p ∷ []) ≡ numbers e.players ++ p.no ∷ [] = map-append (λ (q : Player). q.no) e.players (p ∷ []) in
+    record {
+      set_up = h.set_up;
+      players = players-with e name h.players lawful room (not_true-from _ new);
+      rounds = subst (λ (known : List ℕ). AreRounds e.phase e.rounds known e.stored) (sym listed) (rounds-known e.phase e.rounds (numbers e.players) (p.no ∷ []) e.stored h.rounds);
+      bracket = subst (λ (known : List ℕ). AreStages e.phase e.cut known e.bracket.stages) (sym listed) (stages-known e.phase e.cut (numbers e.players) (p.no ∷ []) e.bracket.stages h.bracket);
+    }
 
 -- and the name was new, where that is so
 pub IsSound-new : (e : EventValue) (name : List ℕ) → IsSoundButForSeeds (with_player e name) → IsTrue (not (has_name e.players name))

@@ -6,7 +6,7 @@ use Rattle.std.proofs.lemmas.List.Elements.{All-from_recursion, recursion_from_A
 use Rattle.std.proofs.lemmas.Option.{none-some, same_Some}
 use Rattle.std.proofs.lemmas.Bool.Decides.{nat_tests}
 use Rattle.er_event.specs.declared.scores.Games.{Games}
-use Rattle.er_event.specs.declared.rounds.Match.{Match}
+use Rattle.er_event.specs.declared.matches.Match.{Match}
 use Rattle.er_event.specs.declared.events.Phase.{Phase}
 use Rattle.er_event.specs.declared.events.Phase.TheVariants.{Enrolling, Swiss, Playoff, Finished}
 use Rattle.er_event.specs.declared.changes.Change.TheVariants.{AddBracket}
@@ -14,7 +14,7 @@ use Rattle.er_event.specs.Event.{EventValue}
 use Rattle.er_event.specs.Score.{is_playoff_score}
 use Rattle.er_event.specs.Round.{is_counted}
 use Rattle.er_event.specs.Bracket.{next_stage, SameSlots, FollowOn, last_match, IsDecided}
-use Rattle.er_event.specs.Sound.{numbers, IsBracket, AllRoundsDone, IsSoundButForSeeds}
+use Rattle.er_event.specs.Sound.{numbers, is_lawful_cut, IsBracket, IsPlayoff, AllRoundsDone, IsSoundButForSeeds}
 use Rattle.er_event.specs.Change.{with_bracket, Fits, IsOpening}
 use Rattle.er_event.proofs.ScoreLemmas.{slots-refl}
 use Rattle.er_event.proofs.SlotLemmas.{follow-split, over-counted, last-after}
@@ -89,14 +89,11 @@ drop-here (suc k) (s ∷ stages) old at = drop-here k stages old at
 
 -- ---- an event in the playoff
 
-abbrev pub IsOver : Phase → Type 0
-IsOver p = (p ≡ Playoff) ⊎ (p ≡ Finished)
-
-not-enrolling : (p : Phase) → IsOver p → p ≡ Enrolling → ⊥
+not-enrolling : (p : Phase) → IsPlayoff p → p ≡ Enrolling → ⊥
 not-enrolling p (inl is) e = let never = sym is ∙ e in cc
 not-enrolling p (inr is) e = let never = sym is ∙ e in cc
 
-pub not-before : (p : Phase) → IsOver p → (p ≡ Enrolling) ⊎ (p ≡ Swiss) → ⊥
+pub not-before : (p : Phase) → IsPlayoff p → (p ≡ Enrolling) ⊎ (p ≡ Swiss) → ⊥
 not-before p is (inl e) = not-enrolling p is e
 not-before p (inl is) (inr e) = let never = sym is ∙ e in cc
 not-before p (inr is) (inr e) = let never = sym is ∙ e in cc
@@ -108,12 +105,12 @@ module _ (e : EventValue) (p : Phase) (stages : List (List Match)) where
   abbrev pub in_playoff : EventValue
   in_playoff = record e { phase = p; bracket = record { stages = stages } }
 
-  pub sound-playoff : IsSoundButForSeeds e → IsOver p → AllRoundsDone e → IsBracket (numbers e.players) e.cut stages → (p ≡ Finished → IsDecided stages) → (p ≡ Playoff → IsDecided stages → ⊥) → IsSoundButForSeeds in_playoff
+  pub sound-playoff : IsSoundButForSeeds e → IsPlayoff p → AllRoundsDone e → IsBracket (numbers e.players) e.cut stages → (p ≡ Finished → IsDecided stages) → (p ≡ Playoff → IsDecided stages → ⊥) → IsSoundButForSeeds in_playoff
   sound-playoff h over done bracket decided undecided = record {
-    set_up = record { name = h.set_up.name; rounds = h.set_up.rounds; cut = h.set_up.cut };
+    set_up = h.set_up;
     players = record { few = h.players.few; numbered = h.players.numbered; lawful = h.players.lawful; distinct = h.players.distinct; enrolling = λ is. absurd (not-enrolling p over is); started = λ _. h.players.started begun };
-    rounds = record { few = h.rounds.few; enrolling = λ is. absurd (not-enrolling p over is); each = h.rounds.each; no_repeats = h.rounds.no_repeats; earlier_done = h.rounds.earlier_done };
-    bracket = record { none = λ before. absurd (not-before p over before); rounds_done = λ _. done; bracket = λ _. bracket; decided = decided; undecided = undecided };
+    rounds = record { few = h.rounds.few; enrolling = λ is. absurd (not-enrolling p over is); each = h.rounds.each; no_repeats = h.rounds.no_repeats; earlier_done = h.rounds.earlier_done; done = λ _. done };
+    bracket = record { none = λ before. absurd (not-before p over before); bracket = λ _. bracket; decided = decided; undecided = undecided };
   }
     where
       begun : e.phase ≡ Enrolling → ⊥
@@ -124,17 +121,17 @@ pub follow-never : (l : List Match) (later : List (List Match)) (ns : List Match
 follow-never l [] ns f h = let one = f h.0 in let two = h.1 in omega arith
 follow-never l (t ∷ later) ns f h = follow-never t later ns f.3 h.3
 
-by-phase : (p q : Phase) → p ≡ q → ((p ≡ Enrolling) ⊎ (p ≡ Swiss)) ⊎ IsOver p
+by-phase : (p q : Phase) → p ≡ q → ((p ≡ Enrolling) ⊎ (p ≡ Swiss)) ⊎ IsPlayoff p
 by-phase p Enrolling is = inl (inl is)
 by-phase p Swiss is = inl (inr is)
 by-phase p Playoff is = inr (inl is)
 by-phase p Finished is = inr (inr is)
 
 -- an event with a stage is in the playoff
-pub started : (e : EventValue) → IsSoundButForSeeds e → (e.bracket.stages ≡ [] → ⊥) → IsOver e.phase
+pub started : (e : EventValue) → IsSoundButForSeeds e → (e.bracket.stages ≡ [] → ⊥) → IsPlayoff e.phase
 started e h some = by (by-phase e.phase e.phase refl)
   where
-    by : ((e.phase ≡ Enrolling) ⊎ (e.phase ≡ Swiss)) ⊎ IsOver e.phase → IsOver e.phase
+    by : ((e.phase ≡ Enrolling) ⊎ (e.phase ≡ Swiss)) ⊎ IsPlayoff e.phase → IsPlayoff e.phase
     by (inl before) = absurd (some (h.bracket.none before))
     by (inr over) = over
 
@@ -156,7 +153,7 @@ module _ (e : EventValue) (ms : List Match) (h : IsSoundButForSeeds e) where
     opening-undecided s = subst (λ (ss : List (List Match)). IsDecided ss → ⊥) alone (s.bracket.undecided refl)
 
   pub opening-done : IsSoundButForSeeds (with_bracket e ms) → AllRoundsDone e
-  opening-done s = s.bracket.rounds_done (inl refl)
+  opening-done s = s.rounds.done (inl refl)
 
   -- no stage stands before
   pub opening-first : IsSoundButForSeeds (with_bracket e ms) → length e.bracket.stages ≡ 0
@@ -195,7 +192,7 @@ all-open (m ∷ ms) some free h = true≢false (sym h ∙ ap (λ (o : Option Gam
 open-lawful : (m : Match) → m.score ≡ None → Lawful m
 open-lawful m free = subst (λ (o : Option Games). IfSome o (λ s. IsTrue (is_playoff_score s))) (sym free) tt
 
-some-cut : (cut : ℕ) → (cut == 0 || cut == 2 || cut == 4 || cut == 8) ≡ true → 0 < cut → 2 ≤ cut
+some-cut : (cut : ℕ) → is_lawful_cut cut ≡ true → 0 < cut → 2 ≤ cut
 some-cut cut set some = grind (arith, nat_tests)
 
 pub opening-fits : (e : EventValue) (ms : List Match) → IsSoundButForSeeds e → IsOpening e ms → Fits e (AddBracket ms)

@@ -5,7 +5,7 @@ use Rattle.std.proofs.lemmas.Bool.Decides.{nat_tests}
 use Rattle.std.proofs.lemmas.List.Elements.{All-cons, All-nil, All-head, All-tail, All-weaker}
 use Rattle.std.proofs.lemmas.List.FromFn.{length-range_with_len, get_or-range_with_len}
 use Rattle.er_event.specs.declared.scores.Games.{Games}
-use Rattle.er_event.specs.declared.rounds.Match.{Match}
+use Rattle.er_event.specs.declared.matches.Match.{Match}
 use Rattle.er_event.specs.Score.{is_swiss_score, bye_score}
 use Rattle.er_event.specs.Round.{is_bye, seats}
 use Rattle.er_event.specs.Match.{is_known, is_bye_score, is_lawful_score, is_lawful_match}

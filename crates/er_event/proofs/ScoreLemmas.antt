@@ -8,13 +8,13 @@ use Rattle.std.proofs.lemmas.List.Elements.{All-from_recursion, recursion_from_A
 use Rattle.std.proofs.lemmas.Option.{none-some, get_or_from_slice_get, slice_get_read}
 use Rattle.std.proofs.lemmas.Bool.Decides.{nat_tests}
 use Rattle.er_event.specs.declared.scores.Games.{Games}
-use Rattle.er_event.specs.declared.rounds.Match.{Match}
+use Rattle.er_event.specs.declared.matches.Match.{Match}
 use Rattle.er_event.specs.declared.rounds.Round.{Round}
 use Rattle.er_event.specs.Event.{EventValue}
 use Rattle.er_event.specs.Score.{is_swiss_score, bye_score}
 use Rattle.er_event.specs.Round.{is_bye, is_counted, is_same_pairing, seats, matches_of, numbered_from, match_in, match_at}
 use Rattle.er_event.specs.Bracket.{SameSlots}
-use Rattle.er_event.specs.Sound.{numbers, IsRound, HasRounds, IsSoundButForSeeds}
+use Rattle.er_event.specs.Sound.{numbers, IsRound, AreRounds, IsSoundButForSeeds}
 use Rattle.er_event.specs.declared.changes.Change.TheVariants.{SetScore}
 use Rattle.er_event.specs.Change.{scored, score_table, with_score, Fits}
 use Rattle.er_event.proofs.Pairs.{Rec, from_rec, to_rec}
@@ -144,8 +144,8 @@ module _ (s : Games) (m : Match) (i : ℕ) (ms : List Match) (there : get_or ms 
     counted-here : Counted (get_or e.stored j r) → Counted r
     counted-here h = counted-scored (ap is_counted (sym round) ∙ h)
 
-    HasRounds-scored : is_swiss_score s ≡ true → HasRounds e → HasRounds (record e { stored = rounds })
-    HasRounds-scored swiss h =
+    rounds-scored : is_swiss_score s ≡ true → AreRounds e.phase e.rounds (numbers e.players) e.stored → AreRounds e.phase e.rounds (numbers e.players) rounds
+    rounds-scored swiss h =
         let count = count-rounds in
         record {
           few = let few = h.few in omega arith;
@@ -153,21 +153,11 @@ module _ (s : Games) (m : Match) (i : ℕ) (ms : List Match) (there : get_or ms 
           each = All-set (λ (q : Round). IsRound (numbers e.players) q.matches) r j e.stored (λ is. round-scored (numbers e.players) swiss (subst (IsRound (numbers e.players)) round is)) h.each;
           no_repeats = from_rec Differ (matches_of rounds) (slots-rec (matches_of e.stored) (matches_of rounds) (slots-rounds r j e.stored (subst (λ (ks : List Match). SameSlots ks new) (sym round) slots-new)) (to_rec Differ (matches_of e.stored) h.no_repeats));
           earlier_done = subst (λ (n : ℕ). All Counted (take (n - 1) rounds)) (sym count) (First-set Counted r (length e.stored - 1) j e.stored counted-here h.earlier_done);
+          done = λ over. (let all = h.done over in (count ∙ all.0, All-set Counted r j e.stored counted-here all.1));
         }
 
     IsSound-scored : is_swiss_score s ≡ true → IsSoundButForSeeds e → IsSoundButForSeeds (record e { stored = rounds })
-    IsSound-scored swiss h = record {
-      set_up = record { name = h.set_up.name; rounds = h.set_up.rounds; cut = h.set_up.cut };
-      players = record { few = h.players.few; numbered = h.players.numbered; lawful = h.players.lawful; distinct = h.players.distinct; enrolling = h.players.enrolling; started = h.players.started };
-      rounds = HasRounds-scored swiss h.rounds;
-      bracket = record {
-        none = h.bracket.none;
-        rounds_done = λ over. (let done = h.bracket.rounds_done over in (count-rounds ∙ done.0, All-set Counted r j e.stored counted-here done.1));
-        bracket = h.bracket.bracket;
-        decided = h.bracket.decided;
-        undecided = h.bracket.undecided;
-      };
-    }
+    IsSound-scored swiss h = record { set_up = h.set_up; players = h.players; rounds = rounds-scored swiss h.rounds; bracket = h.bracket }
 
     -- a sound event has no other score
     scored-swiss : i < length ms → j < length e.stored → IsSoundButForSeeds (record e { stored = rounds }) → is_swiss_score s ≡ true

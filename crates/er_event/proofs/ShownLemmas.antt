@@ -4,12 +4,13 @@ use Rattle.std.specs.List.{range_with_len}
 use Rattle.std.proofs.lemmas.Bool.Decides.{nat_tests}
 use Rattle.std.proofs.lemmas.List.FromFn.{length-range_with_len, get_or-range_with_len}
 use Rattle.std.proofs.lemmas.List.Elements.{All-head, All-tail, All-cons, All-nil, All-weaker}
-use Rattle.er_event.specs.declared.rounds.Match.{Match}
+use Rattle.er_event.specs.declared.events.Phase.{Phase}
+use Rattle.er_event.specs.declared.matches.Match.{Match}
 use Rattle.er_event.specs.declared.rounds.Round.{Round}
-use Rattle.er_event.specs.Event.{EventValue}
 use Rattle.er_event.specs.Score.{is_swiss_score}
 use Rattle.er_event.specs.Round.{is_bye}
-use Rattle.er_event.specs.Sound.{numbers, IsRound, IsSetUp, HasPlayers, HasRounds}
+use Rattle.er_event.specs.Event.{EventValue}
+use Rattle.er_event.specs.Sound.{IsRound, AreRounds, IsSoundButForSeeds}
 use Rattle.er_event.specs.Pairings.{IsShown, AreShown}
 
 module _ (n : ℕ) (few : n ≤ 512) where
@@ -40,10 +41,9 @@ module _ (n : ℕ) (few : n ≤ 512) where
   round_shown : (ms : List Match) → IsRound (range_with_len 1 n) ms → AreShown ms
   round_shown ms h = record { some = h.some; each = each_shown ms h.first_known h.second_known h.scores; bye_last = h.bye_last }
 
-pub rounds_shown : (e : EventValue) → HasPlayers e → HasRounds e → All (λ (r : Round). AreShown r.matches) e.stored
-rounds_shown e players rounds =
-    All-weaker (λ (r : Round). IsRound (numbers e.players) r.matches) (λ (r : Round). AreShown r.matches)
-    (λ r h. round_shown (length e.players) players.few r.matches (subst (λ known. IsRound known r.matches) players.numbered h)) e.stored rounds.each
+pub rounds_shown : (phase : Phase) (limit n : ℕ) (rounds : List Round) → n ≤ 512 → AreRounds phase limit (range_with_len 1 n) rounds → All (λ (r : Round). AreShown r.matches) rounds
+rounds_shown phase limit n rounds few h =
+    All-weaker (λ (r : Round). IsRound (range_with_len 1 n) r.matches) (λ (r : Round). AreShown r.matches) (λ r. round_shown n few r.matches) rounds h.each
 
-pub rounds_few : (e : EventValue) → IsSetUp e → HasRounds e → length e.stored ≤ 9
-rounds_few e set_up rounds = let most = set_up.rounds.1 in let few = rounds.few in omega arith
+pub event_shown : (e : EventValue) → IsSoundButForSeeds e → All (λ (r : Round). AreShown r.matches) e.stored
+event_shown e h = rounds_shown e.phase e.rounds (length e.players) e.stored h.players.few (subst (λ (known : List ℕ). AreRounds e.phase e.rounds known e.stored) h.players.numbered h.rounds)

@@ -7,7 +7,7 @@ use Rattle.std.proofs.lemmas.List.Elements.{All-from_recursion, recursion_from_A
 use Rattle.std.proofs.lemmas.Option.{none-some, same_Some, get_or_from_slice_get}
 use Rattle.std.proofs.lemmas.Bool.Decides.{nat_tests}
 use Rattle.er_event.specs.declared.scores.Games.{Games}
-use Rattle.er_event.specs.declared.rounds.Match.{Match}
+use Rattle.er_event.specs.declared.matches.Match.{Match}
 use Rattle.er_event.specs.declared.events.Phase.{Phase}
 use Rattle.er_event.specs.declared.events.Phase.TheVariants.{Finished}
 use Rattle.er_event.specs.declared.changes.Change.TheVariants.{SetBracketScore}
@@ -15,13 +15,13 @@ use Rattle.er_event.specs.Event.{EventValue}
 use Rattle.er_event.specs.Score.{is_playoff_score}
 use Rattle.er_event.specs.Round.{is_counted}
 use Rattle.er_event.specs.Bracket.{open_match, next_stage, SameSlots, FollowOn, last_match, IsDecided, slot_at, following, is_over}
-use Rattle.er_event.specs.Sound.{numbers, IsBracket, IsSoundButForSeeds}
+use Rattle.er_event.specs.Sound.{numbers, IsBracket, IsPlayoff, IsSoundButForSeeds}
 use Rattle.er_event.specs.Change.{scored, scored_slot, stage_of, one_more, IsEnd, Fits}
 use Rattle.er_event.proofs.ScoreLemmas.{All-set, set-All, slots-refl, slots-set, slots-seats, within-get}
 use Rattle.er_event.proofs.RoundLemmas.{All-of}
 use Rattle.er_event.proofs.SlotLemmas.{Stands, follow-split, over-counted, last-after, length-same}
 use Rattle.er_event.proofs.BracketLemmas.{Lawful}
-use Rattle.er_event.proofs.PlayoffLemmas.{follow-new, drop-new, length-new, all-new, all-old, first-new, follow-drop, last-drop, drop-here, follow-never, IsOver, in_playoff, sound-playoff, started}
+use Rattle.er_event.proofs.PlayoffLemmas.{follow-new, drop-new, length-new, all-new, all-old, first-new, follow-drop, last-drop, drop-here, follow-never, in_playoff, sound-playoff, started}
 
 abbrev AllLawful : List Match → Type 0
 AllLawful ms = All Lawful ms
@@ -32,7 +32,7 @@ module _ (e : EventValue) (k : ℕ) (old new : List Match) (at : slice_get e.bra
   abbrev later : List (List Match)
   later = drop (suc k) e.bracket.stages
 
-  pub over : IsOver e.phase
+  pub over : IsPlayoff e.phase
   over = started e h (λ none. none-some old (ap (λ (ss : List (List Match)). slice_get ss k) (sym none) ∙ at))
 
   bracket : IsBracket (numbers e.players) e.cut e.bracket.stages
@@ -45,7 +45,7 @@ module _ (e : EventValue) (k : ℕ) (old new : List Match) (at : slice_get e.bra
   pub decided-old : last_match e.bracket.stages ≡ last_match (old ∷ later)
   decided-old = last-drop k e.bracket.stages (within-get e.bracket.stages k old at) ∙ ap last_match (drop-here k e.bracket.stages old at)
 
-  module _ (more : List (List Match)) (p : Phase) (is : IsOver p) where
+  module _ (more : List (List Match)) (p : Phase) (is : IsPlayoff p) where
     abbrev stages : List (List Match)
     stages = set e.bracket.stages k new ++ more
 
@@ -67,7 +67,7 @@ module _ (e : EventValue) (k : ℕ) (old new : List Match) (at : slice_get e.bra
         let first = first-new new more k e.bracket.stages old b.first at same b.is_first in
         let sit = sym (slots-seats first.0 b.first first.2) in
         let ended : (p ≡ Finished) ↔ IsDecided stages = subst (λ (T : Type 0). (p ≡ Finished) ↔ T) (sym decided-new) n.decided in
-        sound-playoff e p stages h is (h.bracket.rounds_done over)
+        sound-playoff e p stages h is (h.rounds.done over)
         (record {
           cut_is_played = b.cut_is_played;
           first = first.0;
@@ -91,7 +91,7 @@ module _ (e : EventValue) (k : ℕ) (old new : List Match) (at : slice_get e.bra
           decided = subst (λ (T : Type 0). (p ≡ Finished) ↔ T) decided-new (s.bracket.decided, ended is s);
         }
       where
-        ended : IsOver p → IsSoundButForSeeds (in_playoff e p stages) → IsDecided stages → p ≡ Finished
+        ended : IsPlayoff p → IsSoundButForSeeds (in_playoff e p stages) → IsDecided stages → p ≡ Finished
         ended (inl playing) s over = absurd (s.bracket.undecided playing over)
         ended (inr over) s _ = over
 
@@ -130,7 +130,7 @@ all-at P i [] x at h = absurd (none-some x at)
 all-at P zero (y ∷ xs) x at h = subst P (same_Some y x at) h.0
 all-at P (suc i) (y ∷ xs) x at h = all-at P i xs x at h.1
 
-after-phase : (finished : Bool) (p : Phase) → IsOver p → IsOver (cond finished Finished p)
+after-phase : (finished : Bool) (p : Phase) → IsPlayoff p → IsPlayoff (cond finished Finished p)
 after-phase true p is = inr refl
 after-phase false p is = is
 
@@ -157,7 +157,7 @@ module _ (e : EventValue) (stage slot : ℕ) (score : Games) (m : Match) (is : s
       let reads : get_or old_stage (slot - 1) n ≡ get_or old_stage (slot - 1) (open_match 0 0) = read n ∙ sym (read (open_match 0 0)) in
       same-sym old_stage new_stage (slots-set n (slot - 1) old_stage (ap (λ (k : Match). k.a) reads) (ap (λ (k : Match). k.b) reads))
 
-  over-before : IsOver e.phase
+  over-before : IsPlayoff e.phase
   over-before = over e (stage - 1) old_stage new_stage f.at same-stage h
 
   lawful-old : AllLawful old_stage

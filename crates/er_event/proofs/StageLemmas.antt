@@ -6,8 +6,8 @@ use Rattle.std.proofs.lemmas.List.Elements.{All-head, All-tail}
 use Rattle.std.proofs.lemmas.Bool.Decides.{Decides-int_eq}
 use Rattle.std.specs.Ordering.{int_eq}
 use Rattle.std.specs.List.{prefix_len}
-use Rattle.er_event.specs.declared.rows.BracketRow.{BracketRow}
-use Rattle.er_event.specs.declared.rounds.Match.{Match}
+use Rattle.er_event.specs.declared.rows.bracket.BracketRow.{BracketRow}
+use Rattle.er_event.specs.declared.matches.Match.{Match}
 use Rattle.er_event.specs.Round.{numbered_from}
 use Rattle.er_event.specs.Rows.{bracket_row, stage_rows, bracket_rows_from}
 use Rattle.er_event.specs.inside.Stages.{IsShownSlot, IsShownStage, slot_rows, is_of_stage}

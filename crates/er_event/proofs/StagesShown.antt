@@ -5,11 +5,11 @@ use Rattle.std.proofs.lemmas.Bool.Decides.{nat_tests}
 use Rattle.std.proofs.lemmas.Option.{none-some}
 use Rattle.std.proofs.lemmas.List.Elements.{All-head, All-tail, All-cons, All-nil}
 use Rattle.er_event.specs.declared.scores.Games.{Games}
-use Rattle.er_event.specs.declared.rounds.Match.{Match}
+use Rattle.er_event.specs.declared.matches.Match.{Match}
 use Rattle.er_event.specs.Score.{is_playoff_score}
 use Rattle.er_event.specs.Round.{seats}
 use Rattle.er_event.specs.Bracket.{winner_with, next_stage, SameSlots, FollowOn}
-use Rattle.er_event.specs.Sound.{IsBracket}
+use Rattle.er_event.specs.Sound.{is_lawful_cut, IsBracket}
 use Rattle.er_event.specs.inside.Stages.{IsShownSlot, IsShownStage}
 use Rattle.er_event.proofs.PairingLemmas.{some_same}
 use Rattle.er_event.proofs.ShownLemmas.{below}
@@ -96,7 +96,7 @@ all_seats n few (m ∷ ms) known =
     All-cons IsNarrow m ms (below n few m.a (All-head Known m.a (m.b ∷ more) known), below n few m.b (All-head Known m.b more second))
     (all_seats n few ms (All-tail Known m.b more second))
 
-module _ (n cut : ℕ) (few : n ≤ 512) (limit : IsTrue (cut == 0 || cut == 2 || cut == 4 || cut == 8)) where
+module _ (n cut : ℕ) (few : n ≤ 512) (limit : IsTrue (is_lawful_cut cut)) where
   at_most_8 : cut ≤ 8
   at_most_8 = grind (arith, nat_tests)
 

@@ -7,7 +7,7 @@ use Rattle.er_event.specs.declared.changes.Change.TheVariants.{AddPlayer, SetDro
 use Rattle.er_event.specs.declared.events.Phase.{Phase}
 use Rattle.er_event.specs.declared.events.Phase.TheVariants.{Enrolling, Swiss, Playoff, Finished}
 use Rattle.er_event.specs.declared.players.Player.{Player}
-use Rattle.er_event.specs.declared.rounds.Match.{Match}
+use Rattle.er_event.specs.declared.matches.Match.{Match}
 use Rattle.er_event.specs.declared.scores.Games.{Games}
 use Rattle.er_event.specs.Event.{EventValue}
 use Rattle.er_event.specs.declared.rounds.Round.{Round}

@@ -3,7 +3,7 @@ use Rattle.std.specs.Prelude.{ℕ, List}
 use Rattle.er_event.specs.declared.events.Phase.{Phase}
 use Rattle.er_event.specs.declared.players.Player.{Player}
 use Rattle.er_event.specs.declared.rounds.Round.{Round}
-use Rattle.er_event.specs.declared.rounds.Bracket.{Bracket}
+use Rattle.er_event.specs.declared.brackets.Bracket.{Bracket}
 
 pub record EventValue : Type 0 where
   pub name : List ℕ

@@ -1,9 +1,9 @@
 -- Which matches rows can show.
 use Rattle.std.specs.Prelude.{ℕ, pos, Bool, ◌<◌, ◌-◌, IsTrue, IsFalse, IfSome, List, length, map, take, All}
 use Rattle.std.specs.Ordering.{int_eq}
-use Rattle.er_event.specs.declared.rounds.Match.{Match}
+use Rattle.er_event.specs.declared.matches.Match.{Match}
 use Rattle.er_event.specs.Score.{is_swiss_score}
-use Rattle.er_event.specs.declared.rows.PairingRow.{PairingRow}
+use Rattle.er_event.specs.declared.rows.pairing.PairingRow.{PairingRow}
 use Rattle.er_event.specs.Round.{is_bye, numbered_from}
 use Rattle.er_event.specs.Rows.{pairing_row}
 

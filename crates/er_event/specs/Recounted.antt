@@ -2,7 +2,7 @@
 use Rattle.std.specs.Prelude.{◌≢◌, ℕ, ◌-◌, if◌then◌else◌, List, [], ◌∷◌, All, Contains, IsFalse, slice_index_or}
 use Rattle.er_event.specs.declared.changes.Change.{Change}
 use Rattle.er_event.specs.declared.changes.Change.TheVariants.{AddRound, SetScore}
-use Rattle.er_event.specs.declared.rounds.Match.{Match}
+use Rattle.er_event.specs.declared.matches.Match.{Match}
 use Rattle.er_event.specs.declared.scores.Games.{Games}
 use Rattle.er_event.specs.Bracket.{open_match}
 use Rattle.er_event.specs.Change.{scored_slot}

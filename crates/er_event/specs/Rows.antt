@@ -3,13 +3,13 @@ use Rattle.std.specs.Prelude.{ℕ, ℤ, pos, ◌+◌, min, max, nat_lt, Bool, no
 use Rattle.er_event.specs.declared.events.Phase.{Phase}
 use Rattle.er_event.specs.declared.events.Phase.TheVariants.{Enrolling, Swiss, Playoff, Finished}
 use Rattle.er_event.specs.declared.players.Player.{Player}
-use Rattle.er_event.specs.declared.rounds.Match.{Match}
+use Rattle.er_event.specs.declared.matches.Match.{Match}
 use Rattle.er_event.specs.declared.rounds.Round.{Round}
-use Rattle.er_event.specs.declared.rows.EventRow.{EventRow}
-use Rattle.er_event.specs.declared.rows.PlayerRow.{PlayerRow}
-use Rattle.er_event.specs.declared.rows.PairingRow.{PairingRow}
-use Rattle.er_event.specs.declared.rows.BracketRow.{BracketRow}
-use Rattle.er_event.specs.declared.rows.TallyRow.{TallyRow}
+use Rattle.er_event.specs.declared.rows.event.EventRow.{EventRow}
+use Rattle.er_event.specs.declared.rows.player.PlayerRow.{PlayerRow}
+use Rattle.er_event.specs.declared.rows.pairing.PairingRow.{PairingRow}
+use Rattle.er_event.specs.declared.rows.bracket.BracketRow.{BracketRow}
+use Rattle.er_event.specs.declared.rows.tally.TallyRow.{TallyRow}
 use Rattle.er_event.specs.declared.scores.Games.{Games}
 use Rattle.er_event.specs.declared.totals.Totals.{Totals}
 use Rattle.er_event.specs.Event.{EventValue}
@@ -25,8 +25,9 @@ phase_code Swiss = 1
 phase_code Playoff = 2
 phase_code Finished = 3
 
-abbrev pub event_row : EventValue → ℕ → EventRow
-event_row e serial = record { id = pos 1; version = pos 1; serial = pos serial; name = e.name; rounds = pos e.rounds; cut = pos e.cut; phase = pos (phase_code e.phase) }
+-- in tables of this version
+abbrev pub event_row : ℕ → EventValue → ℕ → EventRow
+event_row version e serial = record { id = pos 1; version = pos version; serial = pos serial; name = e.name; rounds = pos e.rounds; cut = pos e.cut; phase = pos (phase_code e.phase) }
 
 abbrev pub player_row : Player → PlayerRow
 player_row p = record { no = pos p.no; name = p.name; dropped = flag p.dropped }

@@ -1,11 +1,12 @@
 -- What is true of every event that the rules can bring about, but for who is seeded where in the playoff.
-use Rattle.std.specs.Prelude.{◌≡◌, ◌≢◌, ◌⊎◌, ℕ, ◌-◌, ◌<◌, ◌≤◌, ◌==◌, ◌/◌, ◌||◌, IsTrue, IsFalse, List, [], length, map, flat_map, take, All, AllPairs, Contains, IfSome, Some, slice_get}
+use Rattle.std.specs.Prelude.{◌≡◌, ◌≢◌, ◌⊎◌, ℕ, Bool, ◌-◌, ◌<◌, ◌≤◌, ◌==◌, ◌/◌, ◌||◌, IsTrue, IsFalse, List, [], length, map, flat_map, take, All, AllPairs, Contains, IfSome, Some, slice_get}
 use Rattle.std.specs.List.{range_with_len}
 use Rattle.er_event.specs.declared.events.TheConstants.{MAX_ROUNDS}
 use Rattle.er_event.specs.declared.players.TheConstants.{MAX_PLAYERS}
+use Rattle.er_event.specs.declared.events.Phase.{Phase}
 use Rattle.er_event.specs.declared.events.Phase.TheVariants.{Enrolling, Swiss, Playoff, Finished}
 use Rattle.er_event.specs.declared.players.Player.{Player}
-use Rattle.er_event.specs.declared.rounds.Match.{Match}
+use Rattle.er_event.specs.declared.matches.Match.{Match}
 use Rattle.er_event.specs.declared.rounds.Round.{Round}
 use Rattle.er_event.specs.Name.{is_lawful_name}
 use Rattle.er_event.specs.Score.{is_swiss_score, is_playoff_score, bye_score}
@@ -42,43 +43,56 @@ pub record IsBracket (known : List ℕ) (cut : ℕ) (stages : List (List Match))
   pub scores : All (λ (stage : List Match). All (λ m. IfSome m.score (λ s. IsTrue (is_playoff_score s))) stage) stages
   pub follows : FollowOn stages
 
--- what an event is set up with
-pub record IsSetUp (e : EventValue) : Type 0 where
-  pub name : IsTrue (is_lawful_name e.name)
-  pub rounds : (1 ≤ e.rounds) × (e.rounds ≤ MAX_ROUNDS)
-  pub cut : IsTrue (e.cut == 0 || e.cut == 2 || e.cut == 4 || e.cut == 8)
+abbrev pub is_lawful_cut : ℕ → Bool
+is_lawful_cut cut = cut == 0 || cut == 2 || cut == 4 || cut == 8
 
-pub record HasPlayers (e : EventValue) : Type 0 where
-  pub few : length e.players ≤ MAX_PLAYERS
-  pub numbered : numbers e.players ≡ range_with_len 1 (length e.players)
-  pub lawful : All (λ name. IsTrue (is_lawful_name name)) (names e.players)
-  pub distinct : AllPairs (λ p q. p ≢ q) (names e.players)
-  pub enrolling : e.phase ≡ Enrolling → All (λ (p : Player). IsFalse p.dropped) e.players
-  pub started : e.phase ≢ Enrolling → 2 ≤ length e.players
+-- a name, a number of Swiss rounds and a cut that an event may be set up with
+pub record IsSetUp (title : List ℕ) (limit size : ℕ) : Type 0 where
+  pub name : IsTrue (is_lawful_name title)
+  pub rounds : (1 ≤ limit) × (limit ≤ MAX_ROUNDS)
+  pub cut : IsTrue (is_lawful_cut size)
 
-pub record HasRounds (e : EventValue) : Type 0 where
-  pub few : length e.stored ≤ e.rounds
-  pub enrolling : e.phase ≡ Enrolling → e.stored ≡ []
-  pub each : All (λ (r : Round). IsRound (numbers e.players) r.matches) e.stored
+-- the players of an event in this phase
+pub record ArePlayers (phase : Phase) (players : List Player) : Type 0 where
+  pub few : length players ≤ MAX_PLAYERS
+  pub numbered : numbers players ≡ range_with_len 1 (length players)
+  pub lawful : All (λ name. IsTrue (is_lawful_name name)) (names players)
+  pub distinct : AllPairs (λ p q. p ≢ q) (names players)
+  pub enrolling : phase ≡ Enrolling → All (λ (p : Player). IsFalse p.dropped) players
+  pub started : phase ≢ Enrolling → 2 ≤ length players
+
+abbrev pub IsPlayoff : Phase → Type 0
+IsPlayoff phase = (phase ≡ Playoff) ⊎ (phase ≡ Finished)
+
+-- all the rounds of an event are paired and complete
+abbrev pub AreDone : ℕ → List Round → Type 0
+AreDone limit rounds = (length rounds ≡ limit) × All (λ (r : Round). IsTrue (is_counted r.matches)) rounds
+
+-- the stored rounds of an event in this phase, with so many rounds at most, and these player numbers
+pub record AreRounds (phase : Phase) (limit : ℕ) (known : List ℕ) (rounds : List Round) : Type 0 where
+  pub few : length rounds ≤ limit
+  pub enrolling : phase ≡ Enrolling → rounds ≡ []
+  pub each : All (λ (r : Round). IsRound known r.matches) rounds
   -- nobody meets an opponent, or has a bye, again
-  pub no_repeats : AllPairs (λ m n. IsFalse (is_same_pairing m n)) (matches_of e.stored)
-  pub earlier_done : All (λ (r : Round). IsTrue (is_counted r.matches)) (take (length e.stored - 1) e.stored)
+  pub no_repeats : AllPairs (λ m n. IsFalse (is_same_pairing m n)) (matches_of rounds)
+  pub earlier_done : All (λ (r : Round). IsTrue (is_counted r.matches)) (take (length rounds - 1) rounds)
+  pub done : IsPlayoff phase → AreDone limit rounds
 
-abbrev pub IsInPlayoff : EventValue → Type 0
-IsInPlayoff e = (e.phase ≡ Playoff) ⊎ (e.phase ≡ Finished)
-
-abbrev pub AllRoundsDone : EventValue → Type 0
-AllRoundsDone e = (length e.stored ≡ e.rounds) × All (λ (r : Round). IsTrue (is_counted r.matches)) e.stored
-
-pub record HasBracket (e : EventValue) : Type 0 where
-  pub none : (e.phase ≡ Enrolling) ⊎ (e.phase ≡ Swiss) → e.bracket.stages ≡ []
-  pub rounds_done : IsInPlayoff e → AllRoundsDone e
-  pub bracket : IsInPlayoff e → IsBracket (numbers e.players) e.cut e.bracket.stages
-  pub decided : e.phase ≡ Finished → IsDecided e.bracket.stages
-  pub undecided : e.phase ≡ Playoff → IsDecided e.bracket.stages → ⊥
+-- the stages of the playoff of an event in this phase, with this cut and these player numbers
+pub record AreStages (phase : Phase) (cut : ℕ) (known : List ℕ) (stages : List (List Match)) : Type 0 where
+  pub none : (phase ≡ Enrolling) ⊎ (phase ≡ Swiss) → stages ≡ []
+  pub bracket : IsPlayoff phase → IsBracket known cut stages
+  pub decided : phase ≡ Finished → IsDecided stages
+  pub undecided : phase ≡ Playoff → IsDecided stages → ⊥
 
 pub record IsSoundButForSeeds (e : EventValue) : Type 0 where
-  pub set_up : IsSetUp e
-  pub players : HasPlayers e
-  pub rounds : HasRounds e
-  pub bracket : HasBracket e
+  pub set_up : IsSetUp e.name e.rounds e.cut
+  pub players : ArePlayers e.phase e.players
+  pub rounds : AreRounds e.phase e.rounds (numbers e.players) e.stored
+  pub bracket : AreStages e.phase e.cut (numbers e.players) e.bracket.stages
+
+abbrev pub IsInPlayoff : EventValue → Type 0
+IsInPlayoff e = IsPlayoff e.phase
+
+abbrev pub AllRoundsDone : EventValue → Type 0
+AllRoundsDone e = AreDone e.rounds e.stored

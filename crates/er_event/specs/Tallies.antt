@@ -1,7 +1,7 @@
 -- The totals of each player, and who met whom.
 use Rattle.std.specs.Prelude.{ℕ, ◌<◌, min, max, not, if◌then◌else◌, List, [], map, filter, flat_map}
 use Rattle.er_event.specs.declared.players.Player.{Player}
-use Rattle.er_event.specs.declared.rounds.Match.{Match}
+use Rattle.er_event.specs.declared.matches.Match.{Match}
 use Rattle.er_event.specs.declared.rounds.Round.{Round}
 use Rattle.er_event.specs.declared.tallies.Meeting.{Meeting}
 use Rattle.er_event.specs.declared.tallies.Tally.{Tally}

@@ -1,13 +1,20 @@
-ghost use Rattle.std.specs.Prelude.{◌≡◌, ◌≢◌, ◌↔◌, ◌<◌, ◌/◌, ◌&&◌, IsTrue, All, AllPairs, Contains, flat_map, length};
+ghost use Rattle.std.specs.Prelude.{◌≡◌, ◌≢◌, ◌↔◌, ◌<◌, ◌/◌, ◌&&◌, IsTrue, All, AllPairs, Contains, IfOk, flat_map, length, option_map};
 ghost use Rattle.std.specs.List.{list_all, range_with_len};
 ghost use Rattle.er_event.specs.Match.{is_known, is_lawful_slot_score};
 ghost use Rattle.er_event.specs.Round.{is_counted, seats};
 ghost use Rattle.er_event.specs.Sound.{IsBracket};
-ghost use Rattle.er_event.specs.Bracket.{next_stage, SameSlots, FollowOn, IsDecided, is_over};
+ghost use Rattle.er_event.specs.Bracket.{slot_in, next_stage, SameSlots, FollowOn, IsDecided, is_over};
 
-use crate::checks::{are_seated_once, is_known, is_playoff};
 use crate::items::Items;
-use crate::rounds::{Match, is_complete};
+use crate::matches::{Match, are_seated_once, is_complete, is_known};
+use crate::scores::is_playoff;
+use std::alloc::{AllocError, Global};
+
+/// The playoff: the matches of each stage by slot.
+#[derive(Drop)]
+pub struct Bracket {
+    pub stages: Items<Items<Match>>,
+}
 
 /// Whether the stage was the final, and is played.
 pub fn is_over(stage: &[Match]) -> bool
@@ -55,7 +62,9 @@ fn has_winners(stage: &[Match], next: &[Match]) -> bool
 
 /// Whether the next stage may come after this one.
 pub(crate) fn follows(stage: &[Match], next: &[Match]) -> bool
-    ensures { IsTrue result ↔ (IsTrue (is_counted stage.now) × (1 < length stage.now) × SameSlots next.now (next_stage stage.now)) }
+    ensures { IsTrue result
+        ↔ (IsTrue (is_counted stage.now) × (1 < length stage.now)
+        × SameSlots next.now (next_stage stage.now)) }
 {
     is_complete(stage) && stage.len() > 1 && has_winners(stage, next)
 }
@@ -83,7 +92,10 @@ fn are_known(count: u16, first: &[Match]) -> bool
 
 /// Whether the stage has the slots for so many players, who are of the event, and sit in one slot each.
 fn is_first(count: u16, cut: u8, first: &[Match]) -> bool
-    ensures { IsTrue result ↔ ((length first.now ≡ cut / 2) × All (λ no. Contains (range_with_len 1 count) no) (flat_map seats first.now) × AllPairs (λ p q. p ≢ q) (flat_map seats first.now)) }
+    ensures { IsTrue result
+        ↔ ((length first.now ≡ cut / 2)
+        × All (λ no. Contains (range_with_len 1 count) no) (flat_map seats first.now)
+        × AllPairs (λ p q. p ≢ q) (flat_map seats first.now)) }
 {
     if first.len() != usize::from(cut / 2) || !are_known(count, first) {
         return false;
@@ -92,7 +104,7 @@ fn is_first(count: u16, cut: u8, first: &[Match]) -> bool
 }
 
 /// Whether the stages may be the bracket of so many players, of whom this many play it.
-pub fn is_bracket(count: u16, cut: u8, stages: &[Items<Match>]) -> bool
+pub(crate) fn is_bracket(count: u16, cut: u8, stages: &[Items<Match>]) -> bool
     ensures { IsTrue result ↔ IsBracket (range_with_len 1 count) cut stages.now }
 {
     let Some(first) = stages.first() else {
@@ -108,11 +120,43 @@ pub fn is_bracket(count: u16, cut: u8, stages: &[Items<Match>]) -> bool
 }
 
 /// Whether the final is played.
-pub fn is_decided(stages: &[Items<Match>]) -> bool
+pub(crate) fn is_decided(stages: &[Items<Match>]) -> bool
     ensures { IsTrue result ↔ IsDecided stages.now }
 {
     match stages.last() {
         Some(last) => is_over(last.as_slice()),
         None => false,
     }
+}
+
+fn copy_stages(alloc: Global, stages: &[Items<Match>]) -> Result<Vec<Items<Match>>, AllocError>
+    ensures { IfOk result (λ copies. copies.items ≡ stages.now) }
+{
+    let mut copies = Vec::with_capacity(alloc, stages.len())?;
+    for stage in stages {
+        copies.push(stage.copy(alloc)?)?;
+    }
+    Ok(copies)
+}
+
+impl Bracket {
+    pub fn copy(&self, alloc: Global) -> Result<Bracket, AllocError>
+        ensures { IfOk result (λ copy. copy ≡ self.now) }
+    {
+        let stages = copy_stages(alloc, self.stages.as_slice())?;
+        Ok(Bracket {
+            stages: Items::from(stages),
+        })
+    }
+}
+
+/// The match of a slot of a stage, both numbered from 1.
+pub(crate) fn slot_in(stages: &[Items<Match>], stage: u8, slot: u8) -> Option<&Match>
+    ensures { option_map (λ m. m.now) result ≡ slot_in stages.now stage slot }
+{
+    if stage == 0 || slot == 0 {
+        return None;
+    }
+    let matches = stages.get(usize::from(stage) - 1)?;
+    matches.as_slice().get(usize::from(slot) - 1)
 }

@@ -1,8 +1,8 @@
 use crate::events::Phase;
 use crate::items::Items;
+use crate::matches::Match;
 use crate::names::Name;
 use crate::players::PlayerNo;
-use crate::rounds::Match;
 use crate::scores::Score;
 
 /// What one accepted command does to an event.

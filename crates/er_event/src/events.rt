@@ -1,23 +1,26 @@
-ghost use Rattle.std.specs.Prelude.{◌≡◌, ◌≢◌, ◌↔◌, ◌≤◌, ◌<◌, ◌==◌, ◌||◌, Ok, Err, IsTrue, IsFalse, IsOk, IfOk, IfErr, IfSome, option_map, length, find, List};
+ghost use Rattle.std.specs.Prelude.{◌≡◌, ◌≢◌, ◌↔◌, ◌≤◌, ◌<◌, ◌==◌, ◌||◌, None, Ok, Err, IsTrue, IsFalse, IsOk, IfOk, IfErr, IfSome, option_map, length, find, List};
 ghost use Rattle.er_event.specs.declared.scores.Games.{Games};
 ghost use Rattle.er_event.specs.Round.{is_bye, match_at};
-ghost use Rattle.er_event.specs.Score.{is_swiss_score};
-ghost use Rattle.er_event.specs.Sound.{IsSoundButForSeeds};
-ghost use Rattle.er_event.specs.Change.{created, has_name, Fits, IsNextRound, IsOpening};
-ghost use Rattle.er_event.specs.declared.rounds.Match.{Match};
+ghost use Rattle.er_event.specs.Bracket.{slot_at, following, is_over};
+ghost use Rattle.er_event.specs.Score.{is_swiss_score, is_playoff_score};
+ghost use Rattle.er_event.specs.Sound.{is_lawful_cut, AllRoundsDone, IsSoundButForSeeds};
+ghost use Rattle.er_event.specs.Change.{created, has_name, stage_of, scored_slot, Fits, IsNextRound, IsOpening};
+ghost use Rattle.er_event.specs.declared.matches.Match.{Match};
 
-mod changing;
-mod copying;
-mod playoff;
-mod reading;
+mod apply;
+mod copy;
+mod fits;
+mod parts;
 
+use crate::brackets::{Bracket, slot_in};
 use crate::changes::Change;
 use crate::items::Items;
+use crate::matches::{Match, match_in};
 use crate::names::Name;
-use crate::players::{MAX_PLAYERS, Player};
+use crate::players::{MAX_PLAYERS, Player, has_name, player_of};
 use crate::refusals::Refusal;
-use crate::rounds::{Bracket, Match, Round};
-pub use changing::{has_name, is_nobody_dropped, match_in, player_of};
+use crate::rounds::{Round, are_counted};
+pub use parts::{Parts, PartsFault};
 use std::alloc::{AllocError, Global};
 use std::marker::Model;
 
@@ -50,6 +53,13 @@ impl Phase {
     }
 }
 
+/// Whether an event may be set up with so many Swiss rounds and this cut.
+pub(crate) fn is_setup(rounds: u8, cut: u8) -> bool
+    ensures { IsTrue result ↔ ((1 ≤ rounds) × (rounds ≤ MAX_ROUNDS) × IsTrue (is_lawful_cut cut)) }
+{
+    (1..=MAX_ROUNDS).contains(&rounds) && matches!(cut, 0 | 2 | 4 | 8)
+}
+
 /// One tournament. Each value is sound, save that the playoff may seed any of its players.
 #[derive(Drop)]
 pub struct Event {
@@ -67,21 +77,22 @@ impl Model for Event {
 
     ghost Value = { EventValue };
 
-    ghost use Rattle.er_event.specs.inside.EventFields.{value_of, IsSound};
+    ghost use Rattle.er_event.specs.inside.EventFields.{value_of, IsSoundInside};
 
     ghost view = { value_of };
 
-    ghost invariant = { IsSound };
+    ghost invariant = { IsSoundInside };
 }
 
 impl Event {
     /// An event with no player, whose Swiss rounds are 1 to 9, and whose playoff is of 2, 4 or 8 players, or 0 for none. It takes no memory.
     pub fn create(alloc: Global, name: Name, rounds: u8, cut: u8) -> Result<Event, Refusal>
         ensures value { IfOk result (λ e. e ≡ created name rounds cut) }
-        ensures within { IsOk result ↔ ((1 ≤ rounds) × (rounds ≤ MAX_ROUNDS) × IsTrue (cut == 0 || cut == 2 || cut == 4 || cut == 8)) }
+        ensures within { IsOk result ↔ ((1 ≤ rounds) × (rounds ≤ MAX_ROUNDS)
+            × IsTrue (cut == 0 || cut == 2 || cut == 4 || cut == 8)) }
         ensures refused { IfErr result (λ why. why ≡ Refusal.BadSetup) }
     {
-        if !(1..=MAX_ROUNDS).contains(&rounds) || !matches!(cut, 0 | 2 | 4 | 8) {
+        if !is_setup(rounds, cut) {
             return Err(Refusal::BadSetup);
         }
         Ok(Event {
@@ -112,7 +123,8 @@ impl Event {
     /// How many players go to the playoff, or 0 where there is none. Once all Swiss rounds are complete, the playoff may begin with a stage of so many.
     pub fn cut(&self) -> u8
         ensures value { result ≡ self.now.cut }
-        ensures fits { (matches : List Match) → IsOpening self.now matches → Fits self.now (Change.AddBracket matches) }
+        ensures fits { (matches : List Match) → IsOpening self.now matches
+            → Fits self.now (Change.AddBracket matches) }
     {
         self.cut
     }
@@ -135,16 +147,19 @@ impl Event {
     /// Whether a player has this name. Where none has and there is room, the event fits a player of the name.
     pub fn has_name(&self, name: &Name) -> bool
         ensures value { result ≡ has_name self.now.players name.now }
-        ensures fits { IsFalse result → length self.now.players < MAX_PLAYERS → Fits self.now (Change.AddPlayer name.now) }
+        ensures fits { IsFalse result → length self.now.players < MAX_PLAYERS
+            → Fits self.now (Change.AddPlayer name.now) }
     {
         has_name(self.players(), name)
     }
 
     /// The player of this number, who can drop once the event has started.
     pub fn player(&self, number: u16) -> Option<&Player>
-        ensures value { option_map (λ p. p.now) result ≡ find (λ p. p.no == number) self.now.players }
+        ensures value { option_map (λ p. p.now) result
+            ≡ find (λ p. p.no == number) self.now.players }
         ensures found { IfSome result (λ p. p.now.no ≡ number) }
-        ensures fits { IfSome result (λ p. self.now.phase ≢ Phase.Enrolling → Fits self.now (Change.SetDropped p.now.no)) }
+        ensures fits { IfSome result (λ p. self.now.phase ≢ Phase.Enrolling
+            → Fits self.now (Change.SetDropped p.now.no)) }
     {
         player_of(self.players(), number)
     }
@@ -153,7 +168,8 @@ impl Event {
     pub fn stored(&self) -> &[Round]
         ensures value { result.now ≡ self.now.stored }
         ensures sound { IsSoundButForSeeds self.now }
-        ensures fits { (matches : List Match) → IsNextRound self.now matches → Fits self.now (Change.AddRound matches) }
+        ensures fits { (matches : List Match) → IsNextRound self.now matches
+            → Fits self.now (Change.AddRound matches) }
     {
         self.stored.as_slice()
     }
@@ -161,7 +177,9 @@ impl Event {
     /// The match of a table of a Swiss round, where tables are numbered from 1 and a bye has table 0. A match of two players takes each score that is lawful in a Swiss round.
     pub fn match_at(&self, round: u8, table: u16) -> Option<&Match>
         ensures value { option_map (λ m. m.now) result ≡ match_at self.now round table }
-        ensures fits { IfSome result (λ m. IsFalse (is_bye m.now) → (score : Games) → IsTrue (is_swiss_score score) → Fits self.now (Change.SetScore round table score)) }
+        ensures fits { IfSome result (λ m. IsFalse (is_bye m.now) → (score : Games)
+            → IsTrue (is_swiss_score score)
+            → Fits self.now (Change.SetScore round table score)) }
     {
         if round == 0 {
             return None;
@@ -170,11 +188,32 @@ impl Event {
         match_in(round.matches.as_slice(), table)
     }
 
+    /// Whether all Swiss rounds are paired and complete.
+    fn has_all_rounds(&self) -> bool
+        ensures { IsTrue result ↔ AllRoundsDone self.now }
+    {
+        if self.stored().len() != usize::from(self.rounds) {
+            return false;
+        }
+        are_counted(self.stored())
+    }
+
     /// The playoff, which has no stage before the cut.
     pub fn bracket(&self) -> &Bracket
         ensures value { result.now ≡ self.now.bracket }
         ensures sound { IsSoundButForSeeds self.now }
     {
         &self.bracket
+    }
+
+    /// The match of a slot of a stage of the playoff, both numbered from 1. An open match takes each score that is lawful in the playoff,
+    /// with the stage that follows, and is the end of the playoff where it was the final.
+    pub fn slot_at(&self, stage: u8, slot: u8) -> Option<&Match>
+        ensures value { option_map (λ m. m.now) result ≡ slot_at self.now stage slot }
+        ensures fits { IfSome result (λ m. m.now.score ≡ None → (score : Games)
+            → IsTrue (is_playoff_score score)
+            → Fits self.now (Change.SetBracketScore stage slot score (following (scored_slot (stage_of self.now.bracket.stages stage) slot score)) (is_over (scored_slot (stage_of self.now.bracket.stages stage) slot score)))) }
+    {
+        slot_in(self.bracket.stages.as_slice(), stage, slot)
     }
 }

@@ -1,5 +1,11 @@
-ghost use Rattle.std.specs.Prelude.{◌≡◌, ◌≤◌, ◌<◌, ◌↔◌, IsSome, IfSome};
+ghost use Rattle.std.specs.Prelude.{◌≡◌, ◌≢◌, ◌≤◌, ◌<◌, ◌==◌, ◌↔◌, not, length, find, option_map, All, AllPairs, IsTrue, IsSome, IfSome};
+ghost use Rattle.std.specs.List.{list_all, range_with_len};
+ghost use Rattle.er_event.specs.Change.{has_name};
+ghost use Rattle.er_event.specs.Name.{is_lawful_name};
+ghost use Rattle.er_event.specs.Sound.{numbers, names, ArePlayers};
+ghost use Rattle.er_event.specs.inside.Reading.{Suits};
 
+use crate::events::Phase;
 use crate::names::Name;
 use std::marker::Model;
 
@@ -52,4 +58,76 @@ pub struct Player {
     pub name: Name,
     /// Whether the player has left the tournament. A dropped player stays listed.
     pub dropped: bool,
+}
+
+pub(crate) fn has_name(players: &[Player], name: &Name) -> bool
+    ensures value { result ≡ has_name players.now name.now }
+    ensures lawful { IsTrue (is_lawful_name name.now) }
+{
+    let name = name.as_bytes();
+    players.iter().any(|player| player.name.as_bytes() == name)
+}
+
+/// The player of this number, among players who are numbered from 1.
+pub(crate) fn player_of(players: &[Player], number: u16) -> Option<&Player>
+    requires numbered { numbers players.now ≡ range_with_len 1 (length players.now) }
+    ensures { option_map (λ p. p.now) result ≡ find (λ p. p.no == number) players.now }
+{
+    if number == 0 {
+        return None;
+    }
+    players.get(usize::from(number) - 1)
+}
+
+pub(crate) fn is_nobody_dropped(players: &[Player]) -> bool
+    ensures { result ≡ list_all (λ p. not p.dropped) players.now }
+{
+    players.iter().all(|player| !player.dropped)
+}
+
+/// Whether the players are numbered 1, 2, .. in their order.
+fn are_numbered(players: &[Player]) -> bool
+    ensures { IsTrue result ↔ (numbers players.now ≡ range_with_len 1 (length players.now)) }
+{
+    for (place, player) in players.iter().enumerate() {
+        if usize::from(player.no.get()) != place + 1 {
+            return false;
+        }
+    }
+    true
+}
+
+/// Whether no two players have one name.
+fn are_distinct(players: &[Player]) -> bool
+    ensures { IsTrue result ↔ AllPairs (λ a b. a ≢ b) (names players.now) }
+{
+    for (place, player) in players.iter().enumerate() {
+        if has_name(&players[..place], &player.name) {
+            return false;
+        }
+    }
+    true
+}
+
+fn suits(phase: Phase, players: &[Player]) -> bool
+    ensures { IsTrue result ↔ Suits phase players.now }
+{
+    match phase {
+        Phase::Enrolling => is_nobody_dropped(players),
+        _ => players.len() >= 2,
+    }
+}
+
+/// Whether players with lawful names may be those of an event in this phase.
+pub(crate) fn may_play(phase: Phase, players: &[Player]) -> bool
+    requires { All (λ p. IsTrue (is_lawful_name p.name)) players.now }
+    ensures { IsTrue result ↔ ArePlayers phase players.now }
+{
+    if players.len() > usize::from(MAX_PLAYERS) || !are_numbered(players) {
+        return false;
+    }
+    if !are_distinct(players) {
+        return false;
+    }
+    suits(phase, players)
 }

@@ -1,7 +1,6 @@
 ghost use Rattle.std.specs.Prelude.{◌≡◌};
 
-use crate::items::Items;
-use crate::scores::{Games, Score};
+use crate::scores::Score;
 use std::alloc::AllocError;
 
 /// A table of an event's file.
@@ -21,28 +20,6 @@ pub enum Cause {
     Refused,
     /// A row was read that the format does not allow.
     BadRow,
-}
-
-/// What the scorekeeper asks for.
-#[derive(Debug, Drop)]
-pub enum Command {
-    Enrol { name: Items<u8> },
-    Start,
-    Pair { round: u8, seed: [u8; 32] },
-    Result { round: u8, table: u16, score: Games },
-    Correct { round: u8, table: u16, score: Games },
-    Drop { player: u16 },
-    Cut,
-    Playoff { stage: u8, slot: u8, score: Games },
-}
-
-/// How many commands an event may take.
-pub const MAX_SERIAL: u32 = 999_999;
-
-/// The answer to an accepted command: how many commands the event has taken, this one counted.
-#[derive(Clone, Copy, Debug, PartialEq, Eq)]
-pub struct Receipt {
-    pub serial: u32,
 }
 
 /// Why a call was refused. Each refusal has a number and a name, which no other has.

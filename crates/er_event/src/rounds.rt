@@ -1,65 +1,18 @@
-ghost use Rattle.std.specs.Prelude.{◌≡◌, IfOk};
-ghost use Rattle.er_event.specs.Bracket.{winner};
-ghost use Rattle.er_event.specs.Round.{is_counted};
-ghost use Rattle.er_event.specs.Rows.{games_of};
+ghost use Rattle.std.specs.Prelude.{◌≡◌, ◌↔◌, ◌-◌, ◌==◌, ◌||◌, not, is_some, length, take, IsTrue, IfOk};
+ghost use Rattle.std.specs.List.{list_all, list_any, range_with_len};
+ghost use Rattle.er_event.specs.declared.events.Phase.TheVariants.{Swiss};
+ghost use Rattle.er_event.specs.Round.{is_bye, is_counted, is_same_pairing};
+ghost use Rattle.er_event.specs.Sound.{IsRound, AreRounds};
+ghost use Rattle.er_event.specs.inside.Reading.{MayFollow};
 
 use crate::items::Items;
-use crate::scores::{Games, Score};
+use crate::matches::{Match, are_lawful, are_seated_once, is_complete};
 use std::alloc::{AllocError, Global};
-
-/// Two players at one table, or one player with a bye.
-#[derive(Clone, Copy, Debug, PartialEq, Eq)]
-pub struct Match {
-    /// The number of the first-named player.
-    pub a: u16,
-    /// The number of the second player, or 0 where the first has a bye.
-    pub b: u16,
-    /// The score, once it is reported.
-    pub score: Option<Score>,
-}
 
 /// A Swiss round: the matches of tables 1, 2, .., and then the bye, if there is one.
 #[derive(Drop)]
 pub struct Round {
     pub matches: Items<Match>,
-}
-
-/// The playoff: the matches of each stage by slot.
-#[derive(Drop)]
-pub struct Bracket {
-    pub stages: Items<Items<Match>>,
-}
-
-impl Match {
-    /// The games of the score, all 0 where there is none.
-    pub fn games(&self) -> Games
-        ensures { result ≡ games_of self.now.score }
-    {
-        match self.score {
-            Some(score) => score.games(),
-            None => Games { x: 0, y: 0, d: 0 },
-        }
-    }
-
-    /// The number of the player who won the match, and 0 where it is open.
-    pub fn winner(&self) -> u16
-        ensures { result ≡ winner self.now }
-    {
-        match self.score {
-            Some(score) => {
-                let games = score.games();
-                if games.x > games.y { self.a } else { self.b }
-            }
-            None => 0,
-        }
-    }
-}
-
-/// Whether each match has its score.
-pub fn is_complete(matches: &[Match]) -> bool
-    ensures { result ≡ is_counted matches.now }
-{
-    matches.iter().all(|played| played.score.is_some())
 }
 
 impl Round {
@@ -79,23 +32,80 @@ impl Round {
     }
 }
 
-fn copy_stages(alloc: Global, stages: &[Items<Match>]) -> Result<Vec<Items<Match>>, AllocError>
-    ensures { IfOk result (λ copies. copies.items ≡ stages.now) }
+/// Whether no match but the last is a bye.
+fn is_bye_last(matches: &[Match]) -> bool
+    ensures { result ≡ list_all (λ m. not (is_bye m)) (take (length matches.now - 1) matches.now) }
 {
-    let mut copies = Vec::with_capacity(alloc, stages.len())?;
-    for stage in stages {
-        copies.push(stage.copy(alloc)?)?;
-    }
-    Ok(copies)
+    let earlier = matches.len().saturating_sub(1);
+    matches[..earlier].iter().all(|played| played.b != 0)
 }
 
-impl Bracket {
-    pub fn copy(&self, alloc: Global) -> Result<Bracket, AllocError>
-        ensures { IfOk result (λ copy. copy ≡ self.now) }
-    {
-        let stages = copy_stages(alloc, self.stages.as_slice())?;
-        Ok(Bracket {
-            stages: Items::from(stages),
-        })
+/// Whether the matches may be a Swiss round of so many players.
+fn is_round(count: u16, matches: &[Match]) -> bool
+    ensures { IsTrue result ↔ IsRound (range_with_len 1 count) matches.now }
+{
+    if matches.is_empty() || !are_lawful(count, matches) {
+        return false;
     }
+    if !are_seated_once(matches) {
+        return false;
+    }
+    is_bye_last(matches)
+}
+
+fn has_pairing(matches: &[Match], played: &Match) -> bool
+    ensures { result ≡ list_any (λ m. is_same_pairing m played.now) matches.now }
+{
+    matches.iter().any(|m| {
+        (m.a == played.a && m.b == played.b) || (m.a == played.b && m.b == played.a)
+    })
+}
+
+/// Whether the two players of the match, or the player and the bye, have met in a stored round.
+fn have_met(stored: &[Round], played: &Match) -> bool
+    ensures { result ≡ list_any (λ r. list_any (λ m. is_same_pairing m played.now) r.matches) stored.now }
+{
+    stored
+        .iter()
+        .any(|round| has_pairing(round.matches.as_slice(), played))
+}
+
+/// Whether nobody meets an opponent, or has a bye, again.
+fn are_new(stored: &[Round], matches: &[Match]) -> bool
+    ensures { result ≡ list_all (λ m. not (list_any (λ r. list_any (λ n. is_same_pairing n m) r.matches) stored.now)) matches.now }
+{
+    matches.iter().all(|played| !have_met(stored, played))
+}
+
+/// Whether each match of the rounds has a score.
+pub(crate) fn are_counted(stored: &[Round]) -> bool
+    ensures { result ≡ list_all (λ r. is_counted r.matches) stored.now }
+{
+    stored.iter().all(|round| round.is_complete())
+}
+
+/// Whether a round of these matches may come behind the rounds before, with so many players.
+pub(crate) fn may_follow(count: u16, earlier: &[Round], matches: &[Match]) -> bool
+    ensures { IsTrue result ↔ MayFollow (range_with_len 1 count) earlier.now matches.now }
+{
+    if !are_counted(earlier) {
+        return false;
+    }
+    if !is_round(count, matches) {
+        return false;
+    }
+    are_new(earlier, matches)
+}
+
+/// Whether each round may come behind those before it, with so many players.
+pub(crate) fn are_rounds(count: u16, rounds: &[Round]) -> bool
+    ensures { IsTrue result
+        ↔ AreRounds Swiss (length rounds.now) (range_with_len 1 count) rounds.now }
+{
+    for (place, round) in rounds.iter().enumerate() {
+        if !may_follow(count, &rounds[..place], round.matches.as_slice()) {
+            return false;
+        }
+    }
+    true
 }

@@ -1,58 +1,27 @@
-use crate::items::Items;
+//! The rows of the five tables, and the parts of an event that they are read as.
+mod bracket;
+mod event;
+mod pairing;
+mod player;
+mod tally;
 
-/// The row of the table `event`.
-#[derive(Drop)]
-pub struct EventRow {
-    pub id: i64,
-    pub version: i64,
-    pub serial: i64,
-    pub name: Items<u8>,
-    pub rounds: i64,
-    pub cut: i64,
-    pub phase: i64,
-}
+ghost use Rattle.std.specs.Prelude.{◌≡◌, ◌≢◌, Bool, IfSome, IsNone};
+ghost use Rattle.er_event.specs.Rows.{flag};
 
-/// A row of the table `player`.
-#[derive(Drop)]
-pub struct PlayerRow {
-    pub no: i64,
-    pub name: Items<u8>,
-    pub dropped: i64,
-}
+pub use bracket::{BracketRow, read_bracket};
+pub use event::{EventRow, Setup, read_event};
+pub use pairing::{PairingRow, match_at_table, read_stored};
+pub use player::{PlayerRow, read_players};
+pub use tally::{TallyRow, is_row_of, read_tally};
 
-/// A row of the table `pairing`.
-#[derive(Clone, Copy, PartialEq, Eq)]
-pub struct PairingRow {
-    pub round: i64,
-    pub tab: i64,
-    pub lo: i64,
-    pub hi: i64,
-    pub swapped: i64,
-    pub done: i64,
-    pub x: i64,
-    pub y: i64,
-    pub d: i64,
-}
-
-/// A row of the table `tally`.
-#[derive(Clone, Copy, PartialEq, Eq)]
-pub struct TallyRow {
-    pub no: i64,
-    pub points: i64,
-    pub rounds: i64,
-    pub gamepoints: i64,
-    pub games: i64,
-}
-
-/// A row of the table `bracket`.
-#[derive(Clone, Copy, PartialEq, Eq)]
-pub struct BracketRow {
-    pub stage: i64,
-    pub slot: i64,
-    pub a: i64,
-    pub b: i64,
-    pub done: i64,
-    pub x: i64,
-    pub y: i64,
-    pub d: i64,
+/// What the number of a column that is yes or no says.
+fn flag_of(value: i64) -> Option<bool>
+    ensures value { IfSome result (λ b. value ≡ flag b) }
+    ensures none { IsNone result → (b : Bool) → value ≢ flag b }
+{
+    match value {
+        0 => Some(false),
+        1 => Some(true),
+        _ => None,
+    }
 }

@@ -60,3 +60,17 @@ impl Score {
         self.games
     }
 }
+
+/// Whether the score is lawful in a Swiss round.
+pub(crate) fn is_swiss(score: Score) -> bool
+    ensures { result ≡ is_swiss_score score }
+{
+    Score::swiss(score.games()).is_some()
+}
+
+/// Whether the score is lawful in the playoff.
+pub(crate) fn is_playoff(score: Score) -> bool
+    ensures { result ≡ is_playoff_score score }
+{
+    Score::playoff(score.games()).is_some()
+}

@@ -1,20 +1,16 @@
-ghost use Rattle.std.specs.Prelude.{◌≡◌, ◌≤◌, ◌↔◌, ℕ, [], Some, IfSome, IsTrue, if◌then◌else◌, length};
-ghost use Rattle.er_event.specs.declared.players.TheConstants.{MAX_PLAYERS};
-ghost use Rattle.er_event.specs.declared.totals.Totals.{Totals};
+ghost use Rattle.std.specs.Prelude.{◌≡◌, ◌≤◌, ◌↔◌, ℕ, [], IsTrue, if◌then◌else◌, length};
 ghost use Rattle.er_event.specs.Change.{after, Fits};
-ghost use Rattle.er_event.specs.Event.{EventValue};
 ghost use Rattle.er_event.specs.Recounted.{recounted, recounted_in, IsAbsent, AreOf};
 ghost use Rattle.er_event.specs.Round.{is_counted};
-ghost use Rattle.er_event.specs.Rows.{tally_row, tally_rows};
+ghost use Rattle.er_event.specs.Rows.{tally_rows};
 ghost use Rattle.er_event.specs.Sound.{IsSoundButForSeeds};
-ghost use Rattle.er_event.specs.Tallies.{AreReadable};
 ghost use Rattle.er_event.specs.Totals.{totals};
 
 use crate::changes::Change;
 use crate::events::Event;
+use crate::matches::{Match, is_complete};
 use crate::players::PlayerNo;
-use crate::rounds::{Match, is_complete};
-use crate::rows::TallyRow;
+use crate::rows::{TallyRow, is_row_of};
 use crate::scores::Score;
 use crate::totals::{Totals, is_complete_with};
 
@@ -34,42 +30,6 @@ pub struct Meeting {
     pub hi: PlayerNo,
     pub lo_totals: Totals,
     pub hi_totals: Totals,
-}
-
-/// The row of a player's totals.
-fn tally_row(no: PlayerNo, totals: Totals) -> TallyRow
-    ensures { result ≡ tally_row no totals }
-{
-    TallyRow {
-        no: i64::from(no.get()),
-        points: i64::from(totals.points),
-        rounds: i64::from(totals.rounds),
-        gamepoints: i64::from(totals.game_points),
-        games: i64::from(totals.games),
-    }
-}
-
-/// Whose row this is, with the totals in it, where each number is in its range.
-pub fn read_tally(row: &TallyRow) -> Option<(PlayerNo, Totals)>
-    ensures value { IfSome result (λ it. row.now ≡ tally_row it.0 it.1) }
-    ensures exact { (no : ℕ) (t : Totals) → 1 ≤ no → no ≤ MAX_PLAYERS → AreReadable t → row.now ≡ tally_row no t → result ≡ Some (no, t) }
-    ensures event { (e : EventValue) (no : ℕ) → IsSoundButForSeeds e → 1 ≤ no → no ≤ MAX_PLAYERS → row.now ≡ tally_row no (totals e no) → result ≡ Some (no, totals e no) }
-{
-    let no = u16::try_from(row.no).ok().and_then(PlayerNo::try_new)?;
-    let totals = Totals {
-        points: u8::try_from(row.points).ok()?,
-        rounds: u8::try_from(row.rounds).ok()?,
-        game_points: u16::try_from(row.gamepoints).ok()?,
-        games: u16::try_from(row.games).ok()?,
-    };
-    Some((no, totals))
-}
-
-/// Whether this is the row of a player's totals.
-fn is_row_of(row: &TallyRow, no: PlayerNo, totals: Totals) -> bool
-    ensures { IsTrue result ↔ (row.now ≡ tally_row no totals) }
-{
-    *row == tally_row(no, totals)
 }
 
 /// Which matches of a round count anew once the match of a table has this score.
@@ -116,7 +76,8 @@ impl Event {
         ensures value { result.now ≡ recounted self.now change.now }
         ensures known { AreOf self.now result.now }
         ensures sound { IsSoundButForSeeds self.now }
-        ensures others { (player : ℕ) → IsAbsent player result.now → totals (after self.now change.now) player ≡ totals self.now player }
+        ensures others { (player : ℕ) → IsAbsent player result.now
+            → totals (after self.now change.now) player ≡ totals self.now player }
     {
         let stored = self.stored();
         match change {

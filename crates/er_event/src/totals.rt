@@ -8,8 +8,9 @@ ghost use Rattle.er_event.specs.inside.Seen.{AreSeen, AreFew, AreOver, IsSeatedO
 
 use crate::changes::Change;
 use crate::events::{Event, MAX_ROUNDS};
+use crate::matches::{Match, is_complete};
 use crate::players::PlayerNo;
-use crate::rounds::{Match, Round, is_complete};
+use crate::rounds::Round;
 use crate::scores::{Games, Score};
 use std::cmp::Ordering;
 
@@ -91,7 +92,9 @@ fn games_seen(played: &Match, player: u16) -> Option<Games>
 fn games_of(matches: &[Match], player: u16) -> Option<Games>
     requires seated { IsSeatedOnce matches.now }
     requires player { 0 < player }
-    ensures value { (round : ℕ) → totals_of (own player (flat_map (lines_of_match round) matches.now)) ≡ totals_of_games result }
+    ensures value { (round : ℕ)
+        → totals_of (own player (flat_map (lines_of_match round) matches.now))
+        ≡ totals_of_games result }
     ensures few { IfSome result AreFew }
 {
     for played in matches {
@@ -106,7 +109,9 @@ fn games_of(matches: &[Match], player: u16) -> Option<Games>
 fn games_in(matches: &[Match], player: u16) -> Option<Games>
     requires seated { IsSeatedOnce matches.now }
     requires player { 0 < player }
-    ensures value { (number : ℕ) → totals_of (own player (counted_lines number (record { matches = matches.now }))) ≡ totals_of_games result }
+    ensures value { (number : ℕ)
+        → totals_of (own player (counted_lines number (record { matches = matches.now })))
+        ≡ totals_of_games result }
     ensures few { IfSome result AreFew }
 {
     if is_complete(matches) {
@@ -166,7 +171,8 @@ fn games_with(matches: &[Match], table: usize, score: Score, player: u16) -> Opt
     requires table { (1 ≤ table) × (table ≤ length matches.now) }
     requires seated { IsSeatedOnce (scored_slot matches.now table score) }
     requires player { 0 < player }
-    ensures value { (round : ℕ) → totals_of (own player (flat_map (lines_of_match round) (scored_slot matches.now table score))) ≡ totals_of_games result }
+    ensures value { (round : ℕ)
+        → totals_of (own player (flat_map (lines_of_match round) (scored_slot matches.now table score))) ≡ totals_of_games result }
     ensures few { IfSome result AreFew }
 {
     for at in 0..matches.len() {
@@ -182,7 +188,8 @@ fn games_in_with(matches: &[Match], table: usize, score: Score, player: u16) -> 
     requires table { (1 ≤ table) × (table ≤ length matches.now) }
     requires seated { IsSeatedOnce (scored_slot matches.now table score) }
     requires player { 0 < player }
-    ensures value { (number : ℕ) → totals_of (own player (counted_lines number (record { matches = scored_slot matches.now table score }))) ≡ totals_of_games result }
+    ensures value { (number : ℕ)
+        → totals_of (own player (counted_lines number (record { matches = scored_slot matches.now table score }))) ≡ totals_of_games result }
     ensures few { IfSome result AreFew }
 {
     if is_complete_with(matches, table, score) {
@@ -206,8 +213,8 @@ fn games_at(rounds: &[Round], at: usize, new: &NewScore, player: u16) -> Option<
     requires table { HasTable rounds.now new.now.place new.now.table }
     requires seated { All (λ round. IsSeatedOnce round.matches) (rescored rounds.now new.now.place new.now.table new.now.score) }
     requires player { 0 < player }
-    ensures value { (round : Round) → round ≡ slice_index_or (rescored rounds.now new.now.place new.now.table new.now.score) at round
-        → (number : ℕ) → totals_of (own player (counted_lines number round)) ≡ totals_of_games result }
+    ensures value { (round : Round)
+        → round ≡ slice_index_or (rescored rounds.now new.now.place new.now.table new.now.score) at round → (number : ℕ) → totals_of (own player (counted_lines number round)) ≡ totals_of_games result }
     ensures few { IfSome result AreFew }
 {
     let matches = rounds[at].matches.as_slice();
@@ -241,7 +248,8 @@ fn totals_with_round(rounds: &[Round], matches: &[Match], player: u16) -> Totals
     requires seated { All (λ round. IsSeatedOnce round.matches) rounds.now }
     requires seated_now { IsSeatedOnce matches.now }
     requires player { 0 < player }
-    ensures { result ≡ totals_of (own player (lines_from 1 (rounds.now ++ record { matches = matches.now } ∷ []))) }
+    ensures { result ≡ totals_of (own player (lines_from 1 (rounds.now
+        ++ record { matches = matches.now } ∷ []))) }
 {
     let totals = totals_in(rounds, player);
     match games_in(matches, player) {

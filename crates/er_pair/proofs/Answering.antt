@@ -12,7 +12,7 @@ use Rattle.er_pair.specs.declared.pairings.TheConstants.{MAX_STEPS}
 use Rattle.er_pair.specs.Pairing.{Pair, positions, all_positions, IsLegal, IsEarliest}
 use Rattle.er_pair.specs.Rows.{has_place, is_ahead, row_at}
 use Rattle.er_pair.specs.Steps.{NeedsMore, met_at}
-use Rattle.er_pair.specs.inside.Search.{Answer, Answers, search_of, met_in, free_ahead}
+use Rattle.er_pair.specs.inside.Search.{Answer, SearchAnswers, search_of, met_in, free_ahead}
 use Rattle.er_pair.proofs.Bounds.{search_of-short, search_of-fresh}
 use Rattle.er_pair.proofs.Entries.{search_of-agree, earliest_found, none_found, more_needed, no_more_needed}
 use Rattle.er_pair.proofs.Passing.{passing, passing-first}
@@ -45,15 +45,15 @@ pub of_order : (met : ℕ → ℕ → Bool) (order : List ℕ) (rows items : Lis
     → length items ≡ length order → ((p q : ℕ) → p < length order → q < length order → has_place (row_at items p) q ≡ met_at met order p q)
     → ((p : ℕ) → has_place used p ≡ false)
     → ((p : ℕ) → is_ahead used used ahead.index ahead.left p ≡ not (has_place used p))
-    → Answers (search_of (met_in rows) (free_ahead used ahead (length rows))) steps found left outcome
-    → Answers (search_of (met_at met order) (all_positions order)) steps found left outcome
+    → SearchAnswers (search_of (met_in rows) (free_ahead used ahead (length rows))) steps found left outcome
+    → SearchAnswers (search_of (met_at met order) (all_positions order)) steps found left outcome
 of_order met order rows items used ahead steps left found outcome read size same none all answers =
     let whole = ap (λ (l : List Row). free_ahead used ahead (length l)) read
     ∙ (ap (free_ahead used ahead) size ∙ all_free used ahead order none all) in
     let agree : (p q : ℕ) → p < length order → q < length order → met_in rows p q ≡ met_at met order p q =
     λ p q here there. ap (λ (l : List Row). has_place (row_at l p) q) read ∙ same p q here there in
     let is = ap (search_of (met_in rows)) whole ∙ search_of-agree (met_in rows) (met_at met order) order agree in
-    subst (λ (a : Answer). Answers a steps found left outcome) is answers
+    subst (λ (a : Answer). SearchAnswers a steps found left outcome) is answers
 
 -- ---- what the answer says
 
@@ -80,28 +80,28 @@ within_order met order pairs legal = by_two pairs
         (by_two ps (All-tail (λ (n : ℕ). n < length order) p.1 (positions ps) more))
 
 pub earliest : (met : ℕ → ℕ → Bool) (order : List ℕ) (steps left : ℕ) (found : List Pair)
-    → Answers (search_of (met_at met order) (all_positions order)) steps found left Paired → IsEarliest met order found
+    → SearchAnswers (search_of (met_at met order) (all_positions order)) steps found left Paired → IsEarliest met order found
 earliest met order steps left found answers = earliest_found met order found answers.0
 
 pub paired_within : (met : ℕ → ℕ → Bool) (order : List ℕ) (steps left : ℕ) (found : List Pair)
-    → Answers (search_of (met_at met order) (all_positions order)) steps found left Paired → NeedsMore met order steps → ⊥
+    → SearchAnswers (search_of (met_at met order) (all_positions order)) steps found left Paired → NeedsMore met order steps → ⊥
 paired_within met order steps left found answers = let counted = answers.1 in no_more_needed met order steps (omega arith)
 
 pub no_pairing : (met : ℕ → ℕ → Bool) (order : List ℕ) (steps left : ℕ) (found : List Pair)
-    → Answers (search_of (met_at met order) (all_positions order)) steps found left DeadEnd
+    → SearchAnswers (search_of (met_at met order) (all_positions order)) steps found left DeadEnd
     → (pairs : List Pair) → IsLegal met order pairs → ⊥
 no_pairing met order steps left found answers = none_found met order answers.0
 
 pub dead_within : (met : ℕ → ℕ → Bool) (order : List ℕ) (steps left : ℕ) (found : List Pair)
-    → Answers (search_of (met_at met order) (all_positions order)) steps found left DeadEnd → NeedsMore met order steps → ⊥
+    → SearchAnswers (search_of (met_at met order) (all_positions order)) steps found left DeadEnd → NeedsMore met order steps → ⊥
 dead_within met order steps left found answers = let counted = answers.1 in no_more_needed met order steps (omega arith)
 
 pub needs_more : (met : ℕ → ℕ → Bool) (order : List ℕ) (steps left : ℕ) (found : List Pair)
-    → Answers (search_of (met_at met order) (all_positions order)) steps found left OutOfSteps → NeedsMore met order steps
+    → SearchAnswers (search_of (met_at met order) (all_positions order)) steps found left OutOfSteps → NeedsMore met order steps
 needs_more met order steps left found answers = more_needed met order steps answers
 
 pub short_within : (met : ℕ → ℕ → Bool) (order : List ℕ) (left : ℕ) (found : List Pair)
-    → Answers (search_of (met_at met order) (all_positions order)) MAX_STEPS found left OutOfSteps → length order ≤ 14 → ⊥
+    → SearchAnswers (search_of (met_at met order) (all_positions order)) MAX_STEPS found left OutOfSteps → length order ≤ 14 → ⊥
 short_within met order left found answers short =
     let few = search_of-short (met_at met order) (all_positions order) (omega (arith, length-range_with_len 0 (length order))) in absurd
     (omega arith)
@@ -118,7 +118,7 @@ fresh_positions met order fresh i j d before within =
     ap (λ (p : ℕ). met_at met order p (get_or (all_positions order) j d)) one ∙ (ap (met_at met order i) two ∙ fresh i j 0 before small)
 
 pub fresh_within : (met : ℕ → ℕ → Bool) (order : List ℕ) (left : ℕ) (found : List Pair)
-    → Answers (search_of (met_at met order) (all_positions order)) MAX_STEPS found left OutOfSteps
+    → SearchAnswers (search_of (met_at met order) (all_positions order)) MAX_STEPS found left OutOfSteps
     → length order ≤ 512 → length order % 2 ≡ 0 → AllPairs (λ p q. IsFalse (met p q)) order → ⊥
 fresh_within met order left found answers few even fresh =
     let size = length-range_with_len 0 (length order) in
@@ -127,7 +127,7 @@ fresh_within met order left found answers few even fresh =
     absurd (omega (arith, size))
 
 pub fresh_pairs : (met : ℕ → ℕ → Bool) (order : List ℕ) (steps left : ℕ) (found : List Pair)
-    → Answers (search_of (met_at met order) (all_positions order)) steps found left DeadEnd
+    → SearchAnswers (search_of (met_at met order) (all_positions order)) steps found left DeadEnd
     → length order % 2 ≡ 0 → AllPairs (λ p q. IsFalse (met p q)) order → ⊥
 fresh_pairs met order steps left found answers even fresh =
     let size = length-range_with_len 0 (length order) in

@@ -1,6 +1,6 @@
 -- Examples of the definitions, which compute, and the limits as the rules have them.
 use Rattle.std.specs.Prelude.{◌≡◌, ℕ, ◌==◌, ◌&&◌, ◌||◌, Bool, false, [], ◌∷◌, Some, None, refl}
-use Rattle.er_event.specs.declared.rounds.Match.{Match}
+use Rattle.er_event.specs.declared.matches.Match.{Match}
 use Rattle.er_event.specs.Bracket.{open_match}
 use Rattle.er_pair.specs.declared.meetings.TheConstants.{NUMBERS}
 use Rattle.er_pair.specs.declared.pairings.TheConstants.{MAX_STEPS}

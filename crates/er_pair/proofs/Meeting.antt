@@ -8,7 +8,7 @@ use Rattle.std.proofs.lemmas.Bool.Decides.{nat_tests}
 use Rattle.std.proofs.lemmas.List.{take_all}
 use Rattle.std.proofs.lemmas.List.Folds.{list_any-append, list_any_more}
 use Rattle.std.proofs.lemmas.List.FromFn.{length-range_with_len, get_or-range_with_len}
-use Rattle.er_event.specs.declared.rounds.Match.{Match}
+use Rattle.er_event.specs.declared.matches.Match.{Match}
 use Rattle.er_event.specs.declared.rounds.Round.{Round}
 use Rattle.er_event.specs.Event.{EventValue}
 use Rattle.er_event.specs.Round.{is_bye, matches_of}

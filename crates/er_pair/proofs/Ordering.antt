@@ -3,14 +3,14 @@ use Rattle.std.proofs.Common.{AllPairs, ◌≡◌, ◌≢◌, inl, inr, ℕ, zer
 use Rattle.std.specs.Cmp.{IsStrictWeakOrder}
 use Rattle.std.specs.List.Sorted.{IsSortedBy}
 use Rattle.std.proofs.lemmas.Bool.Decides.{nat_tests}
-use Rattle.er_pair.specs.declared.places.Place.{Place}
+use Rattle.er_pair.specs.declared.entrants.Entrant.{Entrant}
 use Rattle.std.proofs.lemmas.List.Sorted.{IsPermutation-map, IsPermutation-sym, All-permutation, length_permutation, sorted_far}
 use Rattle.er_event.specs.declared.players.Player.{Player}
 use Rattle.er_event.specs.Event.{EventValue}
 use Rattle.er_event.specs.Sound.{IsSoundButForSeeds}
 use Rattle.er_event.specs.Totals.{totals}
 use Rattle.er_pair.specs.Order.{AreKeys, active_numbers, place_among, comes_before, seats_of, IsOrder}
-use Rattle.er_pair.specs.inside.Place.{is_before, place_of, placed}
+use Rattle.er_pair.specs.inside.Entrant.{is_before, entrant_of, entrants_of}
 use Rattle.std.proofs.lemmas.List.{length-map, get_or-map, get_or_default}
 use Rattle.std.proofs.lemmas.List.Elements.{Contains-get_or}
 use Rattle.std.proofs.lemmas.List.Quantifiers.{all_pairs_push}
@@ -52,7 +52,7 @@ true-from_IsNotBefore : (a k m b l n : ℕ) → IsNotBefore b l n a k m → (m �
 unfolding later_in
 true-from_IsNotBefore a k m b l n h apart = grind (arith, nat_tests, h.points, h.key, h.number, apart)
 
-before_is : (p q : Place) → is_before p q ≡ later_in p.points.0 p.key p.number q.points.0 q.key q.number
+before_is : (p q : Entrant) → is_before p q ≡ later_in p.points.0 p.key p.number q.points.0 q.key q.number
 unfolding later_in
 before_is p q = refl
 
@@ -65,7 +65,7 @@ place_order = record {
       (IsNotBefore-from _ _ _ _ _ _ (sym (before_is p q) ∙ one)) (IsNotBefore-from _ _ _ _ _ _ (sym (before_is q r) ∙ two)));
 }
 
-strictly_before : (p q : Place) → is_before q p ≡ false → (p.number ≡ q.number → ⊥) → is_before p q ≡ true
+strictly_before : (p q : Entrant) → is_before q p ≡ false → (p.number ≡ q.number → ⊥) → is_before p q ≡ true
 strictly_before p q h apart =
     before_is p q ∙ true-from_IsNotBefore p.points.0 p.key p.number q.points.0 q.key q.number
     (IsNotBefore-from q.points.0 q.key q.number p.points.0 p.key p.number (sym (before_is q p) ∙ h)) apart
@@ -139,37 +139,37 @@ apart_in xs ys rises same i j before within alike =
     let n = get_or ys i 0 in
     absurd (omega (arith, times-IsPermutation xs ys same n, times_once n xs rises, times_twice n ys i j before within refl (sym alike)))
 
-map-placed : (event : EventValue) (ns keys : List ℕ) → length keys ≡ length ns → map (λ (p : Place). p.number) (placed event ns keys) ≡ ns
+map-placed : (event : EventValue) (ns keys : List ℕ) → length keys ≡ length ns → map (λ (p : Entrant). p.number) (entrants_of event ns keys) ≡ ns
 map-placed event [] [] same = refl
 map-placed event [] (key ∷ keys) same = absurd (omega arith)
 map-placed event (n ∷ ns) [] same = absurd (omega arith)
 map-placed event (n ∷ ns) (key ∷ keys) same = ap (λ (l : List ℕ). n ∷ l) (map-placed event ns keys (omega arith))
 
-placed-at : (event : EventValue) (ns keys : List ℕ) (k : ℕ) (d : Place) → k < length (placed event ns keys) → length keys ≡ length ns
-    → get_or (placed event ns keys) k d ≡ place_of event (get_or ns k 0) (get_or keys k 0)
+placed-at : (event : EventValue) (ns keys : List ℕ) (k : ℕ) (d : Entrant) → k < length (entrants_of event ns keys) → length keys ≡ length ns
+    → get_or (entrants_of event ns keys) k d ≡ entrant_of event (get_or ns k 0) (get_or keys k 0)
 placed-at event [] [] k d below same = absurd (not-suc-le-zero below)
 placed-at event [] (key ∷ keys) k d below same = absurd (omega arith)
 placed-at event (n ∷ ns) [] k d below same = absurd (omega arith)
 placed-at event (n ∷ ns) (key ∷ keys) zero d below same = refl
 placed-at event (n ∷ ns) (key ∷ keys) (suc k) d below same = placed-at event ns keys k d (omega arith) (omega arith)
 
-length-placed : (event : EventValue) (ns keys : List ℕ) → length keys ≡ length ns → length (placed event ns keys) ≡ length ns
+length-placed : (event : EventValue) (ns keys : List ℕ) → length keys ≡ length ns → length (entrants_of event ns keys) ≡ length ns
 length-placed event [] [] same = refl
 length-placed event [] (key ∷ keys) same = absurd (omega arith)
 length-placed event (n ∷ ns) [] same = absurd (omega arith)
 length-placed event (n ∷ ns) (key ∷ keys) same = ap suc (length-placed event ns keys (omega arith))
 
 -- a place has the points and the key of its player
-record IsPlaceOf (event : EventValue) (key : ℕ → ℕ) (p : Place) : Type 0 where
+record IsPlaceOf (event : EventValue) (key : ℕ → ℕ) (p : Entrant) : Type 0 where
   points : p.points.0 ≡ (totals event p.number).points
   own : p.key ≡ key (place_among event p.number)
 
 all_placed : (event : EventValue) (keys : List ℕ) (key : ℕ → ℕ) → Rises (active_numbers event) → length keys ≡ length (active_numbers event) → AreKeys keys key
-    → All (IsPlaceOf event key) (placed event (active_numbers event) keys)
+    → All (IsPlaceOf event key) (entrants_of event (active_numbers event) keys)
 all_placed event keys key rises same are k d below =
     let ns = active_numbers event in
     let within : k < length ns = omega (arith, below, length-placed event ns keys same) in
-    subst (λ (p : Place). IsPlaceOf event key p) (sym (placed-at event ns keys k d below same)) (record {
+    subst (λ (p : Entrant). IsPlaceOf event key p) (sym (placed-at event ns keys k d below same)) (record {
       points = refl;
       own = are k (omega (arith, within, same)) ∙ ap key (sym (count_below ns k rises within));
     })
@@ -179,7 +179,7 @@ comes_is : (event : EventValue) (key : ℕ → ℕ) (p q : ℕ)
 unfolding later_in
 comes_is event key p q = refl
 
-comes_from : (event : EventValue) (key : ℕ → ℕ) (p q : Place) → IsPlaceOf event key p → IsPlaceOf event key q → is_before p q ≡ comes_before event key p.number q.number
+comes_from : (event : EventValue) (key : ℕ → ℕ) (p q : Entrant) → IsPlaceOf event key p → IsPlaceOf event key q → is_before p q ≡ comes_before event key p.number q.number
 comes_from event key p q one two =
     before_is p q
     ∙ (ap (λ (n : ℕ). later_in n p.key p.number q.points.0 q.key q.number) one.points
@@ -192,31 +192,31 @@ pub numbers_rise : (event : EventValue) → IsSoundButForSeeds event → Rises (
 numbers_rise event sound = active_rise event.players (subst (λ (ns : List ℕ). Rises ns) (sym sound.players.numbered) (Rises-range 1 (length event.players)))
 
 -- places in order, by number, with the bye where it is due
-pub ordered : (event : EventValue) (keys : List ℕ) (sorted : List Place) (seats : List ℕ) → IsSoundButForSeeds event → length keys ≡ length (active_numbers event)
-    → IsPermutation (placed event (active_numbers event) keys) sorted → IsSortedBy is_before sorted → seats ≡ seats_of (map (λ (p : Place). p.number) sorted)
+pub ordered : (event : EventValue) (keys : List ℕ) (sorted : List Entrant) (seats : List ℕ) → IsSoundButForSeeds event → length keys ≡ length (active_numbers event)
+    → IsPermutation (entrants_of event (active_numbers event) keys) sorted → IsSortedBy is_before sorted → seats ≡ seats_of (map (λ (p : Entrant). p.number) sorted)
     → (key : ℕ → ℕ) → AreKeys keys key → IsOrder event key seats
 ordered event keys sorted seats sound same moved up is key are =
     let ns = active_numbers event in
     let rises = numbers_rise event sound in
-    let numbered = IsPermutation-map (λ (p : Place). p.number) (placed event ns keys) sorted moved in
-    let everyone = subst (λ (l : List ℕ). IsPermutation l (map (λ (p : Place). p.number) sorted)) (map-placed event ns keys same) numbered in
-    let each = All-permutation (IsPlaceOf event key) (placed event ns keys) sorted moved (all_placed event keys key rises same are) in
+    let numbered = IsPermutation-map (λ (p : Entrant). p.number) (entrants_of event ns keys) sorted moved in
+    let everyone = subst (λ (l : List ℕ). IsPermutation l (map (λ (p : Entrant). p.number) sorted)) (map-placed event ns keys same) numbered in
+    let each = All-permutation (IsPlaceOf event key) (entrants_of event ns keys) sorted moved (all_placed event keys key rises same are) in
     record {
-      players = map (λ (p : Place). p.number) sorted;
+      players = map (λ (p : Entrant). p.number) sorted;
       everyone = everyone;
       sorted = λ i j d before within.
-          let low : Place = place_of event d 0 in
-          let inside : j < length sorted = omega (arith, within, length-map sorted (λ (p : Place). p.number)) in
+          let low : Entrant = entrant_of event d 0 in
+          let inside : j < length sorted = omega (arith, within, length-map sorted (λ (p : Entrant). p.number)) in
           let earlier : i < length sorted = omega arith in
-          let one = get_or-map (λ (p : Place). p.number) sorted i low d earlier in
-          let two = get_or-map (λ (p : Place). p.number) sorted j low d inside in
+          let one = get_or-map (λ (p : Entrant). p.number) sorted i low d earlier in
+          let two = get_or-map (λ (p : Entrant). p.number) sorted j low d inside in
           let p = get_or sorted i low in
           let q = get_or sorted j low in
-          let apart : p.number ≡ q.number → ⊥ = λ alike. apart_in ns (map (λ (p : Place). p.number) sorted) rises everyone i j before (omega arith)
-          (get_or-map (λ (p : Place). p.number) sorted i low 0 earlier ∙ (alike ∙ sym (get_or-map (λ (p : Place). p.number) sorted j low 0 inside))) in
+          let apart : p.number ≡ q.number → ⊥ = λ alike. apart_in ns (map (λ (p : Entrant). p.number) sorted) rises everyone i j before (omega arith)
+          (get_or-map (λ (p : Entrant). p.number) sorted i low 0 earlier ∙ (alike ∙ sym (get_or-map (λ (p : Entrant). p.number) sorted j low 0 inside))) in
           let far = sorted_far is_before place_order sorted up i j low (omega arith) inside in
           let comes = sym (comes_from event key p q (each i low earlier) (each j low inside)) ∙ strictly_before p q far apart in
-          subst (λ (n : ℕ). IsTrue (comes_before event key n (get_or (map (λ (p : Place). p.number) sorted) j d))) (sym one)
+          subst (λ (n : ℕ). IsTrue (comes_before event key n (get_or (map (λ (p : Entrant). p.number) sorted) j d))) (sym one)
           (subst (λ (n : ℕ). IsTrue (comes_before event key p.number n)) (sym two) comes);
       seated = is;
     }
@@ -232,12 +232,12 @@ filtered_few : (players : List Player) → length (active_in players) ≤ length
 filtered_few players = omega (arith, length-map (filter (λ (p : Player). not p.dropped) players) (λ (p : Player). p.no), length-filter (λ (p : Player). not p.dropped) players, count_by-le-length (λ (p : Player). not p.dropped) players)
 
 -- at most as many as there may be players
-pub few : (event : EventValue) (keys : List ℕ) (sorted : List Place) (seats : List ℕ) → IsSoundButForSeeds event → length keys ≡ length (active_numbers event)
-    → IsPermutation (placed event (active_numbers event) keys) sorted → seats ≡ seats_of (map (λ (p : Place). p.number) sorted) → length seats ≤ 512
+pub few : (event : EventValue) (keys : List ℕ) (sorted : List Entrant) (seats : List ℕ) → IsSoundButForSeeds event → length keys ≡ length (active_numbers event)
+    → IsPermutation (entrants_of event (active_numbers event) keys) sorted → seats ≡ seats_of (map (λ (p : Entrant). p.number) sorted) → length seats ≤ 512
 few event keys sorted seats sound same moved is =
-    let players = map (λ (p : Place). p.number) sorted in
+    let players = map (λ (p : Entrant). p.number) sorted in
     let enrolled = sound.players.few in
-    let count : length players ≤ 512 = omega (arith, length-map sorted (λ (p : Place). p.number), length_permutation (placed event (active_numbers event) keys) sorted moved, length-placed event (active_numbers event) keys same, filtered_few event.players, enrolled) in
+    let count : length players ≤ 512 = omega (arith, length-map sorted (λ (p : Entrant). p.number), length_permutation (entrants_of event (active_numbers event) keys) sorted moved, length-placed event (active_numbers event) keys same, filtered_few event.players, enrolled) in
     subst (λ (l : List ℕ). length l ≤ 512) (sym is) (few_seats players count)
 
 -- of two one does not come before the other and after it
@@ -266,10 +266,10 @@ seats_distinct players apart positive = by_test (length players % 2 == 1)
     by_test false = apart
 
 -- nobody stands twice in the order
-pub order_distinct : (event : EventValue) (keys : List ℕ) (sorted : List Place) (seats : List ℕ) → IsSoundButForSeeds event → length keys ≡ length (active_numbers event)
-    → IsPermutation (placed event (active_numbers event) keys) sorted → seats ≡ seats_of (map (λ (p : Place). p.number) sorted) → AllPairs (λ p q. p ≢ q) seats
+pub order_distinct : (event : EventValue) (keys : List ℕ) (sorted : List Entrant) (seats : List ℕ) → IsSoundButForSeeds event → length keys ≡ length (active_numbers event)
+    → IsPermutation (entrants_of event (active_numbers event) keys) sorted → seats ≡ seats_of (map (λ (p : Entrant). p.number) sorted) → AllPairs (λ p q. p ≢ q) seats
 order_distinct event keys sorted seats sound same moved is =
     let ns = active_numbers event in
-    let players = map (λ (p : Place). p.number) sorted in
-    let everyone = subst (λ (l : List ℕ). IsPermutation l players) (map-placed event ns keys same) (IsPermutation-map (λ (p : Place). p.number) (placed event ns keys) sorted moved) in
+    let players = map (λ (p : Entrant). p.number) sorted in
+    let everyone = subst (λ (l : List ℕ). IsPermutation l players) (map-placed event ns keys same) (IsPermutation-map (λ (p : Entrant). p.number) (entrants_of event ns keys) sorted moved) in
     subst (λ (l : List ℕ). AllPairs (λ p q. p ≢ q) l) (sym is) (seats_distinct players (players_distinct event players sound everyone) (players_positive event players sound everyone))

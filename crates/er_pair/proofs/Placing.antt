@@ -2,9 +2,9 @@
 use Rattle.std.proofs.Common.{◌≡◌, ℕ, zero, suc, ◌+◌, ◌<◌, ◌≤◌, Bool, true, false, not, cond, List, [], ◌∷◌, ◌++◌, length, take, map, filter, get_or, refl, sym, ap, ◌∙◌, arith, not-suc-le-zero, add-one, length-append, append-nil}
 use Rattle.er_event.specs.declared.players.Player.{Player}
 use Rattle.er_event.specs.Event.{EventValue}
-use Rattle.er_pair.specs.declared.places.Place.{Place}
+use Rattle.er_pair.specs.declared.entrants.Entrant.{Entrant}
 use Rattle.er_event.specs.Totals.{totals}
-use Rattle.er_pair.specs.inside.Place.{place_of, placed}
+use Rattle.er_pair.specs.inside.Entrant.{entrant_of, entrants_of}
 
 abbrev pub active_in : List Player → List ℕ
 active_in players = map (λ p. p.no) (filter (λ p. not p.dropped) players)
@@ -53,28 +53,28 @@ active_below players i p below is active =
     omega (arith, more, active_few players (i + 1), length-append (active_in (take i players)) (p.no ∷ []))
 
 pub placed-push : (event : EventValue) (ns keys : List ℕ) (n : ℕ) → length ns < length keys
-    → placed event (ns ++ n ∷ []) keys ≡ placed event ns keys ++ place_of event n (get_or keys (length ns) 0) ∷ []
+    → entrants_of event (ns ++ n ∷ []) keys ≡ entrants_of event ns keys ++ entrant_of event n (get_or keys (length ns) 0) ∷ []
 placed-push event [] [] n below = absurd (not-suc-le-zero below)
 placed-push event [] (key ∷ keys) n below = refl
 placed-push event (m ∷ ns) [] n below = absurd (not-suc-le-zero below)
-placed-push event (m ∷ ns) (key ∷ keys) n below = ap (λ (l : List Place). place_of event m key ∷ l) (placed-push event ns keys n (omega arith))
+placed-push event (m ∷ ns) (key ∷ keys) n below = ap (λ (l : List Entrant). entrant_of event m key ∷ l) (placed-push event ns keys n (omega arith))
 
 -- the next active player goes to the end
-pub placed_more : (event : EventValue) (players : List Player) (keys : List ℕ) (i : ℕ) (p : Player) (places new : List Place) (number points len : ℕ)
+pub placed_more : (event : EventValue) (players : List Player) (keys : List ℕ) (i : ℕ) (p : Player) (places new : List Entrant) (number points len : ℕ)
     → i < length players → p ≡ get_or players i p → p.dropped ≡ false → number ≡ p.no → points ≡ (totals event p.no).points
-    → places ≡ placed event (active_in (take i players)) keys → length places ≡ length (active_in (take i players)) → len ≡ length places → len < length keys
+    → places ≡ entrants_of event (active_in (take i players)) keys → length places ≡ length (active_in (take i players)) → len ≡ length places → len < length keys
     → new ≡ places ++ record { points = record { 0 = points }; key = get_or keys len 0; number = number } ∷ []
-    → (new ≡ placed event (active_in (take (i + 1) players)) keys) × (length new ≡ length (active_in (take (i + 1) players)))
+    → (new ≡ entrants_of event (active_in (take (i + 1) players)) keys) × (length new ≡ length (active_in (take (i + 1) players)))
 placed_more event players keys i p places new number points len below is active numbered pointed value count len_is room pushed =
     let before = active_in (take i players) in
     let more = active_more players i p below is active in
     let count_is : len ≡ length before = len_is ∙ count in
-    let at : ℕ → ℕ → ℕ → Place = λ n k m. record { points = record { 0 = n }; key = get_or keys k 0; number = m } in
-    let place : at points len number ≡ place_of event p.no (get_or keys (length before) 0) =
+    let at : ℕ → ℕ → ℕ → Entrant = λ n k m. record { points = record { 0 = n }; key = get_or keys k 0; number = m } in
+    let place : at points len number ≡ entrant_of event p.no (get_or keys (length before) 0) =
     ap (λ (n : ℕ). at n len number) pointed ∙ (ap (λ (k : ℕ). at (totals event p.no).points k number) count_is ∙ ap (λ (m : ℕ). at (totals event p.no).points (length before) m) numbered) in
     let room_before : length before < length keys = omega (arith, count_is, room) in (
-      pushed ∙ (ap (λ (l : List Place). l ++ at points len number ∷ []) value
-          ∙ (ap (λ (q : Place). placed event before keys ++ q ∷ []) place
-          ∙ (sym (placed-push event before keys p.no room_before) ∙ ap (λ (ns : List ℕ). placed event ns keys) (sym more)))),
+      pushed ∙ (ap (λ (l : List Entrant). l ++ at points len number ∷ []) value
+          ∙ (ap (λ (q : Entrant). entrants_of event before keys ++ q ∷ []) place
+          ∙ (sym (placed-push event before keys p.no room_before) ∙ ap (λ (ns : List ℕ). entrants_of event ns keys) (sym more)))),
       (let a = ap length pushed in let b = ap length more in omega (arith, a, b, count, length-append places (at points len number ∷ []), length-append before (p.no ∷ []))),
     )

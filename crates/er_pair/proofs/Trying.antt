@@ -11,7 +11,7 @@ use Rattle.er_pair.specs.declared.search.Outcome.TheVariants.{Paired, DeadEnd, O
 use Rattle.er_pair.specs.declared.rows.TheConstants.{WORDS}
 use Rattle.er_pair.specs.Pairing.{Pair}
 use Rattle.er_pair.specs.Rows.{has_place, ahead_of, is_later, row_at}
-use Rattle.er_pair.specs.inside.Search.{Answer, Answers, after_step, tries, search_of, met_in, free_ahead, answer_ahead, AreDeadEnds}
+use Rattle.er_pair.specs.inside.Search.{Answer, SearchAnswers, after_step, tries, search_of, met_in, free_ahead, answer_ahead, AreDeadEnds}
 use Rattle.er_pair.proofs.Searching.{after_step-paired, after_step-dead, tries-none, tries-met, tries-new, search_of-none, search_of-cons}
 use Rattle.er_pair.proofs.Ahead.{ahead-same, later_free}
 use Rattle.er_pair.proofs.Passing.{passing, passing-none, passing-same, passing-from, passes_run, steps_at, passing-without, passing-append, passing-first}
@@ -113,7 +113,7 @@ module _ (rows : List Row) (free : ℕ → Bool) (first : ℕ) where
 -- ---- before the first candidate
 
 pub pairs_none : (rows : List Row) (list : List ℕ) (steps : ℕ) (pairs : List Pair) → length list ≡ 2 * length pairs → list ≡ []
-    → Answers (search_of (met_in rows) list) steps pairs steps Paired
+    → SearchAnswers (search_of (met_in rows) list) steps pairs steps Paired
 pairs_none rows list steps [] size none =
     let e = ap (search_of (met_in rows)) none ∙ search_of-none (met_in rows) in
     let count = ap (λ (a : Answer). a.1) e in
@@ -270,7 +270,7 @@ module _ (rows : List Row) (at_first used : Row) (list : List ℕ) (others : Cur
   free = ahead_of at_first at_first others
 
   pub none_is_left : (found : List Pair) → HoldsNowhere (ahead_of (row_at rows first) used candidates) 0 (length rows)
-      → Answers (search_of (met_in rows) list) steps found left DeadEnd
+      → SearchAnswers (search_of (met_in rows) list) steps found left DeadEnd
   none_is_left found none =
       let last = none_left rows free first h.next h.within (λ p above below. sym (h.walk.later p above) ∙ none p (omega arith) below) in
       let counts = ap (λ (a : Answer). a.1) last in
@@ -333,13 +333,13 @@ module _ (rows : List Row) (at_first used : Row) (list : List ℕ) (others : Cur
         pub goes_on : (after : Cursor) (back last : Row) (found : List Pair) (left_after : ℕ)
             → ((p : ℕ) → ahead_of (row_at rows first) used after p ≡ (ahead_of (row_at rows first) used candidates p && not (p == c)))
             → after.index < WORDS → 0 < left
-            → Answers (search_of (met_in rows) (free_ahead more rest (length rows))) (left - 1) found left_after DeadEnd
+            → SearchAnswers (search_of (met_in rows) (free_ahead more rest (length rows))) (left - 1) found left_after DeadEnd
             → ((p : ℕ) → has_place more p ≡ (is_later others.index c p || has_place used p))
             → ((p : ℕ) → has_place back p ≡ has_place more p)
             → ((p : ℕ) → has_place last p ≡ (not (is_later others.index c p) && has_place back p))
             → IsAt rows at_first last list others first after steps left_after
         goes_on after back last found left_after less word some answers is_more as_more is_last =
-            let inner = subst (λ (l : List ℕ). Answers (search_of (met_in rows) l) (left - 1) found left_after DeadEnd) rest_is answers in
+            let inner = subst (λ (l : List ℕ). SearchAnswers (search_of (met_in rows) l) (left - 1) found left_after DeadEnd) rest_is answers in
             let later = left_to_try rows free first (c + 1) in
             let on = step ∙ (ap (λ (o : Option (List Pair)). after_step (first, c) o
             (search_of (met_in rows) (without_one rows free first c)).1 later) inner.0
@@ -405,10 +405,10 @@ module _ (rows : List Row) (at_first used : Row) (list : List ℕ) (others : Cur
         -- where it isn't, that is the answer
         pub answers_with : (found all : List Pair) (left_after : ℕ) (outcome : Outcome) → 0 < left → (outcome ≡ DeadEnd → ⊥)
             → all ≡ (first, c) ∷ found
-            → Answers (search_of (met_in rows) (free_ahead more rest (length rows))) (left - 1) found left_after outcome
-            → Answers (search_of (met_in rows) list) steps all left_after outcome
+            → SearchAnswers (search_of (met_in rows) (free_ahead more rest (length rows))) (left - 1) found left_after outcome
+            → SearchAnswers (search_of (met_in rows) list) steps all left_after outcome
         answers_with found all left_after Paired some other is_all answers =
-            let inner = subst (λ (l : List ℕ). Answers (search_of (met_in rows) l) (left - 1) found left_after Paired) rest_is answers in
+            let inner = subst (λ (l : List ℕ). SearchAnswers (search_of (met_in rows) l) (left - 1) found left_after Paired) rest_is answers in
             let later = left_to_try rows free first (c + 1) in
             let on = step ∙ (ap (λ (o : Option (List Pair)). after_step (first, c) o
             (search_of (met_in rows) (without_one rows free first c)).1 later) inner.0
@@ -419,7 +419,7 @@ module _ (rows : List Row) (at_first used : Row) (list : List ℕ) (others : Cur
             (h.outcome ∙ (ap (λ (a : Answer). a.0) on ∙ ap Some (sym is_all)), omega (arith, counts, so_far, inner_counted))
         answers_with found all left_after DeadEnd some other is_all answers = absurd (other refl)
         answers_with found all left_after OutOfSteps some other is_all answers =
-            let inner = subst (λ (l : List ℕ). Answers (search_of (met_in rows) l) (left - 1) found left_after OutOfSteps)
+            let inner = subst (λ (l : List ℕ). SearchAnswers (search_of (met_in rows) l) (left - 1) found left_after OutOfSteps)
             rest_is answers in
             let counts = ap (λ (a : Answer). a.1) step in
             let least = after_step-least (first, c) (search_of (met_in rows) (without_one rows free first c)).0
@@ -433,14 +433,14 @@ pub record IsRest (rows : List Row) (more : Row) (rest : Cursor) (left : ℕ) (w
   pub found : List Pair
   pub size : length found ≡ length written - 1
   pub are : pairs ≡ put_mid 1 (length written - 1) written found
-  pub answer : Answers (search_of (met_in rows) (free_ahead more rest (length rows))) left found steps outcome
+  pub answer : SearchAnswers (search_of (met_in rows) (free_ahead more rest (length rows))) left found steps outcome
   pub as_before : outcome ≡ DeadEnd → (p : ℕ) → has_place used p ≡ has_place more p
   pub known : AreDeadEnds rows kept
 
 pub rest_found : (rows : List Row) (more : Row) (rest : Cursor) (left : ℕ) (written : List Pair) (outcome that : Outcome) (used those : Row)
     (pairs found : List Pair) (steps count : ℕ)
     → outcome ≡ that → used ≡ those → pairs ≡ put_mid 1 (length written - 1) written found → steps ≡ count
-    → length found ≡ length written - 1 → Answers (search_of (met_in rows) (free_ahead more rest (length rows))) left found count that
+    → length found ≡ length written - 1 → SearchAnswers (search_of (met_in rows) (free_ahead more rest (length rows))) left found count that
     → (that ≡ DeadEnd → (p : ℕ) → has_place those p ≡ has_place more p) → {kept known : List KnownDeadEnd} → kept ≡ known
     → AreDeadEnds rows known
     → IsRest rows more rest left written outcome used pairs steps kept
@@ -449,8 +449,8 @@ rest_found rows more rest left written outcome that used those pairs found steps
       found = found;
       size = size;
       are = are;
-      answer = subst (λ (o : Outcome). Answers (answer_ahead rows more rest) left found steps o) (sym is_that)
-          (subst (λ (n : ℕ). Answers (answer_ahead rows more rest) left found n that) (sym is_count) answer);
+      answer = subst (λ (o : Outcome). SearchAnswers (answer_ahead rows more rest) left found steps o) (sym is_that)
+          (subst (λ (n : ℕ). SearchAnswers (answer_ahead rows more rest) left found n that) (sym is_count) answer);
       as_before = λ dead p. ap (λ (r : Row). has_place r p) is_those ∙ as_before (sym is_that ∙ dead) p;
       known = subst (λ (k : List KnownDeadEnd). AreDeadEnds rows k) (sym is_known) each;
     }
@@ -479,7 +479,7 @@ two_new rows first second new =
 
 pub last_met : (rows : List Row) (list : List ℕ) (first second steps : ℕ) (found : List Pair) → list ≡ first ∷ second ∷ []
     → met_in rows first second ≡ true
-    → Answers (search_of (met_in rows) list) steps found steps DeadEnd
+    → SearchAnswers (search_of (met_in rows) list) steps found steps DeadEnd
 last_met rows list first second steps found is met =
     let all = ap (search_of (met_in rows)) is ∙ two_met rows first second met in
     let counts = ap (λ (a : Answer). a.1) all in
@@ -495,7 +495,7 @@ last_without_step rows list first second steps is new none =
 
 pub last_new : (rows : List Row) (list : List ℕ) (first second steps : ℕ) (pairs : List Pair) → list ≡ first ∷ second ∷ []
     → met_in rows first second ≡ false → 0 < steps
-    → length pairs ≡ 1 → Answers (search_of (met_in rows) list) steps (set pairs 0 (first, second)) (steps - 1) Paired
+    → length pairs ≡ 1 → SearchAnswers (search_of (met_in rows) list) steps (set pairs 0 (first, second)) (steps - 1) Paired
 last_new rows list first second steps pairs is new some one =
     let all = ap (search_of (met_in rows)) is ∙ two_new rows first second new in
     let counts = ap (λ (a : Answer). a.1) all in

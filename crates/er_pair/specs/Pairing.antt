@@ -1,7 +1,7 @@
 -- The earliest legal pairing of an order.
 use Rattle.std.specs.Prelude.{◌≡◌, ℕ, ◌<◌, ◌==◌, Bool, not, IsTrue, IsFalse, if◌then◌else◌, List, [], ◌∷◌, ◌++◌, length, map, filter, take, flat_map, All, Contains, IsPermutation, slice_index, slice_get, Some, None}
 use Rattle.std.specs.List.{list_any, range_with_len}
-use Rattle.er_event.specs.declared.rounds.Match.{Match}
+use Rattle.er_event.specs.declared.matches.Match.{Match}
 use Rattle.er_event.specs.Score.{bye_score}
 use Rattle.er_event.specs.Round.{is_bye}
 

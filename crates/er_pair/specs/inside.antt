@@ -1,4 +1,4 @@
 -- What private functions alone cite.
-pub mod Place
+pub mod Entrant
 pub mod Search
 pub mod Seats

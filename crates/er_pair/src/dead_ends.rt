@@ -39,7 +39,8 @@ fn slot(left: u64, count: usize) -> usize
 /// The steps that a search from here takes, where it is known to be a dead end.
 pub fn steps_of(kept: &[KnownDeadEnd], ahead: Cursor) -> Option<u32>
     requires { 0 < length kept.now }
-    ensures { IfSome result (λ steps. (rows : List Row) (used : Row) → AreDeadEnds rows kept.now → IsDeadAhead rows used ahead steps) }
+    ensures { IfSome result (λ steps. (rows : List Row) (used : Row) → AreDeadEnds rows kept.now
+        → IsDeadAhead rows used ahead steps) }
 {
     let found = &kept[slot(ahead.left, kept.len())];
     if ahead.left != 0 && found.left == ahead.left && found.index == ahead.index {

@@ -3,10 +3,10 @@
 #![tactic(auto)]
 
 mod dead_ends;
+mod entrants;
 mod meetings;
 mod orders;
 mod pairings;
-mod places;
 mod rows;
 mod search;
 mod seats;

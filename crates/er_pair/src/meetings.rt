@@ -66,7 +66,8 @@ impl Met {
         requires one { one ≤ MAX_PLAYERS }
         requires other { other ≤ MAX_PLAYERS }
         ensures taken { IsOk result }
-        ensures added { (p q : ℕ) → has_met self.new p q ≡ (has_met self.old p q || are_pair one other p q) }
+        ensures added { (p q : ℕ)
+            → has_met self.new p q ≡ (has_met self.old p q || are_pair one other p q) }
     {
         let (row, column) = (usize::from(one), usize::from(other));
         self.rows[row].insert(column);
@@ -76,7 +77,8 @@ impl Met {
 
     /// Those that a number has met, where it is at most 512.
     pub(crate) fn row(&self, number: u16) -> Option<&Row>
-        ensures { MatchOption result (NUMBERS ≤ number) (λ row. (p : ℕ) → p < NUMBERS → has_met self.now p number ≡ has_place row.now p) }
+        ensures { MatchOption result (NUMBERS ≤ number) (λ row. (p : ℕ) → p < NUMBERS
+            → has_met self.now p number ≡ has_place row.now p) }
     {
         self.rows.get(usize::from(number))
     }

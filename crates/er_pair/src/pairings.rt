@@ -74,17 +74,26 @@ fn entries_at(
 pub fn first_pairing(alloc: Global, order: &[u16], met: &Met) -> Result<Vec<(u16, u16)>, PairFault>
     requires few { length order.now ≤ MAX_PLAYERS }
     requires even { length order.now % 2 ≡ 0 }
-    ensures earliest { IfOk result (λ found. (pairs : List Pair) × IsEarliest (has_met met.now) order.now pairs × (found.items ≡ entries order.now pairs)) }
+    ensures earliest { IfOk result (λ found. (pairs : List Pair)
+        × IsEarliest (has_met met.now) order.now pairs
+        × (found.items ≡ entries order.now pairs)) }
     ensures seated { IfOk result (λ found. IsPermutation order.now (positions found.items)) }
     ensures new_opponents { IfOk result (λ found. All (λ pair. IsFalse (has_met met.now pair.0 pair.1)) found.items) }
-    ensures in_order { (pairs : List Pair) → IsLegal (has_met met.now) order.now pairs → All (λ pair. pair.0 < pair.1) pairs }
-    ensures one { (pairs other : List Pair) → IsEarliest (has_met met.now) order.now pairs → IsEarliest (has_met met.now) order.now other → pairs ≡ other }
-    ensures none { result ≡ Err PairFault.NoPairing → (pairs : List Pair) → IsLegal (has_met met.now) order.now pairs → ⊥ }
-    ensures budget { (result ≡ Err PairFault.Memory) ⊎ ((result ≡ Err (PairFault.Budget MAX_STEPS)) ↔ NeedsMore (has_met met.now) order.now MAX_STEPS) }
+    ensures in_order { (pairs : List Pair) → IsLegal (has_met met.now) order.now pairs
+        → All (λ pair. pair.0 < pair.1) pairs }
+    ensures one { (pairs other : List Pair) → IsEarliest (has_met met.now) order.now pairs
+        → IsEarliest (has_met met.now) order.now other → pairs ≡ other }
+    ensures none { result ≡ Err PairFault.NoPairing → (pairs : List Pair)
+        → IsLegal (has_met met.now) order.now pairs → ⊥ }
+    ensures budget { (result ≡ Err PairFault.Memory)
+        ⊎ ((result ≡ Err (PairFault.Budget MAX_STEPS))
+        ↔ NeedsMore (has_met met.now) order.now MAX_STEPS) }
     ensures steps { (steps : ℕ) → result ≡ Err (PairFault.Budget steps) → steps ≡ 1000000 }
-    ensures short_steps { (steps : ℕ) → length order.now ≤ 14 → Needs (has_met met.now) order.now (all_positions order.now) steps → steps ≤ 325767 }
+    ensures short_steps { (steps : ℕ) → length order.now ≤ 14
+        → Needs (has_met met.now) order.now (all_positions order.now) steps → steps ≤ 325767 }
     ensures short { (steps : ℕ) → length order.now ≤ 14 → result ≢ Err (PairFault.Budget steps) }
-    ensures fresh { (fault : PairFault) → AllPairs (λ p q. IsFalse (has_met met.now p q)) order.now → result ≡ Err fault → fault ≡ PairFault.Memory }
+    ensures fresh { (fault : PairFault) → AllPairs (λ p q. IsFalse (has_met met.now p q)) order.now
+        → result ≡ Err fault → fault ≡ PairFault.Memory }
 {
     let rows = by_position(alloc, order, met)?;
     let mut pairs = vec![in alloc; (0, 0); order.len() / 2]?;

@@ -24,7 +24,8 @@ impl Row {
 
     /// The places that the row doesn't have.
     pub fn complement(&self) -> Row
-        ensures { (place : ℕ) → place < PLACES → has_place result place ≡ not (has_place self.now place) }
+        ensures { (place : ℕ) → place < PLACES
+            → has_place result place ≡ not (has_place self.now place) }
     {
         let mut words = [0; WORDS];
         for index in 0..WORDS {
@@ -42,14 +43,16 @@ impl Row {
 
     pub fn insert(&mut self, place: usize)
         requires { place < PLACES }
-        ensures { (other : ℕ) → has_place self.new other ≡ (other == place || has_place self.old other) }
+        ensures { (other : ℕ)
+            → has_place self.new other ≡ (other == place || has_place self.old other) }
     {
         self.words[place / 64] |= 1 << (place % 64);
     }
 
     pub fn remove(&mut self, place: usize)
         requires { place < PLACES }
-        ensures { (other : ℕ) → has_place self.new other ≡ (not (other == place) && has_place self.old other) }
+        ensures { (other : ℕ)
+            → has_place self.new other ≡ (not (other == place) && has_place self.old other) }
     {
         self.words[place / 64] &= !(1 << (place % 64));
     }
@@ -58,7 +61,8 @@ impl Row {
 /// So many rows without a place.
 pub fn empty_rows(alloc: Global, count: usize) -> Result<Vec<Row>, AllocError>
     ensures count { IfOk result (λ rows. length rows.items ≡ count) }
-    ensures empty { IfOk result (λ rows. All (λ row. (place : ℕ) → IsFalse (has_place row place)) rows.items) }
+    ensures empty { IfOk result (λ rows. All (λ row. (place : ℕ)
+        → IsFalse (has_place row place)) rows.items) }
 {
     vec![in alloc; Row::empty(); count]
 }
@@ -74,7 +78,8 @@ impl Cursor {
     /// Before each place that the row leaves free.
     pub fn before_all(row: &Row) -> Cursor
         ensures word { result.index < WORDS }
-        ensures ahead { (place : ℕ) → ahead_of row.now row.now result place ≡ not (has_place row.now place) }
+        ensures ahead { (place : ℕ)
+            → ahead_of row.now row.now result place ≡ not (has_place row.now place) }
     {
         Cursor {
             index: 0,
@@ -106,7 +111,9 @@ impl Cursor {
     pub fn without(self, row: &Row) -> Cursor
         requires word { self.index < WORDS }
         ensures word { result.index < WORDS }
-        ensures ahead { (used : Row) (p : ℕ) → ahead_of row.now used result p ≡ (ahead_of used used self p && not (has_place row.now p)) }
+        ensures ahead { (used : Row) (p : ℕ)
+            → ahead_of row.now used result p
+            ≡ (ahead_of used used self p && not (has_place row.now p)) }
     {
         Cursor {
             index: self.index,
@@ -119,8 +126,11 @@ impl Cursor {
         requires word { self.index < WORDS }
         requires place { place < PLACES }
         ensures word { result.index < WORDS }
-        ensures ahead { (p : ℕ) → ahead_of used.new used.new result p ≡ (ahead_of used.old used.old self p && not (p == place)) }
-        ensures used { (p : ℕ) → has_place used.new p ≡ (is_later self.index place p || has_place used.old p) }
+        ensures ahead { (p : ℕ)
+            → ahead_of used.new used.new result p
+            ≡ (ahead_of used.old used.old self p && not (p == place)) }
+        ensures used { (p : ℕ)
+            → has_place used.new p ≡ (is_later self.index place p || has_place used.old p) }
     {
         if place / 64 != self.index {
             used.insert(place);
@@ -135,7 +145,8 @@ impl Cursor {
     /// The row gives back what `but` gave it.
     pub fn give_back(self, used: &mut Row, place: usize)
         requires { place < PLACES }
-        ensures { (p : ℕ) → has_place used.new p ≡ (not (is_later self.index place p) && has_place used.old p) }
+        ensures { (p : ℕ)
+            → has_place used.new p ≡ (not (is_later self.index place p) && has_place used.old p) }
     {
         if place / 64 != self.index {
             used.remove(place);

@@ -1,6 +1,6 @@
 ghost use Rattle.std.specs.Prelude.{◌≡◌, ℕ, ◌*◌, ◌<◌, ◌≤◌, length};
 ghost use Rattle.er_pair.specs.Rows.{has_place};
-ghost use Rattle.er_pair.specs.inside.Search.{free_ahead, answer_ahead, Answers, AreDeadEnds};
+ghost use Rattle.er_pair.specs.inside.Search.{free_ahead, answer_ahead, SearchAnswers, AreDeadEnds};
 ghost use Rattle.er_pair.specs.declared.rows.TheConstants.{WORDS};
 
 use crate::dead_ends::{KnownDeadEnd, keep, steps_of};
@@ -30,7 +30,7 @@ fn last_pair(
     requires word { ahead.index < WORDS }
     requires one { length pairs.old ≡ 1 }
     requires two { length (free_ahead used.now ahead (length rows.now)) ≡ 2 }
-    ensures answer { Answers (answer_ahead rows.now used.now ahead) steps.old pairs.new steps.new result }
+    ensures answer { SearchAnswers (answer_ahead rows.now used.now ahead) steps.old pairs.new steps.new result }
 {
     let mut others = ahead;
     let Some(first) = others.next(used, used, rows.len()) else {
@@ -63,11 +63,13 @@ pub fn search(
 ) -> Outcome
     requires few { length rows.now ≤ MAX_PLAYERS }
     requires word { ahead.index < WORDS }
-    requires two_by_two { length (free_ahead used.old ahead (length rows.now)) ≡ 2 * length pairs.old }
+    requires two_by_two { length (free_ahead used.old ahead (length rows.now))
+        ≡ 2 * length pairs.old }
     requires known { AreDeadEnds rows.now kept.old }
     ensures known { AreDeadEnds rows.now kept.new }
-    ensures answer { Answers (answer_ahead rows.now used.old ahead) steps.old pairs.new steps.new result }
-    ensures as_before { result ≡ Outcome.DeadEnd → (position : ℕ) → has_place used.new position ≡ has_place used.old position }
+    ensures answer { SearchAnswers (answer_ahead rows.now used.old ahead) steps.old pairs.new steps.new result }
+    ensures as_before { result ≡ Outcome.DeadEnd → (position : ℕ)
+        → has_place used.new position ≡ has_place used.old position }
 {
     if let Some(count) = steps_of(kept, ahead) {
         if *steps < count {

@@ -9,7 +9,7 @@ use Rattle.csv.specs.Writing.{escaped, fields_text, is_blank}
 use Rattle.csv.specs.declared.parser.State.TheVariants as st
 use Rattle.csv.proofs.RoundTrip.{rows_text}
 use Rattle.er_event.specs.declared.players.Player.{Player}
-use Rattle.er_event.specs.declared.rounds.Match.{Match}
+use Rattle.er_event.specs.declared.matches.Match.{Match}
 use Rattle.er_event.specs.declared.rounds.Round.{Round}
 use Rattle.serde_json.proofs.OnLiterals.{serde_json_on_literals}
 use Rattle.er_event.specs.declared.scores.Games.{Games}

@@ -9,7 +9,7 @@ use Rattle.csv.specs.declared.parser.State.TheVariants as st
 use Rattle.csv.specs.declared.parser.Config.{Config}
 use Rattle.csv.proofs.RoundTrip.{rows_text, read-write}
 use Rattle.er_event.specs.declared.players.Player.{Player}
-use Rattle.er_event.specs.declared.rounds.Match.{Match}
+use Rattle.er_event.specs.declared.matches.Match.{Match}
 use Rattle.er_event.specs.declared.rounds.Round.{Round}
 use Rattle.er_paper.specs.Tables.{players_heading, player_fields, result_fields, round_table, rounds_table}
 

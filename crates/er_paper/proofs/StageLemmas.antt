@@ -1,7 +1,7 @@
 -- The lines of stages, one after the other.
 use Rattle.std.proofs.Common.{◌≡◌, ℕ, ◌+◌, ◌<◌, suc, List, [], ◌∷◌, ◌++◌, length, take, get_or, sym, ap, ◌∙◌, arith, append_assoc, append-nil}
 use Rattle.std.proofs.lemmas.List.{take_more, length-take-le}
-use Rattle.er_event.specs.declared.rounds.Match.{Match}
+use Rattle.er_event.specs.declared.matches.Match.{Match}
 use Rattle.er_event.specs.Event.{EventValue}
 use Rattle.er_paper.specs.Texts.{stage_lines, stages_lines}
 

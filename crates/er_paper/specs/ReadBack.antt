@@ -1,7 +1,7 @@
 -- What an event's exports hold, line by line, and that they read back.
 use Rattle.std.specs.Prelude.{◌≡◌, ℕ, ◌+◌, List, [], ◌∷◌, ◌++◌, map, Result, Ok}
 use Rattle.er_event.specs.declared.players.Player.{Player}
-use Rattle.er_event.specs.declared.rounds.Match.{Match}
+use Rattle.er_event.specs.declared.matches.Match.{Match}
 use Rattle.er_event.specs.declared.rounds.Round.{Round}
 use Rattle.er_event.specs.Event.{EventValue}
 use Rattle.er_event.specs.Round.{numbered_from, table_of}

@@ -17,7 +17,8 @@ fn push_slot(
     slot: usize,
     m: &Match,
 ) -> Result<(), AllocError>
-    ensures { OnOk result (string_bytes text.new ≡ string_bytes text.old ++ slot_line event.now stage (slot, m.now)) }
+    ensures { OnOk result (string_bytes text.new ≡ string_bytes text.old
+        ++ slot_line event.now stage (slot, m.now)) }
 {
     write!(text, "{stage:>4} ")?;
     push_pairing(alloc, text, event, slot, m)
@@ -30,7 +31,8 @@ fn push_stage(
     stage: usize,
     matches: &[Match],
 ) -> Result<(), AllocError>
-    ensures { OnOk result (string_bytes text.new ≡ string_bytes text.old ++ stage_lines event.now stage matches.now) }
+    ensures { OnOk result (string_bytes text.new ≡ string_bytes text.old
+        ++ stage_lines event.now stage matches.now) }
 {
     for (place, m) in matches.iter().enumerate() {
         push_slot(alloc, text, event, stage, place + 1, m)?;
@@ -44,7 +46,8 @@ fn push_stages(
     event: &Event,
     stages: &[Items<Match>],
 ) -> Result<(), AllocError>
-    ensures { OnOk result (string_bytes text.new ≡ string_bytes text.old ++ stages_lines event.now 1 stages.now) }
+    ensures { OnOk result (string_bytes text.new ≡ string_bytes text.old
+        ++ stages_lines event.now 1 stages.now) }
 {
     for (place, stage) in stages.iter().enumerate() {
         push_stage(alloc, text, event, place + 1, stage.as_slice())?;
@@ -53,7 +56,8 @@ fn push_stages(
 }
 
 fn push_champion(text: &mut String, event: &Event) -> Result<(), AllocError>
-    ensures { OnOk result (string_bytes text.new ≡ string_bytes text.old ++ champion_line event.now (champion event.now)) }
+    ensures { OnOk result (string_bytes text.new ≡ string_bytes text.old
+        ++ champion_line event.now (champion event.now)) }
 {
     let Some(player) = champion(event) else {
         return Ok(());

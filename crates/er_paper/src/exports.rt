@@ -12,7 +12,8 @@ use std::alloc::{AllocError, Global};
 fn push_fields(table: &mut Writer<Vec<u8>>, fields: &[&[u8]]) -> Result<(), AllocError>
     requires { IsPlainWriter table.old }
     ensures plain { OnOk result (IsPlainWriter table.new) }
-    ensures text { OnOk result (written table.new ≡ written table.old ++ row_text default_writer (map (λ f. f.now) fields.now)) }
+    ensures text { OnOk result (written table.new ≡ written table.old
+        ++ row_text default_writer (map (λ f. f.now) fields.now)) }
 {
     match table.write_fields(fields) {
         Ok(()) => Ok(()),
@@ -27,7 +28,8 @@ fn push_player(
 ) -> Result<(), AllocError>
     requires { IsPlainWriter table.old }
     ensures plain { OnOk result (IsPlainWriter table.new) }
-    ensures text { OnOk result (written table.new ≡ written table.old ++ row_text default_writer (player_fields player.now)) }
+    ensures text { OnOk result (written table.new ≡ written table.old
+        ++ row_text default_writer (player_fields player.now)) }
 {
     let number = format!(in alloc; "{}", player.no.get())?;
     let flag = if player.dropped { "1" } else { "0" };
@@ -74,7 +76,8 @@ fn push_result(
     requires plain { IsPlainWriter table.old }
     requires place { place < 2 ^ 63 }
     ensures plain { OnOk result (IsPlainWriter table.new) }
-    ensures text { OnOk result (written table.new ≡ written table.old ++ row_text default_writer (result_fields round (1 + place, m.now))) }
+    ensures text { OnOk result (written table.new ≡ written table.old
+        ++ row_text default_writer (result_fields round (1 + place, m.now))) }
 {
     let number = table_at(place, m);
     let (a, b) = (m.a, m.b);
@@ -119,7 +122,8 @@ fn push_round(
 ) -> Result<(), AllocError>
     requires { IsPlainWriter table.old }
     ensures plain { OnOk result (IsPlainWriter table.new) }
-    ensures text { OnOk result (written table.new ≡ written table.old ++ rows_text (round_table round matches.now)) }
+    ensures text { OnOk result (written table.new ≡ written table.old
+        ++ rows_text (round_table round matches.now)) }
 {
     for (place, m) in matches.iter().enumerate() {
         push_result(table, alloc, round, place, m)?;
@@ -134,7 +138,8 @@ fn push_rounds(
 ) -> Result<(), AllocError>
     requires { IsPlainWriter table.old }
     ensures plain { OnOk result (IsPlainWriter table.new) }
-    ensures text { OnOk result (written table.new ≡ written table.old ++ rows_text (rounds_table 1 rounds.now)) }
+    ensures text { OnOk result (written table.new ≡ written table.old
+        ++ rows_text (rounds_table 1 rounds.now)) }
 {
     for (place, round) in rounds.iter().enumerate() {
         push_round(table, alloc, place + 1, round.matches.as_slice())?;

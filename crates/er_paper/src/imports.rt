@@ -132,8 +132,10 @@ fn player_lines(
     heading: Heading,
     rows: &[ByteRecord],
 ) -> Result<Vec<PlayerLine>, CsvFault>
-    ensures ok { IfOk result (λ lines. lines_from (chosen_line heading) 1 (map fields_of rows.now) ≡ Ok lines.items) }
-    ensures err { IfErr result (λ fault. fault ≢ CsvFault.Memory → lines_from (chosen_line heading) 1 (map fields_of rows.now) ≡ Err fault) }
+    ensures ok { IfOk result (λ lines. lines_from (chosen_line heading) 1 (map fields_of rows.now)
+        ≡ Ok lines.items) }
+    ensures err { IfErr result (λ fault. fault ≢ CsvFault.Memory
+        → lines_from (chosen_line heading) 1 (map fields_of rows.now) ≡ Err fault) }
 {
     let mut lines = Vec::new(alloc);
     for (at, row) in rows.iter().enumerate() {
@@ -169,7 +171,8 @@ fn is_names_heading(row: &ByteRecord) -> bool
 /// The players of a table, by number, or the first fault in it.
 pub fn read_players_csv(alloc: Global, bytes: &[u8]) -> Result<Vec<PlayerLine>, CsvFault>
     ensures ok { IfOk result (λ lines. ReadsPlayers bytes.now (Ok lines.items)) }
-    ensures err { IfErr result (λ fault. fault ≢ CsvFault.Memory → ReadsPlayers bytes.now (Err fault)) }
+    ensures err { IfErr result (λ fault. fault ≢ CsvFault.Memory
+        → ReadsPlayers bytes.now (Err fault)) }
 {
     let Ok(rows) = records(alloc, bytes) else {
         return Err(CsvFault::Memory);
@@ -258,7 +261,8 @@ fn push_result(
     b: u16,
     score: Option<Score>,
 ) -> Result<(), AllocError>
-    ensures { OnOk result (lines.new.items ≡ lines.old.items ++ record { round = round; table = table; a = a; b = b; score = score } ∷ []) }
+    ensures { OnOk result (lines.new.items ≡ lines.old.items
+        ++ record { round = round; table = table; a = a; b = b; score = score } ∷ []) }
 {
     lines.push(ResultLine {
         round,
@@ -272,8 +276,10 @@ fn push_result(
 
 /// The lines of the rows after the heading, or the first bad row.
 fn result_lines(alloc: Global, rows: &[ByteRecord]) -> Result<Vec<ResultLine>, CsvFault>
-    ensures ok { IfOk result (λ lines. lines_from (λ place. result_of) 1 (map fields_of rows.now) ≡ Ok lines.items) }
-    ensures err { IfErr result (λ fault. fault ≢ CsvFault.Memory → lines_from (λ place. result_of) 1 (map fields_of rows.now) ≡ Err fault) }
+    ensures ok { IfOk result (λ lines. lines_from (λ place. result_of) 1 (map fields_of rows.now)
+        ≡ Ok lines.items) }
+    ensures err { IfErr result (λ fault. fault ≢ CsvFault.Memory
+        → lines_from (λ place. result_of) 1 (map fields_of rows.now) ≡ Err fault) }
 {
     let mut lines = Vec::new(alloc);
     for (at, row) in rows.iter().enumerate() {
@@ -290,7 +296,8 @@ fn result_lines(alloc: Global, rows: &[ByteRecord]) -> Result<Vec<ResultLine>, C
 /// The matches of a table, or the first fault in it.
 pub fn read_results_csv(alloc: Global, bytes: &[u8]) -> Result<Vec<ResultLine>, CsvFault>
     ensures ok { IfOk result (λ lines. ReadsResults bytes.now (Ok lines.items)) }
-    ensures err { IfErr result (λ fault. fault ≢ CsvFault.Memory → ReadsResults bytes.now (Err fault)) }
+    ensures err { IfErr result (λ fault. fault ≢ CsvFault.Memory
+        → ReadsResults bytes.now (Err fault)) }
 {
     let Ok(rows) = records(alloc, bytes) else {
         return Err(CsvFault::Memory);

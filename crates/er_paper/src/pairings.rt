@@ -39,7 +39,8 @@ pub fn push_pairing(
     table: usize,
     m: &Match,
 ) -> Result<(), AllocError>
-    ensures { OnOk result (string_bytes text.new ≡ string_bytes text.old ++ pairing_line event.now table m.now) }
+    ensures { OnOk result (string_bytes text.new ≡ string_bytes text.old
+        ++ pairing_line event.now table m.now) }
 {
     let (a, b) = (m.a, m.b);
     write!(text, "{table:>4} {a:>4} {b:>4} ")?;

@@ -7,7 +7,8 @@ use std::alloc::{AllocError, Global};
 use std::fmt::Write;
 
 fn push_player(text: &mut String, player: &Player) -> Result<(), AllocError>
-    ensures { OnOk result (string_bytes text.new ≡ string_bytes text.old ++ player_line player.now) }
+    ensures { OnOk result (string_bytes text.new ≡ string_bytes text.old
+        ++ player_line player.now) }
 {
     let number = player.no.get();
     let mark = mark_of(player.dropped);

@@ -24,7 +24,8 @@ pub fn records(alloc: Global, bytes: &[u8]) -> Result<Vec<ByteRecord>, csv::Erro
 
 /// The fields of a record that has three.
 pub fn three_fields(row: &ByteRecord) -> Option<(&[u8], &[u8], &[u8])>
-    ensures { MatchOption result (length (fields_of row.now) ≢ 3) (λ f. fields_of row.now ≡ f.0.now ∷ f.1.now ∷ f.2.now ∷ []) }
+    ensures { MatchOption result (length (fields_of row.now) ≢ 3) (λ f. fields_of row.now
+        ≡ f.0.now ∷ f.1.now ∷ f.2.now ∷ []) }
 {
     if row.len() != 3 {
         return None;
@@ -55,7 +56,8 @@ pub struct ResultFields<'a> {
 
 /// The fields of a record that has seven.
 pub fn seven_fields(row: &ByteRecord) -> Option<ResultFields<'_>>
-    ensures { MatchOption result (length (fields_of row.now) ≢ 7) (λ f. fields_of row.now ≡ f.round.now ∷ f.table.now ∷ f.a.now ∷ f.b.now ∷ f.x.now ∷ f.y.now ∷ f.d.now ∷ []) }
+    ensures { MatchOption result (length (fields_of row.now) ≢ 7) (λ f. fields_of row.now
+        ≡ f.round.now ∷ f.table.now ∷ f.a.now ∷ f.b.now ∷ f.x.now ∷ f.y.now ∷ f.d.now ∷ []) }
 {
     if row.len() != 7 {
         return None;
@@ -94,7 +96,8 @@ pub fn seven_fields(row: &ByteRecord) -> Option<ResultFields<'_>>
 
 /// The field of a record that has one.
 pub fn only_field(row: &ByteRecord) -> Option<&[u8]>
-    ensures { MatchOption result (length (fields_of row.now) ≢ 1) (λ f. fields_of row.now ≡ f.now ∷ []) }
+    ensures { MatchOption result (length (fields_of row.now) ≢ 1) (λ f. fields_of row.now
+        ≡ f.now ∷ []) }
 {
     if row.len() != 1 {
         return None;

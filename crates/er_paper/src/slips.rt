@@ -59,7 +59,8 @@ fn slip_value(
     second: &Value,
     table: u16,
 ) -> Result<Value, AllocError>
-    ensures { IfOk result (λ v. view v ≡ slip_with round (view first.now) (view score.now) (view second.now) table) }
+    ensures { IfOk result (λ v. view v
+        ≡ slip_with round (view first.now) (view score.now) (view second.now) table) }
 {
     json!(in alloc; {"first": first, "round": round, "score": score, "second": second, "table": table})
 }

@@ -20,7 +20,8 @@ fn push_percent(text: &mut String, share: Share) -> Result<(), AllocError>
 }
 
 fn push_row(text: &mut String, event: &Event, row: &Row) -> Result<(), AllocError>
-    ensures { OnOk result (string_bytes text.new ≡ string_bytes text.old ++ row_line event.now row.now) }
+    ensures { OnOk result (string_bytes text.new ≡ string_bytes text.old
+        ++ row_line event.now row.now) }
 {
     let rank = row.rank;
     let number = row.player.get();

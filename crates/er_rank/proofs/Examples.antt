@@ -3,7 +3,7 @@ use Rattle.std.specs.Prelude.{◌≡◌, ℕ, ◌+◌, Bool, true, false, List, 
 use Rattle.er_share.specs.Fraction.{fraction_cmp, percentage, average, hundredths}
 use Rattle.er_event.specs.declared.events.Phase.TheVariants.{Swiss}
 use Rattle.er_event.specs.declared.players.Player.{Player}
-use Rattle.er_event.specs.declared.rounds.Match.{Match}
+use Rattle.er_event.specs.declared.matches.Match.{Match}
 use Rattle.er_event.specs.declared.rounds.Round.{Round}
 use Rattle.er_event.specs.Bracket.{open_match}
 use Rattle.er_event.specs.Event.{EventValue}

@@ -14,7 +14,7 @@ use Rattle.er_share.specs.Fraction.{Fraction, average}
 use Rattle.er_share.specs.Share.{IsShareOf}
 use Rattle.er_share.proofs.Shares.{share_cmp-same}
 use Rattle.er_event.specs.declared.players.Player.{Player}
-use Rattle.er_event.specs.declared.rounds.Match.{Match}
+use Rattle.er_event.specs.declared.matches.Match.{Match}
 use Rattle.er_event.specs.declared.rounds.Round.{Round}
 use Rattle.er_event.specs.declared.tallies.Tally.{Tally}
 use Rattle.er_event.specs.Event.{EventValue}

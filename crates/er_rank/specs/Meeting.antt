@@ -3,7 +3,7 @@ use Rattle.std.specs.Prelude.{◌≡◌, ℕ, ◌-◌, ◌*◌, ◌≤◌, ◌==
 use Rattle.std.specs.List.{range_with_len}
 use Rattle.er_event.specs.declared.events.TheConstants.{MAX_ROUNDS}
 use Rattle.er_event.specs.declared.players.TheConstants.{MAX_PLAYERS}
-use Rattle.er_event.specs.declared.rounds.Match.{Match}
+use Rattle.er_event.specs.declared.matches.Match.{Match}
 use Rattle.er_event.specs.declared.tallies.Meeting.{Meeting}
 use Rattle.er_event.specs.declared.tallies.Tally.{Tally}
 use Rattle.er_event.specs.declared.totals.Totals.{Totals}

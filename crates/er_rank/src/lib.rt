@@ -27,8 +27,10 @@ pub fn standings_of(
     meetings: &[Meeting],
 ) -> Result<Vec<Row>, AllocError>
     requires { AreLists tallies.now meetings.now }
-    ensures value { (event : EventValue) → AreListsOf event tallies.now meetings.now → IfOk result (λ rows. AreStandings event rows.items) }
-    ensures only { (event : EventValue) → AreListsOf event tallies.now meetings.now → IfOk result (λ rows. OneStandings event rows.items) }
+    ensures value { (event : EventValue) → AreListsOf event tallies.now meetings.now
+        → IfOk result (λ rows. AreStandings event rows.items) }
+    ensures only { (event : EventValue) → AreListsOf event tallies.now meetings.now
+        → IfOk result (λ rows. OneStandings event rows.items) }
 {
     let opponents = opponents::opponents_of(alloc, meetings, tallies.len())?;
     let placings = placings::placings_of(alloc, tallies, opponents.as_slice())?;

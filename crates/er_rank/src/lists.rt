@@ -37,8 +37,11 @@ fn are_tallies(list: &[Tally]) -> bool
 /// Counts one match more of a player, whose opponent's matches come to this. It is false where that breaks a limit: the
 /// player is none of those counted, or has as many matches as there may be rounds, or the totals are too great.
 fn count(counts: &mut [u8], player: PlayerNo, opponent: Totals) -> bool
-    ensures may { (before : List Encounter) → AreCountsOf before counts.old → AreEncounters (length counts.old) before → (IsTrue result ↔ AreEncounters (length counts.old) (with_match before player opponent)) }
-    ensures counted { (before : List Encounter) → AreCountsOf before counts.old → IsTrue result → AreCountsOf (with_match before player opponent) counts.new }
+    ensures may { (before : List Encounter) → AreCountsOf before counts.old
+        → AreEncounters (length counts.old) before
+        → (IsTrue result ↔ AreEncounters (length counts.old) (with_match before player opponent)) }
+    ensures counted { (before : List Encounter) → AreCountsOf before counts.old → IsTrue result
+        → AreCountsOf (with_match before player opponent) counts.new }
 {
     let at = usize::from(player.get()) - 1;
     if at >= counts.len() || counts[at] >= MAX_ROUNDS || !is_record(opponent) {
@@ -69,7 +72,8 @@ fn are_meetings(alloc: Global, players: usize, meetings: &[Meeting]) -> Result<b
 /// among them, nobody has more meetings than an event may have rounds, and all totals keep the limits of a player's.
 pub fn are_lists(alloc: Global, tallies: &[Tally], meetings: &[Meeting]) -> Result<bool, AllocError>
     ensures value { IfOk result (λ are. IsTrue are ↔ AreLists tallies.now meetings.now) }
-    ensures event { (event : EventValue) → AreListsOf event tallies.now meetings.now → IfOk result (λ are. IsTrue are) }
+    ensures event { (event : EventValue) → AreListsOf event tallies.now meetings.now
+        → IfOk result (λ are. IsTrue are) }
 {
     if !are_tallies(tallies) {
         return Ok(false);

@@ -11,7 +11,8 @@ use std::alloc::{AllocError, Global};
 /// The meeting of a match.
 fn meeting_of(tallies: &[Tally], played: &Match) -> Meeting
     requires numbered { map (λ t. t.no) tallies.now ≡ range_with_len 1 (length tallies.now) }
-    requires known { IsKnown (length tallies.now) played.now.a × IsKnown (length tallies.now) played.now.b }
+    requires known { IsKnown (length tallies.now) played.now.a
+        × IsKnown (length tallies.now) played.now.b }
     ensures { result ≡ meeting_by (totals_of tallies.now) played.now }
 {
     let lo = &tallies[usize::from(played.a.min(played.b)) - 1];
@@ -31,7 +32,8 @@ fn push_meetings(
 ) -> Result<(), AllocError>
     requires numbered { map (λ t. t.no) tallies.now ≡ range_with_len 1 (length tallies.now) }
     requires known { AreKnownTo (length tallies.now) matches.now }
-    ensures { OnOk result (meetings.new.items ≡ meetings.old.items ++ map (meeting_by (totals_of tallies.now)) (filter (λ m. not (is_bye m)) matches.now)) }
+    ensures { OnOk result (meetings.new.items ≡ meetings.old.items
+        ++ map (meeting_by (totals_of tallies.now)) (filter (λ m. not (is_bye m)) matches.now)) }
 {
     for played in matches {
         if played.b != 0 {
@@ -49,7 +51,8 @@ pub fn meetings_of(
 ) -> Result<Vec<Meeting>, AllocError>
     requires numbered { map (λ t. t.no) tallies.now ≡ range_with_len 1 (length tallies.now) }
     requires known { All (λ round. AreKnownTo (length tallies.now) round.matches) rounds.now }
-    ensures { IfOk result (λ list. list.items ≡ map (meeting_by (totals_of tallies.now)) (filter (λ m. not (is_bye m)) (counted_matches rounds.now))) }
+    ensures { IfOk result (λ list. list.items
+        ≡ map (meeting_by (totals_of tallies.now)) (filter (λ m. not (is_bye m)) (counted_matches rounds.now))) }
 {
     let mut meetings = Vec::new(alloc);
     for round in rounds {

@@ -49,8 +49,10 @@ impl Opponents {
     /// With one opponent more.
     fn with(self, totals: Totals) -> Opponents
         requires record { IsRecord totals }
-        requires room { (before : List Totals) × AreOpponents self before × (length before < MAX_ROUNDS) }
-        ensures { (before : List Totals) → AreOpponents self before → AreOpponents result (before ++ totals ∷ []) }
+        requires room { (before : List Totals) × AreOpponents self before
+            × (length before < MAX_ROUNDS) }
+        ensures { (before : List Totals) → AreOpponents self before
+            → AreOpponents result (before ++ totals ∷ []) }
     {
         Opponents {
             match_win: self.match_win.with(match_win(totals)),
@@ -64,7 +66,9 @@ fn meet(opponents: &mut [Opponents], player: PlayerNo, totals: Totals)
     requires known { IsKnown (length opponents.old) player }
     requires record { IsRecord totals }
     requires room { HasRoom opponents.old player }
-    ensures { (before : List Encounter) → AreOpponentsOf before opponents.old → AreOpponentsOf (before ++ record { player = player; opponent = totals } ∷ []) opponents.new }
+    ensures { (before : List Encounter) → AreOpponentsOf before opponents.old
+        → AreOpponentsOf (before
+        ++ record { player = player; opponent = totals } ∷ []) opponents.new }
 {
     let at = usize::from(player.get()) - 1;
     opponents[at] = opponents[at].with(totals);

@@ -49,7 +49,8 @@ fn placings_by_number(
 ) -> Result<Vec<Placing>, AllocError>
     requires tallies { AreTallies tallies.now }
     requires each { length opponents.now ≡ length tallies.now }
-    ensures { (met : List Encounter) → AreOpponentsOf met opponents.now → IfOk result (λ placings. ArePlacings met tallies.now placings.items) }
+    ensures { (met : List Encounter) → AreOpponentsOf met opponents.now
+        → IfOk result (λ placings. ArePlacings met tallies.now placings.items) }
 {
     let mut placings = Vec::with_capacity(alloc, tallies.len())?;
     for (at, tally) in tallies.iter().enumerate() {
@@ -70,7 +71,8 @@ pub fn placings_of(
 ) -> Result<Vec<Placing>, AllocError>
     requires tallies { AreTallies tallies.now }
     requires each { length opponents.now ≡ length tallies.now }
-    ensures { (met : List Encounter) → AreOpponentsOf met opponents.now → IfOk result (λ placings. ArePlacingsInOrder met tallies.now placings.items) }
+    ensures { (met : List Encounter) → AreOpponentsOf met opponents.now
+        → IfOk result (λ placings. ArePlacingsInOrder met tallies.now placings.items) }
 {
     let mut placings = placings_by_number(alloc, tallies, opponents)?;
     placings.sort_unstable();

@@ -1,6 +1,6 @@
 -- What is answered to those who ask for a pairing.
 use Rattle.std.proofs.Common.{◌≡◌, ◌⊎◌, ◌↔◌, inl, inr, ℕ, List, None, Result, Ok, Err, IsErrAnd, refl, sym, ap, subst, ◌∙◌}
-use Rattle.er_event.specs.declared.refusals.Command.TheVariants.{Pair}
+use Rattle.er_event.specs.declared.commands.Command.TheVariants.{Pair}
 use Rattle.er_event.specs.declared.refusals.Refusal.TheVariants as refusal
 use Rattle.er_event.specs.Event.{EventValue}
 use Rattle.er_event.specs.Change.{with_round}

@@ -4,11 +4,11 @@ use Rattle.std.specs.Str.{is_utf8, chars}
 use Rattle.er_event.specs.declared.events.Phase.{Phase}
 use Rattle.er_event.specs.declared.events.Phase.TheVariants.{Enrolling, Swiss, Playoff, Finished}
 use Rattle.er_event.specs.declared.players.Player.{Player}
-use Rattle.er_event.specs.declared.refusals.Command.{Command}
-use Rattle.er_event.specs.declared.refusals.Command.TheVariants.{Enrol, Start, Pair, Result, Correct, Drop, Cut, Playoff as PlayOff}
+use Rattle.er_event.specs.declared.commands.Command.{Command}
+use Rattle.er_event.specs.declared.commands.Command.TheVariants.{Enrol, Start, Pair, Result, Correct, Drop, Cut, Playoff as PlayOff}
 use Rattle.er_event.specs.declared.refusals.Refusal.{Refusal}
 use Rattle.er_event.specs.declared.refusals.Refusal.TheVariants.{BadName, NameTaken, PlayersFull, NotEnrolling, TooFewPlayers, NotSwiss, WrongRound, RoundOpen, AllRoundsPaired, NoSuchMatch, BadScore, AlreadyReported, NotReported, IsBye, NoSuchPlayer, AlreadyDropped, RoundsNotDone, NoCut, TooFewForCut, NotPlayoff}
-use Rattle.er_event.specs.declared.rounds.Match.{Match}
+use Rattle.er_event.specs.declared.matches.Match.{Match}
 use Rattle.er_event.specs.declared.scores.Games.{Games}
 use Rattle.er_event.specs.Bracket.{open_match}
 use Rattle.er_event.specs.Event.{EventValue}

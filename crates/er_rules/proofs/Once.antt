@@ -1,7 +1,7 @@
 -- A command does one thing to a sound event.
 use Rattle.std.proofs.Common.{◌≡◌, ℕ, List, [], ◌∷◌, ◌++◌, Option, Some, None, MatchOption, Result, Ok, Err, sym, ap, subst, ◌∙◌}
-use Rattle.er_event.specs.declared.refusals.Command.{Command}
-use Rattle.er_event.specs.declared.refusals.Command.TheVariants.{Enrol, Start, Pair, Result as Report, Correct, Drop, Cut, Playoff as PlayOff}
+use Rattle.er_event.specs.declared.commands.Command.{Command}
+use Rattle.er_event.specs.declared.commands.Command.TheVariants.{Enrol, Start, Pair, Result as Report, Correct, Drop, Cut, Playoff as PlayOff}
 use Rattle.er_event.specs.declared.refusals.Refusal.{Refusal}
 use Rattle.er_event.specs.declared.events.Phase.TheVariants.{Playoff}
 use Rattle.er_event.specs.Event.{EventValue}

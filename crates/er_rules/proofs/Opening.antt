@@ -5,7 +5,7 @@ use Rattle.std.specs.List.{list_all, AllByRecursion}
 use Rattle.std.proofs.lemmas.List.Elements.{All-map, All-from_recursion}
 use Rattle.std.proofs.lemmas.List.Sorted.{All-permutation}
 use Rattle.er_event.specs.declared.events.Phase.TheVariants.{Swiss}
-use Rattle.er_event.specs.declared.rounds.Match.{Match}
+use Rattle.er_event.specs.declared.matches.Match.{Match}
 use Rattle.er_event.specs.declared.rounds.Round.{Round}
 use Rattle.er_event.specs.Event.{EventValue}
 use Rattle.er_event.specs.Round.{is_counted, seats}

@@ -7,10 +7,10 @@ use Rattle.std.proofs.lemmas.Option.{none-some}
 use Rattle.er_event.specs.declared.scores.Games.{Games}
 use Rattle.er_event.specs.declared.events.Phase.{Phase}
 use Rattle.er_event.specs.declared.events.Phase.TheVariants.{Enrolling, Swiss, Playoff, Finished}
-use Rattle.er_event.specs.declared.rounds.Match.{Match}
+use Rattle.er_event.specs.declared.matches.Match.{Match}
 use Rattle.er_event.specs.declared.rounds.Round.{Round}
-use Rattle.er_event.specs.declared.refusals.Command.{Command}
-use Rattle.er_event.specs.declared.refusals.Command.TheVariants.{Enrol, Start, Pair, Result as Report, Correct, Drop, Cut, Playoff as PlayOff}
+use Rattle.er_event.specs.declared.commands.Command.{Command}
+use Rattle.er_event.specs.declared.commands.Command.TheVariants.{Enrol, Start, Pair, Result as Report, Correct, Drop, Cut, Playoff as PlayOff}
 use Rattle.er_event.specs.declared.refusals.Refusal.{Refusal}
 use Rattle.er_event.specs.declared.refusals.Refusal.TheVariants.{IsBye, BadScore, NotReported}
 use Rattle.er_event.specs.Event.{EventValue}
@@ -23,7 +23,7 @@ use Rattle.er_event.specs.Sound.{IsSoundButForSeeds, IsInPlayoff, numbers}
 use Rattle.er_event.proofs.PlayerLemmas.{IsSound-with}
 use Rattle.er_event.proofs.DropLemmas.{IsSound-dropped}
 use Rattle.er_event.proofs.RoundLemmas.{of-All}
-use Rattle.er_event.proofs.AddLemmas.{is_new, any_stored, IsSound-round}
+use Rattle.er_event.proofs.AddLemmas.{IsSound-round}
 use Rattle.er_event.proofs.ScoreLemmas.{Fits-score}
 use Rattle.er_event.proofs.SlotScoreLemmas.{Fits-open}
 use Rattle.er_event.proofs.PlayoffLemmas.{opening-fits}
@@ -105,12 +105,11 @@ module _ (e : EventValue) (h : IsSoundButForSeeds e) where
       let few : nat_lt (length e.players) 2 ≡ false = b.0 in
       let two : 2 ≤ length e.players = grind (arith, nat_tests) in
       record {
-        set_up = record { name = h.set_up.name; rounds = h.set_up.rounds; cut = h.set_up.cut };
+        set_up = h.set_up;
         players = record { few = h.players.few; numbered = h.players.numbered; lawful = h.players.lawful; distinct = h.players.distinct; enrolling = λ is. absurd (let never : Swiss ≡ Enrolling = is in cc); started = λ _. two };
-        rounds = record { few = h.rounds.few; enrolling = λ is. absurd (let never : Swiss ≡ Enrolling = is in cc); each = h.rounds.each; no_repeats = h.rounds.no_repeats; earlier_done = h.rounds.earlier_done };
+        rounds = record { few = h.rounds.few; enrolling = λ is. absurd (let never : Swiss ≡ Enrolling = is in cc); each = h.rounds.each; no_repeats = h.rounds.no_repeats; earlier_done = h.rounds.earlier_done; done = λ over. absurd (early over) };
         bracket = record {
           none = λ _. h.bracket.none (inl phase);
-          rounds_done = λ over. absurd (early over);
           bracket = λ over. absurd (early over);
           decided = λ is. absurd (early (inr is));
           undecided = λ is. absurd (early (inl is));
@@ -122,10 +121,7 @@ module _ (e : EventValue) (h : IsSoundButForSeeds e) where
       early (inr is) = let never : Swiss ≡ Finished = is in cc
 
   fits_round : (ms : List Match) → IsNextRound e ms → IsSoundButForSeeds (with_round e ms)
-  fits_round ms next =
-      let done = of-All (λ (r : Round). is_counted r.matches) e.stored next.done in
-      let new = of-All (is_new e.stored) ms (All-weaker (λ (m : Match). IsFalse (list_any (λ n. is_same_pairing n m) (matches_of e.stored))) (λ m. IsTrue (is_new e.stored m)) (λ m none. ap not (any_stored (λ n. is_same_pairing n m) e.stored ∙ none)) ms next.new) in
-      IsSound-round e ms h next.swiss next.room done next.round new
+  fits_round ms next = IsSound-round e ms h next.swiss next.room (record { done = next.done; round = next.round; new = next.new })
 
   paired : (round : ℕ) (seed : List ℕ) (next : EventValue) → first_refusal (checks e (Pair round seed)) ≡ None → Makes e (Pair round seed) (Ok next) → IsSoundButForSeeds next
   paired round seed next free (order, ordered, (pairs, earliest, is)) =

@@ -1,6 +1,6 @@
 -- Which refusals a command may meet.
-use Rattle.er_event.specs.declared.refusals.Command.{Command}
-use Rattle.er_event.specs.declared.refusals.Command.TheVariants.{Enrol, Start, Result as Report, Correct, Drop}
+use Rattle.er_event.specs.declared.commands.Command.{Command}
+use Rattle.er_event.specs.declared.commands.Command.TheVariants.{Enrol, Start, Result as Report, Correct, Drop}
 use Rattle.er_event.specs.declared.refusals.Refusal.{Refusal}
 use Rattle.er_event.specs.declared.refusals.Refusal.TheVariants.{SerialFull, Memory, Store, NeedsReopen, NoEvent, EventExists, Damaged, BadSetup}
 

@@ -1,6 +1,6 @@
 -- What makes an event sound whole: the first stage of the playoff has the seeds of the standings.
 use Rattle.std.specs.Prelude.{◌≡◌, ℕ, List, Some, slice_get}
-use Rattle.er_event.specs.declared.rounds.Match.{Match}
+use Rattle.er_event.specs.declared.matches.Match.{Match}
 use Rattle.er_event.specs.Event.{EventValue}
 use Rattle.er_event.specs.Bracket.{SameSlots}
 use Rattle.er_event.specs.Sound.{IsSoundButForSeeds}

@@ -1,6 +1,6 @@
 -- The matches of a round that is paired.
 use Rattle.std.specs.Prelude.{ℕ, ◌==◌, not, if◌then◌else◌, List, ◌++◌, map, filter, Some, None}
-use Rattle.er_event.specs.declared.rounds.Match.{Match}
+use Rattle.er_event.specs.declared.matches.Match.{Match}
 use Rattle.er_event.specs.Score.{bye_score}
 use Rattle.er_event.specs.Round.{is_bye}
 

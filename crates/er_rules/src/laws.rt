@@ -1,7 +1,7 @@
 //! Laws of the step, over the definitions alone. A law is a function with no code, whose contract is the law.
 
 ghost use Rattle.std.specs.Prelude.{◌≡◌, ℕ, Result, Ok, Err};
-ghost use Rattle.er_event.specs.declared.refusals.Command.{Command};
+ghost use Rattle.er_event.specs.declared.commands.Command.{Command};
 ghost use Rattle.er_event.specs.declared.refusals.Refusal.{Refusal};
 ghost use Rattle.er_event.specs.declared.refusals.Refusal.TheVariants.{Budget};
 ghost use Rattle.er_event.specs.Event.{EventValue};
@@ -12,17 +12,21 @@ ghost use Rattle.er_rules.specs.Retry.{NoDoubleEffect};
 
 /// A command does one thing to a sound event: it is taken with one event after it, or refused in one way.
 pub fn one_step()
-    ensures { (event : EventValue) (command : Command) (one other : Result EventValue Refusal) → IsSoundButForSeeds event → Steps event command one → Steps event command other → one ≡ other }
+    ensures { (event : EventValue) (command : Command) (one other : Result EventValue Refusal)
+        → IsSoundButForSeeds event → Steps event command one → Steps event command other
+        → one ≡ other }
 {}
 
 /// The step keeps an event sound, its seeds too.
 pub fn step_keeps_sound()
-    ensures { (event next : EventValue) (command : Command) → IsSound event → Steps event command (Ok next) → IsSound next }
+    ensures { (event next : EventValue) (command : Command) → IsSound event
+        → Steps event command (Ok next) → IsSound next }
 {}
 
 /// `Budget` is answered only where the search for a round needs more than its steps.
 pub fn budget_searches()
-    ensures { (event : EventValue) (command : Command) (steps : ℕ) → Answers event command (Err (Budget steps)) → NeedsMoreSteps event command }
+    ensures { (event : EventValue) (command : Command) (steps : ℕ)
+        → Answers event command (Err (Budget steps)) → NeedsMoreSteps event command }
 {}
 
 /// A command that was taken once, and no correction, is refused at every later point. A correction that is sent again at once gives the same event.

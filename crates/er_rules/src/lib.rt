@@ -26,7 +26,8 @@ fn decide_enrol(event: &Event, name: &[u8]) -> Result<Change, Refusal>
     ensures change { IfOk result (λ change. change ≡ Change.AddPlayer name.now) }
     ensures fits { IfOk result (Fits event.now) }
     ensures accepted { OnOk result (first_refusal (enrol_checks event.now name.now) ≡ None) }
-    ensures refused { IfErr result (λ why. first_refusal (enrol_checks event.now name.now) ≡ Some why) }
+    ensures refused { IfErr result (λ why. first_refusal (enrol_checks event.now name.now)
+        ≡ Some why) }
     ensures named { IfErr result IsOfRules }
 {
     if event.phase() != Phase::Enrolling {
@@ -66,7 +67,8 @@ fn decide_drop(event: &Event, number: u16) -> Result<Change, Refusal>
     ensures change { IfOk result (λ change. change ≡ Change.SetDropped number) }
     ensures fits { IfOk result (Fits event.now) }
     ensures accepted { OnOk result (first_refusal (drop_checks event.now number) ≡ None) }
-    ensures refused { IfErr result (λ why. first_refusal (drop_checks event.now number) ≡ Some why) }
+    ensures refused { IfErr result (λ why. first_refusal (drop_checks event.now number)
+        ≡ Some why) }
     ensures named { IfErr result IsOfRules }
 {
     if event.phase() != Phase::Swiss {
@@ -85,9 +87,11 @@ fn decide_drop(event: &Event, number: u16) -> Result<Change, Refusal>
 /// seeds too. Want of memory may come in place of either, where the command takes some, and `Budget` where the search for a pairing would
 /// take more than a million steps. No other refusal speaks of memory, of the event's file or of how many commands it takes.
 pub fn decide(alloc: Global, event: &Event, command: &Command) -> Result<Change, Refusal>
-    ensures taken { IfOk result (λ change. Fits event.now change × Answers event.now command.now (Ok (after event.now change))) }
+    ensures taken { IfOk result (λ change. Fits event.now change
+        × Answers event.now command.now (Ok (after event.now change))) }
     ensures keeps { IfOk result (λ change. IsSound event.now → IsSound (after event.now change)) }
-    ensures refused { IfErr result (λ why. (why ≡ Refusal.Memory) ⊎ Answers event.now command.now (Err why)) }
+    ensures refused { IfErr result (λ why. (why ≡ Refusal.Memory)
+        ⊎ Answers event.now command.now (Err why)) }
     ensures memory { result ≡ Err Refusal.Memory → TakesMemory command.now }
     ensures named { IfErr result (λ why. (why ≡ Refusal.Memory) ⊎ IsOfRules why) }
 {

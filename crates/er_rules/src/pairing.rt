@@ -1,6 +1,6 @@
 ghost use Rattle.std.specs.Prelude.{◌≡◌, ◌≢◌, ◌⊎◌, ◌↔◌, ℕ, List, ◌<◌, ◌≤◌, ◌%◌, ◌++◌, not, length, map, filter, AllPairs, IfOk, IfErr, OnOk, Ok, Err, None, Some, IsFalse};
 ghost use Rattle.er_event.specs.declared.events.Phase.TheVariants.{Swiss};
-ghost use Rattle.er_event.specs.declared.refusals.Command.TheVariants.{Pair};
+ghost use Rattle.er_event.specs.declared.commands.Command.TheVariants.{Pair};
 ghost use Rattle.er_event.specs.Change.{after, Fits, IsNextRound};
 ghost use Rattle.er_event.specs.Sound.{IsSoundButForSeeds};
 ghost use Rattle.er_event.specs.Round.{is_bye};
@@ -37,8 +37,11 @@ pub fn active_count(event: &Event) -> usize
 /// The checks of a pairing, in their order.
 fn check_pair(event: &Event, round: u8) -> Result<(), Refusal>
     ensures accepted { OnOk result (first_refusal (pair_checks event.now round) ≡ None) }
-    ensures next { OnOk result ((event.now.phase ≡ Swiss) × (length event.now.stored < event.now.rounds) × IsFalse (newest_is_open event.now) × (2 ≤ length (active event.now))) }
-    ensures fits { OnOk result ((matches : List Match) → IsNextRound event.now matches → Fits event.now (Change.AddRound matches)) }
+    ensures next { OnOk result ((event.now.phase ≡ Swiss)
+        × (length event.now.stored < event.now.rounds) × IsFalse (newest_is_open event.now)
+        × (2 ≤ length (active event.now))) }
+    ensures fits { OnOk result ((matches : List Match) → IsNextRound event.now matches
+        → Fits event.now (Change.AddRound matches)) }
     ensures sound { IsSoundButForSeeds event.now }
     ensures refused { IfErr result (λ why. first_refusal (pair_checks event.now round) ≡ Some why) }
     ensures named { IfErr result IsOfRules }
@@ -66,7 +69,8 @@ fn check_pair(event: &Event, round: u8) -> Result<(), Refusal>
 /// The order in which a round is paired under this seed.
 fn seeded_order(alloc: Global, event: &Event, seed: &[u8; 32]) -> Result<Vec<u16>, AllocError>
     ensures ordered { IfOk result (λ order. IsOrder event.now (seed_words seed.now) order.items) }
-    ensures one { IfOk result (λ _. (key : ℕ → ℕ) (one other : List ℕ) → IsOrder event.now key one → IsOrder event.now key other → one ≡ other) }
+    ensures one { IfOk result (λ _. (key : ℕ → ℕ) (one other : List ℕ) → IsOrder event.now key one
+        → IsOrder event.now key other → one ≡ other) }
     ensures distinct { IfOk result (λ order. AllPairs (λ p q. p ≢ q) order.items) }
     ensures few { IfOk result (λ order. length order.items ≤ MAX_PLAYERS) }
     ensures even { IfOk result (λ order. length order.items % 2 ≡ 0) }
@@ -77,7 +81,8 @@ fn seeded_order(alloc: Global, event: &Event, seed: &[u8; 32]) -> Result<Vec<u16
 
 /// Puts a table for each two who are paired at the end.
 fn push_tables(matches: &mut Items<Match>, pairs: &[(u16, u16)]) -> Result<(), AllocError>
-    ensures { OnOk result (matches.new ≡ matches.old ++ filter (λ m. not (is_bye m)) (map match_of pairs.now)) }
+    ensures { OnOk result (matches.new ≡ matches.old
+        ++ filter (λ m. not (is_bye m)) (map match_of pairs.now)) }
 {
     for (a, b) in pairs {
         if *b != 0 {
@@ -124,8 +129,10 @@ pub fn decide_pair(
     round: u8,
     seed: &[u8; 32],
 ) -> Result<Change, Refusal>
-    ensures taken { IfOk result (λ change. Fits event.now change × Answers event.now (Pair round seed.now) (Ok (after event.now change))) }
-    ensures refused { IfErr result (λ why. (why ≡ Refusal.Memory) ⊎ Answers event.now (Pair round seed.now) (Err why)) }
+    ensures taken { IfOk result (λ change. Fits event.now change
+        × Answers event.now (Pair round seed.now) (Ok (after event.now change))) }
+    ensures refused { IfErr result (λ why. (why ≡ Refusal.Memory)
+        ⊎ Answers event.now (Pair round seed.now) (Err why)) }
     ensures named { IfErr result (λ why. (why ≡ Refusal.Memory) ⊎ IsOfRules why) }
 {
     check_pair(event, round)?;

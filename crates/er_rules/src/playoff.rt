@@ -6,7 +6,7 @@ ghost use Rattle.er_event.specs.Change.{after, scored_slot, Fits, IsOpening};
 ghost use Rattle.er_event.specs.Score.{is_playoff_score};
 ghost use Rattle.er_event.specs.Sound.{AllRoundsDone, IsSoundButForSeeds};
 ghost use Rattle.er_event.specs.declared.events.Phase.TheVariants.{Swiss, Playoff};
-ghost use Rattle.er_event.specs.declared.refusals.Command.TheVariants.{Cut};
+ghost use Rattle.er_event.specs.declared.commands.Command.TheVariants.{Cut};
 ghost use Rattle.er_rules.specs.Commands.{active, all_rounds_done, first_refusal, cut_checks, playoff_checks};
 ghost use Rattle.er_rules.specs.Refusing.{IsOfRules};
 ghost use Rattle.er_rules.specs.Step.{Steps, scored_at};
@@ -43,7 +43,8 @@ fn check_cut(event: &Event) -> Result<(), Refusal>
     ensures cut { OnOk result (0 < event.now.cut) }
     ensures enough { OnOk result (event.now.cut ≤ length (active event.now)) }
     ensures sound { IsSoundButForSeeds event.now }
-    ensures fits { OnOk result ((matches : List Match) → IsOpening event.now matches → Fits event.now (Change.AddBracket matches)) }
+    ensures fits { OnOk result ((matches : List Match) → IsOpening event.now matches
+        → Fits event.now (Change.AddBracket matches)) }
     ensures refused { IfErr result (λ why. first_refusal (cut_checks event.now) ≡ Some why) }
     ensures named { IfErr result IsOfRules }
 {
@@ -82,7 +83,8 @@ fn scored_stage(
 
 /// The stage of the winners, where this one is complete and has more than one slot.
 fn following(alloc: Global, matches: &[Match]) -> Result<Option<Items<Match>>, AllocError>
-    requires slots { (length matches.now ≡ 1) ⊎ (length matches.now ≡ 2) ⊎ (length matches.now ≡ 4) }
+    requires slots { (length matches.now ≡ 1) ⊎ (length matches.now ≡ 2)
+        ⊎ (length matches.now ≡ 4) }
     requires scores { All (λ m. IfSome m.score (λ s. IsTrue (is_playoff_score s))) matches.now }
     ensures { IfOk result (λ next. next ≡ following matches.now) }
 {
@@ -95,7 +97,8 @@ fn following(alloc: Global, matches: &[Match]) -> Result<Option<Items<Match>>, A
 
 fn playoff_score(games: Games) -> Result<Score, Refusal>
     ensures ok { IfOk result (λ score. (score ≡ games) × IsTrue (is_playoff_score games)) }
-    ensures refused { IfErr result (λ why. (why ≡ Refusal.BadScore) × IsFalse (is_playoff_score games)) }
+    ensures refused { IfErr result (λ why. (why ≡ Refusal.BadScore)
+        × IsFalse (is_playoff_score games)) }
     ensures named { IfErr result IsOfRules }
 {
     match Score::playoff(games) {
@@ -106,12 +109,14 @@ fn playoff_score(games: Games) -> Result<Score, Refusal>
 
 /// The checks of a score in the playoff, in their order.
 fn check_playoff(event: &Event, stage: u8, slot: u8, games: Games) -> Result<Score, Refusal>
-    ensures accepted { OnOk result (first_refusal (playoff_checks event.now stage slot games) ≡ None) }
+    ensures accepted { OnOk result (first_refusal (playoff_checks event.now stage slot games)
+        ≡ None) }
     ensures score { IfOk result (λ score. (score ≡ games) × IsTrue (is_playoff_score games)) }
     ensures playing { OnOk result (event.now.phase ≡ Playoff) }
     ensures found { OnOk result ((m : Match) × (slot_at event.now stage slot ≡ Some m)) }
     ensures fits { OnOk result (Fits event.now (Change.SetBracketScore stage slot games (following (scored_at event.now stage slot games)) (is_over (scored_at event.now stage slot games)))) }
-    ensures refused { IfErr result (λ why. first_refusal (playoff_checks event.now stage slot games) ≡ Some why) }
+    ensures refused { IfErr result (λ why. first_refusal (playoff_checks event.now stage slot games)
+        ≡ Some why) }
     ensures named { IfErr result IsOfRules }
 {
     if event.phase() != Phase::Playoff {
@@ -128,8 +133,10 @@ fn check_playoff(event: &Event, stage: u8, slot: u8, games: Games) -> Result<Sco
 
 /// Ends the Swiss rounds: the first active players of the standings are seeded into the first stage of the playoff.
 pub fn decide_cut(alloc: Global, event: &Event) -> Result<Change, Refusal>
-    ensures taken { IfOk result (λ change. Fits event.now change × Steps event.now Cut (Ok (after event.now change))) }
-    ensures refused { IfErr result (λ why. (why ≡ Refusal.Memory) ⊎ (first_refusal (cut_checks event.now) ≡ Some why)) }
+    ensures taken { IfOk result (λ change. Fits event.now change
+        × Steps event.now Cut (Ok (after event.now change))) }
+    ensures refused { IfErr result (λ why. (why ≡ Refusal.Memory)
+        ⊎ (first_refusal (cut_checks event.now) ≡ Some why)) }
     ensures named { IfErr result (λ why. (why ≡ Refusal.Memory) ⊎ IsOfRules why) }
 {
     check_cut(event)?;
@@ -146,10 +153,13 @@ pub fn decide_playoff(
     slot: u8,
     games: Games,
 ) -> Result<Change, Refusal>
-    ensures change { IfOk result (λ change. change ≡ Change.SetBracketScore stage slot games (following (scored_at event.now stage slot games)) (is_over (scored_at event.now stage slot games))) }
+    ensures change { IfOk result (λ change. change
+        ≡ Change.SetBracketScore stage slot games (following (scored_at event.now stage slot games)) (is_over (scored_at event.now stage slot games))) }
     ensures fits { IfOk result (Fits event.now) }
-    ensures accepted { OnOk result (first_refusal (playoff_checks event.now stage slot games) ≡ None) }
-    ensures refused { IfErr result (λ why. (why ≡ Refusal.Memory) ⊎ (first_refusal (playoff_checks event.now stage slot games) ≡ Some why)) }
+    ensures accepted { OnOk result (first_refusal (playoff_checks event.now stage slot games)
+        ≡ None) }
+    ensures refused { IfErr result (λ why. (why ≡ Refusal.Memory)
+        ⊎ (first_refusal (playoff_checks event.now stage slot games) ≡ Some why)) }
     ensures named { IfErr result (λ why. (why ≡ Refusal.Memory) ⊎ IsOfRules why) }
 {
     let score = check_playoff(event, stage, slot, games)?;

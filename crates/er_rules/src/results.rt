@@ -8,9 +8,13 @@ use er_event::{Change, Event, Games, Match, Phase, Refusal, Score};
 
 /// The match of two players at this table of this round, while the Swiss rounds are played.
 fn match_of_two(event: &Event, round: u8, table: u16) -> Result<&Match, Refusal>
-    ensures checked { IfOk result (λ m. (more : Match → List Check) → first_refusal (score_checks event.now round table more) ≡ first_refusal (more m.now)) }
-    ensures fits { OnOk result ((games : Games) → IsTrue (is_swiss_score games) → Fits event.now (Change.SetScore round table games)) }
-    ensures refused { IfErr result (λ why. (more : Match → List Check) → first_refusal (score_checks event.now round table more) ≡ Some why) }
+    ensures checked { IfOk result (λ m. (more : Match → List Check)
+        → first_refusal (score_checks event.now round table more)
+        ≡ first_refusal (more m.now)) }
+    ensures fits { OnOk result ((games : Games) → IsTrue (is_swiss_score games)
+        → Fits event.now (Change.SetScore round table games)) }
+    ensures refused { IfErr result (λ why. (more : Match → List Check)
+        → first_refusal (score_checks event.now round table more) ≡ Some why) }
     ensures named { IfErr result IsOfRules }
 {
     if event.phase() != Phase::Swiss {
@@ -27,7 +31,8 @@ fn match_of_two(event: &Event, round: u8, table: u16) -> Result<&Match, Refusal>
 
 fn lawful_score(games: Games) -> Result<Score, Refusal>
     ensures ok { IfOk result (λ score. (score ≡ games) × IsTrue (is_swiss_score games)) }
-    ensures refused { IfErr result (λ why. (why ≡ Refusal.BadScore) × IsFalse (is_swiss_score games)) }
+    ensures refused { IfErr result (λ why. (why ≡ Refusal.BadScore)
+        × IsFalse (is_swiss_score games)) }
     ensures named { IfErr result IsOfRules }
 {
     match Score::swiss(games) {
@@ -40,8 +45,10 @@ fn lawful_score(games: Games) -> Result<Score, Refusal>
 pub fn decide_result(event: &Event, round: u8, table: u16, games: Games) -> Result<Change, Refusal>
     ensures change { IfOk result (λ change. change ≡ Change.SetScore round table games) }
     ensures fits { IfOk result (Fits event.now) }
-    ensures accepted { OnOk result (first_refusal (result_checks event.now round table games) ≡ None) }
-    ensures refused { IfErr result (λ why. first_refusal (result_checks event.now round table games) ≡ Some why) }
+    ensures accepted { OnOk result (first_refusal (result_checks event.now round table games)
+        ≡ None) }
+    ensures refused { IfErr result (λ why. first_refusal (result_checks event.now round table games)
+        ≡ Some why) }
     ensures named { IfErr result IsOfRules }
 {
     let played = match_of_two(event, round, table)?;
@@ -60,7 +67,8 @@ pub fn decide_result(event: &Event, round: u8, table: u16, games: Games) -> Resu
 pub fn decide_correct(event: &Event, round: u8, table: u16, games: Games) -> Result<Change, Refusal>
     ensures change { IfOk result (λ change. change ≡ Change.SetScore round table games) }
     ensures fits { IfOk result (Fits event.now) }
-    ensures accepted { OnOk result (first_refusal (correct_checks event.now round table games) ≡ None) }
+    ensures accepted { OnOk result (first_refusal (correct_checks event.now round table games)
+        ≡ None) }
     ensures refused { IfErr result (λ why. first_refusal (correct_checks event.now round table games) ≡ Some why) }
     ensures named { IfErr result IsOfRules }
 {

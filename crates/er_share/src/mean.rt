@@ -45,7 +45,8 @@ impl Mean {
     pub fn with(self, share: Share) -> Mean
         requires room { self.count < MAX_ROUNDS }
         requires base { IsBase share }
-        ensures value { (fractions : List Fraction) (f : Fraction) → IsMeanOf self fractions → IsShareOf share f → IsMeanOf result (fractions ++ f ∷ []) }
+        ensures value { (fractions : List Fraction) (f : Fraction) → IsMeanOf self fractions
+            → IsShareOf share f → IsMeanOf result (fractions ++ f ∷ []) }
         ensures count { result.count ≡ self.count + 1 }
     {
         Mean {
@@ -56,7 +57,8 @@ impl Mean {
 
     /// The average of those that came, and the minimum where there is none.
     pub fn average(self) -> Share
-        ensures { (fractions : List Fraction) → IsMeanOf self fractions → IsShareOf result (average fractions) }
+        ensures { (fractions : List Fraction) → IsMeanOf self fractions
+            → IsShareOf result (average fractions) }
     {
         if self.count == 0 {
             return Share { parts: MINIMUM };

@@ -8,8 +8,8 @@ use Rattle.sqlite.specs.Table.{Table}
 use Rattle.sqlite.specs.Effect.{Database}
 use Rattle.er_event.specs.declared.refusals.Refusal.{Refusal}
 use Rattle.er_event.specs.declared.refusals.Refusal.TheVariants.{Memory, NoSuchMatch, NeedsReopen}
-use Rattle.er_event.specs.declared.refusals.Command.TheVariants.{Result as Hand}
-use Rattle.er_event.specs.declared.refusals.TheConstants.{MAX_SERIAL}
+use Rattle.er_event.specs.declared.commands.Command.TheVariants.{Result as Hand}
+use Rattle.er_event.specs.declared.commands.TheConstants.{MAX_SERIAL}
 use Rattle.er_event.specs.declared.scores.Games.{Games}
 use Rattle.er_event.specs.declared.slips.SlipRow.{SlipRow}
 use Rattle.er_event.specs.Event.{EventValue}
@@ -31,29 +31,29 @@ use Rattle.er_slips.specs.declared.request.asked.Unasked.TheVariants.{Refused}
 use Rattle.er_slips.specs.declared.serve.Served.{Served}
 use Rattle.er_slips.specs.declared.serve.Served.TheVariants.{Answered, ReadFault, WriteFault}
 use Rattle.er_slips.specs.Request.{Asks, TellsAsked}
-use Rattle.er_slips.specs.Answer.{AnswerValue, shown, fault_answer, refusal_answer, slip_answer, text_answer, status_of}
+use Rattle.er_slips.specs.Answer.{AnswerValue, answer_value, fault_answer, refusal_answer, slip_answer, text_answer, status_of}
 use Rattle.er_slips.specs.Whole.{ShowsStandings, ShowsPairings, row_answer, reply_answer, IsAnswered, submitted, IsAnswerUnless503}
 use Rattle.er_store.specs.Fault.{IsReadFault}
 use Rattle.er_store.specs.Slip.{FindsSlip}
-use Rattle.er_slips.specs.Serving.{IsShown, IsRowsAnswer, IsSlipAnswer, Answers, IsServed, IsUnserved, Writes, Ends, IsWritten}
+use Rattle.er_slips.specs.Serving.{IsShown, IsRowsAnswer, IsSlipAnswer, AnswersRequest, IsServed, IsUnserved, Writes, Ends, IsWritten}
 
 pub reopening : (desk : Standing) (Shows : EventValue → AnswerValue → Type 0) (answer : AnswerValue) (why : Refusal)
     → IsTrue desk.stopped × (why ≡ NeedsReopen) → answer ≡ refusal_answer why → IsShown desk Shows answer
 reopening desk Shows answer why stopped is = inr (stopped.0, is ∙ ap refusal_answer stopped.1)
 
 -- an answer that was made, or want of memory
-pub made-is : (made : Result Answer AllocError) (answer due : AnswerValue) → IfOk made (λ a. shown a ≡ due) → MatchResult made (λ a. answer ≡ shown a) (λ _. answer ≡ refusal_answer Memory)
+pub made-is : (made : Result Answer AllocError) (answer due : AnswerValue) → IfOk made (λ a. answer_value a ≡ due) → MatchResult made (λ a. answer ≡ answer_value a) (λ _. answer ≡ refusal_answer Memory)
     → (answer ≡ due) ⊎ (answer ≡ refusal_answer Memory)
 made-is (Ok a) answer due of is = inl (is ∙ of)
 made-is (Err e) answer due of is = inr is
 
-pub slip-made : (read : Result SlipRow Refusal) (row : SlipRow) (made : Result Answer AllocError) (answer : AnswerValue) → read ≡ Ok row → IfOk made (λ a. shown a ≡ slip_answer (slip_text row))
-    → MatchResult made (λ a. answer ≡ shown a) (λ _. answer ≡ refusal_answer Memory) → IsSlipAnswer read answer
+pub slip-made : (read : Result SlipRow Refusal) (row : SlipRow) (made : Result Answer AllocError) (answer : AnswerValue) → read ≡ Ok row → IfOk made (λ a. answer_value a ≡ slip_answer (slip_text row))
+    → MatchResult made (λ a. answer ≡ answer_value a) (λ _. answer ≡ refusal_answer Memory) → IsSlipAnswer read answer
 slip-made read row made answer of is same = rw of (made-is made answer (slip_answer (slip_text row)) is same)
 
 -- of the desk's own event
-pub rows-made : (e event : EventValue) (rows : List Row) (made : Result Answer AllocError) (answer : AnswerValue) → e ≡ event → IfOk made (λ a. shown a ≡ text_answer (rows_text e rows))
-    → MatchResult made (λ a. answer ≡ shown a) (λ _. answer ≡ refusal_answer Memory) → (answer ≡ text_answer (rows_text event rows)) ⊎ (answer ≡ refusal_answer Memory)
+pub rows-made : (e event : EventValue) (rows : List Row) (made : Result Answer AllocError) (answer : AnswerValue) → e ≡ event → IfOk made (λ a. answer_value a ≡ text_answer (rows_text e rows))
+    → MatchResult made (λ a. answer ≡ answer_value a) (λ _. answer ≡ refusal_answer Memory) → (answer ≡ text_answer (rows_text event rows)) ⊎ (answer ≡ refusal_answer Memory)
 rows-made e event rows made answer same of is =
     subst (λ (f : EventValue). (answer ≡ text_answer (rows_text f rows)) ⊎ (answer ≡ refusal_answer Memory)) same (made-is made answer (text_answer (rows_text e rows)) of is)
 
@@ -81,7 +81,7 @@ module _ (Stood : Type 0) (input : Option (List ℕ)) (old new : Standing) (befo
   asks-fault None fault told = tt
   asks-fault (Some xs) fault told = told
 
-  pub ends-asked : (served : Served) (asked : Asked) → IfSome input (λ xs. TellsAsked xs (Ok asked)) → Answers Stood old (Ok asked) answer new
+  pub ends-asked : (served : Served) (asked : Asked) → IfSome input (λ xs. TellsAsked xs (Ok asked)) → AnswersRequest Stood old (Ok asked) answer new
       → Writes before after served answer → Ends Stood input old new before after served
   ends-asked served asked told answers wrote = ends served wrote (inl (Ok asked, asks input asked told, answers))
 
@@ -165,7 +165,7 @@ module _ (old new : Standing) (input : List ℕ) (answer : AnswerValue) (runs : 
   reply-by round table score reply is (inr (inr (inl it))) e = hindered it.why (fault-status it.why (inl it.fault)) (e ∙ ap reply_answer it.answered)
   reply-by round table score reply is (inr (inr (inr it))) e = runs-on it.was_stopped
 
-  answered-by : (Stood : Type 0) → Stood → (asked : Result Asked Fault) → Asks input asked → Answers Stood old asked answer new → IsAnswerUnless503 old.event old.serial input answer
+  answered-by : (Stood : Type 0) → Stood → (asked : Result Asked Fault) → Asks input asked → AnswersRequest Stood old asked answer new → IsAnswerUnless503 old.event old.serial input answer
   answered-by Stood stood (Err fault) is answers = exact (Err fault) is answers.0
   answered-by Stood stood (Ok Standings) is (read, reads, found, e) = rows-by read is reads (found stood) e
   answered-by Stood stood (Ok (Pairings round)) is answers = shown-by (Ok (Pairings round)) (ShowsPairings round) is (λ s. s) answers.0

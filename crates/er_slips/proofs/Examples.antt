@@ -7,8 +7,8 @@ use Rattle.httparse.proofs.OnLiterals.{httparse_on_literals}
 use Rattle.er_event.specs.declared.events.Phase.TheVariants.{Swiss}
 use Rattle.er_event.specs.declared.players.Player.{Player}
 use Rattle.er_event.specs.declared.scores.Games.{Games}
-use Rattle.er_event.specs.declared.refusals.Command.{Command}
-use Rattle.er_event.specs.declared.refusals.Command.TheVariants.{Result as Hand}
+use Rattle.er_event.specs.declared.commands.Command.{Command}
+use Rattle.er_event.specs.declared.commands.Command.TheVariants.{Result as Hand}
 use Rattle.er_event.specs.declared.refusals.Refusal.TheVariants.{AlreadyReported, BadScore, NotSwiss, NoSuchMatch, IsBye, SerialFull, Memory, Store, NeedsReopen}
 use Rattle.er_event.specs.declared.refusals.Cause.TheVariants.{Refused}
 use Rattle.er_event.specs.Change.{with_score}

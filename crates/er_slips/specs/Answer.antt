@@ -15,9 +15,9 @@ pub record AnswerValue : Type 0 where
   pub status : ℕ
   pub bytes : List ℕ
 
-abbrev pub shown : Answer → AnswerValue
-shown (Short status text) = record { status = status; bytes = text }
-shown (Long text) = record { status = 200; bytes = text.items }
+abbrev pub answer_value : Answer → AnswerValue
+answer_value (Short status text) = record { status = status; bytes = text }
+answer_value (Long text) = record { status = 200; bytes = text.items }
 
 -- ---- the head of an answer
 

@@ -2,7 +2,7 @@
 use Rattle.std.specs.Global.{Global}
 use Rattle.std.specs.Prelude.{◌≡◌, ◌⊎◌, ◌≤◌, ℕ, IsTrue, IsFalse, List, length, take, Option, Some, Result, Ok, Err, IfOk, IfSome, Vec}
 use Rattle.std.specs.Io.KnownBytes.{Appends, Keeps}
-use Rattle.er_event.specs.declared.refusals.Command.TheVariants.{Result as Hand}
+use Rattle.er_event.specs.declared.commands.Command.TheVariants.{Result as Hand}
 use Rattle.er_event.specs.declared.refusals.Refusal.{Refusal}
 use Rattle.er_event.specs.declared.refusals.Refusal.TheVariants.{Memory, NeedsReopen}
 use Rattle.er_event.specs.declared.slips.SlipRow.{SlipRow}
@@ -39,20 +39,20 @@ IsRowsAnswer event (Ok rows) answer = (answer ≡ text_answer (rows_text event r
 IsRowsAnswer event (Err why) answer = answer ≡ refusal_answer why
 
 -- What is asked of the desk, its answer, and where it stands then. `Stood` is that its tables stood for its event, on a clean disk: on this rests what is read of them.
-abbrev pub Answers : Type 0 → Standing → Result Asked Fault → AnswerValue → Standing → Type 0
-Answers Stood old (Err fault) answer new = (answer ≡ fault_answer fault) × (new ≡ old)
-Answers Stood old (Ok Standings) answer new =
+abbrev pub AnswersRequest : Type 0 → Standing → Result Asked Fault → AnswerValue → Standing → Type 0
+AnswersRequest Stood old (Err fault) answer new = (answer ≡ fault_answer fault) × (new ≡ old)
+AnswersRequest Stood old (Ok Standings) answer new =
     (read : Result (Vec Row Global) Refusal) × ReadsRows old read new × (Stood → IfOk read (λ rows. AreTheStandings old.event rows.items)) × IsRowsAnswer old.event read answer
-Answers Stood old (Ok (Pairings round)) answer new = IsShown old (ShowsPairings round) answer × (new ≡ old)
-Answers Stood old (Ok (Slip round table)) answer new =
+AnswersRequest Stood old (Ok (Pairings round)) answer new = IsShown old (ShowsPairings round) answer × (new ≡ old)
+AnswersRequest Stood old (Ok (Slip round table)) answer new =
     (read : Result SlipRow Refusal) × ReadsSlip old read new × (Stood → FindsSlip old.event round table read) × IsSlipAnswer read answer
-Answers Stood old (Ok (Report round table score)) answer new = (reply : Reply) × Turn old (Hand round table score) reply new × (answer ≡ reply_answer reply)
+AnswersRequest Stood old (Ok (Report round table score)) answer new = (reply : Reply) × Turn old (Hand round table score) reply new × (answer ≡ reply_answer reply)
 
 -- ---- one request
 
 -- the desk was asked what the input asks for
 abbrev pub IsServed : Type 0 → Option (List ℕ) → Standing → AnswerValue → Standing → Type 0
-IsServed Stood input old answer new = (asked : Result Asked Fault) × IfSome input (λ xs. Asks xs asked) × Answers Stood old asked answer new
+IsServed Stood input old answer new = (asked : Result Asked Fault) × IfSome input (λ xs. Asks xs asked) × AnswersRequest Stood old asked answer new
 
 -- or memory was wanting before it was asked, and it stays as it is
 abbrev pub IsUnserved : Standing → AnswerValue → Standing → Type 0

@@ -17,10 +17,10 @@ pub enum Answer {
 
 impl Answer {
     ghost use Rattle.std.specs.Prelude.{◌≡◌};
-    ghost use Rattle.er_slips.specs.Answer.{shown};
+    ghost use Rattle.er_slips.specs.Answer.{answer_value};
 
     pub fn status(&self) -> u16
-        ensures { result ≡ (shown self.now).status }
+        ensures { result ≡ (answer_value self.now).status }
     {
         match self {
             Answer::Short { status, .. } => *status,
@@ -29,7 +29,7 @@ impl Answer {
     }
 
     pub fn as_slice(&self) -> &[u8]
-        ensures { result.now ≡ (shown self.now).bytes }
+        ensures { result.now ≡ (answer_value self.now).bytes }
     {
         match self {
             Answer::Short { text, .. } => text.as_slice(),

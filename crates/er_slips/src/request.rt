@@ -65,7 +65,8 @@ fn next_of(
 ) -> Result<Next, Fault>
     requires router { router.now ≡ routes }
     requires within { IsRequestWithin bytes.now headers.now spans }
-    ensures value { (head : RequestHead) → IsRequestAt bytes.now headers.now spans head → result ≡ next_of head }
+    ensures value { (head : RequestHead) → IsRequestAt bytes.now headers.now spans head
+        → result ≡ next_of head }
     ensures short { IfOk result IsShort }
 {
     let path = path_of(spans.path.of(bytes));
@@ -91,7 +92,8 @@ fn next_in(
     spans: RequestSpans,
 ) -> Result<Next, Unasked>
     requires { IsRequestWithin bytes.now headers.now spans }
-    ensures value { (head : RequestHead) → IsRequestAt bytes.now headers.now spans head → Tells (next_of head) result }
+    ensures value { (head : RequestHead) → IsRequestAt bytes.now headers.now spans head
+        → Tells (next_of head) result }
     ensures short { IfOk result IsShort }
 {
     let Ok(router) = router(alloc) else {

@@ -1,14 +1,14 @@
 ghost use Rattle.std.specs.Prelude.{◌≡◌, ◌⊎◌, Ok, IfSome, IsTrue, IsFalse, MatchResult};
 ghost use Rattle.sqlite.specs.State.{HasCleanDisk};
-ghost use Rattle.er_event.specs.declared.refusals.Command.TheVariants as command;
+ghost use Rattle.er_event.specs.declared.commands.Command.TheVariants as command;
 ghost use Rattle.er_store.specs.Standing.{KeepsOthers};
 ghost use Rattle.er_desk.specs.Desk.{Turn, ShowsOwn, point_of, standing, state};
 ghost use Rattle.er_desk.specs.Headline.{LeavesJust};
 ghost use Rattle.er_paper.specs.Texts.{rows_text};
 ghost use Rattle.er_slips.specs.declared.request.asked.Asked.TheVariants as asked;
-ghost use Rattle.er_slips.specs.Answer.{shown, refusal_answer, text_answer};
+ghost use Rattle.er_slips.specs.Answer.{answer_value, refusal_answer, text_answer};
 ghost use Rattle.er_slips.specs.Whole.{ShowsPairings, reply_answer};
-ghost use Rattle.er_slips.specs.Serving.{IsShown, IsSlipAnswer, Answers, Writes, Ends, IsWritten};
+ghost use Rattle.er_slips.specs.Serving.{IsShown, IsSlipAnswer, AnswersRequest, Writes, Ends, IsWritten};
 
 mod sending;
 
@@ -37,7 +37,8 @@ pub enum Served {
 
 /// The answer, or that memory was wanting for it.
 fn made(answer: Result<Answer, AllocError>) -> Answer
-    ensures { MatchResult answer (λ made. shown result ≡ shown made) (λ _. shown result ≡ refusal_answer Refusal.Memory) }
+    ensures { MatchResult answer (λ made. answer_value result
+        ≡ answer_value made) (λ _. answer_value result ≡ refusal_answer Refusal.Memory) }
 {
     match answer {
         Ok(answer) => answer,
@@ -47,7 +48,9 @@ fn made(answer: Result<Answer, AllocError>) -> Answer
 
 /// The answer with these rows of standings.
 fn rows_answer<S: Alter>(alloc: Global, desk: &Desk<S>, rows: &[Row]) -> Answer
-    ensures { IsFalse (standing desk.now).stopped → (shown result ≡ text_answer (rows_text desk.now.event rows.now)) ⊎ (shown result ≡ refusal_answer Refusal.Memory) }
+    ensures { IsFalse (standing desk.now).stopped
+        → (answer_value result ≡ text_answer (rows_text desk.now.event rows.now))
+        ⊎ (answer_value result ≡ refusal_answer Refusal.Memory) }
 {
     match desk.event() {
         Ok(event) => made(standings_answer(alloc, rows, event)),
@@ -56,13 +59,18 @@ fn rows_answer<S: Alter>(alloc: Global, desk: &Desk<S>, rows: &[Row]) -> Answer
 }
 
 fn standings<S: Alter>(alloc: Global, desk: &mut Desk<S>) -> Answer
-    ensures answers { Answers (HasCleanDisk (state S.Store desk.new) × ShowsOwn S.Store desk.old) (standing desk.old) (Ok asked.Standings) (shown result) (standing desk.new) }
+    ensures answers { AnswersRequest (HasCleanDisk (state S.Store desk.new)
+        × ShowsOwn S.Store desk.old) (standing desk.old) (Ok asked.Standings) (answer_value result) (standing desk.new) }
     ensures waits { IsTrue (standing desk.old).stopped → desk.new ≡ desk.old }
     ensures clean { HasCleanDisk (state S.Store desk.new) → HasCleanDisk (state S.Store desk.old) }
-    ensures stands { HasCleanDisk (state S.Store desk.new) → ShowsOwn S.Store desk.old → IsFalse (standing desk.new).stopped → ShowsOwn S.Store desk.new }
-    ensures others { HasCleanDisk (state S.Store desk.new) → ShowsOwn S.Store desk.old → IsTrue (state S.Store desk.new).is_open
+    ensures stands { HasCleanDisk (state S.Store desk.new) → ShowsOwn S.Store desk.old
+        → IsFalse (standing desk.new).stopped → ShowsOwn S.Store desk.new }
+    ensures others { HasCleanDisk (state S.Store desk.new) → ShowsOwn S.Store desk.old
+        → IsTrue (state S.Store desk.new).is_open
         → KeepsOthers (state S.Store desk.old).now (state S.Store desk.new).now }
-    ensures leaves { ShowsOwn S.Store desk.old → LeavesJust (state S.Store desk.old) (point_of (standing desk.old)) → IsFalse (standing desk.new).stopped
+    ensures leaves { ShowsOwn S.Store desk.old
+        → LeavesJust (state S.Store desk.old) (point_of (standing desk.old))
+        → IsFalse (standing desk.new).stopped
         → LeavesJust (state S.Store desk.new) (point_of (standing desk.new)) }
 {
     match desk.stored_standings(alloc) {
@@ -72,7 +80,7 @@ fn standings<S: Alter>(alloc: Global, desk: &mut Desk<S>) -> Answer
 }
 
 fn pairings<S: Alter>(alloc: Global, desk: &Desk<S>, round: u8) -> Answer
-    ensures { IsShown (standing desk.now) (ShowsPairings round) (shown result) }
+    ensures { IsShown (standing desk.now) (ShowsPairings round) (answer_value result) }
 {
     match desk.event() {
         Ok(event) => made(pairings_answer(alloc, event, round)),
@@ -82,7 +90,7 @@ fn pairings<S: Alter>(alloc: Global, desk: &Desk<S>, round: u8) -> Answer
 
 /// The answer to what was read of a slip.
 fn slip_row_answer(alloc: Global, read: &Result<SlipRow, Refusal>) -> Answer
-    ensures { IsSlipAnswer read.now (shown result) }
+    ensures { IsSlipAnswer read.now (answer_value result) }
 {
     match read {
         Ok(row) => made(slip_answer(alloc, row)),
@@ -91,13 +99,18 @@ fn slip_row_answer(alloc: Global, read: &Result<SlipRow, Refusal>) -> Answer
 }
 
 fn slip<S: Alter>(alloc: Global, desk: &mut Desk<S>, round: u8, table: u16) -> Answer
-    ensures answers { Answers (HasCleanDisk (state S.Store desk.new) × ShowsOwn S.Store desk.old) (standing desk.old) (Ok (asked.Slip round table)) (shown result) (standing desk.new) }
+    ensures answers { AnswersRequest (HasCleanDisk (state S.Store desk.new)
+        × ShowsOwn S.Store desk.old) (standing desk.old) (Ok (asked.Slip round table)) (answer_value result) (standing desk.new) }
     ensures waits { IsTrue (standing desk.old).stopped → desk.new ≡ desk.old }
     ensures clean { HasCleanDisk (state S.Store desk.new) → HasCleanDisk (state S.Store desk.old) }
-    ensures stands { HasCleanDisk (state S.Store desk.new) → ShowsOwn S.Store desk.old → IsFalse (standing desk.new).stopped → ShowsOwn S.Store desk.new }
-    ensures others { HasCleanDisk (state S.Store desk.new) → ShowsOwn S.Store desk.old → IsTrue (state S.Store desk.new).is_open
+    ensures stands { HasCleanDisk (state S.Store desk.new) → ShowsOwn S.Store desk.old
+        → IsFalse (standing desk.new).stopped → ShowsOwn S.Store desk.new }
+    ensures others { HasCleanDisk (state S.Store desk.new) → ShowsOwn S.Store desk.old
+        → IsTrue (state S.Store desk.new).is_open
         → KeepsOthers (state S.Store desk.old).now (state S.Store desk.new).now }
-    ensures leaves { ShowsOwn S.Store desk.old → LeavesJust (state S.Store desk.old) (point_of (standing desk.old)) → IsFalse (standing desk.new).stopped
+    ensures leaves { ShowsOwn S.Store desk.old
+        → LeavesJust (state S.Store desk.old) (point_of (standing desk.old))
+        → IsFalse (standing desk.new).stopped
         → LeavesJust (state S.Store desk.new) (point_of (standing desk.new)) }
 {
     let read = desk.slip(alloc, round, table);
@@ -105,7 +118,7 @@ fn slip<S: Alter>(alloc: Global, desk: &mut Desk<S>, round: u8, table: u16) -> A
 }
 
 fn answer_to(reply: Reply) -> Answer
-    ensures { shown result ≡ reply_answer reply }
+    ensures { answer_value result ≡ reply_answer reply }
 {
     match reply {
         Ok(receipt) => receipt_answer(receipt),
@@ -121,13 +134,18 @@ fn report<S: Alter>(
     table: u16,
     score: Games,
 ) -> Answer
-    ensures answers { Answers (HasCleanDisk (state S.Store desk.new) × ShowsOwn S.Store desk.old) (standing desk.old) (Ok (asked.Report round table score)) (shown result) (standing desk.new) }
+    ensures answers { AnswersRequest (HasCleanDisk (state S.Store desk.new)
+        × ShowsOwn S.Store desk.old) (standing desk.old) (Ok (asked.Report round table score)) (answer_value result) (standing desk.new) }
     ensures waits { IsTrue (standing desk.old).stopped → desk.new ≡ desk.old }
     ensures clean { HasCleanDisk (state S.Store desk.new) → HasCleanDisk (state S.Store desk.old) }
-    ensures stands { HasCleanDisk (state S.Store desk.new) → ShowsOwn S.Store desk.old → IsFalse (standing desk.new).stopped → ShowsOwn S.Store desk.new }
-    ensures others { HasCleanDisk (state S.Store desk.new) → ShowsOwn S.Store desk.old → IsTrue (state S.Store desk.new).is_open
+    ensures stands { HasCleanDisk (state S.Store desk.new) → ShowsOwn S.Store desk.old
+        → IsFalse (standing desk.new).stopped → ShowsOwn S.Store desk.new }
+    ensures others { HasCleanDisk (state S.Store desk.new) → ShowsOwn S.Store desk.old
+        → IsTrue (state S.Store desk.new).is_open
         → KeepsOthers (state S.Store desk.old).now (state S.Store desk.new).now }
-    ensures leaves { ShowsOwn S.Store desk.old → LeavesJust (state S.Store desk.old) (point_of (standing desk.old)) → IsFalse (standing desk.new).stopped
+    ensures leaves { ShowsOwn S.Store desk.old
+        → LeavesJust (state S.Store desk.old) (point_of (standing desk.old))
+        → IsFalse (standing desk.new).stopped
         → LeavesJust (state S.Store desk.new) (point_of (standing desk.new)) }
 {
     let reply = desk.submit(
@@ -143,13 +161,18 @@ fn report<S: Alter>(
 
 /// What the desk answers. It is asked once.
 fn answer<S: Alter>(alloc: Global, desk: &mut Desk<S>, asked: Asked) -> Answer
-    ensures answers { Answers (HasCleanDisk (state S.Store desk.new) × ShowsOwn S.Store desk.old) (standing desk.old) (Ok asked) (shown result) (standing desk.new) }
+    ensures answers { AnswersRequest (HasCleanDisk (state S.Store desk.new)
+        × ShowsOwn S.Store desk.old) (standing desk.old) (Ok asked) (answer_value result) (standing desk.new) }
     ensures waits { IsTrue (standing desk.old).stopped → desk.new ≡ desk.old }
     ensures clean { HasCleanDisk (state S.Store desk.new) → HasCleanDisk (state S.Store desk.old) }
-    ensures stands { HasCleanDisk (state S.Store desk.new) → ShowsOwn S.Store desk.old → IsFalse (standing desk.new).stopped → ShowsOwn S.Store desk.new }
-    ensures others { HasCleanDisk (state S.Store desk.new) → ShowsOwn S.Store desk.old → IsTrue (state S.Store desk.new).is_open
+    ensures stands { HasCleanDisk (state S.Store desk.new) → ShowsOwn S.Store desk.old
+        → IsFalse (standing desk.new).stopped → ShowsOwn S.Store desk.new }
+    ensures others { HasCleanDisk (state S.Store desk.new) → ShowsOwn S.Store desk.old
+        → IsTrue (state S.Store desk.new).is_open
         → KeepsOthers (state S.Store desk.old).now (state S.Store desk.new).now }
-    ensures leaves { ShowsOwn S.Store desk.old → LeavesJust (state S.Store desk.old) (point_of (standing desk.old)) → IsFalse (standing desk.new).stopped
+    ensures leaves { ShowsOwn S.Store desk.old
+        → LeavesJust (state S.Store desk.old) (point_of (standing desk.old))
+        → IsFalse (standing desk.new).stopped
         → LeavesJust (state S.Store desk.new) (point_of (standing desk.new)) }
 {
     match asked {
@@ -166,7 +189,7 @@ fn answer<S: Alter>(alloc: Global, desk: &mut Desk<S>, asked: Asked) -> Answer
 
 /// Sends a whole answer.
 fn deliver<W: Write>(writer: &mut W, answer: &Answer) -> Served
-    ensures { Writes (W.contents writer.old) (W.contents writer.new) result (shown answer.now) }
+    ensures { Writes (W.contents writer.old) (W.contents writer.new) result (answer_value answer.now) }
 {
     match send(writer, answer.as_slice()) {
         Sent::All => Served::Answered {
@@ -183,19 +206,25 @@ pub fn serve_one<S: Alter, R: Read, W: Write>(
     reader: &mut R,
     writer: &mut W,
 ) -> Served
-    ensures ends { Ends (HasCleanDisk (state S.Store desk.new) × ShowsOwn S.Store desk.old) (R.remaining reader.old) (standing desk.old) (standing desk.new) (W.contents writer.old) (W.contents writer.new) result }
+    ensures ends { Ends (HasCleanDisk (state S.Store desk.new)
+        × ShowsOwn S.Store desk.old) (R.remaining reader.old) (standing desk.old) (standing desk.new) (W.contents writer.old) (W.contents writer.new) result }
     // Where the desk runs and its tables stand for its event, that is the answer to the input, or a 503.
-    ensures written { IfSome (R.remaining reader.old) (λ input. IsFalse (standing desk.old).stopped → HasCleanDisk (state S.Store desk.new) × ShowsOwn S.Store desk.old
+    ensures written { IfSome (R.remaining reader.old) (λ input. IsFalse (standing desk.old).stopped
+        → HasCleanDisk (state S.Store desk.new) × ShowsOwn S.Store desk.old
         → IsWritten (standing desk.old) input (W.contents writer.old) (W.contents writer.new) result) }
 
     ensures waits { IsTrue (standing desk.old).stopped → desk.new ≡ desk.old }
     ensures clean { HasCleanDisk (state S.Store desk.new) → HasCleanDisk (state S.Store desk.old) }
-    ensures stands { HasCleanDisk (state S.Store desk.new) → ShowsOwn S.Store desk.old → IsFalse (standing desk.new).stopped → ShowsOwn S.Store desk.new }
-    ensures others { HasCleanDisk (state S.Store desk.new) → ShowsOwn S.Store desk.old → IsTrue (state S.Store desk.new).is_open
+    ensures stands { HasCleanDisk (state S.Store desk.new) → ShowsOwn S.Store desk.old
+        → IsFalse (standing desk.new).stopped → ShowsOwn S.Store desk.new }
+    ensures others { HasCleanDisk (state S.Store desk.new) → ShowsOwn S.Store desk.old
+        → IsTrue (state S.Store desk.new).is_open
         → KeepsOthers (state S.Store desk.old).now (state S.Store desk.new).now }
 
     // While it runs, a crash leaves just the event that it stands at.
-    ensures leaves { ShowsOwn S.Store desk.old → LeavesJust (state S.Store desk.old) (point_of (standing desk.old)) → IsFalse (standing desk.new).stopped
+    ensures leaves { ShowsOwn S.Store desk.old
+        → LeavesJust (state S.Store desk.old) (point_of (standing desk.old))
+        → IsFalse (standing desk.new).stopped
         → LeavesJust (state S.Store desk.new) (point_of (standing desk.new)) }
 {
     match read_request(alloc, reader) {

@@ -10,9 +10,9 @@ use Rattle.sqlite.specs.declared.types.Value.TheVariants.{Text}
 use Rattle.sqlite_trees.proofs.ListLemmas.{filter-map, filter_none}
 use Rattle.er_event.specs.declared.players.Player.{Player}
 use Rattle.er_event.specs.declared.scores.Games.{Games}
-use Rattle.er_event.specs.declared.rounds.Match.{Match}
+use Rattle.er_event.specs.declared.matches.Match.{Match}
 use Rattle.er_event.specs.declared.rounds.Round.{Round}
-use Rattle.er_event.specs.declared.rows.PairingRow.{PairingRow}
+use Rattle.er_event.specs.declared.rows.pairing.PairingRow.{PairingRow}
 use Rattle.er_event.specs.Event.{EventValue}
 use Rattle.er_event.specs.Round.{is_bye, numbered_from, is_at, match_in, match_at}
 use Rattle.er_event.specs.Rows.{pairing_row, round_rows, pairing_rows_from, pairing_rows}

@@ -9,9 +9,9 @@ use Rattle.std.proofs.lemmas.List.{map-append}
 use Rattle.std.proofs.lemmas.List.Elements.{filter-append, All-from_recursion}
 use Rattle.std.proofs.lemmas.List.Folds.{find-append}
 use Rattle.sqlite_keyed.proofs.ListLemmas.{all-append}
-use Rattle.er_event.specs.declared.rounds.Match.{Match}
+use Rattle.er_event.specs.declared.matches.Match.{Match}
 use Rattle.er_event.specs.declared.rounds.Round.{Round}
-use Rattle.er_event.specs.declared.rows.TallyRow.{TallyRow}
+use Rattle.er_event.specs.declared.rows.tally.TallyRow.{TallyRow}
 use Rattle.er_event.specs.declared.scores.Games.{Games}
 use Rattle.er_event.specs.declared.tallies.Meeting.{Meeting}
 use Rattle.er_event.specs.declared.totals.Totals.{Totals}

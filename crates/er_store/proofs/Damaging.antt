@@ -16,8 +16,8 @@ use Rattle.sqlite_resolve.specs.Compile.{first}
 use Rattle.er_event.specs.declared.refusals.Refusal.{Refusal}
 use Rattle.er_event.specs.declared.refusals.Refusal.TheVariants.{Memory, Damaged}
 use Rattle.er_event.specs.declared.refusals.Place.{Place}
-use Rattle.er_event.specs.declared.parts.Parts.{Parts}
-use Rattle.er_event.specs.declared.rows.TallyRow.{TallyRow}
+use Rattle.er_event.specs.declared.events.parts.Parts.{Parts}
+use Rattle.er_event.specs.declared.rows.tally.TallyRow.{TallyRow}
 use Rattle.er_store.specs.Reading.{out_of_memory}
 use Rattle.er_store.specs.Fault.{reading_refusal}
 use Rattle.er_store.specs.Damage.{Answered, IsUnread, IsRefused, IsMisreadAs, MayRead, IsRowFault}

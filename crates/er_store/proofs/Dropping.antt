@@ -24,11 +24,11 @@ use Rattle.er_event.specs.declared.players.Player.{Player}
 use Rattle.er_event.specs.Event.{EventValue}
 use Rattle.er_event.specs.Sound.{numbers}
 use Rattle.er_event.specs.Change.{with_dropped, dropped_at}
-use Rattle.er_event.specs.declared.rows.TallyRow.{TallyRow}
+use Rattle.er_event.specs.declared.rows.tally.TallyRow.{TallyRow}
 use Rattle.er_store.specs.Tables.{player, set_dropped}
-use Rattle.er_store.specs.Rows.{number, player_places, stored_player, shown}
+use Rattle.er_store.specs.Rows.{number, player_places, stored_player, columns_at}
 use Rattle.er_store.specs.Standing.{HasTables, StandsWith}
-use Rattle.er_store.specs.inside.Steps.{Goes, MakesWith}
+use Rattle.er_store.specs.inside.Steps.{Goes, BringsToWith}
 use Rattle.er_store.proofs.Picking.{picks, is_another, row_of, rows_of, dropped, picks_one}
 use Rattle.er_store.proofs.Values.{cast_int, cast_null}
 use Rattle.er_store.proofs.Inserts.{first_fresh}
@@ -49,13 +49,13 @@ dropped_cast : (n : ℕ) (name : List ℕ) → cast_row (player 1) (drop 1 (numb
 dropped_cast n name = rw (cast_int (pos n), cast_null, cast_int (pos 1))
 
 -- the player's row is replaced, and the others stay
-replaced : (n : ℕ) (q : Player) (rows new : List Row) (ps : List Player) → IsPermutation (shown player_places rows) (rows_of ps) → q.no ≡ n
+replaced : (n : ℕ) (q : Player) (rows new : List Row) (ps : List Player) → IsPermutation (columns_at player_places rows) (rows_of ps) → q.no ≡ n
     → new ≡ put_row (stored_player n q.name true) (without_rowid (pos n) rows) → is_taken (without_rowid (pos n) rows) (stored_player n q.name true) ≡ false
-    → IsPermutation (shown player_places new) (filter (is_another n) (rows_of ps) ++ row_of (dropped q) ∷ [])
+    → IsPermutation (columns_at player_places new) (filter (is_another n) (rows_of ps) ++ row_of (dropped q) ∷ [])
 replaced n q rows new ps same is put free =
     let others = subst (λ l. IsPermutation l (filter (is_another n) (rows_of ps))) (filter-map (is_another n) (λ r. map (column r) player_places) rows)
-    (IsPermutation-filter (is_another n) (shown player_places rows) (rows_of ps) same) in
-    subst (λ l. IsPermutation (shown player_places l) (filter (is_another n) (rows_of ps) ++ row_of (dropped q) ∷ [])) (sym put)
+    (IsPermutation-filter (is_another n) (columns_at player_places rows) (rows_of ps) same) in
+    subst (λ l. IsPermutation (columns_at player_places l) (filter (is_another n) (rows_of ps) ++ row_of (dropped q) ∷ [])) (sym put)
     (shows_more player_places (stored_player n q.name true) (without_rowid (pos n) rows) (row_of (dropped q)) _ free (ap (λ k. number k ∷ Text q.name ∷ Int (pos 1) ∷ []) (sym is)) others)
 
 dropped_edit : (trees : Trees) (n : ℕ) (name : List ℕ) (rows : List Row) → rows ≡ (number n ∷ stored_player n name true) ∷ []
@@ -64,9 +64,9 @@ dropped_edit trees n name rows are =
     ap (λ all. edit_of trees (player 1) (ids_of all) Given 1 all) are ∙ ap (λ (row : Row). (let e : Edit = record { table = player 1; gone = pos n ∷ []; news = row ∷ [] } in e)) (dropped_cast n name)
 
 -- The player is taken out and put in again, dropped. The others stay.
-pub sets_dropped : (old new : State) (n : ℕ) (ps : List Player) (q : Player) (count : ℕ) → HasTables old.now.schema → IsPermutation (shown player_places (old.now.trees 1)) (rows_of ps)
+pub sets_dropped : (old new : State) (n : ℕ) (ps : List Player) (q : Player) (count : ℕ) → HasTables old.now.schema → IsPermutation (columns_at player_places (old.now.trees 1)) (rows_of ps)
     → filter (picks n) (rows_of ps) ≡ row_of q ∷ [] → q.no ≡ n → IsTrue old.in_transaction → ExecutesInside 0 set_dropped (number n ∷ []) old new (Ok count)
-    → Goes 1 old new × IsPermutation (shown player_places (new.now.trees 1)) (filter (is_another n) (rows_of ps) ++ row_of (dropped q) ∷ [])
+    → Goes 1 old new × IsPermutation (columns_at player_places (new.now.trees 1)) (filter (is_another n) (rows_of ps) ++ row_of (dropped q) ∷ [])
 sets_dropped old new n ps q count has same one is inside h =
     let schema = old.now.schema in
     let trees = old.now.trees in
@@ -85,7 +85,7 @@ sets_dropped old new n ps q count has same one is inside h =
     (record { was = inside; shows = h.1; sound = w.sound; schema = u.2; others = applied.tables }, replaced n q (trees 1) (new.now.trees 1) ps same is applied.rows (first_fresh _ applied.fresh))
 
 pub player_dropped : (old new : State) (e : EventValue) (s n count : ℕ) → {kept : List TallyRow} → StandsWith old.now e s kept → numbers e.players ≡ range_with_len 1 (length e.players) → Contains (numbers e.players) n
-    → IsTrue old.in_transaction → ExecutesInside 0 set_dropped (number n ∷ []) old new (Ok count) → MakesWith old new (with_dropped e n) s kept
+    → IsTrue old.in_transaction → ExecutesInside 0 set_dropped (number n ∷ []) old new (Ok count) → BringsToWith old new (with_dropped e n) s kept
 player_dropped old new e s n count stands numbered known inside h =
     let one = picks_one e.players n numbered known in
     let set = sets_dropped old new n e.players one.it count stands.tables (stands.rows PlayerTable) one.alone one.is inside h in

@@ -24,14 +24,14 @@ use Rattle.sqlite_schema.specs.declared.schema.Index.{Index}
 use Rattle.sqlite_schema.specs.declared.schema.View.{View}
 use Rattle.er_event.specs.declared.refusals.Place.TheVariants.{EventTable}
 use Rattle.er_event.specs.declared.events.Phase.{Phase}
-use Rattle.er_event.specs.declared.rows.PairingRow.{PairingRow}
-use Rattle.er_event.specs.declared.rows.BracketRow.{BracketRow}
+use Rattle.er_event.specs.declared.rows.pairing.PairingRow.{PairingRow}
+use Rattle.er_event.specs.declared.rows.bracket.BracketRow.{BracketRow}
 use Rattle.er_event.specs.Event.{EventValue}
 use Rattle.er_event.specs.Change.{with_phase}
 use Rattle.er_event.specs.Rows.{flag, phase_code, event_row}
-use Rattle.er_event.specs.declared.rows.TallyRow.{TallyRow}
+use Rattle.er_event.specs.declared.rows.tally.TallyRow.{TallyRow}
 use Rattle.er_store.specs.Tables.{event, player, pairing, bracket, tally, insert_event, insert_player, insert_pairing, insert_slot, insert_tally, set_serial, set_phase}
-use Rattle.er_store.specs.Rows.{number, event_columns, pairing_columns, bracket_columns, tally_columns, event_places, stored_event, stored_player, stored_pairing, stored_slot, stored_tally, shown}
+use Rattle.er_store.specs.Rows.{number, event_columns, pairing_columns, bracket_columns, tally_columns, event_places, stored_event, stored_player, stored_pairing, stored_slot, stored_tally, columns_at}
 use Rattle.er_store.specs.Standing.{HasTables, StandsWith, CanRead}
 use Rattle.er_store.specs.inside.Steps.{Goes, Puts}
 use Rattle.er_store.proofs.Values.{cast_int, cast_null}
@@ -127,7 +127,7 @@ puts_tally old new r count has inside h =
 
 -- ---- the row of the event
 
-pub one_of : (places : List ℕ) (rows : List Row) (row : Row) → shown places rows ≡ row ∷ [] → (r : Row) × (rows ≡ r ∷ []) × (map (column r) places ≡ row)
+pub one_of : (places : List ℕ) (rows : List Row) (row : Row) → columns_at places rows ≡ row ∷ [] → (r : Row) × (rows ≡ r ∷ []) × (map (column r) places ≡ row)
 one_of places [] row e = absurd (cc)
 one_of places (r ∷ []) row e = (r, refl, cc)
 one_of places (r ∷ x ∷ more) row e = absurd (cc)
@@ -147,7 +147,7 @@ event_edit trees r e t rows one id are = ap (λ all. edited trees (edit_of trees
 -- an UPDATE of the event's table by one value
 sets_event : (sql : List ℕ) (terms : List Term) (v : Value) (old new : State) (e e' : EventValue) (s t count : ℕ)
     → ((others : List Table) (indexes : List Index) (views : List View) → Means sql (Update 0 (record { lets = []; body = event_query terms })) (full others indexes views))
-    → ((r : Row) → map (column r) event_places ≡ event_columns (event_row e s) → eval_all terms ((v ∷ []) ∷ r ∷ []) ≡ number 1 ∷ stored_event e' t)
+    → ((r : Row) → map (column r) event_places ≡ event_columns (event_row 1 e s) → eval_all terms ((v ∷ []) ∷ r ∷ []) ≡ number 1 ∷ stored_event e' t)
     → {kept : List TallyRow} → StandsWith old.now e s kept → IsTrue old.in_transaction → ExecutesInside 0 sql (v ∷ []) old new (Ok count) → Goes 0 old new × (new.now.trees 0 ≡ stored_event e' t ∷ [])
 sets_event sql terms v old new e e' s t count means shows stands inside h =
     let has = stands.tables in
@@ -155,7 +155,7 @@ sets_event sql terms v old new e e' s t count means shows stands inside h =
     let trees = old.now.trees in
     let q : Program = record { lets = []; body = event_query terms } in
     let params : Row = v ∷ [] in
-    let it = one_of event_places (trees 0) (event_columns (event_row e s)) (one_permutation _ _ (IsPermutation-sym _ _ (stands.rows EventTable))) in
+    let it = one_of event_places (trees 0) (event_columns (event_row 1 e s)) (one_permutation _ _ (IsPermutation-sym _ _ (stands.rows EventTable))) in
     let it_means = meant schema has sql (Update 0 q) means in
     let w = runs_as sql params old new schema refl (Update 0 q) it_means.is it_means.plain count h.0 in
     let task : Task = record { limit = old.step_limit; keys = (mode_of old).keys; schema = schema; table = event 0; params = params } in
@@ -167,7 +167,7 @@ sets_event sql terms v old new e e' s t count means shows stands inside h =
     let cols = it.2 in
     (record { was = inside; shows = h.1; sound = w.sound; schema = u.2; others = applied.tables }, applied.rows ∙ event_edit trees it.0 e' t u.0 it.1 (cc) rows)
 
-serial_shows : (r : Row) (e : EventValue) (s t : ℕ) → map (column r) event_places ≡ event_columns (event_row e s) → eval_all serial_terms ((number t ∷ []) ∷ r ∷ []) ≡ number 1 ∷ stored_event e t
+serial_shows : (r : Row) (e : EventValue) (s t : ℕ) → map (column r) event_places ≡ event_columns (event_row 1 e s) → eval_all serial_terms ((number t ∷ []) ∷ r ∷ []) ≡ number 1 ∷ stored_event e t
 serial_shows r e s t h =
     let c0 : column r 0 ≡ number 1 = cc in
     let c2 : column r 2 ≡ number 1 = cc in
@@ -181,7 +181,7 @@ pub sets_serial : (old new : State) (e : EventValue) (s t count : ℕ) → {kept
     → ExecutesInside 0 set_serial (number t ∷ []) old new (Ok count) → Goes 0 old new × (new.now.trees 0 ≡ stored_event e t ∷ [])
 sets_serial old new e s t count = sets_event set_serial serial_terms (number t) old new e e s t count serial_means (λ r h. serial_shows r e s t h)
 
-phase_shows : (r : Row) (e : EventValue) (s : ℕ) (phase : Phase) → map (column r) event_places ≡ event_columns (event_row e s) → eval_all phase_terms ((number (phase_code phase) ∷ []) ∷ r ∷ []) ≡ number 1 ∷ stored_event (with_phase e phase) s
+phase_shows : (r : Row) (e : EventValue) (s : ℕ) (phase : Phase) → map (column r) event_places ≡ event_columns (event_row 1 e s) → eval_all phase_terms ((number (phase_code phase) ∷ []) ∷ r ∷ []) ≡ number 1 ∷ stored_event (with_phase e phase) s
 phase_shows r e s phase h =
     let c0 : column r 0 ≡ number 1 = cc in
     let c2 : column r 2 ≡ number 1 = cc in

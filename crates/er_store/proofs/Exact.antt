@@ -23,20 +23,20 @@ use Rattle.sqlite_keyed.proofs.ListLemmas.{all-append, ascending-append}
 use Rattle.er_event.specs.declared.refusals.Place.TheVariants.{BracketTable, EventTable, PlayerTable, TallyTable}
 use Rattle.er_event.specs.Event.{EventValue}
 use Rattle.er_event.specs.declared.players.Player.{Player}
-use Rattle.er_event.specs.declared.rounds.Match.{Match}
-use Rattle.er_event.specs.declared.rows.EventRow.{EventRow}
-use Rattle.er_event.specs.declared.rows.PlayerRow.{PlayerRow}
-use Rattle.er_event.specs.declared.rows.PairingRow.{PairingRow}
-use Rattle.er_event.specs.declared.rows.BracketRow.{BracketRow}
+use Rattle.er_event.specs.declared.matches.Match.{Match}
+use Rattle.er_event.specs.declared.rows.event.EventRow.{EventRow}
+use Rattle.er_event.specs.declared.rows.player.PlayerRow.{PlayerRow}
+use Rattle.er_event.specs.declared.rows.pairing.PairingRow.{PairingRow}
+use Rattle.er_event.specs.declared.rows.bracket.BracketRow.{BracketRow}
 use Rattle.er_event.specs.Name.{is_lawful_name}
 use Rattle.er_event.specs.Sound.{numbers, names, IsSoundButForSeeds}
 use Rattle.std.proofs.lemmas.Str.{IsUtf8-from_is_utf8}
 use Rattle.er_event.specs.Round.{numbered_from}
-use Rattle.er_event.specs.declared.rows.TallyRow.{TallyRow}
+use Rattle.er_event.specs.declared.rows.tally.TallyRow.{TallyRow}
 use Rattle.er_event.specs.declared.totals.Totals.{Totals}
 use Rattle.er_event.specs.Rows.{event_row, player_row, player_rows, bracket_row, bracket_rows, bracket_rows_from, tally_row, tally_rows, tally_rows_by}
 use Rattle.er_event.specs.Totals.{totals}
-use Rattle.er_store.specs.Rows.{event_columns, player_columns, pairing_columns, bracket_columns, tally_columns, shown, event_places, player_places, bracket_places, tally_places}
+use Rattle.er_store.specs.Rows.{event_columns, player_columns, pairing_columns, bracket_columns, tally_columns, columns_at, event_places, player_places, bracket_places, tally_places}
 use Rattle.er_store.specs.Standing.{StandsFor}
 use Rattle.er_store.specs.Reading.{by_first, by_first_two, Lists, out_of_memory}
 
@@ -97,8 +97,8 @@ level a = grind (arith, nat_tests)
 
 -- ---- the event's row
 
-pub event_exact : (db : Database) (e : EventValue) (s : ℕ) (listed : List Row) → StandsFor db e s → Lists by_first (shown event_places (db.trees 0)) listed → listed ≡ map event_columns (event_row e s ∷ [])
-event_exact db e s listed stands h = one_permutation (event_columns (event_row e s)) listed (IsPermutation-trans _ _ _ (IsPermutation-sym _ _ (stands.rows EventTable)) h.same)
+pub event_exact : (db : Database) (e : EventValue) (s : ℕ) (listed : List Row) → StandsFor db e s → Lists by_first (columns_at event_places (db.trees 0)) listed → listed ≡ map event_columns (event_row 1 e s ∷ [])
+event_exact db e s listed stands h = one_permutation (event_columns (event_row 1 e s)) listed (IsPermutation-trans _ _ _ (IsPermutation-sym _ _ (stands.rows EventTable)) h.same)
 
 -- ---- the players
 
@@ -122,7 +122,7 @@ players_rise n (p ∷ ps) all =
     (player_below p (n + 1) ps (omega (arith, both.0)) both.1, players_rise (n + 1) ps both.1)
 
 pub players_exact : (db : Database) (e : EventValue) (s : ℕ) (listed : List Row) → StandsFor db e s → numbers e.players ≡ range_with_len 1 (length e.players)
-    → Lists by_first (shown player_places (db.trees 1)) listed → listed ≡ map player_columns (player_rows e)
+    → Lists by_first (columns_at player_places (db.trees 1)) listed → listed ≡ map player_columns (player_rows e)
 players_exact db e s listed stands numbered h =
     sorted_unique by_first (on_total (λ (r : Row). column r 0) value_cmp_total) (map player_columns (player_rows e)) listed (players_rise 1 e.players numbered)
     (IsPermutation-trans _ _ _ (IsPermutation-sym _ _ (stands.rows PlayerTable)) h.same) h.sorted
@@ -151,7 +151,7 @@ tallies_rise come_to n (p ∷ ps) all =
     (tally_below come_to p.no (n + 1) ps (omega (arith, both.0)) both.1, tallies_rise come_to (n + 1) ps both.1)
 
 pub tallies_exact : (db : Database) (e : EventValue) (s : ℕ) (listed : List Row) → StandsFor db e s → numbers e.players ≡ range_with_len 1 (length e.players)
-    → Lists by_first (shown tally_places (db.trees 8)) listed → listed ≡ map tally_columns (tally_rows e)
+    → Lists by_first (columns_at tally_places (db.trees 8)) listed → listed ≡ map tally_columns (tally_rows e)
 tallies_exact db e s listed stands numbered h =
     sorted_unique by_first (on_total (λ (r : Row). column r 0) value_cmp_total) (map tally_columns (tally_rows e)) listed (tallies_rise (totals e) 1 e.players numbered)
     (IsPermutation-trans _ _ _ (IsPermutation-sym _ _ (stands.rows TallyTable)) h.same) h.sorted
@@ -198,7 +198,7 @@ bracket_rises stage (ms ∷ later) =
     subst (IsAscending IsBelow) (sym (map-append bracket_columns (slots_from stage 1 ms) (bracket_rows_from (stage + 1) later)))
     (ascending-append IsBelow (map bracket_columns (slots_from stage 1 ms)) (map bracket_columns (bracket_rows_from (stage + 1) later)) (slots_rise stage 1 ms) (bracket_rises (stage + 1) later) (all_below stage 1 ms later))
 
-pub bracket_exact : (db : Database) (e : EventValue) (s : ℕ) (listed : List Row) → StandsFor db e s → Lists by_first_two (shown bracket_places (db.trees 6)) listed → listed ≡ map bracket_columns (bracket_rows e)
+pub bracket_exact : (db : Database) (e : EventValue) (s : ℕ) (listed : List Row) → StandsFor db e s → Lists by_first_two (columns_at bracket_places (db.trees 6)) listed → listed ≡ map bracket_columns (bracket_rows e)
 bracket_exact db e s listed stands h =
     sorted_unique by_first_two (then_total (on_total (λ (r : Row). column r 0) value_cmp_total) (on_total (λ (r : Row). column r 1) value_cmp_total)) (map bracket_columns (bracket_rows e)) listed (bracket_rises 1 e.bracket.stages)
     (IsPermutation-trans _ _ _ (IsPermutation-sym _ _ (stands.rows BracketTable)) h.same) h.sorted
@@ -215,8 +215,8 @@ is_memory e h = absurd (h (λ same. cc))
 pub lawful-utf8 : (name : List ℕ) → IsTrue (is_lawful_name name) → IsUtf8 name
 lawful-utf8 name h = IsUtf8-from_is_utf8 name (grind (arith, nat_tests))
 
-pub event_text : (e : EventValue) (s : ℕ) → IsSoundButForSeeds e → All (λ (r : EventRow). IsUtf8 r.name) (event_row e s ∷ [])
-event_text e s sound = All-from_recursion (λ (r : EventRow). IsUtf8 r.name) (event_row e s ∷ []) (lawful-utf8 e.name sound.set_up.name, tt)
+pub event_text : (e : EventValue) (s : ℕ) → IsSoundButForSeeds e → All (λ (r : EventRow). IsUtf8 r.name) (event_row 1 e s ∷ [])
+event_text e s sound = All-from_recursion (λ (r : EventRow). IsUtf8 r.name) (event_row 1 e s ∷ []) (lawful-utf8 e.name sound.set_up.name, tt)
 
 player_texts : (ps : List Player) → AllByRecursion (λ name. IsTrue (is_lawful_name name)) (names ps) → AllByRecursion (λ (r : PlayerRow). IsUtf8 r.name) (map player_row ps)
 player_texts [] all = tt

@@ -16,9 +16,9 @@ use Rattle.sqlite.specs.Effect.{Database}
 use Rattle.sqlite_trees.proofs.ListLemmas.{filter-map}
 use Rattle.sqlite_keyed.proofs.ListLemmas.{IsPermutation-filter}
 use Rattle.er_event.specs.declared.refusals.Place.TheVariants.{PairingTable, PlayerTable}
-use Rattle.er_event.specs.declared.rounds.Match.{Match}
+use Rattle.er_event.specs.declared.matches.Match.{Match}
 use Rattle.er_event.specs.declared.rounds.Round.{Round}
-use Rattle.er_event.specs.declared.rows.PairingRow.{PairingRow}
+use Rattle.er_event.specs.declared.rows.pairing.PairingRow.{PairingRow}
 use Rattle.er_event.specs.declared.scores.Games.{Games}
 use Rattle.er_event.specs.declared.slips.SlipRow.{SlipRow}
 use Rattle.er_event.specs.Event.{EventValue}
@@ -34,7 +34,7 @@ use Rattle.std.specs.Prelude.{IsUtf8}
 use Rattle.er_store.specs.declared.rows.NamedPairing.{NamedPairing}
 use Rattle.er_store.specs.Reading.{first_columns}
 use Rattle.er_store.proofs.Exact.{map-same, lawful-utf8}
-use Rattle.er_store.specs.Rows.{number, pairing_columns, named_columns, text_or_null, shown, player_places, pairing_places}
+use Rattle.er_store.specs.Rows.{number, pairing_columns, named_columns, text_or_null, columns_at, player_places, pairing_places}
 use Rattle.er_store.specs.Standing.{StandsFor}
 use Rattle.er_store.specs.Slip.{Side, number_in, name_in, match_of, is_swapped, named_pairing, named_pairings, IsPlayer, IsLawful, FindsSlip}
 use Rattle.er_event.specs.declared.refusals.Cause.TheVariants.{Refused}
@@ -54,10 +54,10 @@ no_row : {X : Type 0} (f : X → Row) (xs : List X) → map f xs ≡ [] → xs �
 no_row f [] none = refl
 no_row f (x ∷ xs) none = absurd (cc)
 
-none_picked : (places : List ℕ) (test : Row → Bool) (rows all : List Row) → IsPermutation (shown places rows) all → filter test all ≡ [] → filter (λ x. test (map (column x) places)) rows ≡ []
+none_picked : (places : List ℕ) (test : Row → Bool) (rows all : List Row) → IsPermutation (columns_at places rows) all → filter test all ≡ [] → filter (λ x. test (map (column x) places)) rows ≡ []
 none_picked places test rows all same none =
-    let both = subst (IsPermutation (filter test (shown places rows))) none (IsPermutation-filter test (shown places rows) all same) in
-    let empty = none_permuted (filter test (shown places rows)) (IsPermutation-sym _ _ both) in
+    let both = subst (IsPermutation (filter test (columns_at places rows))) none (IsPermutation-filter test (columns_at places rows) all same) in
+    let empty = none_permuted (filter test (columns_at places rows)) (IsPermutation-sym _ _ both) in
     no_row (λ r. map (column r) places) (filter (λ x. test (map (column x) places)) rows) (sym (filter-map test (λ r. map (column r) places) rows) ∙ empty)
 
 -- ---- players who are known

@@ -16,16 +16,16 @@ use Rattle.sqlite_keyed.proofs.SortLemmas.{sorted_unique}
 use Rattle.sqlite_keyed.proofs.ListLemmas.{all-append, ascending-append}
 use Rattle.er_event.specs.declared.refusals.Place.TheVariants.{PairingTable}
 use Rattle.er_event.specs.Event.{EventValue}
-use Rattle.er_event.specs.declared.rounds.Match.{Match}
+use Rattle.er_event.specs.declared.matches.Match.{Match}
 use Rattle.er_event.specs.declared.rounds.Round.{Round}
-use Rattle.er_event.specs.declared.rows.PairingRow.{PairingRow}
+use Rattle.er_event.specs.declared.rows.pairing.PairingRow.{PairingRow}
 use Rattle.er_event.specs.Round.{is_bye, numbered_from}
 use Rattle.er_event.specs.Sound.{IsSoundButForSeeds}
 use Rattle.er_event.specs.Pairings.{AreTables, AreShown, table_rows}
 use Rattle.er_event.specs.Rows.{pairing_row, by_key, round_rows, keyed_round_rows, pairing_rows, pairing_rows_from, keyed_rows_from, keyed_pairing_rows}
 use Rattle.er_event.proofs.PairingLemmas.{WithBye, bye_or_tables, keyed-tables, with_bye_rows}
-use Rattle.er_event.proofs.ShownLemmas.{rounds_shown}
-use Rattle.er_store.specs.Rows.{pairing_columns, shown, pairing_places}
+use Rattle.er_event.proofs.ShownLemmas.{event_shown}
+use Rattle.er_store.specs.Rows.{pairing_columns, columns_at, pairing_places}
 use Rattle.er_store.specs.Standing.{StandsFor}
 use Rattle.er_store.specs.Reading.{by_first_two, Lists}
 use Rattle.er_store.proofs.Exact.{IsBelow, lower, level}
@@ -121,9 +121,9 @@ rounds_rise round (first ∷ later) all =
 
 -- ---- what is listed
 
-pub pairings_exact : (db : Database) (e : EventValue) (s : ℕ) (listed : List Row) → StandsFor db e s → IsSoundButForSeeds e → Lists by_first_two (shown pairing_places (db.trees 3)) listed
+pub pairings_exact : (db : Database) (e : EventValue) (s : ℕ) (listed : List Row) → StandsFor db e s → IsSoundButForSeeds e → Lists by_first_two (columns_at pairing_places (db.trees 3)) listed
     → listed ≡ map pairing_columns (keyed_pairing_rows e)
 pairings_exact db e s listed stands sound h =
     sorted_unique by_first_two (then_total (on_total (λ (r : Row). column r 0) value_cmp_total) (on_total (λ (r : Row). column r 1) value_cmp_total)) (map pairing_columns (keyed_pairing_rows e)) listed
-    (rounds_rise 1 e.stored (rounds_shown e sound.players sound.rounds))
+    (rounds_rise 1 e.stored (event_shown e sound))
     (IsPermutation-trans _ _ _ (IsPermutation-sym _ _ (keyed_permutes e)) (IsPermutation-trans _ _ _ (IsPermutation-sym _ _ (stands.rows PairingTable)) h.same)) h.sorted

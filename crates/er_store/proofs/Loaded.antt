@@ -2,10 +2,10 @@
 use Rattle.std.proofs.Common.{◌≡◌, ◌≤◌, inl, inr, ℕ, List, ap, subst}
 use Rattle.std.proofs.lemmas.List.Sorted.{IsPermutation-sym, IsPermutation-trans}
 use Rattle.sqlite.specs.Effect.{Database}
-use Rattle.er_event.specs.declared.parts.Parts.{Parts}
+use Rattle.er_event.specs.declared.events.parts.Parts.{Parts}
 use Rattle.er_event.specs.declared.refusals.Place.{Place}
 use Rattle.er_event.specs.declared.refusals.Place.TheVariants.{EventTable, PlayerTable, PairingTable, BracketTable, TallyTable}
-use Rattle.er_event.specs.declared.rows.TallyRow.{TallyRow}
+use Rattle.er_event.specs.declared.rows.tally.TallyRow.{TallyRow}
 use Rattle.er_event.specs.Event.{EventValue}
 use Rattle.er_event.specs.Rows.{tally_rows}
 use Rattle.er_event.specs.Parts.{HasRoundRows, IsFirstFault, parts_of}
@@ -28,7 +28,6 @@ no_fault parts e s low sound are = at_fault
       };
       rows = ap (λ (p : Parts). p.pairings) are;
       rounds = sound.rounds;
-      done = sound.bracket.rounds_done;
     }
 
     at_fault : (place : Place) → IsFirstFault parts place → ⊥

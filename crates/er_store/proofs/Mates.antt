@@ -30,9 +30,9 @@ use Rattle.sqlite_keyed.proofs.ListLemmas.{IsPermutation-filter, all-append, asc
 use Rattle.sqlite_keyed.proofs.SortLemmas.{sorted_unique}
 use Rattle.er_event.specs.declared.refusals.Place.TheVariants.{PairingTable, TallyTable}
 use Rattle.er_event.specs.declared.players.Player.{Player}
-use Rattle.er_event.specs.declared.rounds.Match.{Match}
+use Rattle.er_event.specs.declared.matches.Match.{Match}
 use Rattle.er_event.specs.declared.rounds.Round.{Round}
-use Rattle.er_event.specs.declared.rows.TallyRow.{TallyRow}
+use Rattle.er_event.specs.declared.rows.tally.TallyRow.{TallyRow}
 use Rattle.er_event.specs.declared.totals.Totals.{Totals}
 use Rattle.er_event.specs.Event.{EventValue}
 use Rattle.er_event.specs.Round.{is_bye, numbered_from, table_of}
@@ -42,7 +42,7 @@ use Rattle.er_event.specs.Totals.{totals}
 use Rattle.er_store.specs.declared.rows.MeetingRow.{MeetingRow}
 use Rattle.er_store.specs.inside.Meetings.{meeting_row, meetings_from, meeting_rows}
 use Rattle.er_store.specs.Reading.{by_first_two, Lists, first_columns}
-use Rattle.er_store.specs.Rows.{number, pairing_columns, tally_columns, meeting_columns, shown, pairing_places, tally_places}
+use Rattle.er_store.specs.Rows.{number, pairing_columns, tally_columns, meeting_columns, columns_at, pairing_places, tally_places}
 use Rattle.er_store.specs.Standing.{StandsFor}
 use Rattle.er_store.proofs.Counted.{is_pair, is_pair_at, rows_of}
 use Rattle.er_store.proofs.Exact.{IsBelow, lower, level, map-same}
@@ -98,7 +98,7 @@ module _ (db : Trees) where
   abbrev beside : Row → List Env
   beside p = flat_map (λ l. flat_map (λ h. ([] ∷ p ∷ l ∷ h ∷ []) ∷ []) (highs p)) (lows p)
 
-  all-shown : (ps : List Row) → rows_shown (flat_map beside ps) ≡ flat_map (mates db) (shown pairing_places ps)
+  all-shown : (ps : List Row) → rows_shown (flat_map beside ps) ≡ flat_map (mates db) (columns_at pairing_places ps)
   all-shown [] = refl
   all-shown (p ∷ ps) = shown-append (beside p) (flat_map beside ps) ∙ ap₂ ◌++◌ (both-shown p (lows p) (highs p)) (all-shown ps)
 
@@ -110,22 +110,22 @@ module _ (db : Trees) where
   keyed (e ∷ envs) = ((refl, refl), keyed envs)
 
   -- the rows of those that pass, by round and table
-  answer-lists : (rows : List Row) → IsAnswer meeting_query (overlay db []) [] rows → Lists by_first_two (flat_map (mates db) (filter is_no_bye (shown pairing_places (db 3)))) rows
+  answer-lists : (rows : List Row) → IsAnswer meeting_query (overlay db []) [] rows → Lists by_first_two (flat_map (mates db) (filter is_no_bye (columns_at pairing_places (db 3)))) rows
   answer-lists rows a =
       let staged : a.staged ≡ flat_map beside (filter passes (db 3)) = a.grouped ∙ joined passes lows highs [] (db 3) in
       let kept : a.kept ≡ map (output meeting_query) (flat_map beside (filter passes (db 3))) = a.distinct ∙ ap (map (output meeting_query)) staged in
       let same = subst (λ (l : List Output). IsPermutation l a.ordered) kept a.same in
       let envs = flat_map beside (filter passes (db 3)) in
       let keys = All-permutation Keyed (map (output meeting_query) envs) a.ordered same (All-from_recursion Keyed (map (output meeting_query) envs) (keyed envs)) in
-      let picked : shown pairing_places (filter passes (db 3)) ≡ filter is_no_bye (shown pairing_places (db 3)) = sym (filter-map is_no_bye (λ r. map (column r) pairing_places) (db 3)) in
-      let rows_are : rows_shown envs ≡ flat_map (mates db) (filter is_no_bye (shown pairing_places (db 3))) = all-shown (filter passes (db 3)) ∙ ap (flat_map (mates db)) picked in
+      let picked : columns_at pairing_places (filter passes (db 3)) ≡ filter is_no_bye (columns_at pairing_places (db 3)) = sym (filter-map is_no_bye (λ r. map (column r) pairing_places) (db 3)) in
+      let rows_are : rows_shown envs ≡ flat_map (mates db) (filter is_no_bye (columns_at pairing_places (db 3))) = all-shown (filter passes (db 3)) ∙ ap (flat_map (mates db)) picked in
       record {
         same = subst (λ (l : List Row). IsPermutation l rows) rows_are (subst (IsPermutation (rows_shown envs)) (sym a.shown) (IsPermutation-map (λ (o : Output). o.1) _ _ same));
         sorted = subst (IsSorted by_first_two) (sym a.shown) (sorted_rows Keyed (output_cmp meeting_query) by_first_two two_agree a.ordered keys a.sorted);
       }
 
 pub meetings-listed : (sql : List ℕ) (old new : State) (rows : List Row) → Selects sql meeting_query old.now.schema → Shown sql [] old new rows
-    → Lists by_first_two (flat_map (mates old.now.trees) (filter is_no_bye (shown pairing_places (old.now.trees 3)))) rows
+    → Lists by_first_two (flat_map (mates old.now.trees) (filter is_no_bye (columns_at pairing_places (old.now.trees 3)))) rows
 meetings-listed sql old new rows it h =
     let read = reads_as sql [] old new old.now.schema refl (Select (record { lets = []; body = meeting_query }) it.names) it.is it.plain it.unlisted rows h in
     answer-lists old.now.trees rows (read.answer Null)
@@ -284,9 +284,9 @@ module _ (come_to : ℕ → Totals) where
 -- ---- what is read
 
 pub meetings-exact : (db : Database) (e : EventValue) (s : ℕ) (rows : List Row) → StandsFor db e s → IsSoundButForSeeds e
-    → Lists by_first_two (flat_map (mates db.trees) (filter is_no_bye (shown pairing_places (db.trees 3)))) rows → rows ≡ map meeting_columns (meeting_rows e)
+    → Lists by_first_two (flat_map (mates db.trees) (filter is_no_bye (columns_at pairing_places (db.trees 3)))) rows → rows ≡ map meeting_columns (meeting_rows e)
 meetings-exact db e s rows stands sound h =
-    let stored = shown pairing_places (db.trees 3) in
+    let stored = columns_at pairing_places (db.trees 3) in
     let kept = IsPermutation-flat_map (mates db.trees) (filter is_no_bye stored) (filter is_no_bye (map pairing_columns (pairing_rows e)))
     (IsPermutation-filter is_no_bye stored (map pairing_columns (pairing_rows e)) (stands.rows PairingTable)) in
     let are = rounds-mates db e s stands sound 1 e.stored (all_matches e sound) in
@@ -317,6 +317,6 @@ meetings-whole (r ∷ rows) = ap (λ more. meeting_columns r ∷ more) (meetings
 
 -- typed rows with the columns of the rows that are read
 pub meetings-read : (db : Database) (e : EventValue) (s : ℕ) (rows : List Row) (typed : List MeetingRow) → StandsFor db e s → IsSoundButForSeeds e
-    → Lists by_first_two (flat_map (mates db.trees) (filter is_no_bye (shown pairing_places (db.trees 3)))) rows → map meeting_columns typed ≡ map (first_columns 13) rows → typed ≡ meeting_rows e
+    → Lists by_first_two (flat_map (mates db.trees) (filter is_no_bye (columns_at pairing_places (db.trees 3)))) rows → map meeting_columns typed ≡ map (first_columns 13) rows → typed ≡ meeting_rows e
 meetings-read db e s rows typed stands sound h columns =
     meetings-typed typed e (columns ∙ (ap (map (first_columns 13)) (meetings-exact db e s rows stands sound h) ∙ meetings-whole (meeting_rows e)))

@@ -13,17 +13,17 @@ use Rattle.sqlite_trees.proofs.TreeLemmas.{IsTable-put_row}
 use Rattle.er_event.specs.declared.refusals.Place.{Place}
 use Rattle.er_store.specs.Standing.{rows_in, rows_with}
 use Rattle.er_event.specs.declared.refusals.Place.TheVariants.{BracketTable, EventTable, PairingTable, PlayerTable, TallyTable}
-use Rattle.er_event.specs.declared.rounds.Match.{Match}
+use Rattle.er_event.specs.declared.matches.Match.{Match}
 use Rattle.er_event.specs.declared.rounds.Round.{Round}
-use Rattle.er_event.specs.declared.rows.PairingRow.{PairingRow}
+use Rattle.er_event.specs.declared.rows.pairing.PairingRow.{PairingRow}
 use Rattle.er_event.specs.Event.{EventValue}
 use Rattle.er_event.specs.Change.{with_round}
 use Rattle.er_event.specs.Round.{numbered_from}
 use Rattle.er_event.specs.Rows.{pairing_row, round_rows, pairing_rows_from, pairing_rows}
-use Rattle.er_event.specs.declared.rows.TallyRow.{TallyRow}
-use Rattle.er_store.specs.Rows.{pairing_columns, stored_pairing, shown, pairing_places}
+use Rattle.er_event.specs.declared.rows.tally.TallyRow.{TallyRow}
+use Rattle.er_store.specs.Rows.{pairing_columns, stored_pairing, columns_at, pairing_places}
 use Rattle.er_store.specs.Standing.{StandsWith, IsKeyed, KeepsOthers}
-use Rattle.er_store.specs.inside.Steps.{Puts, Moves, MakesWith}
+use Rattle.er_store.specs.inside.Steps.{Puts, Moves, BringsToWith}
 use Rattle.er_store.proofs.Together.{shows_more, pairings_set, moves_then}
 
 -- ---- the rows of one more round
@@ -86,15 +86,15 @@ keyed_put id columns rows keyed = record { rise = IsTable-put_row (Int id ∷ co
 
 -- The round has one match more.
 pub pairing_added : (old new : State) (e : EventValue) (before : List Match) (m : Match) (s : ℕ) (id : ℤ) → {kept : List TallyRow} → StandsWith old.now (with_round e before) s kept → Puts 3 (stored_pairing id (next_row e before m)) old new
-    → MakesWith old new (with_round e (before ++ m ∷ [])) s kept
+    → BringsToWith old new (with_round e (before ++ m ∷ [])) s kept
 pairing_added old new e before m s id stands put =
     let row = stored_pairing id (next_row e before m) in
     let more = with_round e (before ++ m ∷ []) in
     let all : map pairing_columns (pairing_rows more) ≡ map pairing_columns (pairing_rows (with_round e before)) ++ pairing_columns (next_row e before m) ∷ [] =
     ap (map pairing_columns) (pairing_more e before m) ∙ map-append pairing_columns (pairing_rows (with_round e before)) (next_row e before m ∷ []) in
     pairings_set old new (with_round e before) more.stored s stands put.goes
-    (subst (λ rows. IsPermutation (shown pairing_places rows) (map pairing_columns (pairing_rows more))) (sym put.rows)
-    (subst (IsPermutation (shown pairing_places (put_row row (old.now.trees 3)))) (sym all)
+    (subst (λ rows. IsPermutation (columns_at pairing_places rows) (map pairing_columns (pairing_rows more))) (sym put.rows)
+    (subst (IsPermutation (columns_at pairing_places (put_row row (old.now.trees 3)))) (sym all)
     (shows_more pairing_places row (old.now.trees 3) (pairing_columns (next_row e before m)) (map pairing_columns (pairing_rows (with_round e before))) put.free refl (stands.rows PairingTable))))
     (subst IsKeyed (sym put.rows) (keyed_put id (pairing_columns (next_row e before m)) (old.now.trees 3) stands.pairings_keyed))
 
@@ -106,7 +106,7 @@ none_added db e s {kept} stands =
     rows : (table : Place) → IsPermutation (rows_in db table) (rows_with (with_round e []) s kept table)
     rows EventTable = stands.rows EventTable
     rows PlayerTable = stands.rows PlayerTable
-    rows PairingTable = subst (λ rows. IsPermutation (shown pairing_places (db.trees 3)) (map pairing_columns rows)) (sym (pairing_none e)) (stands.rows PairingTable)
+    rows PairingTable = subst (λ rows. IsPermutation (columns_at pairing_places (db.trees 3)) (map pairing_columns rows)) (sym (pairing_none e)) (stands.rows PairingTable)
     rows BracketTable = stands.rows BracketTable
     rows TallyTable = stands.rows TallyTable
 
@@ -137,7 +137,7 @@ pub adds_none : (s : State) (event : List Match → EventValue) (serial : ℕ) �
 adds_none s event serial stands = record { none = λ _. record { is_open = refl; mode = refl; now_is = refl; committed_is = refl }; some = λ never. absurd (not-suc-le-zero never); stands = stands }
 
 pub adds_one : (old mid new : State) (event : List Match → EventValue) (count : ℕ) (before after : List Match) (serial : ℕ) {totals : List TallyRow}
-    → Adds event count before serial totals old mid → MakesWith mid new (event after) serial totals → Adds event (count + 1) after serial totals old new
+    → Adds event count before serial totals old mid → BringsToWith mid new (event after) serial totals → Adds event (count + 1) after serial totals old new
 adds_one old mid new event count before after serial was made = record { none = λ never. absurd (omega (arith, never)); some = λ _. moves count was.none was.some; stands = made.stands }
   where
     moves : (n : ℕ) → (n ≡ 0 → Same old mid) → (0 < n → Moves old mid) → Moves old new

@@ -13,7 +13,7 @@ use Rattle.sqlite_value.proofs.OrderLemmas.{then-Equal}
 use Rattle.sqlite.specs.Query.{IsAnswer, output, output_cmp, Output}
 use Rattle.sqlite.specs.Program.{overlay}
 use Rattle.sqlite.specs.Tree.{Trees}
-use Rattle.er_store.specs.Rows.{shown}
+use Rattle.er_store.specs.Rows.{columns_at}
 use Rattle.er_store.specs.Reading.{by_first, by_first_two, Lists, first_columns}
 use Rattle.er_store.specs.inside.Queries.{table_query}
 
@@ -52,7 +52,7 @@ module _ (tree : ℕ) (places keys : List ℕ) (order : Row → Row → Ordering
   abbrev each : List Row → List Output
   each rows = map (output (table_query tree places keys)) (flat_map (λ r. ([] ∷ r ∷ []) ∷ []) rows)
 
-  each_shown : (rows : List Row) → map (λ (o : Output). o.1) (each rows) ≡ shown places rows
+  each_shown : (rows : List Row) → map (λ (o : Output). o.1) (each rows) ≡ columns_at places rows
   each_shown [] = refl
   each_shown (r ∷ rows) = ap₂ ◌∷◌ (terms_shown r places) (each_shown rows)
 
@@ -60,7 +60,7 @@ module _ (tree : ℕ) (places keys : List ℕ) (order : Row → Row → Ordering
   each_keyed [] = tt
   each_keyed (r ∷ rows) = (by.keyed r, each_keyed rows)
 
-  pub answer_lists : (trees : Trees) (rows : List Row) → IsAnswer (table_query tree places keys) (overlay trees []) [] rows → Lists order (shown places (trees tree)) rows
+  pub answer_lists : (trees : Trees) (rows : List Row) → IsAnswer (table_query tree places keys) (overlay trees []) [] rows → Lists order (columns_at places (trees tree)) rows
   answer_lists trees rows a =
       let kept : a.kept ≡ each (trees tree) = a.distinct ∙ (ap (map (output (table_query tree places keys))) a.grouped ∙ ap each (bare trees tree)) in
       let same = subst (λ l. IsPermutation l a.ordered) kept a.same in
@@ -102,13 +102,13 @@ whole : (width : ℕ) (rows : List Row) → AllByRecursion (λ row. first_column
 whole width [] all = refl
 whole width (r ∷ rows) all = ap₂ ◌∷◌ all.0 (whole width rows all.1)
 
-shown_whole : (width : ℕ) (places : List ℕ) (rows : List Row) → ((r : Row) → first_columns width (map (column r) places) ≡ map (column r) places) → AllByRecursion (λ row. first_columns width row ≡ row) (shown places rows)
+shown_whole : (width : ℕ) (places : List ℕ) (rows : List Row) → ((r : Row) → first_columns width (map (column r) places) ≡ map (column r) places) → AllByRecursion (λ row. first_columns width row ≡ row) (columns_at places rows)
 shown_whole width places [] all = tt
 shown_whole width places (r ∷ rows) all = (all r, shown_whole width places rows all)
 
 -- the rows that are listed have the columns that are shown, and no more
 pub listed_whole : (order : Row → Row → Ordering) (width : ℕ) (places : List ℕ) (rows listed : List Row) → ((r : Row) → first_columns width (map (column r) places) ≡ map (column r) places)
-    → Lists order (shown places rows) listed → map (first_columns width) listed ≡ listed
+    → Lists order (columns_at places rows) listed → map (first_columns width) listed ≡ listed
 listed_whole order width places rows listed all h =
     let P : Row → Type 0 = λ row. first_columns width row ≡ row in
-    whole width listed (recursion_from_All P listed (All-permutation P (shown places rows) listed h.same (All-from_recursion P (shown places rows) (shown_whole width places rows all))))
+    whole width listed (recursion_from_All P listed (All-permutation P (columns_at places rows) listed h.same (All-from_recursion P (columns_at places rows) (shown_whole width places rows all))))

@@ -32,19 +32,19 @@ use Rattle.sqlite_trees.proofs.ListLemmas.{filter-map, filter_all, all_weaker}
 use Rattle.sqlite_keyed.proofs.ListLemmas.{IsPermutation-filter, all-filter, ascending-filter, all_from_test, test_from_all}
 use Rattle.er_event.specs.declared.refusals.Place.TheVariants.{BracketTable, PairingTable}
 use Rattle.er_event.specs.declared.scores.Games.{Games}
-use Rattle.er_event.specs.declared.rounds.Match.{Match}
-use Rattle.er_event.specs.declared.rows.PairingRow.{PairingRow}
-use Rattle.er_event.specs.declared.rows.BracketRow.{BracketRow}
+use Rattle.er_event.specs.declared.matches.Match.{Match}
+use Rattle.er_event.specs.declared.rows.pairing.PairingRow.{PairingRow}
+use Rattle.er_event.specs.declared.rows.bracket.BracketRow.{BracketRow}
 use Rattle.er_event.specs.Event.{EventValue}
 use Rattle.er_event.specs.Round.{is_bye, match_at}
 use Rattle.er_event.specs.Bracket.{slot_at}
 use Rattle.er_event.specs.Change.{scored, with_score, with_slot_score}
 use Rattle.er_event.specs.Rows.{pairing_row, pairing_rows, bracket_row, bracket_rows}
-use Rattle.er_event.specs.declared.rows.TallyRow.{TallyRow}
+use Rattle.er_event.specs.declared.rows.tally.TallyRow.{TallyRow}
 use Rattle.er_store.specs.Tables.{pairing, bracket, set_score, set_slot_score}
-use Rattle.er_store.specs.Rows.{number, pairing_columns, bracket_columns, pairing_places, bracket_places, stored_pairing, stored_slot, shown}
+use Rattle.er_store.specs.Rows.{number, pairing_columns, bracket_columns, pairing_places, bracket_places, stored_pairing, stored_slot, columns_at}
 use Rattle.er_store.specs.Standing.{HasTables, StandsWith, IsKeyed, IsOther}
-use Rattle.er_store.specs.inside.Steps.{Goes, MakesWith}
+use Rattle.er_store.specs.inside.Steps.{Goes, BringsToWith}
 use Rattle.er_store.proofs.PickingTable.{picks_table, is_elsewhere, picks_one_table}
 use Rattle.er_store.proofs.Values.{cast_int}
 use Rattle.er_store.proofs.Inserts.{first_fresh}
@@ -122,20 +122,20 @@ module _ (table : Table) (more : List ℕ) (at : ℕ) (sql : List ℕ) (terms : 
   picks k t r = picks_table k t (map (column r) places)
 
   -- the row of the table is replaced, and the others stay
-  replaced : (k t : ℕ) (id : ℤ) (r : Row) (row : Row) (rows new all : List Row) → IsTable rows → IsPermutation (shown places rows) all → filter (picks k t) rows ≡ r ∷ [] → rowid r ≡ Int id → map (column (Int id ∷ row)) places ≡ row
+  replaced : (k t : ℕ) (id : ℤ) (r : Row) (row : Row) (rows new all : List Row) → IsTable rows → IsPermutation (columns_at places rows) all → filter (picks k t) rows ≡ r ∷ [] → rowid r ≡ Int id → map (column (Int id ∷ row)) places ≡ row
       → new ≡ put_row (Int id ∷ row) (without_rowid id rows) → is_taken (without_rowid id rows) (Int id ∷ row) ≡ false
-      → IsPermutation (shown places new) (filter (is_elsewhere k t) all ++ row ∷ [])
+      → IsPermutation (columns_at places new) (filter (is_elsewhere k t) all ++ row ∷ [])
   replaced k t id r row rows new all up same one own shows put free =
       let left : without_rowid id rows ≡ filter (λ x. not (picks k t x)) rows = rest (picks k t) r id own rows up one in
-      let others = subst (λ l. IsPermutation l (filter (is_elsewhere k t) all)) (filter-map (is_elsewhere k t) (λ x. map (column x) places) rows ∙ ap (shown places) (sym left))
-      (IsPermutation-filter (is_elsewhere k t) (shown places rows) all same) in
-      subst (λ l. IsPermutation (shown places l) (filter (is_elsewhere k t) all ++ row ∷ [])) (sym put)
+      let others = subst (λ l. IsPermutation l (filter (is_elsewhere k t) all)) (filter-map (is_elsewhere k t) (λ x. map (column x) places) rows ∙ ap (columns_at places) (sym left))
+      (IsPermutation-filter (is_elsewhere k t) (columns_at places rows) all same) in
+      subst (λ l. IsPermutation (columns_at places l) (filter (is_elsewhere k t) all ++ row ∷ [])) (sym put)
       (shows_more places (Int id ∷ row) (without_rowid id rows) row _ free shows others)
 
   -- what the step does to the table
   pub record Sets (k t : ℕ) (row : Row) (all : List Row) (old new : State) : Type 0 where
     pub goes : Goes table.tree old new
-    pub rows : IsPermutation (shown places (new.now.trees table.tree)) (filter (is_elsewhere k t) all ++ row ∷ [])
+    pub rows : IsPermutation (columns_at places (new.now.trees table.tree)) (filter (is_elsewhere k t) all ++ row ∷ [])
     pub keyed : IsKeyed (new.now.trees table.tree)
 
   -- The row is taken out and put in again, with other values. The others stay.
@@ -144,7 +144,7 @@ module _ (table : Table) (more : List ℕ) (at : ℕ) (sql : List ℕ) (terms : 
       → ((db : Trees) → overlay db [] table.tree ≡ db table.tree) → slice_get old.now.schema.tables at ≡ Some table → ((x : ℕ) → IsOther x → x ≢ table.tree)
       → ((r : Row) (id : ℤ) → rowid r ≡ Int id → map (column r) places ≡ was → eval_all terms ((number k ∷ number t ∷ values) ∷ r ∷ []) ≡ Int id ∷ Int id ∷ is)
       → ((id : ℤ) → cast_row table (Int id ∷ is) ≡ Int id ∷ is) → ((id : ℤ) → map (column (Int id ∷ is)) places ≡ is)
-      → HasTables old.now.schema → IsPermutation (shown places (old.now.trees table.tree)) all → IsKeyed (old.now.trees table.tree)
+      → HasTables old.now.schema → IsPermutation (columns_at places (old.now.trees table.tree)) all → IsKeyed (old.now.trees table.tree)
       → filter (picks_table k t) all ≡ was ∷ [] → IsTrue old.in_transaction → ExecutesInside 0 sql (number k ∷ number t ∷ values) old new (Ok count) → Sets k t is all old new
   sets_row old new k t values was is all count means plain stored third apart gives cast shows has same keyed one inside h =
       let schema = old.now.schema in
@@ -197,7 +197,7 @@ abbrev pairing_rest : List ℕ
 pairing_rest = 3 ∷ 4 ∷ 5 ∷ 6 ∷ 7 ∷ 8 ∷ 9 ∷ []
 
 pub pairing_scored : (old new : State) (e : EventValue) (s k t : ℕ) (score : Games) (m : Match) (count : ℕ) → {kept : List TallyRow} → StandsWith old.now e s kept → match_at e k t ≡ Some m → is_bye m ≡ false
-    → IsTrue old.in_transaction → ExecutesInside 0 set_score (scores k t score) old new (Ok count) → MakesWith old new (with_score e k t score) s kept
+    → IsTrue old.in_transaction → ExecutesInside 0 set_score (scores k t score) old new (Ok count) → BringsToWith old new (with_score e k t score) s kept
 pairing_scored old new e s k t score m count stands found seat inside h =
     let has = stands.tables in
     let schema = old.now.schema in
@@ -235,7 +235,7 @@ abbrev bracket_rest : List ℕ
 bracket_rest = 3 ∷ 4 ∷ 5 ∷ 6 ∷ 7 ∷ 8 ∷ []
 
 pub slot_scored : (old new : State) (e : EventValue) (s k t : ℕ) (score : Games) (m : Match) (count : ℕ) → {kept : List TallyRow} → StandsWith old.now e s kept → slot_at e k t ≡ Some m
-    → IsTrue old.in_transaction → ExecutesInside 0 set_slot_score (scores k t score) old new (Ok count) → MakesWith old new (with_slot_score e k t score) s kept
+    → IsTrue old.in_transaction → ExecutesInside 0 set_slot_score (scores k t score) old new (Ok count) → BringsToWith old new (with_slot_score e k t score) s kept
 slot_scored old new e s k t score m count stands found inside h =
     let has = stands.tables in
     let schema = old.now.schema in

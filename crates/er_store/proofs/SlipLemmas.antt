@@ -1,7 +1,7 @@
 -- A slip and the row that it is read of.
 use Rattle.std.proofs.Common.{◌≡◌, ℕ, min, max, Bool, true, false, cond, List, Option, Some, IfSome, refl, sym, ap, ap₂, subst, ◌∙◌, arith}
 use Rattle.std.proofs.lemmas.Bool.Decides.{nat_tests}
-use Rattle.er_event.specs.declared.rounds.Match.{Match}
+use Rattle.er_event.specs.declared.matches.Match.{Match}
 use Rattle.er_event.specs.declared.slips.SlipRow.{SlipRow}
 use Rattle.er_event.specs.Match.{MayStand}
 use Rattle.er_event.specs.Rows.{pairing_row}

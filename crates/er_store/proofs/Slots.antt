@@ -8,16 +8,16 @@ use Rattle.sqlite.specs.State.{State}
 use Rattle.er_event.specs.declared.refusals.Place.{Place}
 use Rattle.er_store.specs.Standing.{rows_in, rows_with}
 use Rattle.er_event.specs.declared.refusals.Place.TheVariants.{BracketTable, EventTable, PairingTable, PlayerTable, TallyTable}
-use Rattle.er_event.specs.declared.rounds.Match.{Match}
-use Rattle.er_event.specs.declared.rows.BracketRow.{BracketRow}
+use Rattle.er_event.specs.declared.matches.Match.{Match}
+use Rattle.er_event.specs.declared.rows.bracket.BracketRow.{BracketRow}
 use Rattle.er_event.specs.Event.{EventValue}
 use Rattle.er_event.specs.Change.{with_stage}
 use Rattle.er_event.specs.Round.{numbered_from}
 use Rattle.er_event.specs.Rows.{bracket_row, stage_rows, bracket_rows_from, bracket_rows}
-use Rattle.er_event.specs.declared.rows.TallyRow.{TallyRow}
-use Rattle.er_store.specs.Rows.{bracket_columns, stored_slot, shown, bracket_places}
+use Rattle.er_event.specs.declared.rows.tally.TallyRow.{TallyRow}
+use Rattle.er_store.specs.Rows.{bracket_columns, stored_slot, columns_at, bracket_places}
 use Rattle.er_store.specs.Standing.{StandsWith, IsKeyed}
-use Rattle.er_store.specs.inside.Steps.{Puts, MakesWith}
+use Rattle.er_store.specs.inside.Steps.{Puts, BringsToWith}
 use Rattle.er_store.proofs.Together.{shows_more, bracket_set}
 use Rattle.er_store.proofs.Pairing.{keyed_put}
 
@@ -61,15 +61,15 @@ slots_none e = rows_more 1 e.bracket.stages [] ∙ append-nil (bracket_rows e)
 
 -- The stage has one match more.
 pub slot_added : (old new : State) (e : EventValue) (before : List Match) (m : Match) (s : ℕ) (id : ℤ) → {kept : List TallyRow} → StandsWith old.now (with_stage e before) s kept → Puts 6 (stored_slot id (next_slot e before m)) old new
-    → MakesWith old new (with_stage e (before ++ m ∷ [])) s kept
+    → BringsToWith old new (with_stage e (before ++ m ∷ [])) s kept
 slot_added old new e before m s id stands put =
     let row = stored_slot id (next_slot e before m) in
     let more = with_stage e (before ++ m ∷ []) in
     let all : map bracket_columns (bracket_rows more) ≡ map bracket_columns (bracket_rows (with_stage e before)) ++ bracket_columns (next_slot e before m) ∷ [] =
     ap (map bracket_columns) (slots_more e before m) ∙ map-append bracket_columns (bracket_rows (with_stage e before)) (next_slot e before m ∷ []) in
     bracket_set old new (with_stage e before) more.bracket.stages s stands put.goes
-    (subst (λ rows. IsPermutation (shown bracket_places rows) (map bracket_columns (bracket_rows more))) (sym put.rows)
-    (subst (IsPermutation (shown bracket_places (put_row row (old.now.trees 6)))) (sym all)
+    (subst (λ rows. IsPermutation (columns_at bracket_places rows) (map bracket_columns (bracket_rows more))) (sym put.rows)
+    (subst (IsPermutation (columns_at bracket_places (put_row row (old.now.trees 6)))) (sym all)
     (shows_more bracket_places row (old.now.trees 6) (bracket_columns (next_slot e before m)) (map bracket_columns (bracket_rows (with_stage e before))) put.free refl (stands.rows BracketTable))))
     (subst IsKeyed (sym put.rows) (keyed_put id (bracket_columns (next_slot e before m)) (old.now.trees 6) stands.bracket_keyed))
 
@@ -82,5 +82,5 @@ no_slot_added db e s {kept} stands =
     rows EventTable = stands.rows EventTable
     rows PlayerTable = stands.rows PlayerTable
     rows PairingTable = stands.rows PairingTable
-    rows BracketTable = subst (λ rows. IsPermutation (shown bracket_places (db.trees 6)) (map bracket_columns rows)) (sym (slots_none e)) (stands.rows BracketTable)
+    rows BracketTable = subst (λ rows. IsPermutation (columns_at bracket_places (db.trees 6)) (map bracket_columns rows)) (sym (slots_none e)) (stands.rows BracketTable)
     rows TallyTable = stands.rows TallyTable

@@ -11,7 +11,7 @@ use Rattle.sqlite_schema.specs.declared.schema.Index.{Index}
 use Rattle.sqlite_schema.specs.declared.schema.View.{View}
 use Rattle.sqlite.specs.Table.{Table}
 use Rattle.sqlite.proofs.Callers.{reads_as}
-use Rattle.er_store.specs.Rows.{shown}
+use Rattle.er_store.specs.Rows.{columns_at}
 use Rattle.er_store.specs.Shape.{Form, Shape, event_form, player_form, pairing_form, bracket_form, tally_form, event_table, player_table, pairing_table, bracket_table, tally_table}
 use Rattle.er_store.specs.Reading.{Lists, IsReadRefused}
 use Rattle.er_store.specs.Standing.{HasTables}
@@ -28,7 +28,7 @@ use Rattle.er_store.proofs.Keyed.{pairings_exact}
 -- ---- what the statement of a table reads
 
 module _ {R : Type 0} (form : Form R) (table : Shape R) (it : IsOurs form table) (old new : State) (has : HasTables old.now.schema) where
-  pub listed : (rows : List Row) → Shown table.read [] old new rows → Lists table.order (shown table.places (old.now.trees table.tree)) rows
+  pub listed : (rows : List Row) → Shown table.read [] old new rows → Lists table.order (columns_at table.places (old.now.trees table.tree)) rows
   listed rows h =
       let is = it.selects old.now.schema has in
       let read = reads_as table.read [] old new old.now.schema refl (Select (record { lets = []; body = table_query table.tree table.places it.keys }) is.names) is.is is.plain is.unlisted rows h in

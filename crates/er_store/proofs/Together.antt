@@ -21,12 +21,12 @@ use Rattle.er_event.specs.Rows.{event_row, player_row, player_rows, pairing_rows
 use Rattle.er_event.specs.Totals.{totals}
 use Rattle.er_event.specs.declared.players.Player.{Player}
 use Rattle.er_event.specs.declared.rounds.Round.{Round}
-use Rattle.er_event.specs.declared.rounds.Match.{Match}
-use Rattle.er_event.specs.declared.rows.TallyRow.{TallyRow}
+use Rattle.er_event.specs.declared.matches.Match.{Match}
+use Rattle.er_event.specs.declared.rows.tally.TallyRow.{TallyRow}
 use Rattle.er_store.specs.Tables.{our_schema}
-use Rattle.er_store.specs.Rows.{event_columns, player_columns, pairing_columns, bracket_columns, tally_columns, stored_event, stored_player, stored_tally, shown, event_places, player_places, pairing_places, bracket_places, tally_places}
+use Rattle.er_store.specs.Rows.{event_columns, player_columns, pairing_columns, bracket_columns, tally_columns, stored_event, stored_player, stored_tally, columns_at, event_places, player_places, pairing_places, bracket_places, tally_places}
 use Rattle.er_store.specs.Standing.{with_ours, tree_of, places_of, rows_in, rows_with, HasTables, StandsWith, StandsFor, IsKeyed, IsNew, IsOther, KeepsOthers}
-use Rattle.er_store.specs.inside.Steps.{Goes, Puts, Moves, MakesWith, CreatesAll}
+use Rattle.er_store.specs.inside.Steps.{Goes, Puts, Moves, BringsToWith, CreatesAll}
 
 pub on_ok : {A E : Type 0} (r : Result A E) (P Q : Type 0) → (P → Q) → OnOk r P → OnOk r Q
 on_ok (Ok a) P Q f h = f h
@@ -54,11 +54,11 @@ put_permutes new [] free = IsPermutation-refl (new ∷ [])
 put_permutes new (r ∷ rs) free = put_apart r new rs (put_row new rs) (value_cmp (rowid r) (rowid new)) (is_taken rs new) free (put_permutes new rs)
 
 -- the table shows the row and those before it
-pub shows_more : (places : List ℕ) (new : Row) (rows : List Row) (shows : Row) (before : List Row) → is_taken rows new ≡ false → map (column new) places ≡ shows → IsPermutation (shown places rows) before
-    → IsPermutation (shown places (put_row new rows)) (before ++ shows ∷ [])
+pub shows_more : (places : List ℕ) (new : Row) (rows : List Row) (shows : Row) (before : List Row) → is_taken rows new ≡ false → map (column new) places ≡ shows → IsPermutation (columns_at places rows) before
+    → IsPermutation (columns_at places (put_row new rows)) (before ++ shows ∷ [])
 shows_more places new rows shows before free is was =
     let put = IsPermutation-map (λ r. map (column r) places) (new ∷ rows) (put_row new rows) (put_permutes new rows free) in
-    let front : IsPermutation (map (column new) places ∷ shown places rows) (shows ∷ before) = subst (λ x. IsPermutation (map (column new) places ∷ shown places rows) (x ∷ before)) is (IsPermutation-cons _ _ _ was) in
+    let front : IsPermutation (map (column new) places ∷ columns_at places rows) (shows ∷ before) = subst (λ x. IsPermutation (map (column new) places ∷ columns_at places rows) (x ∷ before)) is (IsPermutation-cons _ _ _ was) in
     IsPermutation-trans _ _ _ (IsPermutation-sym _ _ put) (IsPermutation-trans _ _ _ front (IsPermutation-sym _ _ (IsPermutation-to_front before shows)))
 
 -- ---- what a statement on one table leaves of the others
@@ -80,7 +80,7 @@ kept tree old new has goes = each
 stay : (tree : ℕ) (old new : State) (e : EventValue) (s : ℕ) {rows : List TallyRow} → StandsWith old.now e s rows → Goes tree old new
     → (table : Place) → tree_of table ≢ tree → IsPermutation (rows_in new.now table) (rows_with e s rows table)
 stay tree old new e s {rows} stands goes table apart =
-    subst (λ (stored : List Row). IsPermutation (shown (places_of table) stored) (rows_with e s rows table)) (sym (kept tree old new stands.tables goes table apart)) (stands.rows table)
+    subst (λ (stored : List Row). IsPermutation (columns_at (places_of table) stored) (rows_with e s rows table)) (sym (kept tree old new stands.tables goes table apart)) (stands.rows table)
 
 others_kept : (tree : ℕ) (old new : Trees) → ((t : ℕ) → IsOther t → t ≢ tree) → (tables : List Table) → AllByRecursion (λ (t : Table). t.tree ≢ tree → new t.tree ≡ old t.tree) tables
     → AllByRecursion (λ (t : Table). IsOther t.tree → new t.tree ≡ old t.tree) tables
@@ -112,14 +112,14 @@ moves_then a b c p q = record {
   keeps = keeps_then a.now b.now c.now p.keeps q.keeps;
 }
 
-pub makes_then : (a b c : State) (e f : EventValue) (s : ℕ) {kept new : List TallyRow} → MakesWith a b e s kept → MakesWith b c f s new → MakesWith a c f s new
+pub makes_then : (a b c : State) (e f : EventValue) (s : ℕ) {kept new : List TallyRow} → BringsToWith a b e s kept → BringsToWith b c f s new → BringsToWith a c f s new
 makes_then a b c e f s p q = record { moves = moves_then a b c p.moves q.moves; stands = q.stands }
 
 -- ---- the changes
 
 -- the players' rows alone are others
 pub players_set : (old new : State) (e : EventValue) (players : List Player) (s : ℕ) → {totals : List TallyRow} → StandsWith old.now e s totals → Goes 1 old new
-    → IsPermutation (shown player_places (new.now.trees 1)) (map player_columns (map player_row players)) → MakesWith old new (record e { players = players }) s totals
+    → IsPermutation (columns_at player_places (new.now.trees 1)) (map player_columns (map player_row players)) → BringsToWith old new (record e { players = players }) s totals
 players_set old new e players s {totals} stands goes set =
     record {
       moves = goes_moves 1 old new (λ t other. other.1) goes;
@@ -141,7 +141,7 @@ players_set old new e players s {totals} stands goes set =
 
 -- the pairings' rows alone are others
 pub pairings_set : (old new : State) (e : EventValue) (stored : List Round) (s : ℕ) → {totals : List TallyRow} → StandsWith old.now e s totals → Goes 3 old new
-    → IsPermutation (shown pairing_places (new.now.trees 3)) (map pairing_columns (pairing_rows_from 1 stored)) → IsKeyed (new.now.trees 3) → MakesWith old new (record e { stored = stored }) s totals
+    → IsPermutation (columns_at pairing_places (new.now.trees 3)) (map pairing_columns (pairing_rows_from 1 stored)) → IsKeyed (new.now.trees 3) → BringsToWith old new (record e { stored = stored }) s totals
 pairings_set old new e stored s {totals} stands goes set keyed =
     record {
       moves = goes_moves 3 old new (λ t other. other.2) goes;
@@ -163,7 +163,7 @@ pairings_set old new e stored s {totals} stands goes set keyed =
 
 -- the bracket's rows alone are others
 pub bracket_set : (old new : State) (e : EventValue) (stages : List (List Match)) (s : ℕ) → {totals : List TallyRow} → StandsWith old.now e s totals → Goes 6 old new
-    → IsPermutation (shown bracket_places (new.now.trees 6)) (map bracket_columns (bracket_rows_from 1 stages)) → IsKeyed (new.now.trees 6) → MakesWith old new (record e { bracket = record { stages = stages } }) s totals
+    → IsPermutation (columns_at bracket_places (new.now.trees 6)) (map bracket_columns (bracket_rows_from 1 stages)) → IsKeyed (new.now.trees 6) → BringsToWith old new (record e { bracket = record { stages = stages } }) s totals
 bracket_set old new e stages s {totals} stands goes set keyed =
     record {
       moves = goes_moves 6 old new (λ t other. other.3) goes;
@@ -183,7 +183,7 @@ bracket_set old new e stages s {totals} stands goes set keyed =
     rows BracketTable = set
     rows TallyTable = stay 6 old new e s stands goes TallyTable (λ e. cc)
 
-pub player_added : (old new : State) (e : EventValue) (s : ℕ) (name : List ℕ) → {totals : List TallyRow} → StandsWith old.now e s totals → Puts 1 (stored_player (length e.players + 1) name false) old new → MakesWith old new (with_player e name) s totals
+pub player_added : (old new : State) (e : EventValue) (s : ℕ) (name : List ℕ) → {totals : List TallyRow} → StandsWith old.now e s totals → Puts 1 (stored_player (length e.players + 1) name false) old new → BringsToWith old new (with_player e name) s totals
 player_added old new e s name stands put =
     let row = stored_player (length e.players + 1) name false in
     let p = new_player e.players name in
@@ -191,12 +191,12 @@ player_added old new e s name stands put =
     let all : map player_columns (map player_row (e.players ++ p ∷ [])) ≡ map player_columns (map player_row e.players) ++ shows p ∷ [] =
     ap (map player_columns) (map-append player_row e.players (p ∷ [])) ∙ map-append player_columns (map player_row e.players) (player_row p ∷ []) in
     players_set old new e (e.players ++ p ∷ []) s stands put.goes
-    (subst (λ rows. IsPermutation (shown player_places rows) (map player_columns (player_rows (with_player e name)))) (sym put.rows)
-    (subst (IsPermutation (shown player_places (put_row row (old.now.trees 1)))) (sym all)
+    (subst (λ rows. IsPermutation (columns_at player_places rows) (map player_columns (player_rows (with_player e name)))) (sym put.rows)
+    (subst (IsPermutation (columns_at player_places (put_row row (old.now.trees 1)))) (sym all)
     (shows_more player_places row (old.now.trees 1) (shows p) (map player_columns (player_rows e)) put.free refl (stands.rows PlayerTable))))
 
 -- the event's row alone is another
-pub row_set : (old new : State) (e : EventValue) (phase : Phase) (s t : ℕ) → t ≤ 999999 → {totals : List TallyRow} → StandsWith old.now e s totals → Goes 0 old new → new.now.trees 0 ≡ stored_event (with_phase e phase) t ∷ [] → MakesWith old new (with_phase e phase) t totals
+pub row_set : (old new : State) (e : EventValue) (phase : Phase) (s t : ℕ) → t ≤ 999999 → {totals : List TallyRow} → StandsWith old.now e s totals → Goes 0 old new → new.now.trees 0 ≡ stored_event (with_phase e phase) t ∷ [] → BringsToWith old new (with_phase e phase) t totals
 row_set old new e phase s t low {totals} stands goes set =
     record {
       moves = goes_moves 0 old new (λ t other. other.0) goes;
@@ -210,7 +210,7 @@ row_set old new e phase s t low {totals} stands goes set =
     }
   where
     rows : (table : Place) → IsPermutation (rows_in new.now table) (rows_with (with_phase e phase) t totals table)
-    rows EventTable = subst (λ rows. IsPermutation (shown event_places rows) (event_columns (event_row (with_phase e phase) t) ∷ [])) (sym set) (IsPermutation-refl _)
+    rows EventTable = subst (λ rows. IsPermutation (columns_at event_places rows) (event_columns (event_row 1 (with_phase e phase) t) ∷ [])) (sym set) (IsPermutation-refl _)
     rows PlayerTable = stay 0 old new e s stands goes PlayerTable (λ e. cc)
     rows PairingTable = stay 0 old new e s stands goes PairingTable (λ e. cc)
     rows BracketTable = stay 0 old new e s stands goes BracketTable (λ e. cc)
@@ -221,8 +221,8 @@ row_set old new e phase s t low {totals} stands goes set =
 pub ours_has : (schema : Schema) → schema ≡ our_schema → HasTables schema
 ours_has schema is = record { others = []; are = ap (λ s. s.tables) is; apart = tt }
 
-no_rows : (places : List ℕ) (rows shows : List Row) → rows ≡ [] → shows ≡ [] → IsPermutation (shown places rows) shows
-no_rows places rows shows none nothing = subst (IsPermutation (shown places rows)) (sym nothing) (subst (λ (r : List Row). IsPermutation (shown places r) []) (sym none) (IsPermutation-refl []))
+no_rows : (places : List ℕ) (rows shows : List Row) → rows ≡ [] → shows ≡ [] → IsPermutation (columns_at places rows) shows
+no_rows places rows shows none nothing = subst (IsPermutation (columns_at places rows)) (sym nothing) (subst (λ (r : List Row). IsPermutation (columns_at places r) []) (sym none) (IsPermutation-refl []))
 
 keyed_none : (rows : List Row) → rows ≡ [] → IsKeyed rows
 keyed_none rows none = subst IsKeyed (sym none) (record { rise = tt; numbers = refl })
@@ -244,7 +244,7 @@ event_put old mid new e fresh all put =
     none table apart empty = kept 0 mid new has put.goes table apart ∙ empty
 
     rows : (table : Place) → IsPermutation (rows_in new.now table) (rows_with e 0 (tally_rows e) table)
-    rows EventTable = subst (λ rows. IsPermutation (shown event_places rows) (event_columns (event_row e 0) ∷ [])) (sym (put.rows ∙ ap (put_row (stored_event e 0)) all.event)) (IsPermutation-refl _)
+    rows EventTable = subst (λ rows. IsPermutation (columns_at event_places rows) (event_columns (event_row 1 e 0) ∷ [])) (sym (put.rows ∙ ap (put_row (stored_event e 0)) all.event)) (IsPermutation-refl _)
     rows PlayerTable = no_rows player_places _ _ (none PlayerTable (λ e. cc) all.player) (ap (λ ps. map player_columns (map player_row ps)) fresh.players)
     rows PairingTable = no_rows pairing_places _ _ (none PairingTable (λ e. cc) all.pairing) (ap (λ rs. map pairing_columns (pairing_rows_from 1 rs)) fresh.stored)
     rows BracketTable = no_rows bracket_places _ _ (none BracketTable (λ e. cc) all.bracket) (ap (λ ss. map bracket_columns (bracket_rows_from 1 ss)) fresh.bracket)
@@ -253,7 +253,7 @@ event_put old mid new e fresh all put =
 
 -- the rows of totals alone are others
 pub tallies_set : (old new : State) (e : EventValue) (s : ℕ) (before after : List TallyRow) → StandsWith old.now e s before → Goes 8 old new
-    → IsPermutation (shown tally_places (new.now.trees 8)) (map tally_columns after) → MakesWith old new e s after
+    → IsPermutation (columns_at tally_places (new.now.trees 8)) (map tally_columns after) → BringsToWith old new e s after
 tallies_set old new e s before after stands goes set =
     record {
       moves = goes_moves 8 old new (λ t other. other.4) goes;
@@ -274,10 +274,10 @@ tallies_set old new e s before after stands goes set =
     rows TallyTable = set
 
 pub tally_added : (old new : State) (e : EventValue) (s : ℕ) (row : TallyRow) (before : List TallyRow) → StandsWith old.now e s before → Puts 8 (stored_tally row) old new
-    → MakesWith old new e s (before ++ row ∷ [])
+    → BringsToWith old new e s (before ++ row ∷ [])
 tally_added old new e s row before stands put =
     let all : map tally_columns (before ++ row ∷ []) ≡ map tally_columns before ++ tally_columns row ∷ [] = map-append tally_columns before (row ∷ []) in
     tallies_set old new e s before (before ++ row ∷ []) stands put.goes
-    (subst (λ rows. IsPermutation (shown tally_places rows) (map tally_columns (before ++ row ∷ []))) (sym put.rows)
-    (subst (IsPermutation (shown tally_places (put_row (stored_tally row) (old.now.trees 8)))) (sym all)
+    (subst (λ rows. IsPermutation (columns_at tally_places rows) (map tally_columns (before ++ row ∷ []))) (sym put.rows)
+    (subst (IsPermutation (columns_at tally_places (put_row (stored_tally row) (old.now.trees 8)))) (sym all)
     (shows_more tally_places (stored_tally row) (old.now.trees 8) (tally_columns row) (map tally_columns before) put.free refl (stands.rows TallyTable))))

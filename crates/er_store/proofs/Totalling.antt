@@ -27,9 +27,9 @@ use Rattle.er_event.specs.Event.{EventValue}
 use Rattle.er_event.specs.Rows.{tally_row, tally_rows_by}
 use Rattle.er_event.specs.Sound.{numbers}
 use Rattle.er_store.specs.Tables.{tally, set_tally}
-use Rattle.er_store.specs.Rows.{number, tally_columns, tally_places, stored_tally, shown}
+use Rattle.er_store.specs.Rows.{number, tally_columns, tally_places, stored_tally, columns_at}
 use Rattle.er_store.specs.Standing.{HasTables, StandsWith}
-use Rattle.er_store.specs.inside.Steps.{Goes, MakesWith}
+use Rattle.er_store.specs.inside.Steps.{Goes, BringsToWith}
 use Rattle.er_store.specs.inside.Totals.{set_for}
 use Rattle.er_store.proofs.Picking.{picks, is_another}
 use Rattle.er_store.proofs.PickingTotals.{AreRowsBy, picks_row}
@@ -64,19 +64,19 @@ totals_edit trees n t rows are =
     ap (λ all. edit_of trees (tally 8) (ids_of all) Given 1 all) are ∙ ap (λ (row : Row). (let e : Edit = record { table = tally 8; gone = pos n ∷ []; news = row ∷ [] } in e)) (totals_cast n t)
 
 -- the player's row is replaced, and the others stay
-replaced : (n : ℕ) (t : Totals) (rows new all : List Row) → IsPermutation (shown tally_places rows) all
+replaced : (n : ℕ) (t : Totals) (rows new all : List Row) → IsPermutation (columns_at tally_places rows) all
     → new ≡ put_row (stored_tally (tally_row n t)) (without_rowid (pos n) rows) → is_taken (without_rowid (pos n) rows) (stored_tally (tally_row n t)) ≡ false
-    → IsPermutation (shown tally_places new) (filter (is_another n) all ++ tally_columns (tally_row n t) ∷ [])
+    → IsPermutation (columns_at tally_places new) (filter (is_another n) all ++ tally_columns (tally_row n t) ∷ [])
 replaced n t rows new all same put free =
     let others = subst (λ l. IsPermutation l (filter (is_another n) all)) (filter-map (is_another n) (λ r. map (column r) tally_places) rows)
-    (IsPermutation-filter (is_another n) (shown tally_places rows) all same) in
-    subst (λ l. IsPermutation (shown tally_places l) (filter (is_another n) all ++ tally_columns (tally_row n t) ∷ [])) (sym put)
+    (IsPermutation-filter (is_another n) (columns_at tally_places rows) all same) in
+    subst (λ l. IsPermutation (columns_at tally_places l) (filter (is_another n) all ++ tally_columns (tally_row n t) ∷ [])) (sym put)
     (shows_more tally_places (stored_tally (tally_row n t)) (without_rowid (pos n) rows) (tally_columns (tally_row n t)) _ free refl others)
 
 -- The player's row is taken out and put in again, with these totals. The others stay.
-sets_totals : (old new : State) (n : ℕ) (t u : Totals) (m : ℕ) (all : List Row) (count : ℕ) → HasTables old.now.schema → IsPermutation (shown tally_places (old.now.trees 8)) all
+sets_totals : (old new : State) (n : ℕ) (t u : Totals) (m : ℕ) (all : List Row) (count : ℕ) → HasTables old.now.schema → IsPermutation (columns_at tally_places (old.now.trees 8)) all
     → filter (picks n) all ≡ tally_columns (tally_row m u) ∷ [] → m ≡ n → IsTrue old.in_transaction → ExecutesInside 0 set_tally (totals_row n t) old new (Ok count)
-    → Goes 8 old new × IsPermutation (shown tally_places (new.now.trees 8)) (filter (is_another n) all ++ tally_columns (tally_row n t) ∷ [])
+    → Goes 8 old new × IsPermutation (columns_at tally_places (new.now.trees 8)) (filter (is_another n) all ++ tally_columns (tally_row n t) ∷ [])
 sets_totals old new n t u m all count has same one is inside h =
     let schema = old.now.schema in
     let trees = old.now.trees in
@@ -108,19 +108,19 @@ are_rows n t come_to = record {
 
 pub totals_set : (old new : State) (e : EventValue) (s n : ℕ) (t : Totals) (come_to : ℕ → Totals) (count : ℕ) → StandsWith old.now e s (tally_rows_by come_to e.players)
     → numbers e.players ≡ range_with_len 1 (length e.players) → Contains (numbers e.players) n → IsTrue old.in_transaction → ExecutesInside 0 set_tally (totals_row n t) old new (Ok count)
-    → MakesWith old new e s (tally_rows_by (set_for n t come_to) e.players)
+    → BringsToWith old new e s (tally_rows_by (set_for n t come_to) e.players)
 totals_set old new e s n t come_to count stands numbered known inside h =
     let before = map-map tally_columns (λ (p : Player). tally_row p.no (come_to p.no)) e.players in
     let after = map-map tally_columns (λ (p : Player). tally_row p.no (set_for n t come_to p.no)) e.players in
     let one = picks_row (row_by come_to) (row_by (set_for n t come_to)) n (are_rows n t come_to) e.players numbered known in
     let all = map (row_by come_to) e.players in
-    let same = subst (IsPermutation (shown tally_places (old.now.trees 8))) before (stands.rows TallyTable) in
+    let same = subst (IsPermutation (columns_at tally_places (old.now.trees 8))) before (stands.rows TallyTable) in
     let set = sets_totals old new n t (come_to one.it.no) one.it.no all count stands.tables same one.alone one.is inside h in
     let own : row_by (set_for n t come_to) one.it ≡ tally_columns (tally_row n t) =
     ap (λ (b : Bool). tally_columns (tally_row one.it.no (cond b t (come_to one.it.no)))) (same_number one.it.no n one.is) ∙ ap (λ (k : ℕ). tally_columns (tally_row k t)) one.is in
     let whole = subst (λ (r : Row). IsPermutation (filter (is_another n) all ++ r ∷ []) (map (row_by (set_for n t come_to)) e.players)) own one.replaced in
     tallies_set old new e s (tally_rows_by come_to e.players) (tally_rows_by (set_for n t come_to) e.players) stands set.0
-    (subst (IsPermutation (shown tally_places (new.now.trees 8))) (sym after) (IsPermutation-trans _ _ _ set.1 whole))
+    (subst (IsPermutation (columns_at tally_places (new.now.trees 8))) (sym after) (IsPermutation-trans _ _ _ set.1 whole))
   where
     map-map : {X Y Z : Type 0} (g : Y → Z) (f : X → Y) (xs : List X) → map g (map f xs) ≡ map (λ x. g (f x)) xs
     map-map g f [] = refl

@@ -11,7 +11,7 @@ use Rattle.sqlite.specs.Tree.{Trees}
 use Rattle.sqlite.proofs.Callers.{one_permutation}
 use Rattle.sqlite_trees.proofs.ListLemmas.{filter-map}
 use Rattle.sqlite_keyed.proofs.ListLemmas.{IsPermutation-filter}
-use Rattle.er_store.specs.Rows.{shown}
+use Rattle.er_store.specs.Rows.{columns_at}
 use Rattle.er_store.proofs.Effects.{one_of}
 use Rattle.er_store.proofs.Meaning.{rows_query}
 
@@ -36,9 +36,9 @@ picked_rows tree tests terms db params r rows one a =
     a.shown ∙ ap (λ xs. page (rows_query tree tests terms) params (map (λ (p : Output). p.1) xs)) ordered
 
 -- one stored row shows the one that is picked
-pub one_picked : (places : List ℕ) (test : Row → Bool) (rows : List Row) (all : List Row) (row : Row) → IsPermutation (shown places rows) all → filter test all ≡ row ∷ []
+pub one_picked : (places : List ℕ) (test : Row → Bool) (rows : List Row) (all : List Row) (row : Row) → IsPermutation (columns_at places rows) all → filter test all ≡ row ∷ []
     → (r : Row) × (filter (λ x. test (map (column x) places)) rows ≡ r ∷ []) × (map (column r) places ≡ row)
 one_picked places test rows all row same one =
-    let both = IsPermutation-filter test (shown places rows) all same in
-    let single = one_permutation row (filter test (shown places rows)) (IsPermutation-sym _ _ (subst (IsPermutation (filter test (shown places rows))) one both)) in
+    let both = IsPermutation-filter test (columns_at places rows) all same in
+    let single = one_permutation row (filter test (columns_at places rows)) (IsPermutation-sym _ _ (subst (IsPermutation (filter test (columns_at places rows))) one both)) in
     one_of places (filter (λ x. test (map (column x) places)) rows) row (sym (filter-map test (λ r. map (column r) places) rows) ∙ single)

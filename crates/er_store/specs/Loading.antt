@@ -1,21 +1,21 @@
 -- What a load finds in the tables.
 use Rattle.std.specs.Prelude.{◌≤◌, ℕ, List, map, IsPermutation}
 use Rattle.sqlite.specs.Effect.{Database}
-use Rattle.er_event.specs.declared.refusals.TheConstants.{MAX_SERIAL}
+use Rattle.er_event.specs.declared.commands.TheConstants.{MAX_SERIAL}
 use Rattle.er_event.specs.declared.refusals.Place.{Place}
-use Rattle.er_event.specs.declared.parts.Parts.{Parts}
-use Rattle.er_event.specs.declared.rows.TallyRow.{TallyRow}
+use Rattle.er_event.specs.declared.events.parts.Parts.{Parts}
+use Rattle.er_event.specs.declared.rows.tally.TallyRow.{TallyRow}
 use Rattle.er_event.specs.Event.{EventValue}
 use Rattle.er_event.specs.Sound.{IsSoundButForSeeds}
 use Rattle.er_event.specs.Rows.{tally_rows}
-use Rattle.er_store.specs.Rows.{shown}
+use Rattle.er_store.specs.Rows.{columns_at}
 use Rattle.er_store.specs.Standing.{rows_in, rows_with}
 use Rattle.er_store.specs.Reading.{Lists}
 use Rattle.er_store.specs.Shape.{Form, Shape, event_form, player_form, pairing_form, bracket_form, tally_form, event_table, player_table, pairing_table, bracket_table, tally_table}
 
 -- the rows of a table, in the order of its key
 abbrev pub IsListed : {R : Type 0} → Form R → Shape R → Database → List R → Type 0
-IsListed form table db rows = Lists table.order (shown table.places (db.trees table.tree)) (map form.columns rows)
+IsListed form table db rows = Lists table.order (columns_at table.places (db.trees table.tree)) (map form.columns rows)
 
 -- the rows of the four tables that an event is made of
 pub record ListsParts (db : Database) (parts : Parts) : Type 0 where

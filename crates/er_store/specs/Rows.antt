@@ -3,11 +3,11 @@ use Rattle.std.specs.Prelude.{ℕ, ℤ, pos, Bool, List, [], ◌∷◌, ◌++◌
 use Rattle.sqlite.specs.declared.types.Value.{Value}
 use Rattle.sqlite.specs.declared.types.Value.TheVariants.{Null, Int, Text}
 use Rattle.sqlite.specs.Order.{Row, column}
-use Rattle.er_event.specs.declared.rows.EventRow.{EventRow}
-use Rattle.er_event.specs.declared.rows.PlayerRow.{PlayerRow}
-use Rattle.er_event.specs.declared.rows.PairingRow.{PairingRow}
-use Rattle.er_event.specs.declared.rows.BracketRow.{BracketRow}
-use Rattle.er_event.specs.declared.rows.TallyRow.{TallyRow}
+use Rattle.er_event.specs.declared.rows.event.EventRow.{EventRow}
+use Rattle.er_event.specs.declared.rows.player.PlayerRow.{PlayerRow}
+use Rattle.er_event.specs.declared.rows.pairing.PairingRow.{PairingRow}
+use Rattle.er_event.specs.declared.rows.bracket.BracketRow.{BracketRow}
+use Rattle.er_event.specs.declared.rows.tally.TallyRow.{TallyRow}
 use Rattle.er_event.specs.Event.{EventValue}
 use Rattle.er_store.specs.declared.rows.MeetingRow.{MeetingRow}
 use Rattle.er_store.specs.declared.rows.NamedPairing.{NamedPairing}
@@ -49,8 +49,8 @@ abbrev pub named_columns : NamedPairing → Row
 named_columns r = pairing_columns r.pairing ++ text_or_null r.lo_name ∷ text_or_null r.hi_name ∷ []
 
 -- the stored rows at these places, of which 0 is the rowid
-abbrev pub shown : List ℕ → List Row → List Row
-shown places rows = map (λ r. map (column r) places) rows
+abbrev pub columns_at : List ℕ → List Row → List Row
+columns_at places rows = map (λ r. map (column r) places) rows
 
 abbrev pub event_places : List ℕ
 event_places = 0 ∷ 2 ∷ 3 ∷ 4 ∷ 5 ∷ 6 ∷ 7 ∷ []

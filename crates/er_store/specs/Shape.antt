@@ -6,11 +6,11 @@ use Rattle.er_event.specs.Event.{EventValue}
 use Rattle.er_event.specs.Rows.{event_row, player_rows, keyed_pairing_rows, bracket_rows, tally_rows}
 use Rattle.er_event.specs.declared.refusals.Place.{Place}
 use Rattle.er_event.specs.declared.refusals.Place.TheVariants.{EventTable, PlayerTable, PairingTable, BracketTable, TallyTable}
-use Rattle.er_event.specs.declared.rows.EventRow.{EventRow}
-use Rattle.er_event.specs.declared.rows.PlayerRow.{PlayerRow}
-use Rattle.er_event.specs.declared.rows.PairingRow.{PairingRow}
-use Rattle.er_event.specs.declared.rows.BracketRow.{BracketRow}
-use Rattle.er_event.specs.declared.rows.TallyRow.{TallyRow}
+use Rattle.er_event.specs.declared.rows.event.EventRow.{EventRow}
+use Rattle.er_event.specs.declared.rows.player.PlayerRow.{PlayerRow}
+use Rattle.er_event.specs.declared.rows.pairing.PairingRow.{PairingRow}
+use Rattle.er_event.specs.declared.rows.bracket.BracketRow.{BracketRow}
+use Rattle.er_event.specs.declared.rows.tally.TallyRow.{TallyRow}
 use Rattle.er_store.specs.Tables.{read_event, read_players, read_pairings, read_bracket, read_tallies}
 use Rattle.er_store.specs.Rows.{event_columns, player_columns, pairing_columns, bracket_columns, tally_columns, event_places, player_places, pairing_places, bracket_places, tally_places}
 use Rattle.er_store.specs.Reading.{by_first, by_first_two}
@@ -53,7 +53,7 @@ event_table = record {
   tree = 0;
   places = event_places;
   order = by_first;
-  rows = λ e s. event_row e s ∷ [];
+  rows = λ e s. event_row 1 e s ∷ [];
 }
 
 abbrev pub player_table : Shape PlayerRow

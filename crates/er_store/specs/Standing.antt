@@ -13,14 +13,14 @@ use Rattle.sqlite.specs.State.{State, HasCleanDisk}
 use Rattle.sqlite.specs.Listing.{understood}
 use Rattle.sqlite_trees.specs.Tree.{IsTable}
 use Rattle.sqlite_rules.specs.Edit.{have_rowids}
-use Rattle.er_event.specs.declared.refusals.TheConstants.{MAX_SERIAL}
+use Rattle.er_event.specs.declared.commands.TheConstants.{MAX_SERIAL}
 use Rattle.er_event.specs.Event.{EventValue}
 use Rattle.er_event.specs.declared.refusals.Place.{Place}
 use Rattle.er_event.specs.declared.refusals.Place.TheVariants.{EventTable, PlayerTable, PairingTable, BracketTable, TallyTable}
-use Rattle.er_event.specs.declared.rows.TallyRow.{TallyRow}
+use Rattle.er_event.specs.declared.rows.tally.TallyRow.{TallyRow}
 use Rattle.er_event.specs.Rows.{event_row, player_rows, pairing_rows, bracket_rows, tally_rows}
 use Rattle.er_store.specs.Tables.{event, player, pairing, bracket, tally, find_event, read_event}
-use Rattle.er_store.specs.Rows.{event_columns, player_columns, pairing_columns, bracket_columns, tally_columns, shown}
+use Rattle.er_store.specs.Rows.{event_columns, player_columns, pairing_columns, bracket_columns, tally_columns, columns_at}
 use Rattle.er_store.specs.Shape.{event_table, player_table, pairing_table, bracket_table, tally_table}
 
 abbrev pub with_ours : List Table → List Table
@@ -68,11 +68,11 @@ places_of TallyTable = tally_table.places
 
 -- the rows of a table, as SQL shows them
 abbrev pub rows_in : Database → Place → List Row
-rows_in db table = shown (places_of table) (db.trees (tree_of table))
+rows_in db table = columns_at (places_of table) (db.trees (tree_of table))
 
 -- the rows of an event, with these of totals
 abbrev pub rows_with : EventValue → ℕ → List TallyRow → Place → List Row
-rows_with e serial totals EventTable = event_columns (event_row e serial) ∷ []
+rows_with e serial totals EventTable = event_columns (event_row 1 e serial) ∷ []
 rows_with e serial totals PlayerTable = map player_columns (player_rows e)
 rows_with e serial totals PairingTable = map pairing_columns (pairing_rows e)
 rows_with e serial totals BracketTable = map bracket_columns (bracket_rows e)

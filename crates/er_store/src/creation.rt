@@ -13,7 +13,8 @@ pub const CREATE_EVENT: &str =
 /// Makes the table `event`.
 fn create_event<S: Alter>(tx: &mut Transaction<'_, S>) -> Result<(), Error>
     ensures same_reference { tx.new.conn.ghost_name ≡ tx.old.conn.ghost_name }
-    ensures creates { HasCleanDisk (state S.Store tx.new.conn.now) → (state S.Store tx.old.conn.now).now.schema ≡ no_schema
+    ensures creates { HasCleanDisk (state S.Store tx.new.conn.now)
+        → (state S.Store tx.old.conn.now).now.schema ≡ no_schema
         → OnOk result (Creates no_schema event_schema (state S.Store tx.old.conn.now) (state S.Store tx.new.conn.now)) }
     ensures stays { Stays (state S.Store tx.old.conn.now) (state S.Store tx.new.conn.now) }
 {
@@ -26,7 +27,8 @@ pub const CREATE_PLAYER: &str =
 /// Makes the table `player`.
 fn create_player<S: Alter>(tx: &mut Transaction<'_, S>) -> Result<(), Error>
     ensures same_reference { tx.new.conn.ghost_name ≡ tx.old.conn.ghost_name }
-    ensures creates { HasCleanDisk (state S.Store tx.new.conn.now) → (state S.Store tx.old.conn.now).now.schema ≡ event_schema
+    ensures creates { HasCleanDisk (state S.Store tx.new.conn.now)
+        → (state S.Store tx.old.conn.now).now.schema ≡ event_schema
         → OnOk result (Creates event_schema player_schema (state S.Store tx.old.conn.now) (state S.Store tx.new.conn.now)) }
     ensures stays { Stays (state S.Store tx.old.conn.now) (state S.Store tx.new.conn.now) }
 {
@@ -39,7 +41,8 @@ pub const CREATE_PAIRING: &str =
 /// Makes the table `pairing`.
 fn create_pairing<S: Alter>(tx: &mut Transaction<'_, S>) -> Result<(), Error>
     ensures same_reference { tx.new.conn.ghost_name ≡ tx.old.conn.ghost_name }
-    ensures creates { HasCleanDisk (state S.Store tx.new.conn.now) → (state S.Store tx.old.conn.now).now.schema ≡ player_schema
+    ensures creates { HasCleanDisk (state S.Store tx.new.conn.now)
+        → (state S.Store tx.old.conn.now).now.schema ≡ player_schema
         → OnOk result (Creates player_schema pairing_schema (state S.Store tx.old.conn.now) (state S.Store tx.new.conn.now)) }
     ensures stays { Stays (state S.Store tx.old.conn.now) (state S.Store tx.new.conn.now) }
 {
@@ -52,7 +55,8 @@ pub const CREATE_BRACKET: &str =
 /// Makes the table `bracket`.
 fn create_bracket<S: Alter>(tx: &mut Transaction<'_, S>) -> Result<(), Error>
     ensures same_reference { tx.new.conn.ghost_name ≡ tx.old.conn.ghost_name }
-    ensures creates { HasCleanDisk (state S.Store tx.new.conn.now) → (state S.Store tx.old.conn.now).now.schema ≡ pairing_schema
+    ensures creates { HasCleanDisk (state S.Store tx.new.conn.now)
+        → (state S.Store tx.old.conn.now).now.schema ≡ pairing_schema
         → OnOk result (Creates pairing_schema bracket_schema (state S.Store tx.old.conn.now) (state S.Store tx.new.conn.now)) }
     ensures stays { Stays (state S.Store tx.old.conn.now) (state S.Store tx.new.conn.now) }
 {
@@ -65,7 +69,8 @@ pub const CREATE_TALLY: &str =
 /// Makes the table `tally`. A crash in it leaves what it could leave before.
 fn create_tally<S: Alter>(tx: &mut Transaction<'_, S>) -> Result<(), Error>
     ensures same_reference { tx.new.conn.ghost_name ≡ tx.old.conn.ghost_name }
-    ensures creates { HasCleanDisk (state S.Store tx.new.conn.now) → (state S.Store tx.old.conn.now).now.schema ≡ bracket_schema
+    ensures creates { HasCleanDisk (state S.Store tx.new.conn.now)
+        → (state S.Store tx.old.conn.now).now.schema ≡ bracket_schema
         → OnOk result (Creates bracket_schema our_schema (state S.Store tx.old.conn.now) (state S.Store tx.new.conn.now)) }
     ensures stays { Stays (state S.Store tx.old.conn.now) (state S.Store tx.new.conn.now) }
 {
@@ -75,7 +80,8 @@ fn create_tally<S: Alter>(tx: &mut Transaction<'_, S>) -> Result<(), Error>
 /// Makes the five tables.
 pub fn create_all<S: Alter>(tx: &mut Transaction<'_, S>) -> Result<(), Error>
     ensures same_reference { tx.new.conn.ghost_name ≡ tx.old.conn.ghost_name }
-    ensures creates { HasCleanDisk (state S.Store tx.new.conn.now) → (state S.Store tx.old.conn.now).now.schema ≡ no_schema
+    ensures creates { HasCleanDisk (state S.Store tx.new.conn.now)
+        → (state S.Store tx.old.conn.now).now.schema ≡ no_schema
         → OnOk result (CreatesAll (state S.Store tx.old.conn.now) (state S.Store tx.new.conn.now)) }
     ensures stays { Stays (state S.Store tx.old.conn.now) (state S.Store tx.new.conn.now) }
 {

@@ -1,7 +1,7 @@
 ghost use Rattle.std.specs.Prelude.{◌≡◌, ◌≤◌, ◌⊎◌, ℕ, Some, [], ◌∷◌, false, IfOk, IfErr, OnOk, OnErr, IsOkAnd, IsErrAnd, MatchResult};
 ghost use Rattle.sqlite.specs.State.{HasCleanDisk, Survives, IsUnchanged};
 ghost use Rattle.sqlite.specs.Held.{state};
-ghost use Rattle.er_event.specs.declared.refusals.TheConstants.{MAX_SERIAL};
+ghost use Rattle.er_event.specs.declared.commands.TheConstants.{MAX_SERIAL};
 ghost use Rattle.er_event.specs.declared.refusals.Place.{Place};
 ghost use Rattle.er_event.specs.Event.{EventValue};
 ghost use Rattle.er_event.specs.Sound.{IsSoundButForSeeds};
@@ -70,7 +70,8 @@ fn read_tables<S: Alter>(
 
 /// The serial in the event's row, where it is one.
 fn serial_of(rows: &[EventRow]) -> Option<u32>
-    ensures { (e : EventValue) (s : ℕ) → s ≤ MAX_SERIAL → rows.now ≡ event_row e s ∷ [] → result ≡ Some s }
+    ensures { (e : EventValue) (s : ℕ) → s ≤ MAX_SERIAL → rows.now ≡ event_row 1 e s ∷ []
+        → result ≡ Some s }
 {
     match rows {
         [row] => u32::try_from(row.serial).ok(),
@@ -80,9 +81,12 @@ fn serial_of(rows: &[EventRow]) -> Option<u32>
 
 /// The event that the rows are of, with its serial.
 fn event_of(alloc: Global, parts: Parts) -> Result<(Event, u32), Refusal>
-    ensures value { IfOk result (λ it. (parts ≡ parts_of it.0 it.1) × (it.1 ≤ MAX_SERIAL) × IsSoundButForSeeds it.0) }
-    ensures only { (e : EventValue) (s : ℕ) → s ≤ MAX_SERIAL → parts ≡ parts_of e s → IsSoundButForSeeds e → IfOk result (λ it. (it.0 ≡ e) × (it.1 ≡ s)) }
-    ensures refused { IfErr result (λ why. (why ≡ Refusal.Memory) ⊎ ((place : Place) × (why ≡ Refusal.Damaged place) × IsFirstFault parts place)) }
+    ensures value { IfOk result (λ it. (parts ≡ parts_of it.0 it.1) × (it.1 ≤ MAX_SERIAL)
+        × IsSoundButForSeeds it.0) }
+    ensures only { (e : EventValue) (s : ℕ) → s ≤ MAX_SERIAL → parts ≡ parts_of e s
+        → IsSoundButForSeeds e → IfOk result (λ it. (it.0 ≡ e) × (it.1 ≡ s)) }
+    ensures refused { IfErr result (λ why. (why ≡ Refusal.Memory)
+        ⊎ ((place : Place) × (why ≡ Refusal.Damaged place) × IsFirstFault parts place)) }
 {
     let serial = serial_of(parts.event.as_slice());
     let event = match Event::from_parts(alloc, parts) {
@@ -100,9 +104,14 @@ fn counted_event_of(
     parts: Parts,
     tallies: &[TallyRow],
 ) -> Result<(Event, u32), Refusal>
-    ensures value { IfOk result (λ it. (parts ≡ parts_of it.0 it.1) × (tallies.now ≡ tally_rows it.0) × (it.1 ≤ MAX_SERIAL) × IsSoundButForSeeds it.0) }
-    ensures only { (e : EventValue) (s : ℕ) → s ≤ MAX_SERIAL → parts ≡ parts_of e s → tallies.now ≡ tally_rows e → IsSoundButForSeeds e → IfOk result (λ it. (it.0 ≡ e) × (it.1 ≡ s)) }
-    ensures refused { IfErr result (λ why. (why ≡ Refusal.Memory) ⊎ ((place : Place) × (why ≡ Refusal.Damaged place) × IsRowFault parts tallies.now place)) }
+    ensures value { IfOk result (λ it. (parts ≡ parts_of it.0 it.1)
+        × (tallies.now ≡ tally_rows it.0) × (it.1 ≤ MAX_SERIAL) × IsSoundButForSeeds it.0) }
+    ensures only { (e : EventValue) (s : ℕ) → s ≤ MAX_SERIAL → parts ≡ parts_of e s
+        → tallies.now ≡ tally_rows e → IsSoundButForSeeds e
+        → IfOk result (λ it. (it.0 ≡ e) × (it.1 ≡ s)) }
+    ensures refused { IfErr result (λ why. (why ≡ Refusal.Memory)
+        ⊎ ((place : Place) × (why ≡ Refusal.Damaged place)
+        × IsRowFault parts tallies.now place)) }
 {
     let (event, serial) = event_of(alloc, parts)?;
     if event.has_tallies(tallies) {
@@ -122,15 +131,22 @@ pub fn load_tables<S: Alter>(
     ensures mode { conn.old.in_transaction ≡ false → conn.new.in_transaction ≡ false }
     ensures low { IfOk result (λ it. it.1 ≤ MAX_SERIAL) }
     ensures sound { IfOk result (λ it. IsSoundButForSeeds it.0) }
-    ensures shows { HasCleanDisk (state S.Store conn.new) → HasTables (state S.Store conn.old).now.schema
+    ensures shows { HasCleanDisk (state S.Store conn.new)
+        → HasTables (state S.Store conn.old).now.schema
         → IfOk result (λ it. ShowsEvent (state S.Store conn.old).now it.0 it.1) }
-    ensures found { HasCleanDisk (state S.Store conn.new) → (e : EventValue) (s : ℕ) → StandsFor (state S.Store conn.old).now e s → IsSoundButForSeeds e
+    ensures found { HasCleanDisk (state S.Store conn.new) → (e : EventValue) (s : ℕ)
+        → StandsFor (state S.Store conn.old).now e s → IsSoundButForSeeds e
         → MatchResult result (λ it. (it.0 ≡ e) × (it.1 ≡ s)) IsFault }
     ensures fault { IfErr result IsLoadFault }
-    ensures reads { HasCleanDisk (state S.Store conn.new) → IfOk result (λ it. ReadsParts (state S.Store conn.old).now (parts_of it.0 it.1) × ReadsTallies (state S.Store conn.old).now (tally_rows it.0)) }
-    ensures first { HasCleanDisk (state S.Store conn.new) → IfErr result (IfDamaged (IsAtFault (state S.Store conn.old).now)) }
-    ensures same { HasCleanDisk (state S.Store conn.new) → OnOk result (IsUnchanged (state S.Store conn.old) (state S.Store conn.new)) }
-    ensures kept { HasCleanDisk (state S.Store conn.new) → OnErr result (KeepsTables (state S.Store conn.old) (state S.Store conn.new)) }
+    ensures reads { HasCleanDisk (state S.Store conn.new)
+        → IfOk result (λ it. ReadsParts (state S.Store conn.old).now (parts_of it.0 it.1)
+        × ReadsTallies (state S.Store conn.old).now (tally_rows it.0)) }
+    ensures first { HasCleanDisk (state S.Store conn.new)
+        → IfErr result (IfDamaged (IsAtFault (state S.Store conn.old).now)) }
+    ensures same { HasCleanDisk (state S.Store conn.new)
+        → OnOk result (IsUnchanged (state S.Store conn.old) (state S.Store conn.new)) }
+    ensures kept { HasCleanDisk (state S.Store conn.new)
+        → OnErr result (KeepsTables (state S.Store conn.old) (state S.Store conn.new)) }
     ensures survives { Survives (state S.Store conn.old) (state S.Store conn.new) (λ _. ⊥) }
 {
     let (parts, tallies) = read_tables(alloc, conn)?;

@@ -27,12 +27,19 @@ pub fn read_table<T: TableRow, S: Alter>(
     requires { IsOurs T.form T.table }
     ensures clean { HasCleanDisk (state S.Store conn.new) → HasCleanDisk (state S.Store conn.old) }
     ensures mode { conn.old.in_transaction ≡ false → conn.new.in_transaction ≡ false }
-    ensures finds { HasCleanDisk (state S.Store conn.new) → IfOk result (λ rows. FindsRows T.form T.table (state S.Store conn.old).now rows.items) }
-    ensures misread { HasCleanDisk (state S.Store conn.new) → IfErr result (λ why. (at : Place) → reading_refusal T.table.place why ≡ Refusal.Damaged at → IsMisreadAs T.form T.table (state S.Store conn.old).now) }
-    ensures refused { HasCleanDisk (state S.Store conn.new) → (e : EventValue) (s : ℕ) → StandsFor (state S.Store conn.old).now e s → IsSoundButForSeeds e
-        → IfErr result (λ why. (why ≡ out_of_memory) ⊎ IsReadRefused (state S.Store conn.old) (state S.Store conn.new) why) }
-    ensures same { HasCleanDisk (state S.Store conn.new) → OnOk result (IsUnchanged (state S.Store conn.old) (state S.Store conn.new)) }
-    ensures kept { HasCleanDisk (state S.Store conn.new) → OnErr result (KeepsTables (state S.Store conn.old) (state S.Store conn.new)) }
+    ensures finds { HasCleanDisk (state S.Store conn.new)
+        → IfOk result (λ rows. FindsRows T.form T.table (state S.Store conn.old).now rows.items) }
+    ensures misread { HasCleanDisk (state S.Store conn.new)
+        → IfErr result (λ why. (at : Place) → reading_refusal T.table.place why ≡ Refusal.Damaged at
+        → IsMisreadAs T.form T.table (state S.Store conn.old).now) }
+    ensures refused { HasCleanDisk (state S.Store conn.new) → (e : EventValue) (s : ℕ)
+        → StandsFor (state S.Store conn.old).now e s → IsSoundButForSeeds e
+        → IfErr result (λ why. (why ≡ out_of_memory)
+        ⊎ IsReadRefused (state S.Store conn.old) (state S.Store conn.new) why) }
+    ensures same { HasCleanDisk (state S.Store conn.new)
+        → OnOk result (IsUnchanged (state S.Store conn.old) (state S.Store conn.new)) }
+    ensures kept { HasCleanDisk (state S.Store conn.new)
+        → OnErr result (KeepsTables (state S.Store conn.old) (state S.Store conn.new)) }
     ensures survives { Survives (state S.Store conn.old) (state S.Store conn.new) (λ _. ⊥) }
 {
     let rows = conn.query_all(T::read(), &[])?;
@@ -49,12 +56,17 @@ pub fn read_meetings<S: Alter>(
 ) -> Result<Vec<MeetingRow>, Error>
     ensures clean { HasCleanDisk (state S.Store conn.new) → HasCleanDisk (state S.Store conn.old) }
     ensures mode { conn.old.in_transaction ≡ false → conn.new.in_transaction ≡ false }
-    ensures exact { HasCleanDisk (state S.Store conn.new) → (e : EventValue) (s : ℕ) → StandsFor (state S.Store conn.old).now e s → IsSoundButForSeeds e
+    ensures exact { HasCleanDisk (state S.Store conn.new) → (e : EventValue) (s : ℕ)
+        → StandsFor (state S.Store conn.old).now e s → IsSoundButForSeeds e
         → IfOk result (λ rows. rows.items ≡ meeting_rows e) }
-    ensures refused { HasCleanDisk (state S.Store conn.new) → (e : EventValue) (s : ℕ) → StandsFor (state S.Store conn.old).now e s → IsSoundButForSeeds e
-        → IfErr result (λ why. (why ≡ out_of_memory) ⊎ IsReadRefused (state S.Store conn.old) (state S.Store conn.new) why) }
-    ensures same { HasCleanDisk (state S.Store conn.new) → OnOk result (IsUnchanged (state S.Store conn.old) (state S.Store conn.new)) }
-    ensures kept { HasCleanDisk (state S.Store conn.new) → OnErr result (KeepsTables (state S.Store conn.old) (state S.Store conn.new)) }
+    ensures refused { HasCleanDisk (state S.Store conn.new) → (e : EventValue) (s : ℕ)
+        → StandsFor (state S.Store conn.old).now e s → IsSoundButForSeeds e
+        → IfErr result (λ why. (why ≡ out_of_memory)
+        ⊎ IsReadRefused (state S.Store conn.old) (state S.Store conn.new) why) }
+    ensures same { HasCleanDisk (state S.Store conn.new)
+        → OnOk result (IsUnchanged (state S.Store conn.old) (state S.Store conn.new)) }
+    ensures kept { HasCleanDisk (state S.Store conn.new)
+        → OnErr result (KeepsTables (state S.Store conn.old) (state S.Store conn.new)) }
     ensures survives { Survives (state S.Store conn.old) (state S.Store conn.new) (λ _. ⊥) }
 {
     let mut meetings = Vec::new(alloc);
@@ -77,12 +89,17 @@ pub fn read_slip<S: Alter>(
 ) -> Result<Vec<NamedPairing>, Error>
     ensures clean { HasCleanDisk (state S.Store conn.new) → HasCleanDisk (state S.Store conn.old) }
     ensures mode { conn.old.in_transaction ≡ false → conn.new.in_transaction ≡ false }
-    ensures exact { HasCleanDisk (state S.Store conn.new) → (e : EventValue) (s : ℕ) → StandsFor (state S.Store conn.old).now e s → IsSoundButForSeeds e
+    ensures exact { HasCleanDisk (state S.Store conn.new) → (e : EventValue) (s : ℕ)
+        → StandsFor (state S.Store conn.old).now e s → IsSoundButForSeeds e
         → IfOk result (λ rows. rows.items ≡ named_pairings e round table) }
-    ensures refused { HasCleanDisk (state S.Store conn.new) → (e : EventValue) (s : ℕ) → StandsFor (state S.Store conn.old).now e s → IsSoundButForSeeds e
-        → IfErr result (λ why. (why ≡ out_of_memory) ⊎ IsReadRefused (state S.Store conn.old) (state S.Store conn.new) why) }
-    ensures same { HasCleanDisk (state S.Store conn.new) → OnOk result (IsUnchanged (state S.Store conn.old) (state S.Store conn.new)) }
-    ensures kept { HasCleanDisk (state S.Store conn.new) → OnErr result (KeepsTables (state S.Store conn.old) (state S.Store conn.new)) }
+    ensures refused { HasCleanDisk (state S.Store conn.new) → (e : EventValue) (s : ℕ)
+        → StandsFor (state S.Store conn.old).now e s → IsSoundButForSeeds e
+        → IfErr result (λ why. (why ≡ out_of_memory)
+        ⊎ IsReadRefused (state S.Store conn.old) (state S.Store conn.new) why) }
+    ensures same { HasCleanDisk (state S.Store conn.new)
+        → OnOk result (IsUnchanged (state S.Store conn.old) (state S.Store conn.new)) }
+    ensures kept { HasCleanDisk (state S.Store conn.new)
+        → OnErr result (KeepsTables (state S.Store conn.old) (state S.Store conn.new)) }
     ensures survives { Survives (state S.Store conn.old) (state S.Store conn.new) (λ _. ⊥) }
 {
     let rows = conn.query_all(READ_SLIP, params![round, table])?;

@@ -165,7 +165,9 @@ impl FromRow for NamedPairing {
 /// The bytes of the text in this column, if there is one.
 fn text_or_null(row: &SqlRow, at: usize) -> Result<Option<Items<u8>>, Error>
     ensures value { IfOk result (λ bytes. column row.now at ≡ text_or_null bytes) }
-    ensures refused { IfErr result (λ e. e ≢ out_of_memory → at < length row.now → (bytes : Option (List ℕ)) → IfSome bytes IsUtf8 → column row.now at ≢ text_or_null bytes) }
+    ensures refused { IfErr result (λ e. e ≢ out_of_memory → at < length row.now
+        → (bytes : Option (List ℕ)) → IfSome bytes IsUtf8
+        → column row.now at ≢ text_or_null bytes) }
 {
     let text: Option<String> = row.get(at)?;
     match text {
@@ -177,7 +179,8 @@ fn text_or_null(row: &SqlRow, at: usize) -> Result<Option<Items<u8>>, Error>
 /// The bytes of the text in this column.
 fn bytes_of(row: &SqlRow, at: usize) -> Result<Items<u8>, Error>
     ensures value { IfOk result (λ bytes. column row.now at ≡ Text bytes) }
-    ensures refused { IfErr result (λ e. e ≢ out_of_memory → at < length row.now → (bytes : List ℕ) → IsUtf8 bytes → column row.now at ≢ Text bytes) }
+    ensures refused { IfErr result (λ e. e ≢ out_of_memory → at < length row.now → (bytes : List ℕ)
+        → IsUtf8 bytes → column row.now at ≢ Text bytes) }
 {
     let text: String = row.get(at)?;
     Ok(Items::from(text.into_bytes()))
@@ -185,8 +188,10 @@ fn bytes_of(row: &SqlRow, at: usize) -> Result<Items<u8>, Error>
 
 /// Appends the row as a typed row.
 pub fn push_row<T: FromRow>(typed: &mut Vec<T>, row: &SqlRow) -> Result<(), Error>
-    ensures value { OnOk result (map T.form.columns typed.new.items ≡ map T.form.columns typed.old.items ++ first_columns T.form.width row.now ∷ []) }
-    ensures refused { IfErr result (λ e. e ≢ out_of_memory → (r : T) → T.form.is_text r → row.now ≢ T.form.columns r) }
+    ensures value { OnOk result (map T.form.columns typed.new.items
+        ≡ map T.form.columns typed.old.items ++ first_columns T.form.width row.now ∷ []) }
+    ensures refused { IfErr result (λ e. e ≢ out_of_memory → (r : T) → T.form.is_text r
+        → row.now ≢ T.form.columns r) }
 {
     typed.push(T::from_row(row)?)?;
     Ok(())
@@ -194,8 +199,10 @@ pub fn push_row<T: FromRow>(typed: &mut Vec<T>, row: &SqlRow) -> Result<(), Erro
 
 /// The rows as typed rows.
 pub fn typed<T: FromRow>(alloc: Global, rows: &[SqlRow]) -> Result<Vec<T>, Error>
-    ensures value { IfOk result (λ typed. map T.form.columns typed.items ≡ map (first_columns T.form.width) rows.now) }
-    ensures refused { IfErr result (λ e. e ≢ out_of_memory → (typed : List T) → All T.form.is_text typed → rows.now ≢ map T.form.columns typed) }
+    ensures value { IfOk result (λ typed. map T.form.columns typed.items
+        ≡ map (first_columns T.form.width) rows.now) }
+    ensures refused { IfErr result (λ e. e ≢ out_of_memory → (typed : List T)
+        → All T.form.is_text typed → rows.now ≢ map T.form.columns typed) }
 {
     let mut typed = Vec::new(alloc);
     for row in rows {

@@ -19,8 +19,10 @@ use std::alloc::Global;
 
 /// Who has this number and this name: nobody has 0 and no name.
 fn side(number: u16, name: &Option<Items<u8>>) -> Option<Option<(PlayerNo, Name)>>
-    ensures value { IfSome result (λ who. (number ≡ number_in who) × (name.now ≡ name_in who) × IfSome who IsPlayer) }
-    ensures exact { (who : Side) → IfSome who IsPlayer → number ≡ number_in who → name.now ≡ name_in who → result ≡ Some who }
+    ensures value { IfSome result (λ who. (number ≡ number_in who) × (name.now ≡ name_in who)
+        × IfSome who IsPlayer) }
+    ensures exact { (who : Side) → IfSome who IsPlayer → number ≡ number_in who
+        → name.now ≡ name_in who → result ≡ Some who }
 {
     match (PlayerNo::try_new(number), name) {
         (Some(number), Some(name)) => {
@@ -34,8 +36,10 @@ fn side(number: u16, name: &Option<Items<u8>>) -> Option<Option<(PlayerNo, Name)
 
 /// The slip that a row shows, where the format allows it.
 fn slip_of(round: u8, table: u16, row: &NamedPairing) -> Option<SlipRow>
-    ensures value { IfSome result (λ slip. (row.now ≡ named_pairing slip) × (slip.round ≡ round) × (slip.table ≡ table) × IsLawful slip) }
-    ensures exact { (slip : SlipRow) → IsLawful slip → slip.round ≡ round → slip.table ≡ table → row.now ≡ named_pairing slip → result ≡ Some slip }
+    ensures value { IfSome result (λ slip. (row.now ≡ named_pairing slip) × (slip.round ≡ round)
+        × (slip.table ≡ table) × IsLawful slip) }
+    ensures exact { (slip : SlipRow) → IsLawful slip → slip.round ≡ round → slip.table ≡ table
+        → row.now ≡ named_pairing slip → result ≡ Some slip }
 {
     let played = match_at_table(round, table, &row.pairing)?;
     let low = side(played.a.min(played.b), &row.lo_name)?;
@@ -63,12 +67,17 @@ pub fn find_slip<S: Alter>(
 ) -> Result<SlipRow, Refusal>
     ensures clean { HasCleanDisk (state S.Store conn.new) → HasCleanDisk (state S.Store conn.old) }
     ensures mode { conn.old.in_transaction ≡ false → conn.new.in_transaction ≡ false }
-    ensures found { HasCleanDisk (state S.Store conn.new) → (e : EventValue) (s : ℕ) → StandsFor (state S.Store conn.old).now e s → IsSoundButForSeeds e
-        → MatchResult result (λ row. slip_of e round table ≡ Some row) (λ why. IsFault why ⊎ ((why ≡ Refusal.NoSuchMatch) × (slip_of e round table ≡ None))) }
-    ensures allowed { IfOk result (λ slip. (slip.round ≡ round) × (slip.table ≡ table) × IsLawful slip) }
+    ensures found { HasCleanDisk (state S.Store conn.new) → (e : EventValue) (s : ℕ)
+        → StandsFor (state S.Store conn.old).now e s → IsSoundButForSeeds e
+        → MatchResult result (λ row. slip_of e round table ≡ Some row) (λ why. IsFault why
+        ⊎ ((why ≡ Refusal.NoSuchMatch) × (slip_of e round table ≡ None))) }
+    ensures allowed { IfOk result (λ slip. (slip.round ≡ round) × (slip.table ≡ table)
+        × IsLawful slip) }
     ensures fault { IfErr result (λ why. (why ≡ Refusal.NoSuchMatch) ⊎ IsReadFault why) }
-    ensures same { HasCleanDisk (state S.Store conn.new) → MatchResult result (λ _. IsUnchanged (state S.Store conn.old) (state S.Store conn.new)) (λ why. why ≡ Refusal.NoSuchMatch → IsUnchanged (state S.Store conn.old) (state S.Store conn.new)) }
-    ensures kept { HasCleanDisk (state S.Store conn.new) → OnErr result (KeepsTables (state S.Store conn.old) (state S.Store conn.new)) }
+    ensures same { HasCleanDisk (state S.Store conn.new)
+        → MatchResult result (λ _. IsUnchanged (state S.Store conn.old) (state S.Store conn.new)) (λ why. why ≡ Refusal.NoSuchMatch → IsUnchanged (state S.Store conn.old) (state S.Store conn.new)) }
+    ensures kept { HasCleanDisk (state S.Store conn.new)
+        → OnErr result (KeepsTables (state S.Store conn.old) (state S.Store conn.new)) }
     ensures survives { Survives (state S.Store conn.old) (state S.Store conn.new) (λ _. ⊥) }
 {
     let rows = match read_slip(alloc, conn, u32::from(round), u32::from(table)) {

@@ -3,21 +3,22 @@ ghost use Rattle.std.specs.List.{range_with_len};
 ghost use Rattle.sqlite.specs.State.{HasCleanDisk};
 ghost use Rattle.sqlite.specs.Values.{bound};
 ghost use Rattle.sqlite.specs.Held.{state};
-ghost use Rattle.er_event.specs.declared.refusals.TheConstants.{MAX_SERIAL};
-ghost use Rattle.er_event.specs.declared.rows.TallyRow.{TallyRow};
+ghost use Rattle.er_event.specs.declared.commands.TheConstants.{MAX_SERIAL};
+ghost use Rattle.er_event.specs.declared.rows.tally.TallyRow.{TallyRow};
 ghost use Rattle.er_event.specs.Event.{EventValue};
 ghost use Rattle.er_event.specs.Sound.{numbers};
 ghost use Rattle.er_event.specs.Round.{is_bye, match_at};
 ghost use Rattle.er_event.specs.Bracket.{slot_at};
 ghost use Rattle.er_event.specs.Change.{with_phase, with_dropped, with_round, with_score, with_stage, with_slot_score};
 ghost use Rattle.er_store.specs.Rows.{stored_player, stored_event};
-ghost use Rattle.er_event.specs.Rows.{phase_code, games_of, tally_row, tally_rows_by};
+ghost use Rattle.er_event.specs.Rows.{phase_code, pairing_row, bracket_row, tally_row, tally_rows_by};
 ghost use Rattle.er_store.specs.inside.Totals.{set_for};
 ghost use Rattle.er_event.specs.declared.totals.Totals.{Totals};
+ghost use Rattle.er_event.specs.declared.matches.Match.{Match};
 ghost use Rattle.er_store.specs.Standing.{HasTables, StandsWith};
-ghost use Rattle.er_store.specs.inside.Steps.{Ran, Stays, Puts, MakesWith};
+ghost use Rattle.er_store.specs.inside.Steps.{Ran, Stays, Puts, BringsToWith};
 
-use er_event::{Event, Games, Match, Phase, Score, Totals};
+use er_event::{BracketRow, Event, Games, PairingRow, Phase, Score, TallyRow};
 use sqlite::types::ValueRef;
 use sqlite::{Alter, Error, Transaction, params};
 
@@ -28,7 +29,8 @@ pub fn run<S: Alter>(
     params: &[ValueRef<'_>],
 ) -> Result<(), Error>
     ensures same_reference { tx.new.conn.ghost_name ≡ tx.old.conn.ghost_name }
-    ensures ran { HasCleanDisk (state S.Store tx.new.conn.now) → OnOk result (Ran sql.now (bound params.now) (state S.Store tx.old.conn.now) (state S.Store tx.new.conn.now)) }
+    ensures ran { HasCleanDisk (state S.Store tx.new.conn.now)
+        → OnOk result (Ran sql.now (bound params.now) (state S.Store tx.old.conn.now) (state S.Store tx.new.conn.now)) }
     ensures stays { Stays (state S.Store tx.old.conn.now) (state S.Store tx.new.conn.now) }
 {
     tx.execute(sql, params)?;
@@ -45,7 +47,8 @@ pub fn insert_player<S: Alter>(
     dropped: bool,
 ) -> Result<(), Error>
     ensures same_reference { tx.new.conn.ghost_name ≡ tx.old.conn.ghost_name }
-    ensures puts { HasCleanDisk (state S.Store tx.new.conn.now) → HasTables (state S.Store tx.old.conn.now).now.schema
+    ensures puts { HasCleanDisk (state S.Store tx.new.conn.now)
+        → HasTables (state S.Store tx.old.conn.now).now.schema
         → OnOk result (Puts 1 (stored_player number name.now dropped) (state S.Store tx.old.conn.now) (state S.Store tx.new.conn.now)) }
     ensures stays { Stays (state S.Store tx.old.conn.now) (state S.Store tx.new.conn.now) }
 {
@@ -62,9 +65,11 @@ pub fn insert_event<S: Alter>(
     serial: u32,
 ) -> Result<(), Error>
     ensures same_reference { tx.new.conn.ghost_name ≡ tx.old.conn.ghost_name }
-    ensures puts { HasCleanDisk (state S.Store tx.new.conn.now) → HasTables (state S.Store tx.old.conn.now).now.schema
+    ensures puts { HasCleanDisk (state S.Store tx.new.conn.now)
+        → HasTables (state S.Store tx.old.conn.now).now.schema
         → OnOk result (Puts 0 (stored_event event.now serial) (state S.Store tx.old.conn.now) (state S.Store tx.new.conn.now)) }
-    ensures inside { HasCleanDisk (state S.Store tx.new.conn.now) → OnOk result (IsTrue (state S.Store tx.new.conn.now).in_transaction) }
+    ensures inside { HasCleanDisk (state S.Store tx.new.conn.now)
+        → OnOk result (IsTrue (state S.Store tx.new.conn.now).in_transaction) }
     ensures stays { Stays (state S.Store tx.old.conn.now) (state S.Store tx.new.conn.now) }
 {
     let rounds = u32::from(event.rounds());
@@ -83,9 +88,12 @@ pub const SET_SERIAL: &str = "UPDATE event SET serial = ?1";
 pub fn set_serial<S: Alter>(tx: &mut Transaction<'_, S>, serial: u32) -> Result<(), Error>
     requires { serial ≤ MAX_SERIAL }
     ensures same_reference { tx.new.conn.ghost_name ≡ tx.old.conn.ghost_name }
-    ensures makes { HasCleanDisk (state S.Store tx.new.conn.now) → (e : EventValue) (s : ℕ) (t : List TallyRow) → StandsWith (state S.Store tx.old.conn.now).now e s t
-        → OnOk result (MakesWith (state S.Store tx.old.conn.now) (state S.Store tx.new.conn.now) e serial t) }
-    ensures inside { HasCleanDisk (state S.Store tx.new.conn.now) → OnOk result (IsTrue (state S.Store tx.new.conn.now).in_transaction) }
+    ensures makes { HasCleanDisk (state S.Store tx.new.conn.now)
+        → (e : EventValue) (s : ℕ) (t : List TallyRow)
+        → StandsWith (state S.Store tx.old.conn.now).now e s t
+        → OnOk result (BringsToWith (state S.Store tx.old.conn.now) (state S.Store tx.new.conn.now) e serial t) }
+    ensures inside { HasCleanDisk (state S.Store tx.new.conn.now)
+        → OnOk result (IsTrue (state S.Store tx.new.conn.now).in_transaction) }
     ensures stays { Stays (state S.Store tx.old.conn.now) (state S.Store tx.new.conn.now) }
 {
     run(tx, SET_SERIAL, params![serial])
@@ -96,8 +104,10 @@ pub const SET_PHASE: &str = "UPDATE event SET phase = ?1";
 /// Sets the phase of the event's row.
 pub fn set_phase<S: Alter>(tx: &mut Transaction<'_, S>, phase: Phase) -> Result<(), Error>
     ensures same_reference { tx.new.conn.ghost_name ≡ tx.old.conn.ghost_name }
-    ensures makes { HasCleanDisk (state S.Store tx.new.conn.now) → (e : EventValue) (s : ℕ) (t : List TallyRow) → StandsWith (state S.Store tx.old.conn.now).now e s t
-        → OnOk result (MakesWith (state S.Store tx.old.conn.now) (state S.Store tx.new.conn.now) (with_phase e phase) s t) }
+    ensures makes { HasCleanDisk (state S.Store tx.new.conn.now)
+        → (e : EventValue) (s : ℕ) (t : List TallyRow)
+        → StandsWith (state S.Store tx.old.conn.now).now e s t
+        → OnOk result (BringsToWith (state S.Store tx.old.conn.now) (state S.Store tx.new.conn.now) (with_phase e phase) s t) }
     ensures stays { Stays (state S.Store tx.old.conn.now) (state S.Store tx.new.conn.now) }
 {
     run(tx, SET_PHASE, params![u32::from(phase.code())])
@@ -108,9 +118,12 @@ pub const SET_DROPPED: &str = "UPDATE player SET dropped = 1 WHERE no = ?1";
 /// Drops the player of this number.
 pub fn set_dropped<S: Alter>(tx: &mut Transaction<'_, S>, number: u32) -> Result<(), Error>
     ensures same_reference { tx.new.conn.ghost_name ≡ tx.old.conn.ghost_name }
-    ensures makes { HasCleanDisk (state S.Store tx.new.conn.now) → (e : EventValue) (s : ℕ) (t : List TallyRow) → StandsWith (state S.Store tx.old.conn.now).now e s t
-        → numbers e.players ≡ range_with_len 1 (length e.players) → Contains (numbers e.players) number
-        → OnOk result (MakesWith (state S.Store tx.old.conn.now) (state S.Store tx.new.conn.now) (with_dropped e number) s t) }
+    ensures makes { HasCleanDisk (state S.Store tx.new.conn.now)
+        → (e : EventValue) (s : ℕ) (t : List TallyRow)
+        → StandsWith (state S.Store tx.old.conn.now).now e s t
+        → numbers e.players ≡ range_with_len 1 (length e.players)
+        → Contains (numbers e.players) number
+        → OnOk result (BringsToWith (state S.Store tx.old.conn.now) (state S.Store tx.new.conn.now) (with_dropped e number) s t) }
     ensures stays { Stays (state S.Store tx.old.conn.now) (state S.Store tx.new.conn.now) }
 {
     run(tx, SET_DROPPED, params![number])
@@ -127,9 +140,11 @@ pub fn set_score<S: Alter>(
     score: Score,
 ) -> Result<(), Error>
     ensures same_reference { tx.new.conn.ghost_name ≡ tx.old.conn.ghost_name }
-    ensures makes { HasCleanDisk (state S.Store tx.new.conn.now) → (e : EventValue) (s : ℕ) (t : List TallyRow) → StandsWith (state S.Store tx.old.conn.now).now e s t
-        → (m : Match) → match_at e round table ≡ Some m → IsFalse (is_bye m)
-        → OnOk result (MakesWith (state S.Store tx.old.conn.now) (state S.Store tx.new.conn.now) (with_score e round table score) s t) }
+    ensures makes { HasCleanDisk (state S.Store tx.new.conn.now)
+        → (e : EventValue) (s : ℕ) (t : List TallyRow)
+        → StandsWith (state S.Store tx.old.conn.now).now e s t → (m : Match)
+        → match_at e round table ≡ Some m → IsFalse (is_bye m)
+        → OnOk result (BringsToWith (state S.Store tx.old.conn.now) (state S.Store tx.new.conn.now) (with_score e round table score) s t) }
     ensures stays { Stays (state S.Store tx.old.conn.now) (state S.Store tx.new.conn.now) }
 {
     let Games { x, y, d } = score.games();
@@ -143,37 +158,29 @@ pub fn set_score<S: Alter>(
 pub const INSERT_PAIRING: &str =
     "INSERT INTO pairing (round, tab, lo, hi, swapped, done, x, y, d) VALUES (?1, ?2, ?3, ?4, ?5, ?6, ?7, ?8, ?9)";
 
-/// Inserts the next match of a round that is being stored. `place` is its place in the round, from 1; a bye is at table 0.
-pub fn insert_pairing<S: Alter>(
-    tx: &mut Transaction<'_, S>,
-    round: u32,
-    place: u32,
-    played: &Match,
-) -> Result<(), Error>
+/// Inserts the row of the next match of a round that is being stored.
+pub fn insert_pairing<S: Alter>(tx: &mut Transaction<'_, S>, row: &PairingRow) -> Result<(), Error>
     ensures same_reference { tx.new.conn.ghost_name ≡ tx.old.conn.ghost_name }
-    ensures makes { HasCleanDisk (state S.Store tx.new.conn.now) → (e : EventValue) (before : List Match) (s : ℕ) (t : List TallyRow) → StandsWith (state S.Store tx.old.conn.now).now (with_round e before) s t
-        → round ≡ length e.stored + 1 → place ≡ length before + 1
-        → OnOk result (MakesWith (state S.Store tx.old.conn.now) (state S.Store tx.new.conn.now) (with_round e (before ++ played.now ∷ [])) s t) }
+    ensures makes { HasCleanDisk (state S.Store tx.new.conn.now)
+        → (e : EventValue) (before : List Match) (m : Match) (s : ℕ) (t : List TallyRow)
+        → StandsWith (state S.Store tx.old.conn.now).now (with_round e before) s t
+        → row.now ≡ pairing_row (length e.stored + 1) (length before + 1, m)
+        → OnOk result (BringsToWith (state S.Store tx.old.conn.now) (state S.Store tx.new.conn.now) (with_round e (before ++ m ∷ [])) s t) }
     ensures stays { Stays (state S.Store tx.old.conn.now) (state S.Store tx.new.conn.now) }
 {
-    let table = if played.b == 0 { 0 } else { place };
-    let lower = u32::from(played.a.min(played.b));
-    let higher = u32::from(played.a.max(played.b));
-    let swapped = played.b < played.a;
-    let Games { x, y, d } = played.games();
     run(
         tx,
         INSERT_PAIRING,
         params![
-            round,
-            table,
-            lower,
-            higher,
-            swapped,
-            played.score.is_some(),
-            u32::from(x),
-            u32::from(y),
-            u32::from(d)
+            &row.round,
+            &row.tab,
+            &row.lo,
+            &row.hi,
+            &row.swapped,
+            &row.done,
+            &row.x,
+            &row.y,
+            &row.d
         ],
     )
 }
@@ -181,32 +188,21 @@ pub fn insert_pairing<S: Alter>(
 pub const INSERT_SLOT: &str =
     "INSERT INTO bracket (stage, slot, a, b, done, x, y, d) VALUES (?1, ?2, ?3, ?4, ?5, ?6, ?7, ?8)";
 
-/// Inserts the next match of a stage that is being stored. Stage and slot are numbered from 1.
-pub fn insert_slot<S: Alter>(
-    tx: &mut Transaction<'_, S>,
-    stage: u32,
-    slot: u32,
-    played: &Match,
-) -> Result<(), Error>
+/// Inserts the row of the next match of a stage that is being stored.
+pub fn insert_slot<S: Alter>(tx: &mut Transaction<'_, S>, row: &BracketRow) -> Result<(), Error>
     ensures same_reference { tx.new.conn.ghost_name ≡ tx.old.conn.ghost_name }
-    ensures makes { HasCleanDisk (state S.Store tx.new.conn.now) → (e : EventValue) (before : List Match) (s : ℕ) (t : List TallyRow) → StandsWith (state S.Store tx.old.conn.now).now (with_stage e before) s t
-        → stage ≡ length e.bracket.stages + 1 → slot ≡ length before + 1
-        → OnOk result (MakesWith (state S.Store tx.old.conn.now) (state S.Store tx.new.conn.now) (with_stage e (before ++ played.now ∷ [])) s t) }
+    ensures makes { HasCleanDisk (state S.Store tx.new.conn.now)
+        → (e : EventValue) (before : List Match) (m : Match) (s : ℕ) (t : List TallyRow)
+        → StandsWith (state S.Store tx.old.conn.now).now (with_stage e before) s t
+        → row.now ≡ bracket_row (length e.bracket.stages + 1) (length before + 1, m)
+        → OnOk result (BringsToWith (state S.Store tx.old.conn.now) (state S.Store tx.new.conn.now) (with_stage e (before ++ m ∷ [])) s t) }
     ensures stays { Stays (state S.Store tx.old.conn.now) (state S.Store tx.new.conn.now) }
 {
-    let Games { x, y, d } = played.games();
     run(
         tx,
         INSERT_SLOT,
         params![
-            stage,
-            slot,
-            u32::from(played.a),
-            u32::from(played.b),
-            played.score.is_some(),
-            u32::from(x),
-            u32::from(y),
-            u32::from(d)
+            &row.stage, &row.slot, &row.a, &row.b, &row.done, &row.x, &row.y, &row.d
         ],
     )
 }
@@ -222,9 +218,11 @@ pub fn set_slot_score<S: Alter>(
     score: Score,
 ) -> Result<(), Error>
     ensures same_reference { tx.new.conn.ghost_name ≡ tx.old.conn.ghost_name }
-    ensures makes { HasCleanDisk (state S.Store tx.new.conn.now) → (e : EventValue) (s : ℕ) (t : List TallyRow) → StandsWith (state S.Store tx.old.conn.now).now e s t
-        → (m : Match) → slot_at e stage slot ≡ Some m
-        → OnOk result (MakesWith (state S.Store tx.old.conn.now) (state S.Store tx.new.conn.now) (with_slot_score e stage slot score) s t) }
+    ensures makes { HasCleanDisk (state S.Store tx.new.conn.now)
+        → (e : EventValue) (s : ℕ) (t : List TallyRow)
+        → StandsWith (state S.Store tx.old.conn.now).now e s t → (m : Match)
+        → slot_at e stage slot ≡ Some m
+        → OnOk result (BringsToWith (state S.Store tx.old.conn.now) (state S.Store tx.new.conn.now) (with_slot_score e stage slot score) s t) }
     ensures stays { Stays (state S.Store tx.old.conn.now) (state S.Store tx.new.conn.now) }
 {
     let Games { x, y, d } = score.games();
@@ -238,50 +236,52 @@ pub fn set_slot_score<S: Alter>(
 pub const INSERT_TALLY: &str =
     "INSERT INTO tally (no, points, rounds, gamepoints, games) VALUES (?1, ?2, ?3, ?4, ?5)";
 
-/// Inserts the totals of a player.
-pub fn insert_tally<S: Alter>(
-    tx: &mut Transaction<'_, S>,
-    number: u32,
-    totals: Totals,
-) -> Result<(), Error>
+/// Inserts the row of a player's totals.
+pub fn insert_tally<S: Alter>(tx: &mut Transaction<'_, S>, row: &TallyRow) -> Result<(), Error>
     ensures same_reference { tx.new.conn.ghost_name ≡ tx.old.conn.ghost_name }
-    ensures makes { HasCleanDisk (state S.Store tx.new.conn.now) → (e : EventValue) (s : ℕ) (t : List TallyRow) → StandsWith (state S.Store tx.old.conn.now).now e s t
-        → OnOk result (MakesWith (state S.Store tx.old.conn.now) (state S.Store tx.new.conn.now) e s (t ++ tally_row number totals ∷ [])) }
+    ensures makes { HasCleanDisk (state S.Store tx.new.conn.now)
+        → (e : EventValue) (s : ℕ) (t : List TallyRow)
+        → StandsWith (state S.Store tx.old.conn.now).now e s t
+        → OnOk result (BringsToWith (state S.Store tx.old.conn.now) (state S.Store tx.new.conn.now) e s (t ++ row.now ∷ [])) }
     ensures stays { Stays (state S.Store tx.old.conn.now) (state S.Store tx.new.conn.now) }
 {
-    let points = u32::from(totals.points);
-    let rounds = u32::from(totals.rounds);
-    let game_points = u32::from(totals.game_points);
-    let games = u32::from(totals.games);
     run(
         tx,
         INSERT_TALLY,
-        params![number, points, rounds, game_points, games],
+        params![
+            &row.no,
+            &row.points,
+            &row.rounds,
+            &row.gamepoints,
+            &row.games
+        ],
     )
 }
 
 pub const SET_TALLY: &str =
     "UPDATE tally SET points = ?2, rounds = ?3, gamepoints = ?4, games = ?5 WHERE no = ?1";
 
-/// Sets the totals of the player of this number.
-pub fn set_tally<S: Alter>(
-    tx: &mut Transaction<'_, S>,
-    number: u32,
-    totals: Totals,
-) -> Result<(), Error>
+/// Sets the totals of the player whose row this is.
+pub fn set_tally<S: Alter>(tx: &mut Transaction<'_, S>, row: &TallyRow) -> Result<(), Error>
     ensures same_reference { tx.new.conn.ghost_name ≡ tx.old.conn.ghost_name }
-    ensures makes { HasCleanDisk (state S.Store tx.new.conn.now) → (e : EventValue) (s : ℕ) (come_to : ℕ → Totals) → StandsWith (state S.Store tx.old.conn.now).now e s (tally_rows_by come_to e.players)
-        → numbers e.players ≡ range_with_len 1 (length e.players) → Contains (numbers e.players) number
-        → OnOk result (MakesWith (state S.Store tx.old.conn.now) (state S.Store tx.new.conn.now) e s (tally_rows_by (set_for number totals come_to) e.players)) }
+    ensures makes { HasCleanDisk (state S.Store tx.new.conn.now)
+        → (e : EventValue) (s : ℕ) (come_to : ℕ → Totals) (number : ℕ) (totals : Totals)
+        → StandsWith (state S.Store tx.old.conn.now).now e s (tally_rows_by come_to e.players)
+        → row.now ≡ tally_row number totals
+        → numbers e.players ≡ range_with_len 1 (length e.players)
+        → Contains (numbers e.players) number
+        → OnOk result (BringsToWith (state S.Store tx.old.conn.now) (state S.Store tx.new.conn.now) e s (tally_rows_by (set_for number totals come_to) e.players)) }
     ensures stays { Stays (state S.Store tx.old.conn.now) (state S.Store tx.new.conn.now) }
 {
-    let points = u32::from(totals.points);
-    let rounds = u32::from(totals.rounds);
-    let game_points = u32::from(totals.game_points);
-    let games = u32::from(totals.games);
     run(
         tx,
         SET_TALLY,
-        params![number, points, rounds, game_points, games],
+        params![
+            &row.no,
+            &row.points,
+            &row.rounds,
+            &row.gamepoints,
+            &row.games
+        ],
     )
 }

@@ -3,7 +3,7 @@ ghost use Rattle.sqlite.specs.State.{HasCleanDisk, Survives, IsUnchanged};
 ghost use Rattle.sqlite.specs.Held.{state};
 ghost use Rattle.er_event.specs.declared.players.Player.{Player};
 ghost use Rattle.er_event.specs.declared.players.TheConstants.{MAX_PLAYERS};
-ghost use Rattle.er_event.specs.declared.rounds.Match.{Match};
+ghost use Rattle.er_event.specs.declared.matches.Match.{Match};
 ghost use Rattle.er_event.specs.declared.tallies.Tally.{Tally};
 ghost use Rattle.er_event.specs.Event.{EventValue};
 ghost use Rattle.er_event.specs.Rows.{flag, player_row, player_rows, tally_row, tally_rows};
@@ -36,9 +36,11 @@ fn read_flag(number: i64) -> Option<bool>
 
 /// The tally of a player, by the rows of the player and of the totals.
 fn tally_of(player: &PlayerRow, row: &TallyRow) -> Option<Tally>
-    ensures value { IfSome result (λ tally. (row.now ≡ tally_row tally.no tally.totals) × (player.now.no ≡ row.now.no) × (player.now.dropped ≡ flag tally.dropped)) }
-    ensures event { (e : EventValue) (p : Player) → IsSoundButForSeeds e → 1 ≤ p.no → p.no ≤ MAX_PLAYERS
-        → player.now ≡ player_row p → row.now ≡ tally_row p.no (totals e p.no) → result ≡ Some (tally_by (totals e) p) }
+    ensures value { IfSome result (λ tally. (row.now ≡ tally_row tally.no tally.totals)
+        × (player.now.no ≡ row.now.no) × (player.now.dropped ≡ flag tally.dropped)) }
+    ensures event { (e : EventValue) (p : Player) → IsSoundButForSeeds e → 1 ≤ p.no
+        → p.no ≤ MAX_PLAYERS → player.now ≡ player_row p → row.now ≡ tally_row p.no (totals e p.no)
+        → result ≡ Some (tally_by (totals e) p) }
 {
     let (no, totals) = read_tally(row)?;
     let dropped = read_flag(player.dropped)?;
@@ -60,7 +62,8 @@ fn tallies_of(
     rows: &[TallyRow],
 ) -> Result<Vec<Tally>, Refusal>
     ensures rows { IfOk result (λ list. map (λ t. tally_row t.no t.totals) list.items ≡ rows.now) }
-    ensures event { (e : EventValue) → IsSoundButForSeeds e → players.now ≡ player_rows e → rows.now ≡ tally_rows e
+    ensures event { (e : EventValue) → IsSoundButForSeeds e → players.now ≡ player_rows e
+        → rows.now ≡ tally_rows e
         → MatchResult result (λ list. list.items ≡ tallies e) (λ why. why ≡ Refusal.Memory) }
     ensures fault { IfErr result IsListFault }
 {
@@ -80,8 +83,9 @@ fn tallies_of(
 /// The two players of a match with their totals, by the rows of these.
 fn meeting_of(row: &MeetingRow) -> Option<Meeting>
     ensures value { IfSome result (λ meeting. sides_of meeting ≡ sides_in row.now) }
-    ensures event { (e : EventValue) (m : Match) → IsSoundButForSeeds e → 1 ≤ min m.a m.b → max m.a m.b ≤ MAX_PLAYERS
-        → sides_in row.now ≡ sides_of (meeting_by (totals e) m) → result ≡ Some (meeting_by (totals e) m) }
+    ensures event { (e : EventValue) (m : Match) → IsSoundButForSeeds e → 1 ≤ min m.a m.b
+        → max m.a m.b ≤ MAX_PLAYERS → sides_in row.now ≡ sides_of (meeting_by (totals e) m)
+        → result ≡ Some (meeting_by (totals e) m) }
 {
     let (lo, lo_totals) = read_tally(&row.lo)?;
     let (hi, hi_totals) = read_tally(&row.hi)?;
@@ -112,7 +116,8 @@ fn is_over(row: &MeetingRow, unfinished: Option<i64>) -> bool
 
 /// The meetings of the complete rounds.
 fn meetings_of(alloc: Global, rows: &[MeetingRow]) -> Result<Vec<Meeting>, Refusal>
-    ensures rows { IfOk result (λ list. map sides_of list.items ≡ map sides_in (counted_rows rows.now)) }
+    ensures rows { IfOk result (λ list. map sides_of list.items
+        ≡ map sides_in (counted_rows rows.now)) }
     ensures event { (e : EventValue) → IsSoundButForSeeds e → rows.now ≡ meeting_rows e
         → MatchResult result (λ list. list.items ≡ meetings e) (λ why. why ≡ Refusal.Memory) }
     ensures fault { IfErr result IsListFault }
@@ -137,11 +142,14 @@ pub fn find_tallies<S: Alter>(
 ) -> Result<Vec<Tally>, Refusal>
     ensures clean { HasCleanDisk (state S.Store conn.new) → HasCleanDisk (state S.Store conn.old) }
     ensures mode { conn.old.in_transaction ≡ false → conn.new.in_transaction ≡ false }
-    ensures found { HasCleanDisk (state S.Store conn.new) → (e : EventValue) (s : ℕ) → StandsFor (state S.Store conn.old).now e s → IsSoundButForSeeds e
+    ensures found { HasCleanDisk (state S.Store conn.new) → (e : EventValue) (s : ℕ)
+        → StandsFor (state S.Store conn.old).now e s → IsSoundButForSeeds e
         → MatchResult result (λ list. list.items ≡ tallies e) IsFault }
     ensures fault { IfErr result IsReadFault }
-    ensures same { HasCleanDisk (state S.Store conn.new) → OnOk result (IsUnchanged (state S.Store conn.old) (state S.Store conn.new)) }
-    ensures kept { HasCleanDisk (state S.Store conn.new) → OnErr result (KeepsTables (state S.Store conn.old) (state S.Store conn.new)) }
+    ensures same { HasCleanDisk (state S.Store conn.new)
+        → OnOk result (IsUnchanged (state S.Store conn.old) (state S.Store conn.new)) }
+    ensures kept { HasCleanDisk (state S.Store conn.new)
+        → OnErr result (KeepsTables (state S.Store conn.old) (state S.Store conn.new)) }
     ensures survives { Survives (state S.Store conn.old) (state S.Store conn.new) (λ _. ⊥) }
 {
     let players = match read_table::<PlayerRow, S>(alloc, conn) {
@@ -162,11 +170,14 @@ pub fn find_meetings<S: Alter>(
 ) -> Result<Vec<Meeting>, Refusal>
     ensures clean { HasCleanDisk (state S.Store conn.new) → HasCleanDisk (state S.Store conn.old) }
     ensures mode { conn.old.in_transaction ≡ false → conn.new.in_transaction ≡ false }
-    ensures found { HasCleanDisk (state S.Store conn.new) → (e : EventValue) (s : ℕ) → StandsFor (state S.Store conn.old).now e s → IsSoundButForSeeds e
+    ensures found { HasCleanDisk (state S.Store conn.new) → (e : EventValue) (s : ℕ)
+        → StandsFor (state S.Store conn.old).now e s → IsSoundButForSeeds e
         → MatchResult result (λ list. list.items ≡ meetings e) IsFault }
     ensures fault { IfErr result IsReadFault }
-    ensures same { HasCleanDisk (state S.Store conn.new) → OnOk result (IsUnchanged (state S.Store conn.old) (state S.Store conn.new)) }
-    ensures kept { HasCleanDisk (state S.Store conn.new) → OnErr result (KeepsTables (state S.Store conn.old) (state S.Store conn.new)) }
+    ensures same { HasCleanDisk (state S.Store conn.new)
+        → OnOk result (IsUnchanged (state S.Store conn.old) (state S.Store conn.new)) }
+    ensures kept { HasCleanDisk (state S.Store conn.new)
+        → OnErr result (KeepsTables (state S.Store conn.old) (state S.Store conn.new)) }
     ensures survives { Survives (state S.Store conn.old) (state S.Store conn.new) (λ _. ⊥) }
 {
     match read_meetings(alloc, conn) {

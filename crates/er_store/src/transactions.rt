@@ -4,8 +4,8 @@ ghost use Rattle.sqlite.specs.State.{HasCleanDisk, Survives, IsUnchanged};
 ghost use Rattle.sqlite.specs.Held.{state};
 ghost use Rattle.sqlite.specs.Listing.{understood};
 ghost use Rattle.sqlite.specs.Tree.{Trees};
-ghost use Rattle.er_event.specs.declared.refusals.TheConstants.{MAX_SERIAL};
-ghost use Rattle.er_event.specs.declared.rows.TallyRow.{TallyRow};
+ghost use Rattle.er_event.specs.declared.commands.TheConstants.{MAX_SERIAL};
+ghost use Rattle.er_event.specs.declared.rows.tally.TallyRow.{TallyRow};
 ghost use Rattle.er_event.specs.Event.{EventValue};
 ghost use Rattle.er_event.specs.Change.{after, with_round, with_stage, with_bracket, with_bracket_score, Fits};
 ghost use Rattle.er_event.specs.Bracket.{slot_at};
@@ -16,11 +16,11 @@ ghost use Rattle.er_event.specs.Rows.{tally_row, tally_rows_by};
 ghost use Rattle.er_event.specs.Sound.{numbers};
 ghost use Rattle.er_event.specs.Totals.{totals};
 ghost use Rattle.er_store.specs.inside.Totals.{set_for, set_for_all};
-ghost use Rattle.er_event.specs.declared.rounds.Match.{Match};
+ghost use Rattle.er_event.specs.declared.matches.Match.{Match};
 ghost use Rattle.er_store.specs.inside.Steps.{IsStage};
 ghost use Rattle.er_store.specs.Tables.{no_schema};
 ghost use Rattle.er_store.specs.Standing.{StandsFor, StandsWith, IsStored, IsNew, Shows, Leaves, Either, KeepsOthers, CanRead, ReadsEvent};
-ghost use Rattle.er_store.specs.inside.Steps.{Stays, Moves, Makes, MakesWith, IsReady};
+ghost use Rattle.er_store.specs.inside.Steps.{Stays, Moves, BringsTo, BringsToWith, IsReady};
 ghost use Rattle.er_store.specs.Reading.{KeepsTables};
 
 use crate::creation::create_all;
@@ -29,7 +29,9 @@ use crate::statements::{
     set_score, set_serial, set_slot_score, set_tally,
 };
 use crate::tables::TableRow;
-use er_event::{Change, Event, EventRow, Items, Match, Phase, PlayerNo, Score};
+use er_event::{
+    BracketRow, Change, Event, EventRow, Items, Match, PairingRow, Phase, PlayerNo, Score, TallyRow,
+};
 use sqlite::{Alter, Connection, Error, Transaction};
 
 /// Inserts the matches of one more round.
@@ -40,13 +42,15 @@ fn insert_round<S: Alter>(
 ) -> Result<(), Error>
     requires fits { Fits event.now (Change.AddRound matches.now) }
     ensures same_reference { tx.new.conn.ghost_name ≡ tx.old.conn.ghost_name }
-    ensures makes { HasCleanDisk (state S.Store tx.new.conn.now) → (s : ℕ) (t : List TallyRow) → StandsWith (state S.Store tx.old.conn.now).now event.now s t
-        → OnOk result (MakesWith (state S.Store tx.old.conn.now) (state S.Store tx.new.conn.now) (with_round event.now matches.now) s t) }
+    ensures makes { HasCleanDisk (state S.Store tx.new.conn.now) → (s : ℕ) (t : List TallyRow)
+        → StandsWith (state S.Store tx.old.conn.now).now event.now s t
+        → OnOk result (BringsToWith (state S.Store tx.old.conn.now) (state S.Store tx.new.conn.now) (with_round event.now matches.now) s t) }
     ensures stays { Stays (state S.Store tx.old.conn.now) (state S.Store tx.new.conn.now) }
 {
-    let round = event.stored().len() as u32 + 1;
+    let round = event.stored().len() as u8 + 1;
     for (place, played) in matches.iter().enumerate() {
-        insert_pairing(tx, round, place as u32 + 1, played)?;
+        let row = PairingRow::of(round, place + 1, played);
+        insert_pairing(tx, &row)?;
     }
     Ok(())
 }
@@ -54,26 +58,29 @@ fn insert_round<S: Alter>(
 /// Inserts the matches of one more stage of the playoff.
 fn insert_stage<S: Alter>(
     tx: &mut Transaction<'_, S>,
-    stage: u32,
+    stage: u8,
     matches: &[Match],
 ) -> Result<(), Error>
     requires { IsStage matches.now }
     ensures same_reference { tx.new.conn.ghost_name ≡ tx.old.conn.ghost_name }
-    ensures makes { HasCleanDisk (state S.Store tx.new.conn.now) → (e : EventValue) (s : ℕ) (t : List TallyRow) → StandsWith (state S.Store tx.old.conn.now).now e s t → stage ≡ length e.bracket.stages + 1
-        → OnOk result (MakesWith (state S.Store tx.old.conn.now) (state S.Store tx.new.conn.now) (with_stage e matches.now) s t) }
+    ensures makes { HasCleanDisk (state S.Store tx.new.conn.now)
+        → (e : EventValue) (s : ℕ) (t : List TallyRow)
+        → StandsWith (state S.Store tx.old.conn.now).now e s t → stage ≡ length e.bracket.stages + 1
+        → OnOk result (BringsToWith (state S.Store tx.old.conn.now) (state S.Store tx.new.conn.now) (with_stage e matches.now) s t) }
     ensures stays { Stays (state S.Store tx.old.conn.now) (state S.Store tx.new.conn.now) }
 {
     for (place, played) in matches.iter().enumerate() {
-        insert_slot(tx, stage, place as u32 + 1, played)?;
+        let row = BracketRow::of(stage, place + 1, played);
+        insert_slot(tx, &row)?;
     }
     Ok(())
 }
 
 /// The number of the stage that would be next.
-fn next_number(event: &Event) -> u32
+fn next_number(event: &Event) -> u8
     ensures { result ≡ length event.now.bracket.stages + 1 }
 {
-    event.bracket().stages.as_slice().len() as u32 + 1
+    event.bracket().stages.as_slice().len() as u8 + 1
 }
 
 /// Inserts the first stage of the playoff, which begins.
@@ -84,8 +91,9 @@ fn begin_playoff<S: Alter>(
 ) -> Result<(), Error>
     requires fits { Fits event.now (Change.AddBracket matches.now) }
     ensures same_reference { tx.new.conn.ghost_name ≡ tx.old.conn.ghost_name }
-    ensures makes { HasCleanDisk (state S.Store tx.new.conn.now) → (s : ℕ) (t : List TallyRow) → StandsWith (state S.Store tx.old.conn.now).now event.now s t
-        → OnOk result (MakesWith (state S.Store tx.old.conn.now) (state S.Store tx.new.conn.now) (with_bracket event.now matches.now) s t) }
+    ensures makes { HasCleanDisk (state S.Store tx.new.conn.now) → (s : ℕ) (t : List TallyRow)
+        → StandsWith (state S.Store tx.old.conn.now).now event.now s t
+        → OnOk result (BringsToWith (state S.Store tx.old.conn.now) (state S.Store tx.new.conn.now) (with_bracket event.now matches.now) s t) }
     ensures stays { Stays (state S.Store tx.old.conn.now) (state S.Store tx.new.conn.now) }
 {
     insert_stage(tx, next_number(event), matches)?;
@@ -104,8 +112,9 @@ fn score_stages<S: Alter>(
     requires found { (m : Match) × (slot_at event.now stage slot ≡ Some m) }
     requires few { IfSome next (λ matches. IsStage matches.now) }
     ensures same_reference { tx.new.conn.ghost_name ≡ tx.old.conn.ghost_name }
-    ensures makes { HasCleanDisk (state S.Store tx.new.conn.now) → (s : ℕ) (t : List TallyRow) → StandsWith (state S.Store tx.old.conn.now).now event.now s t
-        → OnOk result (MakesWith (state S.Store tx.old.conn.now) (state S.Store tx.new.conn.now) (with_bracket_score event.now stage slot score (option_map (λ m. m.now) next.entry) false) s t) }
+    ensures makes { HasCleanDisk (state S.Store tx.new.conn.now) → (s : ℕ) (t : List TallyRow)
+        → StandsWith (state S.Store tx.old.conn.now).now event.now s t
+        → OnOk result (BringsToWith (state S.Store tx.old.conn.now) (state S.Store tx.new.conn.now) (with_bracket_score event.now stage slot score (option_map (λ m. m.now) next.entry) false) s t) }
     ensures stays { Stays (state S.Store tx.old.conn.now) (state S.Store tx.new.conn.now) }
 {
     set_slot_score(tx, u32::from(stage), u32::from(slot), score)?;
@@ -123,8 +132,9 @@ fn change_rows<S: Alter>(
 ) -> Result<(), Error>
     requires fits { Fits event.now change.now }
     ensures same_reference { tx.new.conn.ghost_name ≡ tx.old.conn.ghost_name }
-    ensures makes { HasCleanDisk (state S.Store tx.new.conn.now) → (s : ℕ) (t : List TallyRow) → StandsWith (state S.Store tx.old.conn.now).now event.now s t
-        → OnOk result (MakesWith (state S.Store tx.old.conn.now) (state S.Store tx.new.conn.now) (after event.now change.now) s t) }
+    ensures makes { HasCleanDisk (state S.Store tx.new.conn.now) → (s : ℕ) (t : List TallyRow)
+        → StandsWith (state S.Store tx.old.conn.now).now event.now s t
+        → OnOk result (BringsToWith (state S.Store tx.old.conn.now) (state S.Store tx.new.conn.now) (after event.now change.now) s t) }
     ensures stays { Stays (state S.Store tx.old.conn.now) (state S.Store tx.new.conn.now) }
 {
     match change {
@@ -167,15 +177,19 @@ fn recount_player<S: Alter>(
     requires fits { Fits event.now change.now }
     requires number { (1 ≤ number) × (number ≤ MAX_PLAYERS) }
     ensures same_reference { tx.new.conn.ghost_name ≡ tx.old.conn.ghost_name }
-    ensures makes { HasCleanDisk (state S.Store tx.new.conn.now) → (e : EventValue) (s : ℕ) (before : ℕ → Totals) → StandsWith (state S.Store tx.old.conn.now).now e s (tally_rows_by before e.players)
-        → numbers e.players ≡ range_with_len 1 (length e.players) → Contains (numbers e.players) number
-        → OnOk result (MakesWith (state S.Store tx.old.conn.now) (state S.Store tx.new.conn.now) e s (tally_rows_by (set_for number (totals (after event.now change.now) number) before) e.players)) }
+    ensures makes { HasCleanDisk (state S.Store tx.new.conn.now)
+        → (e : EventValue) (s : ℕ) (before : ℕ → Totals)
+        → StandsWith (state S.Store tx.old.conn.now).now e s (tally_rows_by before e.players)
+        → numbers e.players ≡ range_with_len 1 (length e.players)
+        → Contains (numbers e.players) number
+        → OnOk result (BringsToWith (state S.Store tx.old.conn.now) (state S.Store tx.new.conn.now) e s (tally_rows_by (set_for number (totals (after event.now change.now) number) before) e.players)) }
     ensures stays { Stays (state S.Store tx.old.conn.now) (state S.Store tx.new.conn.now) }
 {
     let Some(player) = PlayerNo::try_new(number) else {
         unreachable!()
     };
-    set_tally(tx, u32::from(number), event.totals_after(change, player))
+    let row = TallyRow::of(player, event.totals_after(change, player));
+    set_tally(tx, &row)
 }
 
 /// Sets the totals of those who sit at a match.
@@ -190,9 +204,11 @@ fn recount_match<S: Alter>(
     requires few { length event.now.players ≤ MAX_PLAYERS }
     requires known { AreOf event.now (played.now ∷ []) }
     ensures same_reference { tx.new.conn.ghost_name ≡ tx.old.conn.ghost_name }
-    ensures makes { HasCleanDisk (state S.Store tx.new.conn.now) → (e : EventValue) (s : ℕ) (before : ℕ → Totals) → numbers e.players ≡ numbers event.now.players
+    ensures makes { HasCleanDisk (state S.Store tx.new.conn.now)
+        → (e : EventValue) (s : ℕ) (before : ℕ → Totals)
+        → numbers e.players ≡ numbers event.now.players
         → StandsWith (state S.Store tx.old.conn.now).now e s (tally_rows_by before e.players)
-        → OnOk result (MakesWith (state S.Store tx.old.conn.now) (state S.Store tx.new.conn.now) e s (tally_rows_by (set_for_all (played.now ∷ []) (totals (after event.now change.now)) before) e.players)) }
+        → OnOk result (BringsToWith (state S.Store tx.old.conn.now) (state S.Store tx.new.conn.now) e s (tally_rows_by (set_for_all (played.now ∷ []) (totals (after event.now change.now)) before) e.players)) }
     ensures stays { Stays (state S.Store tx.old.conn.now) (state S.Store tx.new.conn.now) }
 {
     recount_player(tx, event, change, played.a)?;
@@ -210,9 +226,10 @@ fn recount<S: Alter>(
 ) -> Result<(), Error>
     requires fits { Fits event.now change.now }
     ensures same_reference { tx.new.conn.ghost_name ≡ tx.old.conn.ghost_name }
-    ensures makes { HasCleanDisk (state S.Store tx.new.conn.now) → (e : EventValue) (s : ℕ) → numbers e.players ≡ numbers event.now.players
-        → Moves (state S.Store tx.old.conn.now) (state S.Store tx.old.conn.now) → StandsWith (state S.Store tx.old.conn.now).now e s (tally_rows_by (totals event.now) e.players)
-        → OnOk result (MakesWith (state S.Store tx.old.conn.now) (state S.Store tx.new.conn.now) e s (tally_rows_by (totals (after event.now change.now)) e.players)) }
+    ensures makes { HasCleanDisk (state S.Store tx.new.conn.now) → (e : EventValue) (s : ℕ)
+        → numbers e.players ≡ numbers event.now.players
+        → Moves (state S.Store tx.old.conn.now) (state S.Store tx.old.conn.now)
+        → StandsWith (state S.Store tx.old.conn.now).now e s (tally_rows_by (totals event.now) e.players) → OnOk result (BringsToWith (state S.Store tx.old.conn.now) (state S.Store tx.new.conn.now) e s (tally_rows_by (totals (after event.now change.now)) e.players)) }
     ensures stays { Stays (state S.Store tx.old.conn.now) (state S.Store tx.new.conn.now) }
 {
     for played in event.recounted(change) {
@@ -230,15 +247,18 @@ fn count_player<S: Alter>(
     requires fits { Fits event.now change.now }
     requires few { length event.now.players < MAX_PLAYERS }
     ensures same_reference { tx.new.conn.ghost_name ≡ tx.old.conn.ghost_name }
-    ensures makes { HasCleanDisk (state S.Store tx.new.conn.now) → (e : EventValue) (s : ℕ) (t : List TallyRow) → StandsWith (state S.Store tx.old.conn.now).now e s t
-        → OnOk result (MakesWith (state S.Store tx.old.conn.now) (state S.Store tx.new.conn.now) e s (t ++ tally_row (length event.now.players + 1) (totals (after event.now change.now) (length event.now.players + 1)) ∷ [])) }
+    ensures makes { HasCleanDisk (state S.Store tx.new.conn.now)
+        → (e : EventValue) (s : ℕ) (t : List TallyRow)
+        → StandsWith (state S.Store tx.old.conn.now).now e s t
+        → OnOk result (BringsToWith (state S.Store tx.old.conn.now) (state S.Store tx.new.conn.now) e s (t ++ tally_row (length event.now.players + 1) (totals (after event.now change.now) (length event.now.players + 1)) ∷ [])) }
     ensures stays { Stays (state S.Store tx.old.conn.now) (state S.Store tx.new.conn.now) }
 {
     let number = event.players().len() as u16 + 1;
     let Some(player) = PlayerNo::try_new(number) else {
         unreachable!()
     };
-    insert_tally(tx, u32::from(number), event.totals_after(change, player))
+    let row = TallyRow::of(player, event.totals_after(change, player));
+    insert_tally(tx, &row)
 }
 
 /// Makes the change with the totals that come of it, and leaves the serial.
@@ -249,8 +269,9 @@ fn change_tables<S: Alter>(
 ) -> Result<(), Error>
     requires fits { Fits event.now change.now }
     ensures same_reference { tx.new.conn.ghost_name ≡ tx.old.conn.ghost_name }
-    ensures makes { HasCleanDisk (state S.Store tx.new.conn.now) → (s : ℕ) → StandsFor (state S.Store tx.old.conn.now).now event.now s
-        → OnOk result (Makes (state S.Store tx.old.conn.now) (state S.Store tx.new.conn.now) (after event.now change.now) s) }
+    ensures makes { HasCleanDisk (state S.Store tx.new.conn.now) → (s : ℕ)
+        → StandsFor (state S.Store tx.old.conn.now).now event.now s
+        → OnOk result (BringsTo (state S.Store tx.old.conn.now) (state S.Store tx.new.conn.now) (after event.now change.now) s) }
     ensures stays { Stays (state S.Store tx.old.conn.now) (state S.Store tx.new.conn.now) }
 {
     change_rows(tx, event, change)?;
@@ -270,9 +291,11 @@ fn change_event<S: Alter>(
     requires fits { Fits event.now change.now }
     requires low { serial < MAX_SERIAL }
     ensures same_reference { tx.new.conn.ghost_name ≡ tx.old.conn.ghost_name }
-    ensures makes { HasCleanDisk (state S.Store tx.new.conn.now) → StandsFor (state S.Store tx.old.conn.now).now event.now serial
-        → OnOk result (Makes (state S.Store tx.old.conn.now) (state S.Store tx.new.conn.now) (after event.now change.now) (serial + 1)) }
-    ensures inside { HasCleanDisk (state S.Store tx.new.conn.now) → OnOk result (IsTrue (state S.Store tx.new.conn.now).in_transaction) }
+    ensures makes { HasCleanDisk (state S.Store tx.new.conn.now)
+        → StandsFor (state S.Store tx.old.conn.now).now event.now serial
+        → OnOk result (BringsTo (state S.Store tx.old.conn.now) (state S.Store tx.new.conn.now) (after event.now change.now) (serial + 1)) }
+    ensures inside { HasCleanDisk (state S.Store tx.new.conn.now)
+        → OnOk result (IsTrue (state S.Store tx.new.conn.now).in_transaction) }
     ensures stays { Stays (state S.Store tx.old.conn.now) (state S.Store tx.new.conn.now) }
 {
     change_tables(tx, event, change)?;
@@ -291,11 +314,16 @@ pub fn write_tables<S: Alter>(
     requires mode { conn.old.in_transaction ≡ false }
     ensures mode { conn.new.in_transaction ≡ false }
     ensures clean { HasCleanDisk (state S.Store conn.new) → HasCleanDisk (state S.Store conn.old) }
-    ensures kept { HasCleanDisk (state S.Store conn.new) → OnErr result (KeepsTables (state S.Store conn.old) (state S.Store conn.new)) }
-    ensures written { HasCleanDisk (state S.Store conn.new) → Shows (state S.Store conn.old) event.now serial
-        → OnOk result (Shows (state S.Store conn.new) (after event.now change.now) (serial + 1) × KeepsOthers (state S.Store conn.old).now (state S.Store conn.new).now) }
-    ensures acknowledged { HasCleanDisk (state S.Store conn.new) → Shows (state S.Store conn.old) event.now serial
-        → OnOk result ((trees : Trees) → (state S.Store conn.new).may_leave trees → IsStored (after event.now change.now) (serial + 1) trees) }
+    ensures kept { HasCleanDisk (state S.Store conn.new)
+        → OnErr result (KeepsTables (state S.Store conn.old) (state S.Store conn.new)) }
+    ensures written { HasCleanDisk (state S.Store conn.new)
+        → Shows (state S.Store conn.old) event.now serial
+        → OnOk result (Shows (state S.Store conn.new) (after event.now change.now) (serial + 1)
+        × KeepsOthers (state S.Store conn.old).now (state S.Store conn.new).now) }
+    ensures acknowledged { HasCleanDisk (state S.Store conn.new)
+        → Shows (state S.Store conn.old) event.now serial
+        → OnOk result ((trees : Trees) → (state S.Store conn.new).may_leave trees
+        → IsStored (after event.now change.now) (serial + 1) trees) }
     ensures crash { Shows (state S.Store conn.old) event.now serial
         → Leaves (state S.Store conn.new) (Either (IsStored event.now serial) (IsStored (after event.now change.now) (serial + 1))) }
 {
@@ -308,9 +336,11 @@ pub fn write_tables<S: Alter>(
 fn make_event<S: Alter>(tx: &mut Transaction<'_, S>, event: &Event) -> Result<(), Error>
     requires fresh { IsNew event.now }
     ensures same_reference { tx.new.conn.ghost_name ≡ tx.old.conn.ghost_name }
-    ensures readies { HasCleanDisk (state S.Store tx.new.conn.now) → (state S.Store tx.old.conn.now).now.schema ≡ no_schema
+    ensures readies { HasCleanDisk (state S.Store tx.new.conn.now)
+        → (state S.Store tx.old.conn.now).now.schema ≡ no_schema
         → OnOk result (IsReady (state S.Store tx.new.conn.now) event.now 0) }
-    ensures inside { HasCleanDisk (state S.Store tx.new.conn.now) → OnOk result (IsTrue (state S.Store tx.new.conn.now).in_transaction) }
+    ensures inside { HasCleanDisk (state S.Store tx.new.conn.now)
+        → OnOk result (IsTrue (state S.Store tx.new.conn.now).in_transaction) }
     ensures stays { Stays (state S.Store tx.old.conn.now) (state S.Store tx.new.conn.now) }
 {
     create_all(tx)?;
@@ -323,11 +353,17 @@ pub fn create_tables<S: Alter>(conn: &mut Connection<S>, event: &Event) -> Resul
     requires fresh { IsNew event.now }
     ensures mode { conn.new.in_transaction ≡ false }
     ensures clean { HasCleanDisk (state S.Store conn.new) → HasCleanDisk (state S.Store conn.old) }
-    ensures kept { HasCleanDisk (state S.Store conn.new) → OnErr result (KeepsTables (state S.Store conn.old) (state S.Store conn.new)) }
-    ensures created { HasCleanDisk (state S.Store conn.new) → (state S.Store conn.old).now.schema ≡ no_schema → OnOk result (Shows (state S.Store conn.new) event.now 0) }
-    ensures acknowledged { HasCleanDisk (state S.Store conn.new) → (state S.Store conn.old).now.schema ≡ no_schema
-        → OnOk result ((trees : Trees) → (state S.Store conn.new).may_leave trees → IsStored event.now 0 trees) }
-    ensures crash { (state S.Store conn.old).now.schema ≡ no_schema → Leaves (state S.Store conn.new) (Either (state S.Store conn.old).may_leave (IsStored event.now 0)) }
+    ensures kept { HasCleanDisk (state S.Store conn.new)
+        → OnErr result (KeepsTables (state S.Store conn.old) (state S.Store conn.new)) }
+    ensures created { HasCleanDisk (state S.Store conn.new)
+        → (state S.Store conn.old).now.schema ≡ no_schema
+        → OnOk result (Shows (state S.Store conn.new) event.now 0) }
+    ensures acknowledged { HasCleanDisk (state S.Store conn.new)
+        → (state S.Store conn.old).now.schema ≡ no_schema
+        → OnOk result ((trees : Trees) → (state S.Store conn.new).may_leave trees
+        → IsStored event.now 0 trees) }
+    ensures crash { (state S.Store conn.old).now.schema ≡ no_schema
+        → Leaves (state S.Store conn.new) (Either (state S.Store conn.old).may_leave (IsStored event.now 0)) }
 {
     let mut tx = conn.transaction();
     make_event(&mut tx, event)?;
@@ -338,8 +374,11 @@ pub fn create_tables<S: Alter>(conn: &mut Connection<S>, event: &Event) -> Resul
 fn can_run<S: Alter>(conn: &mut Connection<S>, sql: &str) -> Result<bool, Error>
     ensures mode { conn.old.in_transaction ≡ false → conn.new.in_transaction ≡ false }
     ensures found { HasCleanDisk (state S.Store conn.new)
-        → IfOk result (λ found. (IsTrue found ↔ IsOk (understood (state S.Store conn.old).now.schema sql.now)) × IsUnchanged (state S.Store conn.old) (state S.Store conn.new)) }
-    ensures kept { HasCleanDisk (state S.Store conn.new) → OnErr result (KeepsTables (state S.Store conn.old) (state S.Store conn.new)) }
+        → IfOk result (λ found. (IsTrue found
+        ↔ IsOk (understood (state S.Store conn.old).now.schema sql.now))
+        × IsUnchanged (state S.Store conn.old) (state S.Store conn.new)) }
+    ensures kept { HasCleanDisk (state S.Store conn.new)
+        → OnErr result (KeepsTables (state S.Store conn.old) (state S.Store conn.new)) }
     ensures survives { Survives (state S.Store conn.old) (state S.Store conn.new) (λ _. ⊥) }
 {
     match conn.prepare(sql) {
@@ -353,8 +392,10 @@ fn can_run<S: Alter>(conn: &mut Connection<S>, sql: &str) -> Result<bool, Error>
 pub fn reads_event<S: Alter>(conn: &mut Connection<S>) -> Result<bool, Error>
     ensures mode { conn.old.in_transaction ≡ false → conn.new.in_transaction ≡ false }
     ensures found { HasCleanDisk (state S.Store conn.new)
-        → IfOk result (λ found. (IsTrue found ↔ ReadsEvent (state S.Store conn.old).now.schema) × IsUnchanged (state S.Store conn.old) (state S.Store conn.new)) }
-    ensures kept { HasCleanDisk (state S.Store conn.new) → OnErr result (KeepsTables (state S.Store conn.old) (state S.Store conn.new)) }
+        → IfOk result (λ found. (IsTrue found ↔ ReadsEvent (state S.Store conn.old).now.schema)
+        × IsUnchanged (state S.Store conn.old) (state S.Store conn.new)) }
+    ensures kept { HasCleanDisk (state S.Store conn.new)
+        → OnErr result (KeepsTables (state S.Store conn.old) (state S.Store conn.new)) }
     ensures survives { Survives (state S.Store conn.old) (state S.Store conn.new) (λ _. ⊥) }
 {
     can_run(conn, EventRow::read())
@@ -366,8 +407,10 @@ pub const FIND_EVENT: &str = "SELECT 1 FROM event";
 pub fn has_event<S: Alter>(conn: &mut Connection<S>) -> Result<bool, Error>
     ensures mode { conn.old.in_transaction ≡ false → conn.new.in_transaction ≡ false }
     ensures found { HasCleanDisk (state S.Store conn.new)
-        → IfOk result (λ found. (IsTrue found ↔ CanRead (state S.Store conn.old).now.schema) × IsUnchanged (state S.Store conn.old) (state S.Store conn.new)) }
-    ensures kept { HasCleanDisk (state S.Store conn.new) → OnErr result (KeepsTables (state S.Store conn.old) (state S.Store conn.new)) }
+        → IfOk result (λ found. (IsTrue found ↔ CanRead (state S.Store conn.old).now.schema)
+        × IsUnchanged (state S.Store conn.old) (state S.Store conn.new)) }
+    ensures kept { HasCleanDisk (state S.Store conn.new)
+        → OnErr result (KeepsTables (state S.Store conn.old) (state S.Store conn.new)) }
     ensures survives { Survives (state S.Store conn.old) (state S.Store conn.new) (λ _. ⊥) }
 {
     can_run(conn, FIND_EVENT)

@@ -60,7 +60,9 @@ fn copied(alloc: Global, bytes: &[u8]) -> Option<Memory>
 
 /// Files with the bytes of these, of which each stops after so many calls.
 fn opened_again(alloc: Global, files: &Disks, log: u64, db: u64) -> Option<Disks>
-    ensures { IfSome result (λ files. IsTrue (memory_is_usable (inner_of files.log)) × IsFresh files.log × IsTrue (memory_is_usable (inner_of files.db)) × IsFresh files.db) }
+    ensures { IfSome result (λ files. IsTrue (memory_is_usable (inner_of files.log))
+        × IsFresh files.log × IsTrue (memory_is_usable (inner_of files.db))
+        × IsFresh files.db) }
 {
     Some(Files {
         log: Fuse::new(copied(alloc, files.log.inner().bytes())?, log),
@@ -159,7 +161,8 @@ fn session_on<S: Alter>(
 
 /// A session over the files of an event with so many commands. Where it stops while it opens them, nothing more is acknowledged.
 fn next_session(alloc: Global, case: Case, files: Disks, before: usize, to: usize) -> Ended
-    requires { IsTrue (memory_is_usable (inner_of files.log)) × IsFresh files.log × IsTrue (memory_is_usable (inner_of files.db)) × IsFresh files.db }
+    requires { IsTrue (memory_is_usable (inner_of files.log)) × IsFresh files.log
+        × IsTrue (memory_is_usable (inner_of files.db)) × IsFresh files.db }
 {
     let conn = match Connection::open_files(alloc, files, Options::new(7)) {
         Ok(conn) => conn,
@@ -281,7 +284,8 @@ fn whole_event(alloc: Global, case: Case, stops_log: bool) -> Option<u64> {
 
 /// Whether a session over these files, that sends the commands between two places, ends before the stop. It survives the stop, or there is no answer.
 fn session_ends(alloc: Global, case: Case, files: Disks, places: (usize, usize)) -> Option<bool>
-    requires { IsTrue (memory_is_usable (inner_of files.log)) × IsFresh files.log × IsTrue (memory_is_usable (inner_of files.db)) × IsFresh files.db }
+    requires { IsTrue (memory_is_usable (inner_of files.log)) × IsFresh files.log
+        × IsTrue (memory_is_usable (inner_of files.db)) × IsFresh files.db }
 {
     let (from, to) = places;
     let mut it = next_session(alloc, case, files, from, to);

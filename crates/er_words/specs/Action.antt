@@ -1,6 +1,6 @@
 -- What a line has done, and to which file.
 use Rattle.std.specs.Prelude.{ℕ, List}
-use Rattle.er_event.specs.declared.refusals.Command.TheVariants as command
+use Rattle.er_event.specs.declared.commands.Command.TheVariants as command
 use Rattle.er_words.specs.declared.action.Action.{Action}
 use Rattle.er_words.specs.declared.action.Action.TheVariants as action
 use Rattle.er_words.specs.declared.action.Task.TheVariants as task

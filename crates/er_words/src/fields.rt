@@ -7,14 +7,16 @@ use std::alloc::{AllocError, Global};
 
 /// The fields of a script's line, with a TAB between two.
 fn fields_of(alloc: Global, line: &str) -> Result<Vec<&str>, AllocError>
-    ensures { IfOk result (λ fields. map (λ field. field.now) fields.items ≡ fields_of line.entry.now) }
+    ensures { IfOk result (λ fields. map (λ field. field.now) fields.items
+        ≡ fields_of line.entry.now) }
 {
     line.split('\t').collect(alloc)
 }
 
 /// The words of a command line, with `script` put in as FILE.
 fn words_of(alloc: Global, name: &str, values: &[&str]) -> Result<Vec<String>, AllocError>
-    ensures { IfOk result (λ words. map string_bytes words.items ≡ name.now ∷ codes "script" ∷ map (λ value. value.now) values.now) }
+    ensures { IfOk result (λ words. map string_bytes words.items
+        ≡ name.now ∷ codes "script" ∷ map (λ value. value.now) values.now) }
 {
     let mut words = Vec::new(alloc);
     words.push(String::from_str(alloc, name)?)?;

@@ -49,7 +49,8 @@ fn with_leaf<'a>(
     command: Command<'a>,
     name: &'a str,
 ) -> Result<Command<'a>, AllocError>
-    ensures { IfOk result (λ made. app_of made ≡ with_subcommand (app_of command.entry) (leaf name.entry.now)) }
+    ensures { IfOk result (λ made. app_of made
+        ≡ with_subcommand (app_of command.entry) (leaf name.entry.now)) }
 {
     let words = Arg::new(alloc, "words").num_args(0..);
     let leaf = Command::new(alloc, name).arg(words)?;
@@ -57,7 +58,8 @@ fn with_leaf<'a>(
 }
 
 fn command<'a>(alloc: Global, names: &[&'a str]) -> Result<Command<'a>, AllocError>
-    ensures { IfOk result (λ made. app_of made ≡ with_leaves (map (λ name. name.now) names.entry.now)) }
+    ensures { IfOk result (λ made. app_of made
+        ≡ with_leaves (map (λ name. name.now) names.entry.now)) }
 {
     let mut command = Command::new(alloc, "event_reporter")
         .no_binary_name(true)
@@ -80,7 +82,8 @@ fn fault_of(error: Error) -> LineFault
 
 /// The words after the subcommand's name.
 fn words_of<'a>(alloc: Global, matches: &ArgMatches<'a>) -> Result<Vec<&'a str>, AllocError>
-    ensures { IfOk result (λ words. map (λ word. word.now) words.items ≡ words_in (rows_of (found_of matches.now))) }
+    ensures { IfOk result (λ words. map (λ word. word.now) words.items
+        ≡ words_in (rows_of (found_of matches.now))) }
 {
     match matches.get_strs("words") {
         Some(words) => Vec::from_slice(alloc, words),
@@ -94,8 +97,10 @@ pub fn split_words<'a>(
     words: &'a [String],
 ) -> Result<(&'a str, Vec<&'a str>), LineFault>
     requires { IsFalse (list_any is_option (map string_bytes words.now)) }
-    ensures ok { IfOk result (λ split. split_of (map string_bytes words.entry.now) ≡ Some (split.0.now, map (λ word. word.now) split.1.items)) }
-    ensures usage { result ≡ Err LineFault.Usage → split_of (map string_bytes words.entry.now) ≡ None }
+    ensures ok { IfOk result (λ split. split_of (map string_bytes words.entry.now)
+        ≡ Some (split.0.now, map (λ word. word.now) split.1.items)) }
+    ensures usage { result ≡ Err LineFault.Usage
+        → split_of (map string_bytes words.entry.now) ≡ None }
 {
     let matches = match command(alloc, &SUBCOMMANDS)?.try_get_matches_from(words) {
         Ok(matches) => matches,

@@ -6,5 +6,5 @@ use Rattle.er_event.specs.Sound.{IsSoundButForSeeds}
 abbrev pub value_of : Inside → EventValue
 value_of e = record { name = e.name; rounds = e.rounds; cut = e.cut; phase = e.phase; players = e.players.items; stored = e.stored.items; bracket = e.bracket }
 
-abbrev pub IsSound : Inside → Type 0
-IsSound e = IsSoundButForSeeds (value_of e)
+abbrev pub IsSoundInside : Inside → Type 0
+IsSoundInside e = IsSoundButForSeeds (value_of e)

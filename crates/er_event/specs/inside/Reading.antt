@@ -1,42 +1,39 @@
--- What is known of the event after two, three and four of its tables are read.
-use Rattle.std.specs.Prelude.{◌≡◌, ◌↔◌, List, []}
+-- What is known of the event of given rows while they are read.
+use Rattle.std.specs.Prelude.{◌≡◌, ◌≢◌, ◌≤◌, ℕ, List, length, All, IsTrue, IsFalse}
+use Rattle.std.specs.List.{list_any}
 use Rattle.er_event.specs.declared.events.Phase.{Phase}
-use Rattle.er_event.specs.declared.events.Phase.TheVariants.{Enrolling, Swiss, Finished}
-use Rattle.er_event.specs.declared.parts.Parts.{Parts}
-use Rattle.er_event.specs.declared.rounds.Match.{Match}
+use Rattle.er_event.specs.declared.events.Phase.TheVariants.{Enrolling}
+use Rattle.er_event.specs.declared.matches.Match.{Match}
+use Rattle.er_event.specs.declared.players.Player.{Player}
+use Rattle.er_event.specs.declared.players.TheConstants.{MAX_PLAYERS}
+use Rattle.er_event.specs.declared.rounds.Round.{Round}
+use Rattle.er_event.specs.declared.rows.event.Setup.{Setup}
 use Rattle.er_event.specs.Event.{EventValue}
-use Rattle.er_event.specs.Bracket.{IsDecided}
-use Rattle.er_event.specs.Change.{with_phase}
-use Rattle.er_event.specs.Parts.{HasPlayerRows, HasRoundRows, HasAllRows}
-use Rattle.er_event.specs.Sound.{numbers, IsBracket}
+use Rattle.er_event.specs.Name.{is_lawful_name}
+use Rattle.er_event.specs.Round.{is_counted, is_same_pairing, matches_of}
+use Rattle.er_event.specs.Sound.{IsRound}
 
--- the phase of the event until its stages are read
-abbrev pub before_playoff : Phase → Phase
-before_playoff Enrolling = Enrolling
-before_playoff _ = Swiss
+-- the event is what its row says
+pub record IsSetUpAs (s : Setup) (e : EventValue) : Type 0 where
+  pub name : e.name ≡ s.name
+  pub rounds : e.rounds ≡ s.rounds
+  pub cut : e.cut ≡ s.cut
+  pub phase : e.phase ≡ s.phase
 
--- the event of the first two tables, whose row has this phase
-pub record IsListed (parts : Parts) (phase : Phase) (e : EventValue) : Type 0 where
-  pub rows : HasPlayerRows parts (with_phase e phase)
-  pub early : e.phase ≡ before_playoff phase
-  pub no_rounds : e.stored ≡ []
-  pub no_stages : e.bracket.stages ≡ []
-  -- all else is known by the rows
-  pub only : (other : EventValue) → HasPlayerRows parts other → other ≡ record e { phase = phase; stored = other.stored; bracket = other.bracket }
+-- a player whose number and name are lawful
+pub record IsLawfulPlayer (p : Player) : Type 0 where
+  pub low : 1 ≤ p.no
+  pub high : p.no ≤ MAX_PLAYERS
+  pub name : IsTrue (is_lawful_name p.name)
 
--- the event of the first three tables, whose row has this phase
-pub record IsPaired (parts : Parts) (phase : Phase) (e : EventValue) : Type 0 where
-  pub rows : HasRoundRows parts (with_phase e phase)
-  pub early : e.phase ≡ before_playoff phase
-  pub no_stages : e.bracket.stages ≡ []
-  -- all else is known by the rows
-  pub only : (other : EventValue) → HasRoundRows parts other → other ≡ record e { phase = phase; bracket = other.bracket }
+-- nobody is dropped while players enrol, and two have enrolled once that is over
+pub record Suits (phase : Phase) (players : List Player) : Type 0 where
+  pub enrolling : phase ≡ Enrolling → All (λ (p : Player). IsFalse p.dropped) players
+  pub started : phase ≢ Enrolling → 2 ≤ length players
 
--- the stages may be those of the event, in this phase of the playoff
-abbrev pub FitsStages : EventValue → Phase → List (List Match) → Type 0
-FitsStages e phase stages = IsBracket (numbers e.players) e.cut stages × (IsDecided stages ↔ (phase ≡ Finished))
-
--- the one event of all four tables
-pub record IsWhole (parts : Parts) (e : EventValue) : Type 0 where
-  pub rows : HasAllRows parts e
-  pub only : (other : EventValue) → HasAllRows parts other → other ≡ e
+-- a round of these matches may come behind these rounds
+pub record MayFollow (known : List ℕ) (earlier : List Round) (matches : List Match) : Type 0 where
+  pub done : All (λ (r : Round). IsTrue (is_counted r.matches)) earlier
+  pub round : IsRound known matches
+  -- nobody meets an opponent, or has a bye, again
+  pub new : All (λ m. IsFalse (list_any (λ n. is_same_pairing n m) (matches_of earlier))) matches

@@ -1,8 +1,8 @@
 -- Which matches rows of a bracket can show.
 use Rattle.std.specs.Prelude.{ℕ, pos, Bool, ◌<◌, IsTrue, IfSome, List, length, map, All}
 use Rattle.std.specs.Ordering.{int_eq}
-use Rattle.er_event.specs.declared.rounds.Match.{Match}
-use Rattle.er_event.specs.declared.rows.BracketRow.{BracketRow}
+use Rattle.er_event.specs.declared.matches.Match.{Match}
+use Rattle.er_event.specs.declared.rows.bracket.BracketRow.{BracketRow}
 use Rattle.er_event.specs.Score.{is_playoff_score}
 use Rattle.er_event.specs.Round.{numbered_from}
 use Rattle.er_event.specs.Rows.{bracket_row}

@@ -35,10 +35,10 @@ unfoldable pub search_of : (ℕ → ℕ → Bool) → List ℕ → Answer
 search_of met list = search_within met (length list) list
 
 -- what a search that may make so many steps leaves: the pairs found, and the steps that are left
-abbrev pub Answers : Answer → ℕ → List Pair → ℕ → Outcome → Type 0
-Answers answer steps found left Paired = (answer.0 ≡ Some found) × (left + answer.1 ≡ steps)
-Answers answer steps found left DeadEnd = (answer.0 ≡ None) × (left + answer.1 ≡ steps)
-Answers answer steps found left OutOfSteps = steps < answer.1
+abbrev pub SearchAnswers : Answer → ℕ → List Pair → ℕ → Outcome → Type 0
+SearchAnswers answer steps found left Paired = (answer.0 ≡ Some found) × (left + answer.1 ≡ steps)
+SearchAnswers answer steps found left DeadEnd = (answer.0 ≡ None) × (left + answer.1 ≡ steps)
+SearchAnswers answer steps found left OutOfSteps = steps < answer.1
 
 -- the two positions have met, by the row of the first
 abbrev pub met_in : List Row → ℕ → ℕ → Bool

@@ -1,8 +1,8 @@
 use Rattle.std.proofs.Common.{◌≡◌, ◌⊎◌, IfOk, IfErr, Ok, Err, sym, ap, subst}
 use Rattle.std.proofs.lemmas.Result.{IfOk-weaker}
 use Rattle.er_event.specs.declared.changes.Change.{Change}
-use Rattle.er_event.specs.declared.refusals.Command.TheVariants.{Pair, Cut, Playoff}
-use Rattle.er_event.specs.declared.refusals.Command.{Command}
+use Rattle.er_event.specs.declared.commands.Command.TheVariants.{Pair, Cut, Playoff}
+use Rattle.er_event.specs.declared.commands.Command.{Command}
 use Rattle.er_event.specs.declared.refusals.Refusal.TheVariants.{Memory}
 use Rattle.er_event.specs.Change.{after, Fits}
 use Rattle.er_rules.specs.Step.{Answers}

@@ -1,6 +1,6 @@
 ghost use Rattle.std.specs.Prelude.{◌≡◌, ◌≤◌, ◌+◌, ◌++◌, None, false, length};
 ghost use Rattle.er_event.specs.Refusal.{entry_of};
-ghost use Rattle.er_slips.specs.Answer.{shown, answer_of, fault_answer, status_by, games_text, detail, refusal_body, refusal_answer, receipt_body, receipt_answer};
+ghost use Rattle.er_slips.specs.Answer.{answer_value, answer_of, fault_answer, status_by, games_text, detail, refusal_body, refusal_answer, receipt_body, receipt_answer};
 
 use crate::answer::Answer;
 use crate::answer::head::head_of;
@@ -11,7 +11,7 @@ use er_paper::ShortText;
 /// The answer with this JSON.
 fn answer_of(status: u16, allow: Option<bool>, body: &[u8]) -> Answer
     requires { length body.now ≤ 168 }
-    ensures { shown result ≡ answer_of status allow false body.now }
+    ensures { answer_value result ≡ answer_of status allow false body.now }
 {
     let mut text = head_of(status, allow, false, body.len());
     text.push(body);
@@ -20,7 +20,7 @@ fn answer_of(status: u16, allow: Option<bool>, body: &[u8]) -> Answer
 
 /// The answer to a request that the desk is not asked about. It takes no memory.
 pub fn fault_answer(fault: Fault) -> Answer
-    ensures { shown result ≡ fault_answer fault }
+    ensures { answer_value result ≡ fault_answer fault }
 {
     match fault {
         Fault::BadRequest => answer_of(400, None, b"{\"error\":\"bad request\"}"),
@@ -93,7 +93,7 @@ fn refusal_body(refusal: &Refusal) -> ShortText
 
 /// The answer where the desk refused. It takes no memory.
 pub fn refusal_answer(refusal: &Refusal) -> Answer
-    ensures { shown result ≡ refusal_answer refusal.now }
+    ensures { answer_value result ≡ refusal_answer refusal.now }
 {
     let body = refusal_body(refusal);
     answer_of(status_of(refusal.number()), None, body.as_slice())
@@ -112,7 +112,7 @@ fn receipt_body(receipt: Receipt) -> ShortText
 
 /// The answer where a command was accepted. It takes no memory.
 pub fn receipt_answer(receipt: Receipt) -> Answer
-    ensures { shown result ≡ receipt_answer receipt.serial }
+    ensures { answer_value result ≡ receipt_answer receipt.serial }
 {
     let body = receipt_body(receipt);
     answer_of(200, None, body.as_slice())

@@ -15,12 +15,12 @@ use Rattle.sqlite.specs.State.{State, HasCleanDisk, Survives, IsUnchanged}
 use Rattle.er_event.specs.Event.{EventValue}
 use Rattle.er_event.specs.Parts.{parts_of}
 use Rattle.er_event.specs.Sound.{IsSoundButForSeeds}
-use Rattle.er_event.specs.declared.parts.Parts.{Parts}
+use Rattle.er_event.specs.declared.events.parts.Parts.{Parts}
 use Rattle.er_event.specs.declared.refusals.Refusal.{Refusal}
 use Rattle.er_event.specs.declared.refusals.Refusal.TheVariants.{Damaged}
 use Rattle.er_event.specs.declared.refusals.Place.{Place}
-use Rattle.er_event.specs.declared.rows.TallyRow.{TallyRow}
-use Rattle.er_store.specs.Rows.{shown}
+use Rattle.er_event.specs.declared.rows.tally.TallyRow.{TallyRow}
+use Rattle.er_store.specs.Rows.{columns_at}
 use Rattle.er_store.specs.Shape.{Form, Shape, tally_form, tally_table}
 use Rattle.er_store.specs.Reading.{Lists, first_columns, KeepsTables}
 use Rattle.er_store.specs.Standing.{HasTables, StandsFor}
@@ -45,10 +45,10 @@ pub record IsOurs {R : Type 0} (form : Form R) (table : Shape R) : Type 0 where
   pub keys : List ℕ
   pub selects : (schema : Schema) → HasTables schema → Selects table.read (table_query table.tree table.places keys) schema
   pub lists : (trees : Trees) (rows : List Row) → IsAnswer (table_query table.tree table.places keys) (overlay trees []) [] rows
-      → Lists table.order (shown table.places (trees table.tree)) rows
+      → Lists table.order (columns_at table.places (trees table.tree)) rows
   pub whole : (r : Row) → first_columns form.width (map (column r) table.places) ≡ map (column r) table.places
   pub exact : (db : Database) (e : EventValue) (s : ℕ) (rows : List Row) → StandsFor db e s → IsSoundButForSeeds e
-      → Lists table.order (shown table.places (db.trees table.tree)) rows → rows ≡ map form.columns (table.rows e s)
+      → Lists table.order (columns_at table.places (db.trees table.tree)) rows → rows ≡ map form.columns (table.rows e s)
   pub same : (r s : R) → form.columns r ≡ form.columns s → r ≡ s
   pub texts : (e : EventValue) (s : ℕ) → IsSoundButForSeeds e → All form.is_text (table.rows e s)
 

@@ -1,9 +1,9 @@
 -- Who met whom, as the tables show it.
 use Rattle.std.specs.Prelude.{ℕ, ℤ, pos, ◌+◌, min, max, Bool, true, not, List, [], ◌∷◌, ◌++◌, map, filter, find, Option, Some, None, option_map, is_some}
 use Rattle.std.specs.Ordering.{int_eq}
-use Rattle.er_event.specs.declared.rounds.Match.{Match}
+use Rattle.er_event.specs.declared.matches.Match.{Match}
 use Rattle.er_event.specs.declared.rounds.Round.{Round}
-use Rattle.er_event.specs.declared.rows.TallyRow.{TallyRow}
+use Rattle.er_event.specs.declared.rows.tally.TallyRow.{TallyRow}
 use Rattle.er_event.specs.declared.tallies.Meeting.{Meeting}
 use Rattle.er_event.specs.declared.totals.Totals.{Totals}
 use Rattle.er_event.specs.Event.{EventValue}

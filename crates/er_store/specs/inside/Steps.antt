@@ -8,8 +8,8 @@ use Rattle.sqlite.specs.Order.{Row}
 use Rattle.sqlite.specs.Effect.{IsDatabase}
 use Rattle.sqlite.specs.State.{State, Shows, HasCleanDisk, KeepsCommit, Survives, ExecutesInside}
 use Rattle.sqlite_rules.specs.Edit.{is_taken}
-use Rattle.er_event.specs.declared.rounds.Match.{Match}
-use Rattle.er_event.specs.declared.rows.TallyRow.{TallyRow}
+use Rattle.er_event.specs.declared.matches.Match.{Match}
+use Rattle.er_event.specs.declared.rows.tally.TallyRow.{TallyRow}
 use Rattle.er_event.specs.Event.{EventValue}
 use Rattle.er_event.specs.Rows.{tally_rows}
 use Rattle.er_store.specs.Tables.{our_schema}
@@ -48,13 +48,13 @@ pub record Moves (old new : State) : Type 0 where
   pub keeps : KeepsOthers old.now new.now
 
 -- what a step makes of tables that stand for an event, with these rows of totals
-pub record MakesWith (old new : State) (e : EventValue) (serial : ℕ) (totals : List TallyRow) : Type 0 where
+pub record BringsToWith (old new : State) (e : EventValue) (serial : ℕ) (totals : List TallyRow) : Type 0 where
   pub moves : Moves old new
   pub stands : StandsWith new.now e serial totals
 
 -- and with those of the event
-abbrev pub Makes : State → State → EventValue → ℕ → Type 0
-Makes old new e serial = MakesWith old new e serial (tally_rows e)
+abbrev pub BringsTo : State → State → EventValue → ℕ → Type 0
+BringsTo old new e serial = BringsToWith old new e serial (tally_rows e)
 
 -- only the commit is left: the tables stand for the event
 pub record IsReady (s : State) (e : EventValue) (serial : ℕ) : Type 0 where

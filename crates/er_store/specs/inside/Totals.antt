@@ -1,7 +1,7 @@
 -- What the rows of totals are while a change is written, player by player.
 use Rattle.std.specs.Prelude.{ℕ, ◌==◌, ◌||◌, Bool, if◌then◌else◌, List}
 use Rattle.std.specs.List.{list_any}
-use Rattle.er_event.specs.declared.rounds.Match.{Match}
+use Rattle.er_event.specs.declared.matches.Match.{Match}
 use Rattle.er_event.specs.declared.totals.Totals.{Totals}
 
 -- one player's are set, and the others stay

@@ -1,5 +1,5 @@
 use Rattle.std.proofs.Common.{◌≡◌, ◌∙◌, ℕ, List, sym, ap, Some}
-use Rattle.er_event.specs.declared.rounds.Match.{Match}
+use Rattle.er_event.specs.declared.matches.Match.{Match}
 use Rattle.er_event.specs.declared.totals.Totals.{Totals}
 use Rattle.er_event.specs.Lines.{Line, own, counted_lines}
 use Rattle.er_event.specs.Totals.{totals_of, totals_of_games}

@@ -1,6 +1,6 @@
 use Rattle.std.proofs.Common.{length, length-set, set, ◌-◌, refl, ◌∙◌, subst, arith}
 use Rattle.er_pair.specs.declared.search.Outcome.{Outcome}
-use Rattle.er_pair.specs.inside.Search.{free_ahead, search_of, met_in, Answers}
+use Rattle.er_pair.specs.inside.Search.{free_ahead, search_of, met_in, SearchAnswers}
 use Rattle.er_pair.proofs.Trying.{IsAt, IsRest, rest_found, pairs_none, free_none, free_first, starts, without_step, some_pair, none_is_left, rest_two_by_two, goes_on, answers_with, rest_size, pair_and_more}
 use Rattle.er_pair.proofs.search.+search.Goals.{then-more-eq1, else-more-eq1}
 use Rattle.er_pair.proofs.search.+search.Goals as goal
@@ -167,7 +167,7 @@ loop-partner-preserved t c =
           c.but-rest.new.used c.but-rest.result c.but-rest.ensures.ahead
           c.next-in-loop-partner.new.self c.if-more-eq1.used c.give_back.new.used rest.found c.if-more-eq1.steps
           c.in-Some-next-2.ensures.found.2 c.in-Some-next-2.ensures.word (omega arith)
-          (subst (λ (o : Outcome). Answers
+          (subst (λ (o : Outcome). SearchAnswers
           (search_of (met_in c.args.rows.now) (free_ahead c.but-rest.new.used c.but-rest.result (length c.args.rows.now)))
           (c.loop-partner.steps - 1) rest.found c.if-more-eq1.steps o) c.in-DeadEnd.is rest.answer)
           c.but-rest.ensures.used (rest.as_before c.in-DeadEnd.is) c.give_back.ensures;

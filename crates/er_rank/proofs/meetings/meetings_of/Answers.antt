@@ -1,6 +1,6 @@
 use Rattle.std.proofs.Common.{◌≡◌, ◌++◌, [], List, Bool, if◌then◌else◌, map, filter, ap, sym, ◌∙◌, append-nil}
 use Rattle.std.proofs.lemmas.List.{take_all}
-use Rattle.er_event.specs.declared.rounds.Match.{Match}
+use Rattle.er_event.specs.declared.matches.Match.{Match}
 use Rattle.er_event.specs.declared.rounds.Round.{Round}
 use Rattle.er_event.specs.Round.{is_counted}
 use Rattle.er_event.specs.Tallies.{counted_matches, meeting_by}

@@ -1,4 +1,4 @@
-use Rattle.er_event.specs.declared.refusals.Command.TheVariants.{Enrol, Start, Pair, Result as Report, Correct, Drop, Cut, Playoff as PlayOff}
+use Rattle.er_event.specs.declared.commands.Command.TheVariants.{Enrol, Start, Pair, Result as Report, Correct, Drop, Cut, Playoff as PlayOff}
 use Rattle.er_rules.specs.Retry.{IsRefusedLater}
 use Rattle.er_rules.proofs.Retrying.{start_again, pair_again, cut_again, enrol_again, drop_again}
 use Rattle.er_rules.proofs.Rescoring.{report_again}

@@ -1,7 +1,7 @@
 use Rattle.std.proofs.Common.{◌≡◌, ◌⊎◌, ◌↔◌, ℕ, Bool, List, Ok, Err, sym, ap, subst, ◌∙◌}
 use Rattle.er_event.specs.declared.changes.Change.TheVariants.{AddRound}
-use Rattle.er_event.specs.declared.refusals.Command.TheVariants.{Pair}
-use Rattle.er_event.specs.declared.rounds.Match.{Match}
+use Rattle.er_event.specs.declared.commands.Command.TheVariants.{Pair}
+use Rattle.er_event.specs.declared.matches.Match.{Match}
 use Rattle.er_event.specs.Change.{with_round, Fits}
 use Rattle.er_pair.specs.declared.pairings.PairFault.TheVariants.{NoPairing, Budget, Memory}
 use Rattle.er_pair.specs.declared.pairings.TheConstants.{MAX_STEPS}

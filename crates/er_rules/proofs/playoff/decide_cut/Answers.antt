@@ -1,8 +1,8 @@
 use Rattle.std.proofs.Common.{◌≡◌, ◌≢◌, ℕ, inr, All, AllPairs, Contains, List, [], ◌∷◌, ◌++◌, length, Ok, sym, ap, subst, ◌∙◌}
 use Rattle.er_event.specs.declared.changes.Change.TheVariants.{AddBracket}
 use Rattle.er_event.specs.declared.events.Phase.TheVariants.{Playoff}
-use Rattle.er_event.specs.declared.refusals.Command.TheVariants.{Cut}
-use Rattle.er_event.specs.declared.rounds.Match.{Match}
+use Rattle.er_event.specs.declared.commands.Command.TheVariants.{Cut}
+use Rattle.er_event.specs.declared.matches.Match.{Match}
 use Rattle.er_event.specs.Event.{EventValue}
 use Rattle.er_event.specs.Change.{after, Fits}
 use Rattle.er_event.specs.Sound.{numbers}

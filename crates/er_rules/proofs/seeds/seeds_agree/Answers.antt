@@ -1,7 +1,7 @@
 use Rattle.std.proofs.Common.{rules, ◌≡◌, ◌≢◌, IsTrue, ℕ, List, length, Some, true≢false, sym, ap, subst, ◌∙◌, arith}
 use Rattle.std.specs.List.{slice_get}
 use Rattle.std.proofs.lemmas.Option.{same_Some}
-use Rattle.er_event.specs.declared.rounds.Match.{Match}
+use Rattle.er_event.specs.declared.matches.Match.{Match}
 use Rattle.er_event.specs.Bracket.{SameSlots}
 use Rattle.er_rank.specs.Standings.{IsTop}
 use Rattle.er_bracket.specs.Seeds.{first_stage}

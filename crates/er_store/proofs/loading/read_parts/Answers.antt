@@ -1,6 +1,6 @@
 use Rattle.std.proofs.Common.{rules}
 use Rattle.sqlite.specs.Held.{state}
-use Rattle.er_event.proofs.PartsLemmas.{parts_same}
+use Rattle.er_event.proofs.ReadingLemmas.{parts_same}
 use Rattle.er_event.specs.declared.refusals.Place.TheVariants.{EventTable, PlayerTable, PairingTable, BracketTable}
 use Rattle.er_store.proofs.TableLemmas.{event_is_ours, player_is_ours, pairing_is_ours, bracket_is_ours}
 use Rattle.er_store.proofs.LookupLemmas.{looks_then, found_as, missed_as, first_misread}

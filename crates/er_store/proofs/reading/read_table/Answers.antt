@@ -1,7 +1,7 @@
 use Rattle.std.proofs.Common.{◌≡◌, ◌⊎◌, inl, inr, [], map, IsErrAnd, sym, ap, ◌∙◌, subst, rules}
 use Rattle.sqlite.specs.Held.{state}
 use Rattle.sqlite.specs.State.{Shown, FailsToQuery, Survives, CommitsShowing}
-use Rattle.er_store.specs.Rows.{shown}
+use Rattle.er_store.specs.Rows.{columns_at}
 use Rattle.er_store.specs.Standing.{HasTables}
 use Rattle.er_store.specs.Reading.{Lists, first_columns, out_of_memory, IsReadRefused}
 use Rattle.er_store.proofs.Together.{if_ok, if_err}
@@ -31,7 +31,7 @@ returns-clause-finds g c clean =
     let lists : HasTables old.now.schema → IsListed form table old.now typed.items = λ has.
     let all = listed form table it old new has rows shows in
     let width = listed_whole table.order form.width table.places (old.now.trees table.tree) rows it.whole all in
-    subst (Lists table.order (shown table.places (old.now.trees table.tree))) (sym (are ∙ (ap (map (first_columns form.width)) c.deref.ensures.value ∙ width))) all in
+    subst (Lists table.order (columns_at table.places (old.now.trees table.tree))) (sym (are ∙ (ap (map (first_columns form.width)) c.deref.ensures.value ∙ width))) all in
     record {
       reads = may_read form table old new rows c.deref.result.now it.begins c.deref.ensures.value shows typed.items are;
       lists = lists;

@@ -1,7 +1,7 @@
 use Rattle.std.proofs.Common.{◌≡◌, ◌∙◌, sym, ap, Some, nat_lt, true, false, arith}
 use Rattle.std.proofs.lemmas.Bool.Decides.{nat_tests}
 use Rattle.std.proofs.lemmas.Option.{none-some, same_Some}
-use Rattle.er_event.specs.declared.rounds.Match.{Match}
+use Rattle.er_event.specs.declared.matches.Match.{Match}
 use Rattle.er_store.specs.Slip.{match_of, is_swapped}
 use Rattle.er_store.proofs.SlipLemmas.{match_row, played_is, low_of, high_of, low_side, high_side, named_first, same_slip}
 use Rattle.er_store.proofs.slips.slip_of.Goals.{then-played, else-played}

@@ -1,12 +1,12 @@
 use Rattle.std.proofs.Common.{◌≡◌, ◌+◌, ◌++◌, ◌∷◌, [], List, length, sym, subst, ◌∙◌}
 use Rattle.sqlite.specs.Held.{state}
 use Rattle.er_event.specs.declared.changes.Change.{Change}
-use Rattle.er_event.specs.declared.rows.TallyRow.{TallyRow}
+use Rattle.er_event.specs.declared.rows.tally.TallyRow.{TallyRow}
 use Rattle.er_event.specs.Change.{after}
 use Rattle.er_event.specs.Rows.{tally_row, tally_rows, tally_rows_by}
 use Rattle.er_event.specs.Totals.{totals}
 use Rattle.er_store.specs.Standing.{StandsWith}
-use Rattle.er_store.specs.inside.Steps.{MakesWith}
+use Rattle.er_store.specs.inside.Steps.{BringsToWith}
 use Rattle.er_store.proofs.Committed.{stays_then}
 use Rattle.er_store.proofs.Crash.{was_clean}
 use Rattle.er_store.proofs.Together.{on_ok, makes_then}
@@ -23,7 +23,7 @@ returns-in-AddPlayer-clause-makes g c clean s stands =
     let one = c.in_ok-change_rows.ensures.makes (was_clean mid new _ c.count_player.ensures.stays.survives clean) s (tally_rows e) stands in
     let rows : tally_rows e ++ tally_row (length e.players + 1) (totals next (length e.players + 1)) ∷ [] ≡ tally_rows next =
     subst (λ (x : Change). tally_rows e ++ tally_row (length e.players + 1) (totals (after e x) (length e.players + 1)) ∷ [] ≡ tally_rows (after e x)) (sym c.in-AddPlayer.is) (one_more_player e c.in-AddPlayer.name) in
-    on_ok c.count_player.result _ _ (λ two. subst (λ (ts : List TallyRow). MakesWith old new next s ts) rows (makes_then old mid new next next s one two))
+    on_ok c.count_player.result _ _ (λ two. subst (λ (ts : List TallyRow). BringsToWith old new next s ts) rows (makes_then old mid new next next s one two))
     (c.count_player.ensures.makes clean next s (tally_rows e) one.stands)
 
 pub returns-in_default : goal.returns-in_default

@@ -1,10 +1,11 @@
 use Rattle.std.proofs.Common.{◌≡◌, ◌++◌, ◌∷◌, [], ◌+◌, List, length, take, refl, sym, ap, subst, ◌∙◌, arith}
 use Rattle.std.proofs.lemmas.List.{take_all, take_more, length-take-le}
 use Rattle.sqlite.specs.Held.{state}
-use Rattle.er_event.specs.declared.rounds.Match.{Match}
+use Rattle.er_event.specs.declared.matches.Match.{Match}
 use Rattle.er_event.specs.Change.{with_round}
+use Rattle.er_event.specs.Rows.{pairing_row}
 use Rattle.er_store.specs.Standing.{StandsWith}
-use Rattle.er_store.specs.inside.Steps.{MakesWith}
+use Rattle.er_store.specs.inside.Steps.{BringsToWith}
 use Rattle.er_store.proofs.Committed.{stays_self, stays_then}
 use Rattle.er_store.proofs.Crash.{was_clean}
 use Rattle.er_store.proofs.Pairing.{none_added, adds_none, adds_one}
@@ -16,14 +17,8 @@ loop-place-init g c =
     let old = state g.S.Store c.args.tx.now.conn.now in
     (refl, stays_self old, λ clean s rows stands. adds_none old (with_round c.args.event.now) s (none_added old.now c.args.event.now s stands))
 
-pub overflow_cast-place : goal.overflow_cast-place
-overflow_cast-place g c =
-    let few = few_matches c.args.event.now c.args.matches.now c.requires.fits.sound in
-    let below = c.loop-place-test.true in
-    omega arith
-
-pub overflow_add-place : goal.overflow_add-place
-overflow_add-place g c =
+pub of-row-requires : goal.of-row-requires
+of-row-requires g c =
     let few = few_matches c.args.event.now c.args.matches.now c.requires.fits.sound in
     let below = c.loop-place-test.true in
     omega arith
@@ -44,8 +39,10 @@ loop-place-preserved g c =
       stays_then old mid new kept.1 c.insert_pairing.ensures.stays,
       λ clean s rows stands.
           let was = kept.2 (was_clean mid new _ c.insert_pairing.ensures.stays.survives clean) s rows stands in
-          let made = c.in_ok-insert_pairing.ensures.makes clean e (take at matches) s rows was.stands (ap (λ rounds. length rounds + 1) c.stored.ensures.value) (sym (ap (λ n. n + 1) stored)) in
-          adds_one old mid new (with_round e) at (take at matches) (take (at + 1) matches) s was (subst (λ (ms : List Match). MakesWith mid new (with_round e ms) s rows) (sym more) made),
+          let row : c.of-row.result ≡ pairing_row (length e.stored + 1) (length (take at matches) + 1, m) =
+          c.of-row.ensures ∙ (ap (λ rounds. pairing_row (length rounds + 1) (at + 1, m)) c.stored.ensures.value ∙ ap (λ n. pairing_row (length e.stored + 1) (n + 1, m)) (sym stored)) in
+          let made = c.in_ok-insert_pairing.ensures.makes clean e (take at matches) m s rows was.stands row in
+          adds_one old mid new (with_round e) at (take at matches) (take (at + 1) matches) s was (subst (λ (ms : List Match). BringsToWith mid new (with_round e ms) s rows) (sym more) made),
     )
 
 pub returns-clause-makes : goal.returns-clause-makes

@@ -1,7 +1,7 @@
 use Rattle.std.proofs.Common.{◌≡◌, ℕ, List, take}
 use Rattle.sqlite.specs.State.{HasCleanDisk}
 use Rattle.sqlite.specs.Held.{state}
-use Rattle.er_event.specs.declared.rows.TallyRow.{TallyRow}
+use Rattle.er_event.specs.declared.rows.tally.TallyRow.{TallyRow}
 use Rattle.er_event.specs.Change.{with_round}
 use Rattle.er_store.specs.Standing.{StandsWith}
 use Rattle.er_store.specs.inside.Steps.{Stays}

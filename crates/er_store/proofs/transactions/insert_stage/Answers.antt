@@ -1,10 +1,11 @@
-use Rattle.std.proofs.Common.{◌≡◌, ◌++◌, ◌∷◌, [], ◌+◌, List, take, refl, sym, ap, subst, ◌∙◌, arith}
+use Rattle.std.proofs.Common.{◌≡◌, ◌++◌, ◌∷◌, [], ◌+◌, List, length, take, refl, sym, ap, subst, ◌∙◌, arith}
 use Rattle.std.proofs.lemmas.List.{take_all, take_more, length-take-le}
 use Rattle.sqlite.specs.Held.{state}
-use Rattle.er_event.specs.declared.rounds.Match.{Match}
+use Rattle.er_event.specs.declared.matches.Match.{Match}
 use Rattle.er_event.specs.Change.{with_stage}
+use Rattle.er_event.specs.Rows.{bracket_row}
 use Rattle.er_store.specs.Standing.{StandsWith}
-use Rattle.er_store.specs.inside.Steps.{MakesWith}
+use Rattle.er_store.specs.inside.Steps.{BringsToWith}
 use Rattle.er_store.proofs.Committed.{stays_self, stays_then}
 use Rattle.er_store.proofs.Crash.{was_clean}
 use Rattle.er_store.proofs.Pairing.{adds_none, adds_one}
@@ -16,14 +17,8 @@ loop-place-init g c =
     let old = state g.S.Store c.args.tx.now.conn.now in
     (refl, stays_self old, λ clean e s rows stands stage. adds_none old (with_stage e) s (no_slot_added old.now e s stands))
 
-pub overflow_cast-place : goal.overflow_cast-place
-overflow_cast-place g c =
-    let few = c.requires.1 in
-    let below = c.loop-place-test.true in
-    omega arith
-
-pub overflow_add-place : goal.overflow_add-place
-overflow_add-place g c =
+pub of-row-requires : goal.of-row-requires
+of-row-requires g c =
     let few = c.requires.1 in
     let below = c.loop-place-test.true in
     omega arith
@@ -43,8 +38,10 @@ loop-place-preserved g c =
       stays_then old mid new kept.1 c.insert_slot.ensures.stays,
       λ clean e s rows stands stage.
           let was = kept.2 (was_clean mid new _ c.insert_slot.ensures.stays.survives clean) e s rows stands stage in
-          let made = c.in_ok-insert_slot.ensures.makes clean e (take at matches) s rows was.stands stage (sym (ap (λ n. n + 1) stored)) in
-          adds_one old mid new (with_stage e) at (take at matches) (take (at + 1) matches) s was (subst (λ (ms : List Match). MakesWith mid new (with_stage e ms) s rows) (sym more) made),
+          let row : c.of-row.result ≡ bracket_row (length e.bracket.stages + 1) (length (take at matches) + 1, m) =
+          c.of-row.ensures ∙ (ap (λ n. bracket_row n (at + 1, m)) stage ∙ ap (λ n. bracket_row (length e.bracket.stages + 1) (n + 1, m)) (sym stored)) in
+          let made = c.in_ok-insert_slot.ensures.makes clean e (take at matches) m s rows was.stands row in
+          adds_one old mid new (with_stage e) at (take at matches) (take (at + 1) matches) s was (subst (λ (ms : List Match). BringsToWith mid new (with_stage e ms) s rows) (sym more) made),
     )
 
 pub returns-clause-makes : goal.returns-clause-makes

@@ -2,8 +2,8 @@ use Rattle.std.proofs.Common.{◌≡◌, ◌+◌, ◌<◌, ℕ, List, length, Co
 use Rattle.std.proofs.lemmas.List.{take_all, take_more}
 use Rattle.std.proofs.lemmas.List.Elements.{All-nil, All-cons}
 use Rattle.sqlite.specs.Held.{state}
-use Rattle.er_event.specs.declared.rounds.Match.{Match}
-use Rattle.er_event.specs.declared.rows.TallyRow.{TallyRow}
+use Rattle.er_event.specs.declared.matches.Match.{Match}
+use Rattle.er_event.specs.declared.rows.tally.TallyRow.{TallyRow}
 use Rattle.er_event.specs.Change.{after}
 use Rattle.er_event.specs.Event.{EventValue}
 use Rattle.er_event.specs.Recounted.{AreOf}
@@ -11,7 +11,7 @@ use Rattle.er_event.specs.Round.{is_bye}
 use Rattle.er_event.specs.Sound.{numbers}
 use Rattle.er_event.specs.Rows.{tally_rows_by}
 use Rattle.er_event.specs.Totals.{totals}
-use Rattle.er_store.specs.inside.Steps.{MakesWith}
+use Rattle.er_store.specs.inside.Steps.{BringsToWith}
 use Rattle.er_store.specs.inside.Totals.{set_for_all}
 use Rattle.er_store.proofs.Committed.{stays_self, stays_then}
 use Rattle.er_store.proofs.Crash.{was_clean}
@@ -64,8 +64,8 @@ loop-played-preserved g c =
           let made = c.in_ok-recount_match.ensures.makes clean e s (set_for_all (take at items) now before) same was.stands in
           let numbered = numbered_too e.players event.players same (c.recounted-played-items.ensures.sound.players.numbered) in
           let rows = rows_agree (set_for_all (m ∷ []) now (set_for_all (take at items) now before)) (set_for_all (take at items ++ m ∷ []) now before) e.players numbered (λ q low. set-more (take at items) m q now before) in
-          subst (λ (ms : List Match). MakesWith old new e s (tally_rows_by (set_for_all ms now before) e.players)) (sym more)
-          (subst (λ (ts : List TallyRow). MakesWith old new e s ts) rows (makes_then old mid new e e s was made)),
+          subst (λ (ms : List Match). BringsToWith old new e s (tally_rows_by (set_for_all ms now before) e.players)) (sym more)
+          (subst (λ (ts : List TallyRow). BringsToWith old new e s ts) rows (makes_then old mid new e e s was made)),
     )
 
 pub returns-clause-same_reference : goal.returns-clause-same_reference
@@ -81,8 +81,8 @@ returns-clause-makes g c clean e s same moves stands =
     let before = totals event in
     let numbered = numbered_too e.players event.players same (c.recounted-played-items.ensures.sound.players.numbered) in
     let all = take_all c.loop-played.played-index items c.loop-played-test.false in
-    let made = subst (λ (ms : List Match). MakesWith old new e s (tally_rows_by (set_for_all ms now before) e.players)) all (c.loop-played.invariant.2 clean e s same moves stands) in
-    subst (λ (ts : List TallyRow). MakesWith old new e s ts)
+    let made = subst (λ (ms : List Match). BringsToWith old new e s (tally_rows_by (set_for_all ms now before) e.players)) all (c.loop-played.invariant.2 clean e s same moves stands) in
+    subst (λ (ts : List TallyRow). BringsToWith old new e s ts)
     (rows_agree (set_for_all items now before) now e.players numbered (λ q low. all_set items now before c.recounted-played-items.ensures.others q)) made
 
 pub returns-clause-stays : goal.returns-clause-stays

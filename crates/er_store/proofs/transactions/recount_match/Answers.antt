@@ -1,10 +1,10 @@
 use Rattle.std.proofs.Common.{◌≡◌, ◌==◌, false, ℕ, List, [], ◌∷◌, subst, arith}
 use Rattle.std.proofs.lemmas.Bool.Decides.{nat_tests}
 use Rattle.sqlite.specs.Held.{state}
-use Rattle.er_event.specs.declared.rows.TallyRow.{TallyRow}
+use Rattle.er_event.specs.declared.rows.tally.TallyRow.{TallyRow}
 use Rattle.er_event.specs.Change.{after}
 use Rattle.er_event.specs.Totals.{totals}
-use Rattle.er_store.specs.inside.Steps.{MakesWith}
+use Rattle.er_store.specs.inside.Steps.{BringsToWith}
 use Rattle.er_store.specs.inside.Totals.{set_for, set_for_all}
 use Rattle.er_store.proofs.Crash.{was_clean}
 use Rattle.er_store.proofs.Together.{makes_then}
@@ -38,7 +38,7 @@ returns-in_ok-recount_player-2-clause-makes g c clean e s before same stands =
     let numbered = numbered_too e.players event.players same c.requires.numbered in
     let first = c.in_ok-recount_player.ensures.makes (was_clean mid new _ c.recount_player-then-played-ne0.ensures.stays.survives clean) e s before stands numbered (rw same known.0) in
     let second = c.in_ok-recount_player-2.ensures.makes clean e s (set_for played.a (now played.a) before) first.stands numbered (rw same (known.1 (seated played.b c.if-played-ne0.true))) in
-    subst (λ (rows : List TallyRow). MakesWith old new e s rows)
+    subst (λ (rows : List TallyRow). BringsToWith old new e s rows)
     (rows_agree (set_for played.b (now played.b) (set_for played.a (now played.a) before)) (set_for_all (played ∷ []) now before) e.players numbered (λ q low. two_set played.a played.b q now before))
     (makes_then old mid new e e s first second)
 
@@ -52,6 +52,6 @@ returns-else-played-ne0-clause-makes g c clean e s before same stands =
     let known = c.requires.known 0 played (omega arith) in
     let numbered = numbered_too e.players event.players same c.requires.numbered in
     let first = c.in_ok-recount_player.ensures.makes clean e s before stands numbered (rw same known.0) in
-    subst (λ (rows : List TallyRow). MakesWith old new e s rows)
+    subst (λ (rows : List TallyRow). BringsToWith old new e s rows)
     (rows_agree (set_for played.a (now played.a) before) (set_for_all (played ∷ []) now before) e.players numbered (λ q low. one_set played.a played.b q now before c.if-played-ne0.false low))
     first

@@ -4,7 +4,7 @@ use Rattle.sqlite.specs.Held.{Held, state}
 use Rattle.er_event.specs.Change.{after}
 use Rattle.er_store.specs.Standing.{Shows, KeepsOthers}
 use Rattle.er_store.specs.Reading.{KeepsTables}
-use Rattle.er_store.specs.inside.Steps.{Makes}
+use Rattle.er_store.specs.inside.Steps.{BringsTo}
 use Rattle.er_store.proofs.Together.{on_ok}
 use Rattle.er_store.proofs.LoadLemmas.{all_err, each_err}
 use Rattle.er_store.proofs.Committed.{undone_keeps, uncommitted_keeps}
@@ -14,7 +14,7 @@ use Rattle.er_store.proofs.transactions.write_tables.Goals as goal
 
 -- the change went well, as it did where the commit is reached
 makes : (g : given.Over) (c : goal.After-conn-2-1 g) → HasCleanDisk (state g.S.Store c.commit.new.self.0) → Shows (state g.S.Store c.args.conn.now) c.args.event.now c.args.serial
-    → Makes (record (state g.S.Store c.args.conn.now) { in_transaction = true }) (state g.S.Store c.change_event.new.tx.conn.now) (after c.args.event.now c.args.change.now) (c.args.serial + 1)
+    → BringsTo (record (state g.S.Store c.args.conn.now) { in_transaction = true }) (state g.S.Store c.change_event.new.tx.conn.now) (after c.args.event.now c.args.change.now) (c.args.serial + 1)
 makes g c late was =
     let last = state g.S.Store c.change_event.new.tx.conn.now in
     let begins = rw c.transaction-tx.ensures.begun at (c.in_ok-change_event.ensures.makes (was_clean last (state g.S.Store c.commit.new.self.0) _ c.commit.ensures.survives late)) in

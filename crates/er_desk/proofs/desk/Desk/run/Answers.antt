@@ -1,6 +1,6 @@
 use Rattle.std.proofs.Common.{◌≡◌, ◌++◌, ◌∷◌, [], ◌+◌, List, take, sym, ap, subst, ◌∙◌, refl, arith, true≢false}
 use Rattle.std.proofs.lemmas.List.{take_more, take_all}
-use Rattle.er_event.specs.declared.refusals.Command.{Command}
+use Rattle.er_event.specs.declared.commands.Command.{Command}
 use Rattle.er_desk.specs.Reply.{Reply}
 use Rattle.er_desk.specs.Desk.{state, standing}
 use Rattle.er_desk.specs.Run.{Runs}

@@ -1,6 +1,6 @@
 use Rattle.std.proofs.Common.{◌-◌, ◌≤◌, length, Bor, Option, Some, List, option_map, sym, ap, subst, ◌∙◌, true≢false, arith}
 use Rattle.std.proofs.Math.ListN.{set}
-use Rattle.er_event.specs.declared.rounds.Match.{Match}
+use Rattle.er_event.specs.declared.matches.Match.{Match}
 use Rattle.er_event.specs.Event.{EventValue}
 use Rattle.er_event.specs.Sound.{IsSoundButForSeeds}
 use Rattle.er_event.specs.declared.changes.Change.TheVariants.{SetBracketScore}

@@ -1,5 +1,5 @@
 use Rattle.std.proofs.Common.{◌≡◌, ap, subst, sym, ◌∙◌, List}
-use Rattle.er_event.specs.declared.rounds.Match.{Match}
+use Rattle.er_event.specs.declared.matches.Match.{Match}
 use Rattle.er_event.specs.declared.changes.Change.TheVariants.{SetBracketScore}
 use Rattle.er_event.specs.Event.{EventValue}
 use Rattle.er_event.specs.inside.EventFields.{value_of}

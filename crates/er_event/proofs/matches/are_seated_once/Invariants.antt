@@ -1,0 +1,6 @@
+use Rattle.std.proofs.Common.{◌≢◌, flat_map, take, AllPairs}
+use Rattle.er_event.specs.Round.{seats}
+use Rattle.er_event.proofs.matches.are_seated_once.Given as goal
+
+abbrev pub invariant-loop-place : goal.invariant-loop-place
+invariant-loop-place l = AllPairs (λ p q. p ≢ q) (flat_map seats (take l.place l.matches))

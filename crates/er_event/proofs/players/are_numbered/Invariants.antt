@@ -1,0 +1,7 @@
+use Rattle.std.proofs.Common.{◌≡◌, take}
+use Rattle.std.specs.List.{range_with_len}
+use Rattle.er_event.specs.Sound.{numbers}
+use Rattle.er_event.proofs.players.are_numbered.Given as goal
+
+abbrev pub invariant-loop-place : goal.invariant-loop-place
+invariant-loop-place l = numbers (take l.place l.players) ≡ range_with_len 1 l.place

@@ -1,0 +1,21 @@
+use Rattle.std.proofs.Common.{◌≡◌, sym, ap, ◌∙◌, true≢false}
+use Rattle.er_event.specs.declared.matches.Match.{Match}
+use Rattle.er_event.specs.Rows.{bracket_row}
+use Rattle.er_event.proofs.PairingLemmas.{never_none, some_same}
+use Rattle.er_event.proofs.StageLemmas.{rows_equal, columns_equal}
+use Rattle.er_event.proofs.rows.bracket.read_match.Goals as goal
+
+pub returns-in_default-clause-exact : goal.returns-in_default-clause-exact
+returns-in_default-clause-exact c m shown is = never_none c.match_of.result m c.in_default.is (c.match_of.ensures c.args.stage (c.args.slot, m) shown is)
+
+pub returns-then-eq-clause-value : goal.returns-then-eq-clause-value
+returns-then-eq-clause-value c = sym (rows_equal c.of.result c.args.row.now (sym c.eq.ensures ∙ c.if-eq.true)) ∙ c.of.ensures
+
+pub returns-then-eq-clause-exact : goal.returns-then-eq-clause-exact
+returns-then-eq-clause-exact c m shown is = sym c.in-Some.is ∙ c.match_of.ensures c.args.stage (c.args.slot, m) shown is
+
+pub returns-else-eq-clause-exact : goal.returns-else-eq-clause-exact
+returns-else-eq-clause-exact c m shown is =
+    let found : c.in-Some.played ≡ m = some_same c.in-Some.played m (sym c.in-Some.is ∙ c.match_of.ensures c.args.stage (c.args.slot, m) shown is) in
+    let same : c.of.result ≡ c.args.row.now = c.of.ensures ∙ (ap (λ (k : Match). bracket_row c.args.stage (c.args.slot, k)) found ∙ sym is) in
+    absurd (true≢false (sym (columns_equal c.of.result c.args.row.now same) ∙ (sym c.eq.ensures ∙ c.if-eq.false)))

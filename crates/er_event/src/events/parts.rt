@@ -1,0 +1,85 @@
+ghost use Rattle.std.specs.Prelude.{◌≡◌, Err, IfOk};
+ghost use Rattle.er_event.specs.declared.refusals.Place.{Place};
+ghost use Rattle.er_event.specs.Event.{EventValue};
+ghost use Rattle.er_event.specs.Parts.{IsOf, IsFirstFault};
+ghost use Rattle.er_event.specs.Sound.{IsSoundButForSeeds};
+
+use super::Event;
+use crate::brackets::Bracket;
+use crate::items::Items;
+use crate::refusals::Place;
+use crate::rows::{
+    BracketRow, EventRow, PairingRow, PlayerRow, read_bracket, read_event, read_players,
+    read_stored,
+};
+use std::alloc::{AllocError, Global};
+
+/// The rows of an event's four tables, each list in the order of the table's key.
+#[derive(Drop)]
+pub struct Parts {
+    pub event: Items<EventRow>,
+    pub players: Items<PlayerRow>,
+    pub pairings: Items<PairingRow>,
+    pub bracket: Items<BracketRow>,
+}
+
+/// Why rows are no event.
+#[derive(Clone, Copy, Debug, PartialEq, Eq)]
+pub enum PartsFault {
+    /// The first table whose rows no sound event has.
+    Damaged(Place),
+    Memory,
+}
+
+impl From<AllocError> for PartsFault {
+    ghost use Rattle.std.specs.Prelude.{◌≡◌};
+    ghost use Rattle.er_event.specs.declared.events.parts.PartsFault.TheVariants.{Memory};
+
+    ghost from_gives = { λ _ fault. fault ≡ Memory };
+
+    fn from(_error: AllocError) -> Self {
+        PartsFault::Memory
+    }
+}
+
+impl Event {
+    /// The event that the rows are of, made once all of them are read, or else the first of the four tables that is at fault.
+    fn read(alloc: Global, parts: &Parts) -> Result<Event, PartsFault>
+        ensures value { IfOk result (IsOf parts.now) }
+        ensures sound { IfOk result IsSoundButForSeeds }
+        ensures only { IfOk result (λ e. (other : EventValue) → IsOf parts.now other
+            → IsSoundButForSeeds other → other ≡ e) }
+        ensures damaged { (place : Place) → result ≡ Err (PartsFault.Damaged place)
+            → IsFirstFault parts.now place }
+    {
+        let setup = read_event(parts.event.as_slice())?;
+        let players = read_players(alloc, setup.phase, parts.players.as_slice())?;
+        let count = players.len() as u16;
+        let stored = read_stored(alloc, &setup, count, parts.pairings.as_slice())?;
+        let stages = read_bracket(alloc, &setup, count, parts.bracket.as_slice())?;
+        Ok(Event {
+            name: setup.name,
+            rounds: setup.rounds,
+            cut: setup.cut,
+            phase: setup.phase,
+            players,
+            stored,
+            bracket: Bracket {
+                stages: Items::from(stages),
+            },
+        })
+    }
+
+    /// The event that the rows are of, or else the first of the four tables that is at fault.
+    pub fn from_parts(alloc: Global, parts: Parts) -> Result<Event, PartsFault>
+        ensures value { IfOk result (IsOf parts) }
+        ensures sound { IfOk result IsSoundButForSeeds }
+        // No other sound event has these rows.
+        ensures only { IfOk result (λ e. (other : EventValue) → IsOf parts other
+            → IsSoundButForSeeds other → other ≡ e) }
+        ensures damaged { (place : Place) → result ≡ Err (PartsFault.Damaged place)
+            → IsFirstFault parts place }
+    {
+        Event::read(alloc, &parts)
+    }
+}

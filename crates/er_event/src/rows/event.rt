@@ -1,0 +1,108 @@
+ghost use Rattle.std.specs.Prelude.{◌≡◌, ◌≢◌, ◌↔◌, ◌<◌, ◌≤◌, ℕ, pos, [], ◌∷◌, Err, IsTrue, IsNone, IfSome, IfOk};
+ghost use Rattle.er_event.specs.declared.commands.TheConstants.{MAX_SERIAL};
+ghost use Rattle.er_event.specs.declared.refusals.Place.{Place};
+ghost use Rattle.er_event.specs.declared.events.Phase.{Phase};
+ghost use Rattle.er_event.specs.Event.{EventValue};
+ghost use Rattle.er_event.specs.Parts.{IsEventRow};
+ghost use Rattle.er_event.specs.Rows.{phase_code};
+ghost use Rattle.er_event.specs.inside.Reading.{IsSetUpAs};
+
+use crate::commands::MAX_SERIAL;
+use crate::events::{PartsFault, Phase, is_setup};
+use crate::items::Items;
+use crate::names::Name;
+use crate::refusals::Place;
+
+/// The row of the table `event`.
+#[derive(Drop)]
+pub struct EventRow {
+    pub id: i64,
+    pub version: i64,
+    pub serial: i64,
+    pub name: Items<u8>,
+    pub rounds: i64,
+    pub cut: i64,
+    pub phase: i64,
+}
+
+/// What the event's row says of the event.
+#[derive(Clone, Copy)]
+pub struct Setup {
+    pub name: Name,
+    pub rounds: u8,
+    pub cut: u8,
+    pub phase: Phase,
+}
+
+const DAMAGED: PartsFault = PartsFault::Damaged(Place::EventTable);
+
+fn phase_of(value: i64) -> Option<Phase>
+    ensures value { IfSome result (λ phase. value ≡ pos (phase_code phase)) }
+    ensures none { IsNone result → (phase : Phase) → value ≢ pos (phase_code phase) }
+{
+    match value {
+        0 => Some(Phase::Enrolling),
+        1 => Some(Phase::Swiss),
+        2 => Some(Phase::Playoff),
+        3 => Some(Phase::Finished),
+        _ => None,
+    }
+}
+
+/// A number below 256.
+fn small_of(value: i64) -> Option<u8>
+    ensures value { IfSome result (λ n. value ≡ pos n) }
+    ensures none { IsNone result → (n : ℕ) → n < 256 → value ≢ pos n }
+{
+    u8::try_from(value).ok()
+}
+
+fn is_serial(value: i64) -> bool
+    ensures { IsTrue result ↔ ((serial : ℕ) × (serial ≤ MAX_SERIAL) × (value ≡ pos serial)) }
+{
+    u32::try_from(value).is_ok_and(|serial| serial <= MAX_SERIAL)
+}
+
+/// What the row says, where an event may have it.
+fn read_row(row: &EventRow) -> Result<Setup, PartsFault>
+    ensures value { IfOk result (λ setup. (e : EventValue) → IsSetUpAs setup e
+        → IsEventRow (row.now ∷ []) e) }
+    ensures damaged { (place : Place) → result ≡ Err (PartsFault.Damaged place)
+        → (place ≡ Place.EventTable) × ((e : EventValue) → IsEventRow (row.now ∷ []) e → ⊥) }
+{
+    if row.id != 1 || row.version != 1 || !is_serial(row.serial) {
+        return Err(DAMAGED);
+    }
+    let (Some(rounds), Some(cut), Some(phase)) = (
+        small_of(row.rounds),
+        small_of(row.cut),
+        phase_of(row.phase),
+    ) else {
+        return Err(DAMAGED);
+    };
+    let Ok(name) = Name::try_from_bytes(row.name.as_slice()) else {
+        return Err(DAMAGED);
+    };
+    if !is_setup(rounds, cut) {
+        return Err(DAMAGED);
+    }
+    Ok(Setup {
+        name,
+        rounds,
+        cut,
+        phase,
+    })
+}
+
+/// What the one row of the table says, where an event may have it.
+pub fn read_event(rows: &[EventRow]) -> Result<Setup, PartsFault>
+    ensures value { IfOk result (λ setup. (e : EventValue) → IsSetUpAs setup e
+        → IsEventRow rows.now e) }
+    ensures damaged { (place : Place) → result ≡ Err (PartsFault.Damaged place)
+        → (place ≡ Place.EventTable) × ((e : EventValue) → IsEventRow rows.now e → ⊥) }
+{
+    match rows {
+        [row] => read_row(row),
+        _ => Err(DAMAGED),
+    }
+}

@@ -1,0 +1,81 @@
+ghost use Rattle.std.specs.Prelude.{◌≡◌, ◌≢◌, ◌≤◌, ℕ, pos, List, Err, map, All, IsTrue, IsNone, IfSome, IfOk};
+ghost use Rattle.er_event.specs.declared.players.TheConstants.{MAX_PLAYERS};
+ghost use Rattle.er_event.specs.declared.players.Player.{Player};
+ghost use Rattle.er_event.specs.declared.refusals.Place.{Place};
+ghost use Rattle.er_event.specs.Name.{is_lawful_name};
+ghost use Rattle.er_event.specs.Rows.{player_row};
+ghost use Rattle.er_event.specs.Sound.{ArePlayers};
+ghost use Rattle.er_event.specs.inside.Reading.{IsLawfulPlayer};
+
+use super::flag_of;
+use crate::events::{PartsFault, Phase};
+use crate::items::Items;
+use crate::names::Name;
+use crate::players::{Player, PlayerNo, may_play};
+use crate::refusals::Place;
+use std::alloc::{AllocError, Global};
+
+/// A row of the table `player`.
+#[derive(Drop)]
+pub struct PlayerRow {
+    pub no: i64,
+    pub name: Items<u8>,
+    pub dropped: i64,
+}
+
+const DAMAGED: PartsFault = PartsFault::Damaged(Place::PlayerTable);
+
+fn number_of(value: i64) -> Option<PlayerNo>
+    ensures value { IfSome result (λ n. value ≡ pos n) }
+    ensures none { IsNone result → (n : ℕ) → 1 ≤ n → n ≤ MAX_PLAYERS → value ≢ pos n }
+{
+    u16::try_from(value).ok().and_then(PlayerNo::try_new)
+}
+
+fn read_player(row: &PlayerRow) -> Option<Player>
+    ensures value { IfSome result (λ p. (row.now ≡ player_row p) × IsTrue (is_lawful_name p.name)) }
+    ensures none { IsNone result → (p : Player) → IsLawfulPlayer p → row.now ≢ player_row p }
+{
+    let no = number_of(row.no)?;
+    let name = Name::try_from_bytes(row.name.as_slice()).ok()?;
+    let dropped = flag_of(row.dropped)?;
+    Some(Player { no, name, dropped })
+}
+
+/// The players of these rows, which may be numbered and named anyhow.
+fn read_rows(alloc: Global, rows: &[PlayerRow]) -> Result<Vec<Player>, PartsFault>
+    ensures value { IfOk result (λ players. (rows.now ≡ map player_row players.items)
+        × All (λ p. IsTrue (is_lawful_name p.name)) players.items) }
+    ensures damaged { (place : Place) → result ≡ Err (PartsFault.Damaged place)
+        → (place ≡ Place.PlayerTable)
+        × ((players : List Player) → All IsLawfulPlayer players
+        → rows.now ≢ map player_row players) }
+{
+    let mut players = Vec::new(alloc);
+    for row in rows {
+        let Some(player) = read_player(row) else {
+            return Err(DAMAGED);
+        };
+        players.push(player).map_err(AllocError::from)?;
+    }
+    Ok(players)
+}
+
+/// The players of these rows, where they may be those of an event in this phase.
+pub fn read_players(
+    alloc: Global,
+    phase: Phase,
+    rows: &[PlayerRow],
+) -> Result<Vec<Player>, PartsFault>
+    ensures value { IfOk result (λ players. (rows.now ≡ map player_row players.items)
+        × ArePlayers phase players.items) }
+    ensures damaged { (place : Place) → result ≡ Err (PartsFault.Damaged place)
+        → (place ≡ Place.PlayerTable)
+        × ((players : List Player) → ArePlayers phase players → rows.now ≢ map player_row players) }
+{
+    let players = read_rows(alloc, rows)?;
+    if !may_play(phase, players.as_slice()) {
+        return Err(DAMAGED);
+    }
+    Ok(players)
+}
