@@ -31,10 +31,21 @@ use Rattle.er_event.specs.declared.events.parts.PartsFault.{PartsFault}
 use Rattle.er_event.specs.declared.events.parts.PartsFault.TheVariants.{Damaged}
 use Rattle.er_event.specs.declared.refusals.Place.{Place}
 
-row_same : (row : EventRow) (i v s : ℤ) (n : List ℕ) (r c p : ℤ) → row.id ≡ i → row.version ≡ v → row.serial ≡ s → row.name ≡ n → row.rounds ≡ r → row.cut ≡ c → row.phase ≡ p
-    → (let same : EventRow = record { id = i; version = v; serial = s; name = n; rounds = r; cut = c; phase = p } in row ≡ same)
+abbrev row_with : ℤ → ℤ → ℤ → List ℕ → ℤ → ℤ → ℤ → EventRow
+row_with id version serial name rounds cut phase =
+    record { id = id; version = version; serial = serial; name = name; rounds = rounds; cut = cut; phase = phase }
+
+row_same : (row : EventRow) (i v s : ℤ) (n : List ℕ) (r c p : ℤ)
+    → row.id ≡ i → row.version ≡ v → row.serial ≡ s → row.name ≡ n → row.rounds ≡ r → row.cut ≡ c → row.phase ≡ p
+    → row ≡ row_with i v s n r c p
 row_same row i v s n r c p e0 e1 e2 e3 e4 e5 e6 =
-    subst (λ (x : ℤ). (let r : EventRow = record { id = i; version = v; serial = s; name = n; rounds = r; cut = c; phase = x } in row ≡ r)) e6 (subst (λ (x : ℤ). (let r : EventRow = record { id = i; version = v; serial = s; name = n; rounds = r; cut = x; phase = row.phase } in row ≡ r)) e5 (subst (λ (x : ℤ). (let r : EventRow = record { id = i; version = v; serial = s; name = n; rounds = x; cut = row.cut; phase = row.phase } in row ≡ r)) e4 (subst (λ (x : List ℕ). (let r : EventRow = record { id = i; version = v; serial = s; name = x; rounds = row.rounds; cut = row.cut; phase = row.phase } in row ≡ r)) e3 (subst (λ (x : ℤ). (let r : EventRow = record { id = i; version = v; serial = x; name = row.name; rounds = row.rounds; cut = row.cut; phase = row.phase } in row ≡ r)) e2 (subst (λ (x : ℤ). (let r : EventRow = record { id = i; version = x; serial = row.serial; name = row.name; rounds = row.rounds; cut = row.cut; phase = row.phase } in row ≡ r)) e1 (subst (λ (x : ℤ). (let r : EventRow = record { id = x; version = row.version; serial = row.serial; name = row.name; rounds = row.rounds; cut = row.cut; phase = row.phase } in row ≡ r)) e0 (refl)))))))
+    subst (λ (x : ℤ). row ≡ row_with x v s n r c p) e0
+    (subst (λ (x : ℤ). row ≡ row_with row.id x s n r c p) e1
+    (subst (λ (x : ℤ). row ≡ row_with row.id row.version x n r c p) e2
+    (subst (λ (x : List ℕ). row ≡ row_with row.id row.version row.serial x r c p) e3
+    (subst (λ (x : ℤ). row ≡ row_with row.id row.version row.serial row.name x c p) e4
+    (subst (λ (x : ℤ). row ≡ row_with row.id row.version row.serial row.name row.rounds x p) e5
+    (subst (λ (x : ℤ). row ≡ row_with row.id row.version row.serial row.name row.rounds row.cut x) e6 refl))))))
 
 set_up_as : (s : Setup) (e : EventValue) → IsSetUp s.name s.rounds s.cut → IsSetUpAs s e → IsSetUp e.name e.rounds e.cut
 set_up_as s e h so = record {

@@ -19,13 +19,17 @@ use Rattle.er_event.specs.Sound.{numbers, ArePlayers, AreRounds, AreStages, IsSo
 use Rattle.er_event.specs.inside.Reading.{IsSetUpAs}
 use Rattle.er_event.proofs.PartsLemmas.{players-same, row_name, row_rounds, row_cut, row_phase}
 
-pub parts_same : (parts : Parts) (event : List EventRow) (players : List PlayerRow) (pairings : List PairingRow) (bracket : List BracketRow) → parts.event ≡ event → parts.players ≡ players → parts.pairings ≡ pairings → parts.bracket ≡ bracket
-    → (let same : Parts = record { event = event; players = players; pairings = pairings; bracket = bracket } in parts ≡ same)
+abbrev parts_with : List EventRow → List PlayerRow → List PairingRow → List BracketRow → Parts
+parts_with event players pairings bracket = record { event = event; players = players; pairings = pairings; bracket = bracket }
+
+pub parts_same : (parts : Parts) (event : List EventRow) (players : List PlayerRow) (pairings : List PairingRow) (bracket : List BracketRow)
+    → parts.event ≡ event → parts.players ≡ players → parts.pairings ≡ pairings → parts.bracket ≡ bracket
+    → parts ≡ parts_with event players pairings bracket
 parts_same parts event players pairings bracket a b c d =
-    subst (λ (x : List EventRow). (let p : Parts = record { event = x; players = players; pairings = pairings; bracket = bracket } in parts ≡ p)) a
-    (subst (λ (x : List PlayerRow). (let p : Parts = record { event = parts.event; players = x; pairings = pairings; bracket = bracket } in parts ≡ p)) b
-    (subst (λ (x : List PairingRow). (let p : Parts = record { event = parts.event; players = parts.players; pairings = x; bracket = bracket } in parts ≡ p)) c
-    (subst (λ (x : List BracketRow). (let p : Parts = record { event = parts.event; players = parts.players; pairings = parts.pairings; bracket = x } in parts ≡ p)) d refl)))
+    subst (λ (x : List EventRow). parts ≡ parts_with x players pairings bracket) a
+    (subst (λ (x : List PlayerRow). parts ≡ parts_with parts.event x pairings bracket) b
+    (subst (λ (x : List PairingRow). parts ≡ parts_with parts.event parts.players x bracket) c
+    (subst (λ (x : List BracketRow). parts ≡ parts_with parts.event parts.players parts.pairings x) d refl)))
 
 -- a sound event of the rows has them all
 pub all_of : (parts : Parts) (e : EventValue) → IsOf parts e → IsSoundButForSeeds e → HasAllRows parts e
@@ -43,20 +47,30 @@ all_of parts e is sound = record {
   bracket = sound.bracket;
 }
 
-abbrev pub event_of : Setup → List Player → List Round → List (List Match) → EventValue
-event_of s players rounds stages =
-    record { name = s.name; rounds = s.rounds; cut = s.cut; phase = s.phase; players = players; stored = rounds; bracket = record { stages = stages } }
+abbrev event_with : List ℕ → ℕ → ℕ → Phase → List Player → List Round → List (List Match) → EventValue
+event_with name rounds cut phase players stored stages = record {
+  name = name;
+  rounds = rounds;
+  cut = cut;
+  phase = phase;
+  players = players;
+  stored = stored;
+  bracket = record { stages = stages };
+}
 
-event_same : (e : EventValue) (s : Setup) (players : List Player) (rounds : List Round) (stages : List (List Match)) → IsSetUpAs s e → e.players ≡ players → e.stored ≡ rounds → e.bracket.stages ≡ stages
-    → e ≡ event_of s players rounds stages
+abbrev pub event_of : Setup → List Player → List Round → List (List Match) → EventValue
+event_of s players rounds stages = event_with s.name s.rounds s.cut s.phase players rounds stages
+
+event_same : (e : EventValue) (s : Setup) (players : List Player) (rounds : List Round) (stages : List (List Match))
+    → IsSetUpAs s e → e.players ≡ players → e.stored ≡ rounds → e.bracket.stages ≡ stages → e ≡ event_of s players rounds stages
 event_same e s players rounds stages so a b c =
-    subst (λ (x : List ℕ). e ≡ (let f : EventValue = record { name = x; rounds = s.rounds; cut = s.cut; phase = s.phase; players = players; stored = rounds; bracket = record { stages = stages } } in f)) so.name
-    (subst (λ (x : ℕ). e ≡ (let f : EventValue = record e { rounds = x; cut = s.cut; phase = s.phase; players = players; stored = rounds; bracket = record { stages = stages } } in f)) so.rounds
-    (subst (λ (x : ℕ). e ≡ (let f : EventValue = record e { cut = x; phase = s.phase; players = players; stored = rounds; bracket = record { stages = stages } } in f)) so.cut
-    (subst (λ (x : Phase). e ≡ (let f : EventValue = record e { phase = x; players = players; stored = rounds; bracket = record { stages = stages } } in f)) so.phase
-    (subst (λ (x : List Player). e ≡ (let f : EventValue = record e { players = x; stored = rounds; bracket = record { stages = stages } } in f)) a
-    (subst (λ (x : List Round). e ≡ (let f : EventValue = record e { stored = x; bracket = record { stages = stages } } in f)) b
-    (subst (λ (x : List (List Match)). e ≡ (let f : EventValue = record e { bracket = record { stages = x } } in f)) c refl))))))
+    subst (λ (x : List ℕ). e ≡ event_with x s.rounds s.cut s.phase players rounds stages) so.name
+    (subst (λ (x : ℕ). e ≡ event_with e.name x s.cut s.phase players rounds stages) so.rounds
+    (subst (λ (x : ℕ). e ≡ event_with e.name e.rounds x s.phase players rounds stages) so.cut
+    (subst (λ (x : Phase). e ≡ event_with e.name e.rounds e.cut x players rounds stages) so.phase
+    (subst (λ (x : List Player). e ≡ event_with e.name e.rounds e.cut e.phase x rounds stages) a
+    (subst (λ (x : List Round). e ≡ event_with e.name e.rounds e.cut e.phase e.players x stages) b
+    (subst (λ (x : List (List Match)). e ≡ event_with e.name e.rounds e.cut e.phase e.players e.stored x) c refl))))))
 
 -- ---- the event's row is read
 
@@ -69,9 +83,15 @@ module _ (parts : Parts) (s : Setup) (set : (e : EventValue) → IsSetUpAs s e �
   as_set e row =
       let f = event_of s [] [] [] in
       let other = row_there [] [] [] in
-      record { name = row_name parts.event e f row other; rounds = row_rounds parts.event e f row other; cut = row_cut parts.event e f row other; phase = row_phase parts.event e f row other }
+      record {
+        name = row_name parts.event e f row other;
+        rounds = row_rounds parts.event e f row other;
+        cut = row_cut parts.event e f row other;
+        phase = row_phase parts.event e f row other;
+      }
 
-  pub players_fault : ((players : List Player) → ArePlayers s.phase players → parts.players ≡ map player_row players → ⊥) → IsFirstFault parts PlayerTable
+  pub players_fault : ((players : List Player) → ArePlayers s.phase players → parts.players ≡ map player_row players → ⊥)
+      → IsFirstFault parts PlayerTable
   players_fault never = (
     (_, row_there [] [] []),
     λ e has. never e.players (subst (λ (p : Phase). ArePlayers p e.players) (as_set e has.event).phase has.players) has.rows,
@@ -99,19 +119,22 @@ module _ (parts : Parts) (s : Setup) (set : (e : EventValue) → IsSetUpAs s e �
         (subst (λ (n : ℕ). AreRounds e.phase n known e.stored) so.rounds
         (subst (λ (ns : List ℕ). AreRounds e.phase e.rounds ns e.stored) (same_known e has.players) has.rounds))
 
-    pub rounds_fault : ((rounds : List Round) → AreRounds s.phase s.rounds known rounds → parts.pairings ≡ keyed_rows_from 1 rounds → ⊥) → IsFirstFault parts PairingTable
+    pub rounds_fault : ((rounds : List Round) → AreRounds s.phase s.rounds known rounds → parts.pairings ≡ keyed_rows_from 1 rounds → ⊥)
+        → IsFirstFault parts PairingTable
     rounds_fault never = ((_, players_there [] []), λ e has. never e.stored (rounds_as e has) has.rows)
 
     -- ---- the rounds are read
 
     module _ (rounds : List Round) (paired : parts.pairings ≡ keyed_rows_from 1 rounds) (are : AreRounds s.phase s.rounds known rounds)
-        (only : (others : List Round) → AreRounds s.phase s.rounds known others → parts.pairings ≡ keyed_rows_from 1 others → others ≡ rounds) where
+        (only : (others : List Round) → AreRounds s.phase s.rounds known others → parts.pairings ≡ keyed_rows_from 1 others
+        → others ≡ rounds) where
       same_rounds : (e : EventValue) → HasRoundRows parts e → e.stored ≡ rounds
       same_rounds e has = only e.stored (rounds_as e has) has.rows
 
       rounds_there : (stages : List (List Match)) → HasRoundRows parts (event_of s players rounds stages)
       rounds_there stages =
-          record { players = players_there rounds stages; rows = paired; rounds = subst (λ (ns : List ℕ). AreRounds s.phase s.rounds ns rounds) (sym plays.numbered) are }
+          let known_are = subst (λ (ns : List ℕ). AreRounds s.phase s.rounds ns rounds) (sym plays.numbered) are in
+          record { players = players_there rounds stages; rows = paired; rounds = known_are }
 
       stages_as : (e : EventValue) → HasAllRows parts e → AreStages s.phase s.cut known e.bracket.stages
       stages_as e has =
@@ -120,29 +143,42 @@ module _ (parts : Parts) (s : Setup) (set : (e : EventValue) → IsSetUpAs s e �
           (subst (λ (n : ℕ). AreStages e.phase n known e.bracket.stages) so.cut
           (subst (λ (ns : List ℕ). AreStages e.phase e.cut ns e.bracket.stages) (same_known e has.rounds.players) has.bracket))
 
-      pub stages_fault : ((stages : List (List Match)) → AreStages s.phase s.cut known stages → parts.bracket ≡ bracket_rows_from 1 stages → ⊥) → IsFirstFault parts BracketTable
+      pub stages_fault : ((stages : List (List Match)) → AreStages s.phase s.cut known stages
+          → parts.bracket ≡ bracket_rows_from 1 stages → ⊥)
+          → IsFirstFault parts BracketTable
       stages_fault never = ((_, rounds_there []), λ e has. never e.bracket.stages (stages_as e has) has.rows)
 
       -- ---- the stages are read
 
-      module _ (stages : List (List Match)) (drawn : parts.bracket ≡ bracket_rows_from 1 stages) (stand : AreStages s.phase s.cut known stages)
-          (only_these : (others : List (List Match)) → AreStages s.phase s.cut known others → parts.bracket ≡ bracket_rows_from 1 others → others ≡ stages) where
+      module _ (stages : List (List Match)) (drawn : parts.bracket ≡ bracket_rows_from 1 stages)
+          (stand : AreStages s.phase s.cut known stages)
+          (only_these : (others : List (List Match)) → AreStages s.phase s.cut known others
+          → parts.bracket ≡ bracket_rows_from 1 others → others ≡ stages) where
         abbrev whole : EventValue
         whole = event_of s players rounds stages
 
         pub whole_is : HasAllRows parts whole
         whole_is =
-            record { rounds = rounds_there stages; rows = drawn; bracket = subst (λ (ns : List ℕ). AreStages s.phase s.cut ns stages) (sym plays.numbered) stand }
+            let known_stand = subst (λ (ns : List ℕ). AreStages s.phase s.cut ns stages) (sym plays.numbered) stand in
+            record { rounds = rounds_there stages; rows = drawn; bracket = known_stand }
 
         pub is_of : IsOf parts whole
         is_of =
             let event = row_there players rounds stages in
-            record { serial = event.serial; low = event.low; are = parts_same parts _ (player_rows whole) (keyed_pairing_rows whole) (bracket_rows whole) event.row listed paired drawn }
+            let are = parts_same parts _ (player_rows whole) (keyed_pairing_rows whole) (bracket_rows whole) event.row listed paired drawn in
+            record { serial = event.serial; low = event.low; are = are }
 
         pub is_sound : IsSoundButForSeeds whole
-        is_sound = record { set_up = (row_there players rounds stages).set_up; players = plays; rounds = (rounds_there stages).rounds; bracket = whole_is.bracket }
+        is_sound = record {
+          set_up = (row_there players rounds stages).set_up;
+          players = plays;
+          rounds = (rounds_there stages).rounds;
+          bracket = whole_is.bracket;
+        }
 
         pub only_whole : (other : EventValue) → IsOf parts other → IsSoundButForSeeds other → other ≡ whole
         only_whole other is sound =
             let has = all_of parts other is sound in
-            event_same other s players rounds stages (as_set other has.rounds.players.event) (same_players other has.rounds.players) (same_rounds other has.rounds) (only_these other.bracket.stages (stages_as other has) has.rows)
+            let so = as_set other has.rounds.players.event in
+            let same_stages = only_these other.bracket.stages (stages_as other has) has.rows in
+            event_same other s players rounds stages so (same_players other has.rounds.players) (same_rounds other has.rounds) same_stages
