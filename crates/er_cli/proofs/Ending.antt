@@ -4,7 +4,7 @@ use Rattle.std.proofs.lemmas.List.{take_all}
 use Rattle.std.specs.Io.KnownBytes.{Keeps}
 use Rattle.std.proofs.KnownBytes.{Appends-kept, Keeps-trans}
 use Rattle.er_cli.specs.declared.TheConstants.{DONE, USAGE, DEVICE, MEMORY}
-use Rattle.er_cli.specs.Script.{Runs, Prints, PrintsPart}
+use Rattle.er_cli.specs.Script.{RunsLines, Prints, PrintsPart}
 use Rattle.er_cli.specs.Status.{Ends, Serves, Breaks}
 use Rattle.er_cli.proofs.Sending.{whole_part, part_kept}
 
@@ -13,7 +13,7 @@ prints_whole lines before after prints = record {
   count = length lines;
   answers = prints.answers;
   last = prints.last;
-  runs = subst (λ (ls : List (List ℕ)). Runs None ls prints.answers prints.last) (sym (take_all (length lines) lines (omega arith))) prints.runs;
+  runs = subst (λ (ls : List (List ℕ)). RunsLines None ls prints.answers prints.last) (sym (take_all (length lines) lines (omega arith))) prints.runs;
   printed = whole_part before after _ prints.printed;
 }
 

@@ -7,10 +7,10 @@ use Rattle.er_cli.specs.declared.texts.Answer.{Answer}
 use Rattle.er_words.specs.Fields.{script_action}
 use Rattle.er_cli.specs.Texts.{answer_text}
 use Rattle.er_desk.specs.Desk.{Standing}
-use Rattle.er_cli.specs.Script.{LineAnswers, Runs}
+use Rattle.er_cli.specs.Script.{LineAnswers, RunsLines}
 
 pub Runs-push : (lines : List (List ℕ)) (answers : List Answer) (old mid new : Option Standing) (line : List ℕ) (answer : Answer)
-    → Runs old lines answers mid → LineAnswers mid (script_action line) answer new → Runs old (lines ++ line ∷ []) (answers ++ answer ∷ []) new
+    → RunsLines old lines answers mid → LineAnswers mid (script_action line) answer new → RunsLines old (lines ++ line ∷ []) (answers ++ answer ∷ []) new
 Runs-push [] [] old mid new line answer runs last = (new, subst (λ k. LineAnswers k (script_action line) answer new) runs last, refl)
 Runs-push (l ∷ lines) (a ∷ answers) old mid new line answer runs last = (runs.0, runs.1, Runs-push lines answers runs.0 mid new line answer runs.2 last)
 Runs-push [] (a ∷ answers) old mid new line answer runs last = absurd runs

@@ -46,17 +46,17 @@ LineAnswers old None answer new = ((answer ≡ Usage) ⊎ (answer ≡ Refused Me
 LineAnswers old (Some action) answer new = Acts old action answer new ⊎ ((answer ≡ Refused Memory) × (new ≡ old))
 
 -- the answers to these lines, in order
-abbrev pub Runs : Option Standing → List (List ℕ) → List Answer → Option Standing → Type 0
-Runs old [] [] new = new ≡ old
-Runs old (line ∷ lines) (answer ∷ answers) new = (next : Option Standing) × LineAnswers old (script_action line) answer next × Runs next lines answers new
-Runs old [] (answer ∷ answers) new = ⊥
-Runs old (line ∷ lines) [] new = ⊥
+abbrev pub RunsLines : Option Standing → List (List ℕ) → List Answer → Option Standing → Type 0
+RunsLines old [] [] new = new ≡ old
+RunsLines old (line ∷ lines) (answer ∷ answers) new = (next : Option Standing) × LineAnswers old (script_action line) answer next × RunsLines next lines answers new
+RunsLines old [] (answer ∷ answers) new = ⊥
+RunsLines old (line ∷ lines) [] new = ⊥
 
 -- what a writer held, and holds when the answers to the lines are printed
 pub record Prints (lines : List (List ℕ)) (before after : Option (List ℕ)) : Type 0 where
   pub answers : List Answer
   pub last : Option Standing
-  pub runs : Runs None lines answers last
+  pub runs : RunsLines None lines answers last
   pub printed : Appends before after (flat_map answer_text answers)
 
 -- what a writer holds where a write failed: the answers to the first lines, of which the last may be cut
@@ -64,7 +64,7 @@ pub record PrintsPart (lines : List (List ℕ)) (before after : Option (List ℕ
   pub count : ℕ
   pub answers : List Answer
   pub last : Option Standing
-  pub runs : Runs None (take count lines) answers last
+  pub runs : RunsLines None (take count lines) answers last
   pub printed : AppendsPart before after (flat_map answer_text answers)
 
 -- the tables in memory stand for the event, where no fault of the store is behind

@@ -14,7 +14,7 @@ pub fn histories()
 }
 
 /// Sessions that send from one list go on where the one before ended.
-pub fn resuming()
+pub fn sessions_resume()
     ensures { Resuming }
 {}
 

@@ -34,7 +34,7 @@ pub enum OpenFault<D: Disk + Drop> {
 }
 
 /// The refusal alone. The connection is closed.
-fn refused<S: Alter + Drop>(_conn: Connection<S>, refusal: Refusal) -> Refusal
+fn close_and_refuse<S: Alter + Drop>(_conn: Connection<S>, refusal: Refusal) -> Refusal
     ensures { result ≡ refusal }
 {
     refusal
@@ -53,7 +53,7 @@ impl<D: Disk + Drop> OpenFault<D> {
                 refusal,
                 left: _left,
             } => refusal,
-            OpenFault::Refused { conn, refusal } => refused(conn, refusal),
+            OpenFault::Refused { conn, refusal } => close_and_refuse(conn, refusal),
         }
     }
 }

@@ -33,7 +33,7 @@ pub struct Meeting {
 }
 
 /// Which matches of a round count anew once the match of a table has this score.
-fn recounted_in(matches: &[Match], table: usize, score: Score) -> &[Match]
+fn matches_to_recount_in(matches: &[Match], table: usize, score: Score) -> &[Match]
     requires { (1 ≤ table) × (table ≤ length matches.now) }
     ensures { result.now ≡ recounted_in matches.now table score }
 {
@@ -71,7 +71,7 @@ impl Event {
     }
 
     /// The matches by which a change alters what players' matches come to: none while their round stays open.
-    pub fn recounted<'a>(&'a self, change: &'a Change) -> &'a [Match]
+    pub fn matches_to_recount<'a>(&'a self, change: &'a Change) -> &'a [Match]
         requires { Fits self.now change.now }
         ensures value { result.now ≡ recounted self.now change.now }
         ensures known { AreOf self.now result.now }
@@ -88,7 +88,7 @@ impl Event {
                 score,
             } => {
                 let round = &stored[usize::from(*round) - 1];
-                recounted_in(round.matches.as_slice(), usize::from(*table), *score)
+                matches_to_recount_in(round.matches.as_slice(), usize::from(*table), *score)
             }
             Change::AddPlayer { .. }
             | Change::SetDropped { .. }

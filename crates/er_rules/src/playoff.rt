@@ -82,7 +82,7 @@ fn scored_stage(
 }
 
 /// The stage of the winners, where this one is complete and has more than one slot.
-fn following(alloc: Global, matches: &[Match]) -> Result<Option<Items<Match>>, AllocError>
+fn stage_after(alloc: Global, matches: &[Match]) -> Result<Option<Items<Match>>, AllocError>
     requires slots { (length matches.now ≡ 1) ⊎ (length matches.now ≡ 2)
         ⊎ (length matches.now ≡ 4) }
     requires scores { All (λ m. IfSome m.score (λ s. IsTrue (is_playoff_score s))) matches.now }
@@ -165,7 +165,7 @@ pub fn decide_playoff(
     let score = check_playoff(event, stage, slot, games)?;
     let matches = &event.bracket().stages.as_slice()[usize::from(stage) - 1];
     let scored = scored_stage(alloc, matches, slot, score)?;
-    let next = following(alloc, scored.as_slice())?;
+    let next = stage_after(alloc, scored.as_slice())?;
     let finished = is_over(scored.as_slice());
     Ok(Change::SetBracketScore {
         stage,

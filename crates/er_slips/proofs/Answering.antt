@@ -35,7 +35,7 @@ use Rattle.er_slips.specs.Answer.{AnswerValue, answer_value, fault_answer, refus
 use Rattle.er_slips.specs.Whole.{ShowsStandings, ShowsPairings, row_answer, reply_answer, IsAnswered, submitted, IsAnswerUnless503}
 use Rattle.er_store.specs.Fault.{IsReadFault}
 use Rattle.er_store.specs.Slip.{FindsSlip}
-use Rattle.er_slips.specs.Serving.{IsShown, IsRowsAnswer, IsSlipAnswer, AnswersRequest, IsServed, IsUnserved, Writes, Ends, IsWritten}
+use Rattle.er_slips.specs.Serving.{IsShown, IsRowsAnswer, IsSlipAnswer, AnswersRequest, IsServed, IsUnserved, Writes, EndsServing, IsWritten}
 
 pub reopening : (desk : Standing) (Shows : EventValue → AnswerValue → Type 0) (answer : AnswerValue) (why : Refusal)
     → IsTrue desk.stopped × (why ≡ NeedsReopen) → answer ≡ refusal_answer why → IsShown desk Shows answer
@@ -68,7 +68,7 @@ rows-answered rows old new answer (inr (inr (stopped, same, e))) due = absurd (t
 -- ---- how serving ends
 
 module _ (Stood : Type 0) (input : Option (List ℕ)) (old new : Standing) (before after : Option (List ℕ)) (answer : AnswerValue) where
-  ends : (served : Served) → Writes before after served answer → IsServed Stood input old answer new ⊎ IsUnserved old answer new → Ends Stood input old new before after served
+  ends : (served : Served) → Writes before after served answer → IsServed Stood input old answer new ⊎ IsUnserved old answer new → EndsServing Stood input old new before after served
   ends (Answered status) wrote due = (answer, wrote, due)
   ends (WriteFault sent) wrote due = (answer, wrote, due)
   ends ReadFault wrote due = absurd wrote
@@ -82,11 +82,11 @@ module _ (Stood : Type 0) (input : Option (List ℕ)) (old new : Standing) (befo
   asks-fault (Some xs) fault told = told
 
   pub ends-asked : (served : Served) (asked : Asked) → IfSome input (λ xs. TellsAsked xs (Ok asked)) → AnswersRequest Stood old (Ok asked) answer new
-      → Writes before after served answer → Ends Stood input old new before after served
+      → Writes before after served answer → EndsServing Stood input old new before after served
   ends-asked served asked told answers wrote = ends served wrote (inl (Ok asked, asks input asked told, answers))
 
   pub ends-refused : (served : Served) (why : Unasked) (fault : Fault) → why ≡ Refused fault → IfSome input (λ xs. TellsAsked xs (Err why)) → answer ≡ fault_answer fault → new ≡ old
-      → Writes before after served answer → Ends Stood input old new before after served
+      → Writes before after served answer → EndsServing Stood input old new before after served
   ends-refused served why fault of told is same wrote = ends served wrote (inl (Err fault, asks-fault input fault (subst (λ u. IfSome input (λ xs. TellsAsked xs (Err u))) of told), (is, same)))
 
 pub keeps : (known : Option (List ℕ)) → Keeps known known
@@ -98,7 +98,7 @@ written-unread Runs Stood None before = tt
 written-unread Runs Stood (Some xs) before = λ runs stood. keeps before
 
 pub ends-unserved : (Stood : Type 0) (input : Option (List ℕ)) (old : Standing) (before after : Option (List ℕ)) (answer : AnswerValue) (served : Served)
-    → answer ≡ refusal_answer Memory → Writes before after served answer → Ends Stood input old old before after served
+    → answer ≡ refusal_answer Memory → Writes before after served answer → EndsServing Stood input old old before after served
 ends-unserved Stood input old before after answer served is wrote = ends Stood input old old before after answer served wrote (inr (is, refl))
 
 -- ---- the answer of a desk that runs, over tables that stand
@@ -176,7 +176,7 @@ module _ (old new : Standing) (input : List ℕ) (answer : AnswerValue) (runs : 
   due-by Stood stood (inl (asked, is, answers)) = answered-by Stood stood asked is answers
   due-by Stood stood (inr unserved) = hindered Memory refl unserved.0
 
-pub written : (Stood : Type 0) (input : Option (List ℕ)) (old new : Standing) (before after : Option (List ℕ)) (served : Served) → Ends Stood input old new before after served
+pub written : (Stood : Type 0) (input : Option (List ℕ)) (old new : Standing) (before after : Option (List ℕ)) (served : Served) → EndsServing Stood input old new before after served
     → IfSome input (λ xs. IsFalse old.stopped → Stood → IsWritten old xs before after served)
 written Stood None old new before after served e = tt
 written Stood (Some xs) old new before after ReadFault e = λ runs stood. e.0

@@ -22,7 +22,7 @@ use Rattle.er_slips.specs.declared.request.asked.Unasked.TheVariants as unasked
 use Rattle.er_slips.specs.declared.request.asked.Fault.TheVariants.{BadRequest}
 use Rattle.er_slips.specs.declared.request.head.TheConstants.{MAX_HEAD}
 use Rattle.er_slips.specs.Head.{ShowsHead, IfFound}
-use Rattle.er_slips.specs.Request.{path_of, route_of, next_on, next_of, asked_with, asked_of, reported, Asks, headed, Tells, TellsAsked}
+use Rattle.er_slips.specs.Request.{path_of, route_of, next_on, next_of, asked_with, asked_of, reported, Asks, headed, IsDueUnlessMemory, TellsAsked}
 
 -- ---- the path is text
 
@@ -85,7 +85,7 @@ module _ (input after : Option (List ℕ)) (bytes : List ℕ) (headers : List He
   pub asks-fault : (fault : Fault) → next_of shows.head ≡ Err fault → IfSome input (λ xs. Asks xs (Err fault))
   asks-fault fault e = asks-by (Err fault) (λ xs is. ap (λ n. asked_with n (drop spans.len xs)) (sym e))
 
-  pub asks-next : (r : Result Next Unasked) (u : Unasked) → Tells (next_of shows.head) r → r ≡ Err u → IfSome input (λ xs. TellsAsked xs (Err u))
+  pub asks-next : (r : Result Next Unasked) (u : Unasked) → IsDueUnlessMemory (next_of shows.head) r → r ≡ Err u → IfSome input (λ xs. TellsAsked xs (Err u))
   asks-next (Ok n) u t e = absurd (cc)
   asks-next (Err (unasked.Refused fault)) u t e = let is : unasked.Refused fault ≡ u = cc in subst (λ v. IfSome input (λ xs. TellsAsked xs (Err v))) is (asks-fault fault t)
   asks-next (Err unasked.Memory) u t e = let is : unasked.Memory ≡ u = cc in subst (λ v. IfSome input (λ xs. TellsAsked xs (Err v))) is (free input)
@@ -97,7 +97,7 @@ module _ (input after : Option (List ℕ)) (bytes : List ℕ) (headers : List He
 
   -- ---- with a body
 
-  tells-asked : (xs : List ℕ) (due : Result Asked Fault) (r : Result Asked Unasked) → Tells due r → Asks xs due → TellsAsked xs r
+  tells-asked : (xs : List ℕ) (due : Result Asked Fault) (r : Result Asked Unasked) → IsDueUnlessMemory due r → Asks xs due → TellsAsked xs r
   tells-asked xs due (Ok asked) t is = subst (Asks xs) t is
   tells-asked xs due (Err (unasked.Refused fault)) t is = subst (Asks xs) t is
   tells-asked xs due (Err unasked.Memory) t is = tt
@@ -122,7 +122,7 @@ module _ (input after : Option (List ℕ)) (bytes : List ℕ) (headers : List He
     size : length (take count buf) ≡ count
     size = length-take-le count buf fits
 
-    pub asks-body : (end : ℕ) → spans.len + n ≡ end → end ≤ count → (r : Result Asked Unasked) → Tells (reported round table (slip_games (slice_range buf spans.len end))) r → IfSome input (λ xs. TellsAsked xs r)
+    pub asks-body : (end : ℕ) → spans.len + n ≡ end → end ≤ count → (r : Result Asked Unasked) → IsDueUnlessMemory (reported round table (slip_games (slice_range buf spans.len end))) r → IfSome input (λ xs. TellsAsked xs r)
     asks-body end sum enough r t =
         let due = reported round table (slip_games (slice_range buf spans.len end)) in
         if-some input (λ xs. Asks xs due) (λ xs. TellsAsked xs r) (λ xs is. tells-asked xs due r t is) (asks-by due (λ xs is.
@@ -153,5 +153,5 @@ head-fits bytes headers spans n xs e shows = let size = ap (λ (t : List ℕ). l
 pub shows-of : (h : Head) (spans : RequestSpans) (P : RequestSpans → Type 0) → h ≡ Found spans → IfFound h P → P spans
 shows-of h spans P e p = subst (λ k. IfFound k P) e p
 
-pub is-next : (due : Result Next Fault) (r : Result Next Unasked) (next : Next) → Tells due r → r ≡ Ok next → due ≡ Ok next
-is-next due r next t e = subst (λ k. Tells due k) e t
+pub is-next : (due : Result Next Fault) (r : Result Next Unasked) (next : Next) → IsDueUnlessMemory due r → r ≡ Ok next → due ≡ Ok next
+is-next due r next t e = subst (λ k. IsDueUnlessMemory due k) e t

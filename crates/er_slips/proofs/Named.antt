@@ -8,24 +8,24 @@ use Rattle.httparse.specs.declared.spans.HeaderSpan.{HeaderSpan}
 use Rattle.std.proofs.lemmas.List.Elements.{filter-append, filter_more}
 use Rattle.std.proofs.lemmas.List.Folds.{list_any-append}
 use Rattle.er_slips.specs.declared.request.asked.Fault.TheVariants.{BadRequest}
-use Rattle.er_slips.specs.Request.{Pair, is_named, only_length, body_length, length_of}
+use Rattle.er_slips.specs.Request.{HeadField, is_named, only_length, body_length, length_of}
 
-abbrev pub refused : Pair → Bool
+abbrev pub refused : HeadField → Bool
 refused field = is_named (codes "transfer-encoding") field
 
-abbrev pub counted : Pair → Bool
+abbrev pub counted : HeadField → Bool
 counted field = is_named (codes "content-length") field
 
 -- the one value that was found so far, if any
-abbrev pub HasFound : List Pair → Option (Bor (List ℕ)) → Type 0
+abbrev pub HasFound : List HeadField → Option (Bor (List ℕ)) → Type 0
 HasFound fields None = filter counted fields ≡ []
 HasFound fields (Some value) = (name : List ℕ) × (filter counted fields ≡ (name, value.now) ∷ [])
 
-filter-at : (fields : List Pair) (i : ℕ) (field : Pair) → i < length fields → field ≡ get_or fields i field
+filter-at : (fields : List HeadField) (i : ℕ) (field : HeadField) → i < length fields → field ≡ get_or fields i field
     → filter counted (take (i + 1) fields) ≡ filter counted (take i fields) ++ filter counted (field ∷ [])
 filter-at fields i field below is = filter_more counted fields i field below ∙ ap (λ f. filter counted (take i fields) ++ filter counted (f ∷ [])) (sym is)
 
-any-at : (fields : List Pair) (i : ℕ) (field : Pair) → i < length fields → field ≡ get_or fields i field
+any-at : (fields : List HeadField) (i : ℕ) (field : HeadField) → i < length fields → field ≡ get_or fields i field
     → list_any refused (take (i + 1) fields) ≡ (list_any refused (take i fields) || (refused field || false))
 any-at fields i field below is =
     ap (list_any refused) (take_more fields i field below) ∙ list_any-append refused (take i fields) (get_or fields i field ∷ [])
@@ -35,25 +35,25 @@ or-true : (b : Bool) → (b || (true || false)) ≡ true
 or-true true = refl
 or-true false = refl
 
-whole : (fields : List Pair) (i : ℕ) → take i fields ++ drop i fields ≡ fields
+whole : (fields : List HeadField) (i : ℕ) → take i fields ++ drop i fields ≡ fields
 whole fields i = take-append-drop i fields
 
 -- the state after one more field
-pub whole-more : (fields : List Pair) (i : ℕ) (field : Pair) → i < length fields → field ≡ get_or fields i field → refused field ≡ false
+pub whole-more : (fields : List HeadField) (i : ℕ) (field : HeadField) → i < length fields → field ≡ get_or fields i field → refused field ≡ false
     → list_any refused (take i fields) ≡ false → list_any refused (take (i + 1) fields) ≡ false
 whole-more fields i field below is not so_far = any-at fields i field below is ∙ rw (so_far, not) refl
 
-pub found-same : (fields : List Pair) (i : ℕ) (field : Pair) (found : Option (Bor (List ℕ))) → i < length fields → field ≡ get_or fields i field → counted field ≡ false
+pub found-same : (fields : List HeadField) (i : ℕ) (field : HeadField) (found : Option (Bor (List ℕ))) → i < length fields → field ≡ get_or fields i field → counted field ≡ false
     → HasFound (take i fields) found → HasFound (take (i + 1) fields) found
 found-same fields i field None below is not so_far = filter-at fields i field below is ∙ rw (so_far, not) refl
 found-same fields i field (Some value) below is not so_far = (so_far.0, filter-at fields i field below is ∙ rw (so_far.1, not) refl)
 
-pub found-new : (fields : List Pair) (i : ℕ) (field : Pair) (value : Bor (List ℕ)) → i < length fields → field ≡ get_or fields i field → counted field ≡ true
+pub found-new : (fields : List HeadField) (i : ℕ) (field : HeadField) (value : Bor (List ℕ)) → i < length fields → field ≡ get_or fields i field → counted field ≡ true
     → value.now ≡ field.1 → HasFound (take i fields) None → HasFound (take (i + 1) fields) (Some value)
 found-new fields i field value below is so same so_far = (field.0, filter-at fields i field below is ∙ rw (so_far, so) (ap (λ v. (field.0, v) ∷ []) (sym same)))
 
 -- the answers
-pub refused-at : (fields : List Pair) (i : ℕ) (field : Pair) → i < length fields → field ≡ get_or fields i field → refused field ≡ true → body_length fields ≡ Err BadRequest
+pub refused-at : (fields : List HeadField) (i : ℕ) (field : HeadField) → i < length fields → field ≡ get_or fields i field → refused field ≡ true → body_length fields ≡ Err BadRequest
 refused-at fields i field below is so =
     let any : list_any refused fields ≡ true =
     let front : list_any refused (take (i + 1) fields) ≡ true = any-at fields i field below is ∙ rw so (or-true (list_any refused (take i fields))) in
@@ -61,11 +61,11 @@ refused-at fields i field below is so =
     ∙ ap (λ b. b || list_any refused (drop (i + 1) fields)) front in
     rw any refl
 
-second : (b : Bool) (v w : Pair) (rest : List Pair) → (if b then Err BadRequest else only_length (v ∷ w ∷ rest)) ≡ Err BadRequest
+second : (b : Bool) (v w : HeadField) (rest : List HeadField) → (if b then Err BadRequest else only_length (v ∷ w ∷ rest)) ≡ Err BadRequest
 second true v w rest = refl
 second false v w rest = refl
 
-pub second-at : (fields : List Pair) (i : ℕ) (field : Pair) (value : Bor (List ℕ)) → i < length fields → field ≡ get_or fields i field → counted field ≡ true
+pub second-at : (fields : List HeadField) (i : ℕ) (field : HeadField) (value : Bor (List ℕ)) → i < length fields → field ≡ get_or fields i field → counted field ≡ true
     → HasFound (take i fields) (Some value) → body_length fields ≡ Err BadRequest
 second-at fields i field value below is so so_far =
     let counts : filter counted fields ≡ (so_far.0, value.now) ∷ field ∷ filter counted (drop (i + 1) fields) =
@@ -74,18 +74,18 @@ second-at fields i field value below is so so_far =
     ∙ ap (λ fs. fs ++ filter counted (drop (i + 1) fields)) front in
     ap (λ fs. if list_any refused fields then Err BadRequest else only_length fs) counts ∙ second (list_any refused fields) (so_far.0, value.now) field (filter counted (drop (i + 1) fields))
 
-pub none-found : (fields : List Pair) → list_any refused fields ≡ false → HasFound fields None → body_length fields ≡ Err BadRequest
+pub none-found : (fields : List HeadField) → list_any refused fields ≡ false → HasFound fields None → body_length fields ≡ Err BadRequest
 none-found fields not so_far = rw (not, so_far) refl
 
-pub one-found : (fields : List Pair) (value : Bor (List ℕ)) → list_any refused fields ≡ false → HasFound fields (Some value) → body_length fields ≡ length_of value.now
+pub one-found : (fields : List HeadField) (value : Bor (List ℕ)) → list_any refused fields ≡ false → HasFound fields (Some value) → body_length fields ≡ length_of value.now
 one-found fields value not so_far = rw (not, so_far.1) refl
 
-pub second-found : (fields : List Pair) (i : ℕ) (field : Pair) (found : Option (Bor (List ℕ))) → i < length fields → field ≡ get_or fields i field → counted field ≡ true
+pub second-found : (fields : List HeadField) (i : ℕ) (field : HeadField) (found : Option (Bor (List ℕ))) → i < length fields → field ≡ get_or fields i field → counted field ≡ true
     → is_some found ≡ true → HasFound (take i fields) found → body_length fields ≡ Err BadRequest
 second-found fields i field None below is so some so_far = absurd (cc)
 second-found fields i field (Some value) below is so some so_far = second-at fields i field value below is so so_far
 
-pub was-none : (fields : List Pair) (found : Option (Bor (List ℕ))) → is_some found ≡ false → HasFound fields found → HasFound fields None
+pub was-none : (fields : List HeadField) (found : Option (Bor (List ℕ))) → is_some found ≡ false → HasFound fields found → HasFound fields None
 was-none fields None none so_far = so_far
 was-none fields (Some value) none so_far = absurd (cc)
 

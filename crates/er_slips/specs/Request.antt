@@ -59,11 +59,11 @@ route_of path = route_by path (number_of_route path)
 -- ---- the length of a body
 
 -- a field's name and value
-abbrev pub Pair : Type 0
-Pair = List ℕ × List ℕ
+abbrev pub HeadField : Type 0
+HeadField = List ℕ × List ℕ
 
 -- in whatever case
-abbrev pub is_named : List ℕ → Pair → Bool
+abbrev pub is_named : List ℕ → HeadField → Bool
 is_named name field = bytes_eq (map to_ascii_lowercase field.0) name
 
 abbrev pub length_of : List ℕ → Result ℕ Fault
@@ -71,12 +71,12 @@ length_of value =
     if nat_lt 0 (length value) && list_all is_ascii_digit value then (if nat_lt MAX_BODY (digits_value 10 value) then Err TooLarge else Ok (digits_value 10 value))
     else Err BadRequest
 
-abbrev pub only_length : List Pair → Result ℕ Fault
+abbrev pub only_length : List HeadField → Result ℕ Fault
 only_length (field ∷ []) = length_of field.1
 only_length _ = Err BadRequest
 
 -- one Content-Length of digits alone, and no Transfer-Encoding
-abbrev pub body_length : List Pair → Result ℕ Fault
+abbrev pub body_length : List HeadField → Result ℕ Fault
 body_length fields =
     if list_any (is_named (codes "transfer-encoding")) fields then Err BadRequest
     else only_length (filter (is_named (codes "content-length")) fields)
@@ -88,14 +88,14 @@ with_length round table (Err fault) = Err fault
 with_length round table (Ok n) = Ok (Body round table n)
 
 -- a GET serves each route, a POST the last
-abbrev pub serves : Route → List ℕ → List Pair → Result Next Fault
+abbrev pub serves : Route → List ℕ → List HeadField → Result Next Fault
 serves route.Standings method fields = if bytes_eq method (codes "GET") then Ok (Get Standings) else Err (NotAllowed false)
 serves (route.Round round) method fields = if bytes_eq method (codes "GET") then Ok (Get (Pairings round)) else Err (NotAllowed false)
 serves (route.Table round table) method fields =
     if bytes_eq method (codes "GET") then Ok (Get (Slip round table))
     else if bytes_eq method (codes "POST") then with_length round table (body_length fields) else Err (NotAllowed true)
 
-abbrev pub next_on : Option Route → List ℕ → List Pair → Result Next Fault
+abbrev pub next_on : Option Route → List ℕ → List HeadField → Result Next Fault
 next_on None method fields = Err NotFound
 next_on (Some to) method fields = serves to method fields
 
@@ -133,11 +133,11 @@ TellsAsked input (Err unasked.Memory) = Unit {0}
 TellsAsked input (Err unasked.Unread) = Unit {0}
 
 -- what is due, or want of memory
-abbrev pub Tells : {A : Type 0} → Result A Fault → Result A Unasked → Type 0
-Tells due (Ok told) = due ≡ Ok told
-Tells due (Err (unasked.Refused fault)) = due ≡ Err fault
-Tells due (Err unasked.Memory) = Unit {0}
-Tells due (Err unasked.Unread) = ⊥
+abbrev pub IsDueUnlessMemory : {A : Type 0} → Result A Fault → Result A Unasked → Type 0
+IsDueUnlessMemory due (Ok told) = due ≡ Ok told
+IsDueUnlessMemory due (Err (unasked.Refused fault)) = due ≡ Err fault
+IsDueUnlessMemory due (Err unasked.Memory) = Unit {0}
+IsDueUnlessMemory due (Err unasked.Unread) = ⊥
 
 -- a body has at most 4096 bytes
 abbrev pub IsShort : Next → Type 0

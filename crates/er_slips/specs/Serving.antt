@@ -65,10 +65,10 @@ Writes before after (WriteFault sent) answer = (sent ≤ length answer.bytes) ×
 Writes before after ReadFault answer = ⊥
 
 -- how serving an input ends: with an answer, of which all or the first bytes were written, or by a read that failed, with nothing submitted or written
-abbrev pub Ends : Type 0 → Option (List ℕ) → Standing → Standing → Option (List ℕ) → Option (List ℕ) → Served → Type 0
-Ends Stood input old new before after ReadFault = Keeps before after × (new ≡ old)
-Ends Stood input old new before after (Answered status) = (answer : AnswerValue) × Writes before after (Answered status) answer × (IsServed Stood input old answer new ⊎ IsUnserved old answer new)
-Ends Stood input old new before after (WriteFault sent) = (answer : AnswerValue) × Writes before after (WriteFault sent) answer × (IsServed Stood input old answer new ⊎ IsUnserved old answer new)
+abbrev pub EndsServing : Type 0 → Option (List ℕ) → Standing → Standing → Option (List ℕ) → Option (List ℕ) → Served → Type 0
+EndsServing Stood input old new before after ReadFault = Keeps before after × (new ≡ old)
+EndsServing Stood input old new before after (Answered status) = (answer : AnswerValue) × Writes before after (Answered status) answer × (IsServed Stood input old answer new ⊎ IsUnserved old answer new)
+EndsServing Stood input old new before after (WriteFault sent) = (answer : AnswerValue) × Writes before after (WriteFault sent) answer × (IsServed Stood input old answer new ⊎ IsUnserved old answer new)
 
 -- What was written where the desk runs and its tables stand for its event: the answer to the input on that event and serial, and nothing else but a 503.
 abbrev pub IsWritten : Standing → List ℕ → Option (List ℕ) → Option (List ℕ) → Served → Type 0

@@ -3,7 +3,7 @@ ghost use Rattle.httparse.specs.Grammar.{RequestHead};
 ghost use Rattle.httparse.specs.Spans.{header_bytes, IsHeaderWithin, IsRequestAt, IsRequestWithin};
 ghost use Rattle.er_paper.specs.Slip.{slip_games};
 ghost use Rattle.er_slips.specs.Routes.{routes};
-ghost use Rattle.er_slips.specs.Request.{serves, next_of, reported, IsShort, Tells, TellsAsked};
+ghost use Rattle.er_slips.specs.Request.{serves, next_of, reported, IsShort, IsDueUnlessMemory, TellsAsked};
 
 mod asked;
 mod fields;
@@ -93,7 +93,7 @@ fn next_in(
 ) -> Result<Next, Unasked>
     requires { IsRequestWithin bytes.now headers.now spans }
     ensures value { (head : RequestHead) → IsRequestAt bytes.now headers.now spans head
-        → Tells (next_of head) result }
+        → IsDueUnlessMemory (next_of head) result }
     ensures short { IfOk result IsShort }
 {
     let Ok(router) = router(alloc) else {
@@ -106,7 +106,7 @@ fn next_in(
 }
 
 fn report(alloc: Global, round: u8, table: u16, body: &[u8]) -> Result<Asked, Unasked>
-    ensures { Tells (reported round table (slip_games body.now)) result }
+    ensures { IsDueUnlessMemory (reported round table (slip_games body.now)) result }
 {
     match read_slip(alloc, body) {
         Ok(score) => Ok(Asked::Report {

@@ -8,7 +8,7 @@ ghost use Rattle.er_paper.specs.Texts.{rows_text};
 ghost use Rattle.er_slips.specs.declared.request.asked.Asked.TheVariants as asked;
 ghost use Rattle.er_slips.specs.Answer.{answer_value, refusal_answer, text_answer};
 ghost use Rattle.er_slips.specs.Whole.{ShowsPairings, reply_answer};
-ghost use Rattle.er_slips.specs.Serving.{IsShown, IsSlipAnswer, AnswersRequest, Writes, Ends, IsWritten};
+ghost use Rattle.er_slips.specs.Serving.{IsShown, IsSlipAnswer, AnswersRequest, Writes, EndsServing, IsWritten};
 
 mod sending;
 
@@ -36,7 +36,7 @@ pub enum Served {
 }
 
 /// The answer, or that memory was wanting for it.
-fn made(answer: Result<Answer, AllocError>) -> Answer
+fn answer_or_memory(answer: Result<Answer, AllocError>) -> Answer
     ensures { MatchResult answer (λ made. answer_value result
         ≡ answer_value made) (λ _. answer_value result ≡ refusal_answer Refusal.Memory) }
 {
@@ -53,7 +53,7 @@ fn rows_answer<S: Alter>(alloc: Global, desk: &Desk<S>, rows: &[Row]) -> Answer
         ⊎ (answer_value result ≡ refusal_answer Refusal.Memory) }
 {
     match desk.event() {
-        Ok(event) => made(standings_answer(alloc, rows, event)),
+        Ok(event) => answer_or_memory(standings_answer(alloc, rows, event)),
         Err(why) => refusal_answer(&why),
     }
 }
@@ -83,7 +83,7 @@ fn pairings<S: Alter>(alloc: Global, desk: &Desk<S>, round: u8) -> Answer
     ensures { IsShown (standing desk.now) (ShowsPairings round) (answer_value result) }
 {
     match desk.event() {
-        Ok(event) => made(pairings_answer(alloc, event, round)),
+        Ok(event) => answer_or_memory(pairings_answer(alloc, event, round)),
         Err(why) => refusal_answer(&why),
     }
 }
@@ -93,7 +93,7 @@ fn slip_row_answer(alloc: Global, read: &Result<SlipRow, Refusal>) -> Answer
     ensures { IsSlipAnswer read.now (answer_value result) }
 {
     match read {
-        Ok(row) => made(slip_answer(alloc, row)),
+        Ok(row) => answer_or_memory(slip_answer(alloc, row)),
         Err(why) => refusal_answer(why),
     }
 }
@@ -206,7 +206,7 @@ pub fn serve_one<S: Alter, R: Read, W: Write>(
     reader: &mut R,
     writer: &mut W,
 ) -> Served
-    ensures ends { Ends (HasCleanDisk (state S.Store desk.new)
+    ensures ends { EndsServing (HasCleanDisk (state S.Store desk.new)
         × ShowsOwn S.Store desk.old) (R.remaining reader.old) (standing desk.old) (standing desk.new) (W.contents writer.old) (W.contents writer.new) result }
     // Where the desk runs and its tables stand for its event, that is the answer to the input, or a 503.
     ensures written { IfSome (R.remaining reader.old) (λ input. IsFalse (standing desk.old).stopped

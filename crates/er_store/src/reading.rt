@@ -13,7 +13,7 @@ ghost use Rattle.er_store.specs.Slip.{named_pairings};
 ghost use Rattle.er_store.specs.inside.Lookup.{IsOurs, FindsRows};
 ghost use Rattle.er_store.specs.inside.Meetings.{meeting_rows};
 
-use crate::rows::{MeetingRow, NamedPairing, push_row, typed};
+use crate::rows::{MeetingRow, NamedPairing, push_row, typed_rows};
 use crate::tables::TableRow;
 use er_event::{Cause, Place, Refusal};
 use sqlite::{Alter, Connection, Error, ErrorCode, params};
@@ -43,7 +43,7 @@ pub fn read_table<T: TableRow, S: Alter>(
     ensures survives { Survives (state S.Store conn.old) (state S.Store conn.new) (λ _. ⊥) }
 {
     let rows = conn.query_all(T::read(), &[])?;
-    typed(alloc, &rows)
+    typed_rows(alloc, &rows)
 }
 
 pub const READ_MEETINGS: &str =
@@ -103,7 +103,7 @@ pub fn read_slip<S: Alter>(
     ensures survives { Survives (state S.Store conn.old) (state S.Store conn.new) (λ _. ⊥) }
 {
     let rows = conn.query_all(READ_SLIP, params![round, table])?;
-    typed(alloc, &rows)
+    typed_rows(alloc, &rows)
 }
 
 /// What a refusal of a read of this table means to a caller.

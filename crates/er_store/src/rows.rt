@@ -198,7 +198,7 @@ pub fn push_row<T: FromRow>(typed: &mut Vec<T>, row: &SqlRow) -> Result<(), Erro
 }
 
 /// The rows as typed rows.
-pub fn typed<T: FromRow>(alloc: Global, rows: &[SqlRow]) -> Result<Vec<T>, Error>
+pub fn typed_rows<T: FromRow>(alloc: Global, rows: &[SqlRow]) -> Result<Vec<T>, Error>
     ensures value { IfOk result (λ typed. map T.form.columns typed.items
         ≡ map (first_columns T.form.width) rows.now) }
     ensures refused { IfErr result (λ e. e ≢ out_of_memory → (typed : List T)

@@ -232,7 +232,7 @@ fn recount<S: Alter>(
         → StandsWith (state S.Store tx.old.conn.now).now e s (tally_rows_by (totals event.now) e.players) → OnOk result (BringsToWith (state S.Store tx.old.conn.now) (state S.Store tx.new.conn.now) e s (tally_rows_by (totals (after event.now change.now)) e.players)) }
     ensures stays { Stays (state S.Store tx.old.conn.now) (state S.Store tx.new.conn.now) }
 {
-    for played in event.recounted(change) {
+    for played in event.matches_to_recount(change) {
         recount_match(tx, event, change, played)?;
     }
     Ok(())

@@ -2,12 +2,12 @@ use Rattle.std.proofs.Common.{List, Bor, ℕ, None, map, take}
 use Rattle.std.specs.Io.KnownBytes.{Appends}
 use Rattle.std.specs.List.{flat_map}
 use Rattle.er_cli.specs.declared.texts.Answer.{Answer}
-use Rattle.er_cli.specs.Script.{IsWritten, Runs, standing_of}
+use Rattle.er_cli.specs.Script.{IsWritten, RunsLines, standing_of}
 use Rattle.er_cli.specs.Texts.{answer_text}
 use Rattle.er_cli.proofs.script.run_lines.Given as goal
 
 abbrev pub invariant-loop-line : goal.invariant-loop-line
 invariant-loop-line g l =
-    (answers : List Answer) × Runs None (map (λ (line : Bor (List ℕ)). line.now) (take l.line-index l.lines)) answers (standing_of l.runner.desk)
+    (answers : List Answer) × RunsLines None (map (λ (line : Bor (List ℕ)). line.now) (take l.line-index l.lines)) answers (standing_of l.runner.desk)
     × Appends (g.W.Write.contents l.initial.writer) (g.W.Write.contents l.writer) (flat_map answer_text answers)
     × IsWritten l.runner.desk

@@ -19,8 +19,8 @@ made stages read k i t s games x new low high same at is score scored =
     scored
     ∙ ap₂ (λ (ms : List Match) (g : Games). scored_slot ms t g) (is ∙ (ap₂ (λ (ss : List (List Match)) (j : ℕ). get_or ss (j - 1) x) same at ∙ get_or_default stages (k - 1) x [] (omega (arith, low, high)))) score
 
-pub following-requires-clause-slots : goal.following-requires-clause-slots
-following-requires-clause-slots c =
+pub stage_after-requires-clause-slots : goal.stage_after-requires-clause-slots
+stage_after-requires-clause-slots c =
     let e = c.args.event.now in
     let ok = c.in_ok-score.ensures in
     let sound = c.bracket.ensures.sound in
@@ -30,8 +30,8 @@ following-requires-clause-slots c =
     let long = length-set (stage_of e.bracket.stages c.args.stage) (c.args.slot - 1) _ in
     subst IsSlots (sym (ap length (c.as_slice-2.ensures ∙ scored) ∙ long)) (slots e sound ok.playing c.args.stage c.args.slot ok.found.0 ok.found.1)
 
-pub following-requires-clause-scores : goal.following-requires-clause-scores
-following-requires-clause-scores c =
+pub stage_after-requires-clause-scores : goal.stage_after-requires-clause-scores
+stage_after-requires-clause-scores c =
     let e = c.args.event.now in
     let ok = c.in_ok-score.ensures in
     let sound = c.bracket.ensures.sound in

@@ -35,7 +35,7 @@ exact k t s e old new rows stands sound h =
 
 pub returns-clause-same : goal.returns-clause-same
 returns-clause-same g c clean =
-    all_ok c.typed.result (shows_unchanged sql.read_slip _ (state g.S.Store c.args.conn.now) (state g.S.Store c.query_all.new.self) c.in_ok-rows.rows.items slip_selects (c.in_ok-rows.ensures.ok clean))
+    all_ok c.typed_rows.result (shows_unchanged sql.read_slip _ (state g.S.Store c.args.conn.now) (state g.S.Store c.query_all.new.self) c.in_ok-rows.rows.items slip_selects (c.in_ok-rows.ensures.ok clean))
 
 pub returns-in_err-rows-clause-kept : goal.returns-in_err-rows-clause-kept
 returns-in_err-rows-clause-kept g c clean =
@@ -45,7 +45,7 @@ pub returns-clause-kept : goal.returns-clause-kept
 returns-clause-kept g c clean =
     let old = state g.S.Store c.args.conn.now in
     let new = state g.S.Store c.query_all.new.self in
-    all_err c.typed.result (unchanged_keeps old new (shows_unchanged sql.read_slip _ old new c.in_ok-rows.rows.items slip_selects (c.in_ok-rows.ensures.ok clean)))
+    all_err c.typed_rows.result (unchanged_keeps old new (shows_unchanged sql.read_slip _ old new c.in_ok-rows.rows.items slip_selects (c.in_ok-rows.ensures.ok clean)))
 
 pub returns-in_err-rows-clause-survives : goal.returns-in_err-rows-clause-survives
 returns-in_err-rows-clause-survives g c = commits_nothing sql.read_slip _ (state g.S.Store c.args.conn.now) (state g.S.Store c.query_all.new.self) slip_selects c.query_all.ensures.survives
@@ -68,7 +68,7 @@ returns-clause-exact g c clean e s stands sound =
     let new = state g.S.Store c.query_all.new.self in
     let h = rw (c.params-to_sql.ensures, c.params-to_sql-2.ensures) at (c.in_ok-rows.ensures.ok clean) in
     let are = exact c.args.round c.args.table s e old new c.in_ok-rows.rows.items stands sound h in
-    if_ok c.typed.result _ _ (λ typed is. named_typed typed.items (named_pairings e c.args.round c.args.table) (is ∙ (ap (map (first_columns 11)) (c.deref.ensures.value ∙ are) ∙ named_whole (named_pairings e c.args.round c.args.table)))) c.typed.ensures.value
+    if_ok c.typed_rows.result _ _ (λ typed is. named_typed typed.items (named_pairings e c.args.round c.args.table) (is ∙ (ap (map (first_columns 11)) (c.deref.ensures.value ∙ are) ∙ named_whole (named_pairings e c.args.round c.args.table)))) c.typed_rows.ensures.value
 
 pub returns-clause-refused : goal.returns-clause-refused
 returns-clause-refused g c clean e s stands sound =
@@ -76,4 +76,4 @@ returns-clause-refused g c clean e s stands sound =
     let new = state g.S.Store c.query_all.new.self in
     let h = rw (c.params-to_sql.ensures, c.params-to_sql-2.ensures) at (c.in_ok-rows.ensures.ok clean) in
     let are = exact c.args.round c.args.table s e old new c.in_ok-rows.rows.items stands sound h in
-    if_err c.typed.result _ _ (λ why never. inl (is_memory why (λ unless. never unless (named_pairings e c.args.round c.args.table) (named_text e c.args.round c.args.table sound) (c.deref.ensures.value ∙ are)))) c.typed.ensures.refused
+    if_err c.typed_rows.result _ _ (λ why never. inl (is_memory why (λ unless. never unless (named_pairings e c.args.round c.args.table) (named_text e c.args.round c.args.table sound) (c.deref.ensures.value ∙ are)))) c.typed_rows.ensures.refused

@@ -27,7 +27,7 @@ returns-clause-finds g c clean =
     let new = state g.S.Store c.query_all.new.self in
     let rows = c.in_ok-rows.rows.items in
     let shows = subst (λ sql. Shown sql [] old new rows) c.read.ensures (c.in_ok-rows.ensures.ok clean) in
-    if_ok c.typed.result _ _ (λ typed are.
+    if_ok c.typed_rows.result _ _ (λ typed are.
     let lists : HasTables old.now.schema → IsListed form table old.now typed.items = λ has.
     let all = listed form table it old new has rows shows in
     let width = listed_whole table.order form.width table.places (old.now.trees table.tree) rows it.whole all in
@@ -36,7 +36,7 @@ returns-clause-finds g c clean =
       reads = may_read form table old new rows c.deref.result.now it.begins c.deref.ensures.value shows typed.items are;
       lists = lists;
       exact = λ e s stands sound. map-same form.columns it.same typed.items (table.rows e s) (it.exact old.now e s (map form.columns typed.items) stands sound (lists stands.tables));
-    }) c.typed.ensures.value
+    }) c.typed_rows.ensures.value
 
 pub returns-clause-refused : goal.returns-clause-refused
 returns-clause-refused g c clean e s stands sound =
@@ -48,7 +48,7 @@ returns-clause-refused g c clean e s stands sound =
     let rows = c.in_ok-rows.rows.items in
     let shows = subst (λ sql. Shown sql [] old new rows) c.read.ensures (c.in_ok-rows.ensures.ok clean) in
     let are = it.exact old.now e s rows stands sound (listed form table it old new stands.tables rows shows) in
-    if_err c.typed.result _ _ (λ why never. inl (is_memory why (λ unless. never unless (table.rows e s) (it.texts e s sound) (c.deref.ensures.value ∙ are)))) c.typed.ensures.refused
+    if_err c.typed_rows.result _ _ (λ why never. inl (is_memory why (λ unless. never unless (table.rows e s) (it.texts e s sound) (c.deref.ensures.value ∙ are)))) c.typed_rows.ensures.refused
 
 pub returns-clause-misread : goal.returns-clause-misread
 returns-clause-misread g c clean =
@@ -58,7 +58,7 @@ returns-clause-misread g c clean =
     let new = state g.S.Store c.query_all.new.self in
     let rows = c.in_ok-rows.rows.items in
     let shows = subst (λ sql. Shown sql [] old new rows) c.read.ensures (c.in_ok-rows.ensures.ok clean) in
-    if_err c.typed.result _ _ (λ why never at h. has_wrong_kind form table old new rows c.deref.result.now c.requires.begins c.deref.ensures.value shows table.place at why never h) c.typed.ensures.refused
+    if_err c.typed_rows.result _ _ (λ why never at h. has_wrong_kind form table old new rows c.deref.result.now c.requires.begins c.deref.ensures.value shows table.place at why never h) c.typed_rows.ensures.refused
 
 pub returns-clause-same : goal.returns-clause-same
 returns-clause-same g c clean =
@@ -66,7 +66,7 @@ returns-clause-same g c clean =
     let new = state g.S.Store c.query_all.new.self in
     let rows = c.in_ok-rows.rows.items in
     let shows = subst (λ sql. Shown sql [] old new rows) c.read.ensures (c.in_ok-rows.ensures.ok clean) in
-    all_ok c.typed.result (select_shows g.T.TableRow.table.read old new rows c.requires.begins shows)
+    all_ok c.typed_rows.result (select_shows g.T.TableRow.table.read old new rows c.requires.begins shows)
 
 pub returns-clause-kept : goal.returns-clause-kept
 returns-clause-kept g c clean =
@@ -74,7 +74,7 @@ returns-clause-kept g c clean =
     let new = state g.S.Store c.query_all.new.self in
     let rows = c.in_ok-rows.rows.items in
     let shows = subst (λ sql. Shown sql [] old new rows) c.read.ensures (c.in_ok-rows.ensures.ok clean) in
-    all_err c.typed.result (unchanged_keeps old new (select_shows g.T.TableRow.table.read old new rows c.requires.begins shows))
+    all_err c.typed_rows.result (unchanged_keeps old new (select_shows g.T.TableRow.table.read old new rows c.requires.begins shows))
 
 pub returns-clause-survives : goal.returns-clause-survives
 returns-clause-survives g c =

@@ -32,7 +32,7 @@ one_match event items at m all below is =
 
 pub recount_match-requires-clause-known : goal.recount_match-requires-clause-known
 recount_match-requires-clause-known g c =
-    one_match c.args.event.now c.recounted-played-items.result.now c.loop-played.played-index c.played-item.result c.recounted-played-items.ensures.known c.loop-played-test.true c.played-item.is
+    one_match c.args.event.now c.matches_to_recount-played-items.result.now c.loop-played.played-index c.played-item.result c.matches_to_recount-played-items.ensures.known c.loop-played-test.true c.played-item.is
 
 pub returns-in_err-recount_match-clause-same_reference : goal.returns-in_err-recount_match-clause-same_reference
 returns-in_err-recount_match-clause-same_reference g c = c.recount_match.ensures.same_reference ∙ c.loop-played.invariant.0
@@ -50,7 +50,7 @@ loop-played-preserved g c =
     let mid = state g.S.Store c.loop-played.tx.conn.now in
     let new = state g.S.Store c.recount_match.new.tx.conn.now in
     let event = c.args.event.now in
-    let items = c.recounted-played-items.result.now in
+    let items = c.matches_to_recount-played-items.result.now in
     let at = c.loop-played.played-index in
     let m = c.played-item.result in
     let now = totals (after event c.args.change.now) in
@@ -62,7 +62,7 @@ loop-played-preserved g c =
       λ clean e s same moves stands.
           let was = so_far.2 (was_clean mid new _ c.recount_match.ensures.stays.survives clean) e s same moves stands in
           let made = c.in_ok-recount_match.ensures.makes clean e s (set_for_all (take at items) now before) same was.stands in
-          let numbered = numbered_too e.players event.players same (c.recounted-played-items.ensures.sound.players.numbered) in
+          let numbered = numbered_too e.players event.players same (c.matches_to_recount-played-items.ensures.sound.players.numbered) in
           let rows = rows_agree (set_for_all (m ∷ []) now (set_for_all (take at items) now before)) (set_for_all (take at items ++ m ∷ []) now before) e.players numbered (λ q low. set-more (take at items) m q now before) in
           subst (λ (ms : List Match). BringsToWith old new e s (tally_rows_by (set_for_all ms now before) e.players)) (sym more)
           (subst (λ (ts : List TallyRow). BringsToWith old new e s ts) rows (makes_then old mid new e e s was made)),
@@ -76,14 +76,14 @@ returns-clause-makes g c clean e s same moves stands =
     let old = state g.S.Store c.args.tx.now.conn.now in
     let new = state g.S.Store c.loop-played.tx.conn.now in
     let event = c.args.event.now in
-    let items = c.recounted-played-items.result.now in
+    let items = c.matches_to_recount-played-items.result.now in
     let now = totals (after event c.args.change.now) in
     let before = totals event in
-    let numbered = numbered_too e.players event.players same (c.recounted-played-items.ensures.sound.players.numbered) in
+    let numbered = numbered_too e.players event.players same (c.matches_to_recount-played-items.ensures.sound.players.numbered) in
     let all = take_all c.loop-played.played-index items c.loop-played-test.false in
     let made = subst (λ (ms : List Match). BringsToWith old new e s (tally_rows_by (set_for_all ms now before) e.players)) all (c.loop-played.invariant.2 clean e s same moves stands) in
     subst (λ (ts : List TallyRow). BringsToWith old new e s ts)
-    (rows_agree (set_for_all items now before) now e.players numbered (λ q low. all_set items now before c.recounted-played-items.ensures.others q)) made
+    (rows_agree (set_for_all items now before) now e.players numbered (λ q low. all_set items now before c.matches_to_recount-played-items.ensures.others q)) made
 
 pub returns-clause-stays : goal.returns-clause-stays
 returns-clause-stays g c =

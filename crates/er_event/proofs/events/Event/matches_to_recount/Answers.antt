@@ -8,10 +8,10 @@ use Rattle.er_event.specs.Recounted.{recounted_in, recounted, IsAbsent}
 use Rattle.er_event.specs.Round.{is_counted}
 use Rattle.er_event.proofs.RecountedLemmas.{added-same, added-known, scored-same, scored-known}
 use Rattle.er_event.proofs.RescoredLemmas.{table-within, round-within}
-use Rattle.er_event.proofs.events.Event.recounted.Goals as goal
+use Rattle.er_event.proofs.events.Event.matches_to_recount.Goals as goal
 
-pub recounted_in-requires : goal.recounted_in-requires
-recounted_in-requires c =
+pub matches_to_recount_in-requires : goal.matches_to_recount_in-requires
+matches_to_recount_in-requires c =
     let score = c.in-SetScore in
     let event = c.args.self.now in
     let fits : Fits event (SetScore score.round score.table score.score) = subst (Fits event) score.is c.requires in
@@ -43,7 +43,7 @@ given c =
     let is : round ≡ get_or event.stored (score.round - 1) (record { matches = [] }) =
     c.index-stored-from.is ∙ (ap (λ (rs : List Round). get_or rs (c.from.result - 1) round) c.stored-stored.ensures.value ∙ (ap (λ (k : ℕ). get_or event.stored (k - 1) round) c.from.ensures
     ∙ get_or_default event.stored (score.round - 1) round (record { matches = [] }) (round-within event score.round score.table score.score fits))) in
-    c.recounted_in.ensures
+    c.matches_to_recount_in.ensures
     ∙ (ap (λ (ms : List Match). recounted_in ms c.from-in-SetScore.result score.score) (c.as_slice-in-SetScore.ensures ∙ ap (λ (r : Round). r.matches) is)
     ∙ (ap (λ (t : ℕ). recounted_in (get_or event.stored (score.round - 1) (record { matches = [] })).matches t score.score) c.from-in-SetScore.ensures
     ∙ ap (recounted event) (sym score.is)))

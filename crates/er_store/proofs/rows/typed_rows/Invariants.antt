@@ -1,6 +1,6 @@
 use Rattle.std.proofs.Common.{◌≡◌, map, take}
 use Rattle.er_store.specs.Reading.{first_columns}
-use Rattle.er_store.proofs.rows.typed.Given as goal
+use Rattle.er_store.proofs.rows.typed_rows.Given as goal
 
 abbrev pub invariant-loop-row : goal.invariant-loop-row
 invariant-loop-row g l = map g.T.FromRow.form.columns l.typed.items ≡ map (first_columns g.T.FromRow.form.width) (take l.row-index l.rows)

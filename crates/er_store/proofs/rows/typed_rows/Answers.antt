@@ -1,6 +1,6 @@
 use Rattle.std.proofs.Common.{rules}
 use Rattle.er_store.proofs.TypedLemmas.{not_typed}
-use Rattle.er_store.proofs.rows.typed.Goals as goal
+use Rattle.er_store.proofs.rows.typed_rows.Goals as goal
 
 pub returns-in_err-from_row-clause-refused : goal.returns-in_err-from_row-clause-refused
 returns-in_err-from_row-clause-refused g c =
