@@ -1,3 +1,3 @@
-pub mod LastLemmas
-pub mod WinnerLemmas
-pub mod Examples
+mod LastLemmas
+mod WinnerLemmas
+mod Examples

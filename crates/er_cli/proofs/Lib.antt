@@ -1,8 +1,8 @@
-pub mod Bytes
-pub mod Ending
-pub mod Runs
-pub mod Turns
-pub mod Sending
-pub mod Connecting
-pub mod Enrolling
-pub mod Examples
+mod Bytes
+mod Ending
+mod Runs
+mod Turns
+mod Sending
+mod Connecting
+mod Enrolling
+mod Examples

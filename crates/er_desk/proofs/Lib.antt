@@ -1,8 +1,8 @@
-pub mod Folding
-pub mod Histories
-pub mod Turns
-pub mod Running
-pub mod Plain
-pub mod Adopting
-pub mod Slips
-pub mod NextSession
+mod Folding
+mod Histories
+mod Turns
+mod Running
+mod Plain
+mod Adopting
+mod Slips
+mod NextSession

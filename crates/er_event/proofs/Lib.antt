@@ -1,27 +1,27 @@
-pub mod NameLemmas
-pub mod PlayerLemmas
-pub mod DropLemmas
-pub mod Pairs
-pub mod RoundLemmas
-pub mod AddLemmas
-pub mod PrefixLemmas
-pub mod SeatLemmas
-pub mod PartsLemmas
-pub mod ShownLemmas
-pub mod ReadingLemmas
-pub mod PairingLemmas
-pub mod RoundRowLemmas
-pub mod TableLemmas
-pub mod StageLemmas
-pub mod StagesShown
-pub mod ScoreLemmas
-pub mod SlotLemmas
-pub mod BracketLemmas
-pub mod PlayoffLemmas
-pub mod SlotScoreLemmas
-pub mod EndLemmas
-pub mod Examples
-pub mod TotalLemmas
-pub mod OverLemmas
-pub mod RescoredLemmas
-pub mod RecountedLemmas
+mod NameLemmas
+mod PlayerLemmas
+mod DropLemmas
+mod Pairs
+mod RoundLemmas
+mod AddLemmas
+mod PrefixLemmas
+mod SeatLemmas
+mod PartsLemmas
+mod ShownLemmas
+mod ReadingLemmas
+mod PairingLemmas
+mod RoundRowLemmas
+mod TableLemmas
+mod StageLemmas
+mod StagesShown
+mod ScoreLemmas
+mod SlotLemmas
+mod BracketLemmas
+mod PlayoffLemmas
+mod SlotScoreLemmas
+mod EndLemmas
+mod Examples
+mod TotalLemmas
+mod OverLemmas
+mod RescoredLemmas
+mod RecountedLemmas

@@ -3,7 +3,7 @@ use Rattle.std.proofs.Common.{◌≡◌, ℕ, suc, ◌+◌, ◌-◌, ◌==◌, �
 use Rattle.std.proofs.Math.Seq.{drop-cons, take-append_seam}
 use Rattle.std.proofs.lemmas.List.{take_more, take_all, map-append, length-drop}
 use Rattle.std.proofs.lemmas.List.Elements.{All-head, All-tail, All-push, All-cons, All-nil, filter-append}
-use Rattle.std.proofs.lemmas.Option.{none-some}
+use Rattle.std.proofs.lemmas.Option.{none-some, same_Some}
 use Rattle.std.specs.Ordering.{int_eq}
 use Rattle.std.specs.List.{prefix_len}
 use Rattle.er_event.specs.declared.rounds.Round.{Round}
@@ -14,9 +14,6 @@ use Rattle.er_event.specs.declared.matches.Match.{Match}
 use Rattle.er_event.specs.Round.{is_bye, numbered_from}
 use Rattle.er_event.specs.Rows.{pairing_row, by_key, keyed_round_rows, keyed_rows_from}
 use Rattle.er_event.specs.Pairings.{IsShown, AreTables, AreShown, table_rows, is_of}
-
-pub some_same : {X : Type 0} (x y : X) → Some x ≡ Some y → x ≡ y
-some_same x y e = cc
 
 pair_first : (a b c d : ℕ) → ◌≡◌ {A = ℕ × ℕ} (a, b) (c, d) → a ≡ c
 pair_first a b c d e = ap (λ (p : ℕ × ℕ). p.0) e
@@ -30,8 +27,8 @@ match_same a b score m x y z = rw (x, y, z)
 pub match_found : (players : Option (ℕ × ℕ)) (scored : Option (Option Games)) (a b : ℕ) (score : Option Games) (m : Match)
     → players ≡ Some (a, b) → scored ≡ Some score → players ≡ Some (m.a, m.b) → scored ≡ Some m.score → (let made : Match = record { a = a; b = b; score = score } in Some made ≡ Some m)
 match_found players scored a b score m players_are score_is players_as score_as =
-    let both = some_same (a, b) (m.a, m.b) (sym players_are ∙ players_as) in
-    ap Some (match_same a b score m (pair_first a b m.a m.b both) (pair_second a b m.a m.b both) (some_same score m.score (sym score_is ∙ score_as)))
+    let both = same_Some (a, b) (m.a, m.b) (sym players_are ∙ players_as) in
+    ap Some (match_same a b score m (pair_first a b m.a m.b both) (pair_second a b m.a m.b both) (same_Some score m.score (sym score_is ∙ score_as)))
 
 pub never_none : {X : Type 0} {Y : Type 0} (o : Option X) (x : X) → o ≡ None → o ≡ Some x → Y
 never_none o x none some = absurd (none-some x (sym none ∙ some))

@@ -1,5 +1,5 @@
 -- Rows, and the event that they are of.
-use Rattle.std.proofs.Common.{◌≡◌, ◌≢◌, ◌≤◌, ◌<◌, ◌+◌, ◌||◌, ◌==◌, ℕ, ℤ, pos, Bool, true, false, suc, drop, ap₂, IsFalse, List, [], ◌∷◌, ◌++◌, length, map, take, get_or, All, AllPairs, IsTrue, Result, Err, refl, sym, ap, subst, ◌∙◌, true≢false, not-suc-le-zero, arith, length-take}
+use Rattle.std.proofs.Common.{◌≡◌, ◌≢◌, ◌≤◌, ◌<◌, ◌+◌, ◌==◌, ℕ, ℤ, pos, Bool, true, false, suc, drop, ap₂, List, [], ◌∷◌, ◌++◌, length, map, take, get_or, All, AllPairs, IsTrue, Result, Err, refl, sym, ap, subst, ◌∙◌, true≢false, not-suc-le-zero, arith, length-take}
 use Rattle.std.specs.List.{range_with_len}
 use Rattle.std.specs.Str.{bytes_eq}
 use Rattle.std.proofs.Math.ListN.{get_or-map, length-map}

@@ -1,8 +1,8 @@
 -- The stages of a sound event can be shown by rows, and are few.
-use Rattle.std.proofs.Common.{◌≡◌, ℕ, ◌+◌, ◌*◌, ◌/◌, ◌<◌, ◌≤◌, ◌==◌, ◌||◌, nat_lt, cond, Bool, true, false, List, [], ◌∷◌, length, flat_map, All, Contains, IsTrue, IfSome, Option, Some, None, refl, sym, ap, subst, ◌∙◌, arith}
+use Rattle.std.proofs.Common.{◌≡◌, ℕ, ◌+◌, ◌*◌, ◌/◌, ◌<◌, ◌≤◌, nat_lt, cond, Bool, true, false, List, [], ◌∷◌, length, flat_map, All, Contains, IsTrue, IfSome, Option, Some, None, refl, sym, ap, subst, ◌∙◌, arith}
 use Rattle.std.specs.List.{range_with_len}
 use Rattle.std.proofs.lemmas.Bool.Decides.{nat_tests}
-use Rattle.std.proofs.lemmas.Option.{none-some}
+use Rattle.std.proofs.lemmas.Option.{none-some, same_Some}
 use Rattle.std.proofs.lemmas.List.Elements.{All-head, All-tail, All-cons, All-nil}
 use Rattle.er_event.specs.declared.scores.Games.{Games}
 use Rattle.er_event.specs.declared.matches.Match.{Match}
@@ -11,7 +11,6 @@ use Rattle.er_event.specs.Round.{seats}
 use Rattle.er_event.specs.Bracket.{winner_with, next_stage, SameSlots, FollowOn}
 use Rattle.er_event.specs.Sound.{is_lawful_cut, IsBracket}
 use Rattle.er_event.specs.inside.Stages.{IsShownSlot, IsShownStage}
-use Rattle.er_event.proofs.PairingLemmas.{some_same}
 use Rattle.er_event.proofs.ShownLemmas.{below}
 
 -- the two numbers are 16 bits wide
@@ -106,7 +105,7 @@ module _ (n cut : ℕ) (few : n ≤ 512) (limit : IsTrue (is_lawful_cut cut)) wh
   pub stages_shown : (stages : List (List Match)) → IsBracket (range_with_len 1 n) cut stages → All IsShownStage stages × (length stages ≤ 3)
   stages_shown [] h = absurd (none-some h.first h.is_first)
   stages_shown (s ∷ more) h =
-      let same : s ≡ h.first = some_same s h.first h.is_first in
+      let same : s ≡ h.first = same_Some s h.first h.is_first in
       let count : length s ≡ cut / 2 = ap length same ∙ h.slots in
       let low = even h.cut_is_played in
       let high = at_most_8 in

@@ -2,8 +2,9 @@
 --
 -- Event is the tournament as every contract sees it; Name and Score say what may stand in one. Round, Match and Bracket
 -- say what matches are, and Sound puts all of it together: what is true of every event, but for who is seeded where.
--- Change says when a change fits, and the event after it. Lines and Totals count a player's matches; Tallies are the
--- totals of all, and who met whom; Recounted is what a change counts anew; Slip is one match with its names.
+-- Change says when a change fits, and the event after it; Safe, which changes keep an event sound, but for its seeds.
+-- Lines and Totals count a player's matches; Tallies are the totals of all, and who met whom; Recounted is what a
+-- change counts anew; Slip is one match with its names.
 --
 -- Rows are the rows of the five tables that an event has. Pairings and Parts read them back: the event that rows stand
 -- for, or the first table at fault. Refusal numbers and names the thirty refusals.
@@ -18,6 +19,7 @@ pub mod Match
 pub mod Bracket
 pub mod Sound
 pub mod Change
+pub mod Safe
 pub mod Rows
 pub mod Parts
 pub mod Pairings

@@ -7,6 +7,7 @@ mod changes;
 mod commands;
 mod events;
 mod items;
+pub mod laws;
 mod matches;
 mod names;
 mod players;

@@ -1,20 +1,20 @@
-pub mod Picking
-pub mod Counting
-pub mod Opening
-pub mod Searching
-pub mod Settling
-pub mod Bounds
-pub mod Entries
-pub mod Meeting
-pub mod Bits
-pub mod Ahead
-pub mod Passing
-pub mod Trying
-pub mod Sharing
-pub mod Answering
-pub mod Placing
-pub mod Ordering
-pub mod Uniqueness
-pub mod Seating
-pub mod Examples
-pub mod Ends
+mod Picking
+mod Counting
+mod Opening
+mod Searching
+mod Settling
+mod Bounds
+mod Entries
+mod Meeting
+mod Bits
+mod Ahead
+mod Passing
+mod Trying
+mod Sharing
+mod Answering
+mod Placing
+mod Ordering
+mod Uniqueness
+mod Seating
+mod Examples
+mod Ends

@@ -265,6 +265,11 @@ seats_distinct players apart positive = by_test (length players % 2 == 1)
     by_test true = all_pairs_push (λ p q. p ≢ q) players 0 apart (λ k d within none. let some = positive k d within in absurd (omega arith))
     by_test false = apart
 
+pub stands_once : (event : EventValue) (key : ℕ → ℕ) (order : List ℕ) → IsSoundButForSeeds event → IsOrder event key order → AllPairs (λ p q. p ≢ q) order
+stands_once event key order sound is =
+    subst (λ (l : List ℕ). AllPairs (λ p q. p ≢ q) l) (sym is.seated)
+    (seats_distinct is.players (players_distinct event is.players sound is.everyone) (players_positive event is.players sound is.everyone))
+
 -- nobody stands twice in the order
 pub order_distinct : (event : EventValue) (keys : List ℕ) (sorted : List Entrant) (seats : List ℕ) → IsSoundButForSeeds event → length keys ≡ length (active_numbers event)
     → IsPermutation (entrants_of event (active_numbers event) keys) sorted → seats ≡ seats_of (map (λ (p : Entrant). p.number) sorted) → AllPairs (λ p q. p ≢ q) seats

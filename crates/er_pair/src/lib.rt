@@ -4,6 +4,7 @@
 
 mod dead_ends;
 mod entrants;
+pub mod laws;
 mod meetings;
 mod orders;
 mod pairings;

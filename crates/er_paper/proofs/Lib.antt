@@ -1,10 +1,10 @@
-pub mod ColumnLemmas
-pub mod PairingLemmas
-pub mod StageLemmas
-pub mod Numerals
-pub mod SlipLemmas
-pub mod Rows
-pub mod Fields
-pub mod Lines
-pub mod ReadBack
+mod ColumnLemmas
+mod PairingLemmas
+mod StageLemmas
+mod Numerals
+mod SlipLemmas
+mod Rows
+mod Fields
+mod Lines
+mod ReadBack
 mod Examples

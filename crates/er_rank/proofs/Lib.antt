@@ -1,11 +1,11 @@
-pub mod Examples
-pub mod MeritLemmas
-pub mod OpponentLemmas
-pub mod MeetingLemmas
-pub mod EventLemmas
-pub mod PlacingLemmas
-pub mod SoundLemmas
-pub mod StandingLemmas
-pub mod OrderLemmas
-pub mod ListLemmas
-pub mod CountLemmas
+mod Examples
+mod MeritLemmas
+mod OpponentLemmas
+mod MeetingLemmas
+mod EventLemmas
+mod PlacingLemmas
+mod SoundLemmas
+mod StandingLemmas
+mod OrderLemmas
+mod ListLemmas
+mod CountLemmas

@@ -4,6 +4,7 @@ use Rattle.std.specs.List.Sorted.{IsPermutation, IsSorted}
 use Rattle.std.specs.declared.cmp.Ordering.{Ordering}
 use Rattle.std.specs.declared.cmp.Ordering.TheVariants.{Less, Equal, Greater}
 use Rattle.std.specs.Ordering.{ordering_then, ordering_reverse, is_eq, is_gt}
+use Rattle.std.proofs.Math.Nat.{eq_of_mul-eq-mul_right}
 use Rattle.std.proofs.lemmas.Bool.Decides.{nat_tests}
 use Rattle.std.proofs.lemmas.Cmp.{nat_cmp_total}
 use Rattle.std.proofs.lemmas.List.{get_or-map, get_or_default, length-map, same_lists}
@@ -11,7 +12,7 @@ use Rattle.std.proofs.lemmas.List.Elements.{All-map}
 use Rattle.std.proofs.lemmas.List.FromFn.{get_or-range_with_len}
 use Rattle.std.proofs.lemmas.List.Sorted.{IsPermutation-map, IsPermutation-sym, IsPermutation-trans, length_permutation, All-permutation}
 use Rattle.er_share.specs.Fraction.{Fraction, fraction_cmp}
-use Rattle.er_share.proofs.Shares.{IsShareOf-unique}
+use Rattle.er_share.specs.Share.{IsShareOf, fraction_of}
 use Rattle.er_event.specs.declared.players.Player.{Player}
 use Rattle.er_event.specs.Event.{EventValue}
 use Rattle.er_event.specs.Sound.{numbers, IsSoundButForSeeds}
@@ -115,6 +116,10 @@ is_listed_before-asymmetric e p q h = not_both (standing_cmp e p q) (standing_cm
 
 -- ---- one row for a player
 
+one_share : (a b : ℕ) (f : Fraction) → IsShareOf a f → IsShareOf b f → a ≡ b
+unfolding fraction_of
+one_share a b f first second = eq_of_mul-eq-mul_right f.den first.has_den a b (first.same ∙ sym second.same)
+
 abbrev row_by : ℕ → ℕ → ℕ → ℕ → ℕ → ℕ → Bool → Row
 row_by rank player points omw gwp ogw dropped = record { rank = rank; player = player; points = points; omw = omw; gwp = gwp; ogw = ogw; dropped = dropped }
 
@@ -139,9 +144,9 @@ IsRowOf-unique e sound r s one other player =
     (one.rank ∙ (ap (λ n. 1 + count_by (λ (q : Player). is_better e q.no n) e.players) player ∙ sym other.rank))
     player
     (one.points ∙ (ap (λ n. (totals e n).points) player ∙ sym other.points))
-    (IsShareOf-unique r.omw s.omw (opponents_match_win e s.player) (rw player at one.omw) other.omw)
-    (IsShareOf-unique r.gwp s.gwp (game_win e s.player) (rw player at one.gwp) other.gwp)
-    (IsShareOf-unique r.ogw s.ogw (opponents_game_win e s.player) (rw player at one.ogw) other.ogw)
+    (one_share r.omw s.omw (opponents_match_win e s.player) (rw player at one.omw) other.omw)
+    (one_share r.gwp s.gwp (game_win e s.player) (rw player at one.gwp) other.gwp)
+    (one_share r.ogw s.ogw (opponents_game_win e s.player) (rw player at one.ogw) other.ogw)
     (one.dropped ∙ (ap (λ (p : Player). p.dropped) listed ∙ sym other.dropped))
 
 -- ---- one list

@@ -12,7 +12,7 @@ use Rattle.std.proofs.lemmas.List.Sums.{sum_by-cons}
 use Rattle.std.proofs.lemmas.List.FromFn.{get_or-map-range_with_len}
 use Rattle.er_share.specs.Fraction.{Fraction, average}
 use Rattle.er_share.specs.Share.{IsShareOf}
-use Rattle.er_share.proofs.Shares.{share_cmp-same}
+use Rattle.er_share.specs.Order.{share_cmp-same}
 use Rattle.er_event.specs.declared.players.Player.{Player}
 use Rattle.er_event.specs.declared.matches.Match.{Match}
 use Rattle.er_event.specs.declared.rounds.Round.{Round}

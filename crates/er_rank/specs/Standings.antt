@@ -6,6 +6,7 @@ use Rattle.std.specs.Ordering.{nat_cmp, ordering_then, is_gt, is_eq}
 use Rattle.er_share.specs.Fraction.{Fraction, fraction_cmp, percentage, average}
 use Rattle.er_share.specs.Share.{IsShareOf}
 use Rattle.er_event.specs.Event.{EventValue}
+use Rattle.er_event.specs.Sound.{IsSoundButForSeeds}
 use Rattle.er_event.specs.declared.players.Player.{Player}
 use Rattle.er_event.specs.Lines.{own_lines}
 use Rattle.er_event.specs.Totals.{totals}
@@ -75,3 +76,7 @@ OneStandings event rows = (other : List Row) → AreStandings event other → ot
 -- and one top
 abbrev pub OneTop : EventValue → ℕ → List ℕ → Type 0
 OneTop event k players = (other : List ℕ) → IsTop event k other → other ≡ players
+
+-- a sound event has at most one top
+abbrev pub HasOneTop : Type 0
+HasOneTop = (event : EventValue) (k : ℕ) (players : List ℕ) → IsSoundButForSeeds event → IsTop event k players → OneTop event k players

@@ -6,6 +6,7 @@ ghost use Rattle.er_event.specs.Event.{EventValue};
 ghost use Rattle.er_rank.specs.Meeting.{AreListsOf, AreLists};
 ghost use Rattle.er_rank.specs.Standings.{AreStandings, IsTop, OneStandings, OneTop};
 
+pub mod laws;
 mod lists;
 mod meetings;
 mod merits;

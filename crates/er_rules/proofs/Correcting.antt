@@ -1,9 +1,8 @@
 -- A correction that is sent again at once is taken, and gives the same event.
-use Rattle.std.proofs.Common.{◌≡◌, ℕ, zero, suc, ◌+◌, ◌-◌, ◌==◌, Bool, true, false, cond, not, List, [], ◌∷◌, map, get_or, Option, Some, None, is_none, MatchOption, Ok, refl, sym, ap, ap₂, subst, ◌∙◌}
+use Rattle.std.proofs.Common.{◌≡◌, ℕ, zero, suc, ◌+◌, ◌-◌, Bool, true, false, not, List, [], ◌∷◌, map, get_or, Option, Some, None, is_none, MatchOption, Ok, refl, sym, ap, ap₂, subst, ◌∙◌}
 use Rattle.std.specs.List.{slice_get}
-use Rattle.std.specs.Option.{option_and_then}
 use Rattle.std.proofs.Math.ListN.{set}
-use Rattle.std.proofs.lemmas.Option.{none-some, get_or_from_slice_get}
+use Rattle.std.proofs.lemmas.Option.{get_or_from_slice_get}
 use Rattle.er_event.specs.declared.scores.Games.{Games}
 use Rattle.er_event.specs.declared.matches.Match.{Match}
 use Rattle.er_event.specs.declared.rounds.Round.{Round}
@@ -11,15 +10,14 @@ use Rattle.er_event.specs.declared.commands.Command.TheVariants.{Correct}
 use Rattle.er_event.specs.declared.refusals.Refusal.{Refusal}
 use Rattle.er_event.specs.declared.refusals.Refusal.TheVariants.{IsBye, BadScore, NotReported}
 use Rattle.er_event.specs.Event.{EventValue}
-use Rattle.er_event.specs.Round.{is_bye, numbered_from, is_at, match_in, match_at}
+use Rattle.er_event.specs.Round.{is_bye, numbered_from, is_at, match_at}
 use Rattle.er_event.specs.Score.{is_swiss_score}
 use Rattle.er_event.specs.Change.{scored, score_table, with_score}
-use Rattle.er_event.proofs.ScoreLemmas.{Found, found}
 use Rattle.er_rules.specs.Commands.{first_refusal, is_swiss}
 use Rattle.er_rules.specs.Step.{Steps, Makes, Refuses, checks}
 use Rattle.er_rules.specs.Retry.{RepeatsCorrection}
 use Rattle.er_rules.proofs.Sound.{passes, is_taken, same_Ok, yes, asked}
-use Rattle.er_rules.proofs.Rescoring.{Hit, hit_now, found_in, IsEntered, entered_as, scored_round, get_there}
+use Rattle.er_rules.proofs.Rescoring.{IsEntered, stored_at, entered_now, scored_round, get_there}
 
 twice : (t n : ℕ) (s : Games) (m : Match) (b : Bool) → is_at t (n, m) ≡ b → score_table t s (n, score_table t s (n, m)) ≡ score_table t s (n, m)
 twice t n s m true is =
@@ -47,28 +45,14 @@ same_rounds xs k t s r at =
     ap (λ (q : Round). set (set xs (k - 1) v) (k - 1) q) again ∙ set_again xs (k - 1) v v
 
 module _ (e : EventValue) (round table : ℕ) (score : Games) (m : Match) (at : match_at e round table ≡ Some m) (two : is_bye m ≡ false) where
-  abbrev f : Found e round table m
-  f = found e round table m at
-
   abbrev w : EventValue
   w = with_score e round table score
 
   same_event : with_score w round table score ≡ w
-  same_event = ap (λ (rs : List Round). (let x : EventValue = record e { stored = rs } in x)) (same_rounds e.stored round table score f.round f.stored)
-
-  not_zero : (round == 0) ≡ false
-  not_zero = by_test (round == 0) refl at
-    where
-      by_test : (b : Bool) → (round == 0) ≡ b → cond b None (option_and_then (λ (r : Round). match_in r.matches table) (slice_get e.stored (round - 1))) ≡ Some m → (round == 0) ≡ false
-      by_test true is h = absurd (none-some m h)
-      by_test false is h = is
+  same_event = ap (λ (rs : List Round). (let x : EventValue = record e { stored = rs } in x)) (let f = stored_at e round table m at in same_rounds e.stored round table score f.of f.stored)
 
   entered : IsEntered round table w.stored
-  entered =
-      let p = found_in f.round.matches table m f.here in
-      let read : get_or e.stored (round - 1) (record { matches = [] }) ≡ f.round = get_or_from_slice_get e.stored (round - 1) f.round (record { matches = [] }) f.stored in
-      entered_as round table _ (scored_round e.stored round table score) not_zero (get_there e.stored (round - 1) (scored_round e.stored round table score) f.round f.stored)
-      (subst (λ (q : Round). Hit table (numbered_from 1 (map (score_table table score) (numbered_from 1 q.matches)))) (sym read) (hit_now table 1 score f.round.matches p.0 p.1 (ap is_bye p.2 ∙ two)))
+  entered = entered_now e round table score m at two
 
   free : is_swiss e.phase ≡ true → is_swiss_score score ≡ true → first_refusal (checks w (Correct round table score)) ≡ None
   free swiss lawful = let it = entered in rw (swiss, it.numbered, it.stored, it.hit.1, it.hit.2, it.hit.3.1, lawful) refl

@@ -1,16 +1,15 @@
-pub mod Rounds
-pub mod Seeding
-pub mod Opening
-pub mod SlotLemmas
-pub mod Keeping
-pub mod Playing
-pub mod Deciding
-pub mod Differing
-pub mod Sound
-pub mod Once
-pub mod Examples
-pub mod Searching
-pub mod Retrying
-pub mod Rescoring
-pub mod Replaying
-pub mod Correcting
+mod Rounds
+mod Seeding
+mod Opening
+mod SlotLemmas
+mod Keeping
+mod Playing
+mod Deciding
+mod Sound
+mod Once
+mod Examples
+mod Searching
+mod Retrying
+mod Rescoring
+mod Replaying
+mod Correcting

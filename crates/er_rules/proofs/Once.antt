@@ -6,26 +6,22 @@ use Rattle.er_event.specs.declared.refusals.Refusal.{Refusal}
 use Rattle.er_event.specs.declared.events.Phase.TheVariants.{Playoff}
 use Rattle.er_event.specs.Event.{EventValue}
 use Rattle.er_event.specs.Sound.{IsSoundButForSeeds}
-use Rattle.er_rank.specs.Standings.{IsTop}
-use Rattle.er_rank.proofs.ListLemmas.{OneStandings-sound, OneTop-one}
+use Rattle.er_rank.specs.Standings.{HasOneTop}
 use Rattle.er_bracket.specs.Seeds.{first_stage}
 use Rattle.er_pair.specs.Met.{have_met}
 use Rattle.er_pair.specs.Order.{seed_words}
 use Rattle.er_pair.specs.Pairing as pairing
 use Rattle.er_pair.specs.Pairing.{round_of}
-use Rattle.er_pair.proofs.Uniqueness.{one_order, one_earliest}
+use Rattle.er_pair.specs.Laws.{OneOrder, OneEarliest}
 use Rattle.er_rules.specs.Commands.{first_refusal}
 use Rattle.er_rules.specs.Step.{Pairs, Makes, Refuses, Steps, checks}
 
-module _ (e : EventValue) (sound : IsSoundButForSeeds e) where
+module _ (one_order : OneOrder) (one_earliest : OneEarliest) (one_top : HasOneTop) (e : EventValue) (sound : IsSoundButForSeeds e) where
   pairs_once : (order : List ℕ) (one other : Result EventValue Refusal) → Pairs e order one → Pairs e order other → one ≡ other
   pairs_once order (Ok a) (Ok b) p q = ap Ok (p.2 ∙ (ap (λ (ps : List pairing.Pair). record e { stored = e.stored ++ record { matches = round_of order ps } ∷ [] }) (one_earliest (have_met e) order p.0 q.0 p.1 q.1) ∙ sym q.2))
   pairs_once order (Ok a) (Err w) p q = absurd (q.1 p.0 p.1.legal)
   pairs_once order (Err v) (Ok b) p q = absurd (p.1 q.0 q.1.legal)
   pairs_once order (Err v) (Err w) p q = ap Err (p.0 ∙ sym q.0)
-
-  top_once : (k : ℕ) (one other : List ℕ) → IsTop e k one → IsTop e k other → one ≡ other
-  top_once k one other p q = sym (OneTop-one e k p.rows one (OneStandings-sound e p.rows sound p.standings) p.top other q)
 
   made_once : (c : Command) (one other : Result EventValue Refusal) → Makes e c one → Makes e c other → one ≡ other
   made_once (Enrol name) one other p q = p ∙ sym q
@@ -37,7 +33,7 @@ module _ (e : EventValue) (sound : IsSoundButForSeeds e) where
   made_once (Correct round table score) one other p q = p ∙ sym q
   made_once (Drop player) one other p q = p ∙ sym q
   made_once Cut one other p q =
-      let same = top_once e.cut p.0 q.0 p.1 q.1 in
+      let same = one_top e e.cut q.0 sound q.1 p.0 p.1 in
       p.2 ∙ (ap (λ (seeds : List ℕ). Ok (record e { phase = Playoff; bracket = record { stages = first_stage seeds ∷ [] } })) same ∙ sym q.2)
   made_once (PlayOff stage slot score) one other p q = p ∙ sym q
 

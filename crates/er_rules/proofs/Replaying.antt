@@ -3,7 +3,7 @@ use Rattle.std.proofs.Common.{◌≡◌, inl, inr, ℕ, ◌-◌, ◌==◌, ◌||
 use Rattle.std.specs.List.{slice_get}
 use Rattle.std.specs.Option.{option_and_then}
 use Rattle.std.proofs.Math.ListN.{set}
-use Rattle.std.proofs.lemmas.Option.{none-some, get_or_from_slice_get}
+use Rattle.std.proofs.lemmas.Option.{none-some, get_or_from_slice_get, option_and_then_some}
 use Rattle.er_event.specs.declared.scores.Games.{Games}
 use Rattle.er_event.specs.declared.events.Phase.{Phase}
 use Rattle.er_event.specs.declared.events.Phase.TheVariants.{Enrolling, Swiss, Playoff, Finished}
@@ -16,7 +16,6 @@ use Rattle.er_event.specs.Event.{EventValue}
 use Rattle.er_event.specs.Bracket.{slot_at, open_match}
 use Rattle.er_event.specs.Score.{is_playoff_score}
 use Rattle.er_event.specs.Change.{scored, stage_of, scored_slot}
-use Rattle.er_event.proofs.SlotScoreLemmas.{found-slot}
 use Rattle.er_rules.specs.Commands.{first_refusal, is_enrolling, is_swiss, is_playoff, already}
 use Rattle.er_rules.specs.Step.{Steps, Makes, checks, scored_at}
 use Rattle.er_rules.specs.Fold.{Folds}
@@ -82,6 +81,20 @@ playoff_over Swiss false is = absurd (true≢false (sym is))
 playoff_over Playoff false is = (refl, refl)
 playoff_over Finished false is = absurd (true≢false (sym is))
 
+-- a match of the playoff that is given a score has it
+played_now : (e : EventValue) (stage slot : ℕ) (s : Games) (m : Match) → slot_at e stage slot ≡ Some m → IsPlayed stage slot (set e.bracket.stages (stage - 1) (scored_at e stage slot s))
+played_now e stage slot s m at = by_zero (stage == 0 || slot == 0) refl at
+  where
+    in_stage : (of : List Match) → (stage == 0 || slot == 0) ≡ false → slice_get e.bracket.stages (stage - 1) ≡ Some of → slice_get of (slot - 1) ≡ Some m → IsPlayed stage slot (set e.bracket.stages (stage - 1) (scored_at e stage slot s))
+    in_stage of numbered stored here =
+        let read : stage_of e.bracket.stages stage ≡ of = get_or_from_slice_get e.bracket.stages (stage - 1) of [] stored in
+        let there = subst (λ (ms : List Match). slice_get ms (slot - 1) ≡ Some m) (sym read) here in
+        played_as stage slot _ (scored_at e stage slot s) _ numbered (get_there e.bracket.stages (stage - 1) (scored_at e stage slot s) of stored) (get_there (stage_of e.bracket.stages stage) (slot - 1) _ m there) (s, refl)
+
+    by_zero : (b : Bool) → (stage == 0 || slot == 0) ≡ b → cond b None (option_and_then (λ (ms : List Match). slice_get ms (slot - 1)) (slice_get e.bracket.stages (stage - 1))) ≡ Some m → IsPlayed stage slot (set e.bracket.stages (stage - 1) (scored_at e stage slot s))
+    by_zero true is h = absurd (none-some m h)
+    by_zero false is h = option_and_then_some (λ (ms : List Match). slice_get ms (slot - 1)) (slice_get e.bracket.stages (stage - 1)) m h (λ of stored here. in_stage of is stored here)
+
 module _ (e next later : EventValue) (more : List Command) (folds : Folds next more later) (result : Result EventValue Refusal) (stage slot : ℕ) (score : Games) where
   abbrev Refused : Type 0
   Refused = (why : Refusal) × (result ≡ Err why) × IsRetryRefusal (PlayOff stage slot score) why
@@ -91,22 +104,12 @@ module _ (e next later : EventValue) (more : List Command) (folds : Folds next m
       let it = is_taken e next (PlayOff stage slot score) taken in
       let pass = passes (checks e (PlayOff stage slot score)) it.0 in
       let there = asked (slot_at e stage slot) (λ m. already m.score ++ (not (is_playoff_score score), BadScore) ∷ []) pass.1 in
-      let f = found-slot e stage slot there.0 there.1 in
       let is = same_Ok next _ it.1 in
-      let scored_stage = scored_at e stage slot score in
-      let entered : IsPlayed stage slot (set e.bracket.stages (stage - 1) scored_stage) =
-      played_as stage slot _ scored_stage _ (not_zero there.1) (get_there e.bracket.stages (stage - 1) scored_stage _ f.at) (get_there (stage_of e.bracket.stages stage) (slot - 1) _ there.0 f.here) (score, refl) in
+      let entered = played_now e stage slot score there.0 there.1 in
       let over : IsOver next = (ap (λ (x : EventValue). is_enrolling x.phase) is ∙ (playoff_over e.phase _ (yes _ pass.0)).0, ap (λ (x : EventValue). is_swiss x.phase) is ∙ (playoff_over e.phase _ (yes _ pass.0)).1) in
       let now = kept_on (HasPlayed stage slot) (played_kept stage slot) next later more folds (over, subst (IsPlayed stage slot) (sym (ap (λ (x : EventValue). x.bracket.stages) is)) (played_more stage slot _ _ entered)) in
       by_phase now.1 (is_playoff later.phase) refl again
     where
-      not_zero : {m : Match} → slot_at e stage slot ≡ Some m → (stage == 0 || slot == 0) ≡ false
-      not_zero {m} at = by_test (stage == 0 || slot == 0) refl at
-        where
-          by_test : (b : Bool) → (stage == 0 || slot == 0) ≡ b → cond b None (option_and_then (λ (ms : List Match). slice_get ms (slot - 1)) (slice_get e.bracket.stages (stage - 1))) ≡ Some m → (stage == 0 || slot == 0) ≡ false
-          by_test true is h = absurd (none-some m h)
-          by_test false is h = is
-
       by_phase : IsPlayed stage slot later.bracket.stages → (b : Bool) → is_playoff later.phase ≡ b → Steps later (PlayOff stage slot score) result → Refused
       by_phase it false is again = (NotPlayoff, refused_by later (PlayOff stage slot score) NotPlayoff result (rw is refl) again, inr refl)
       by_phase it true is again =

@@ -3,7 +3,7 @@ use Rattle.std.proofs.Common.{◌≡◌, ◌⊎◌, inl, inr, ℕ, zero, suc, �
 use Rattle.std.specs.List.{slice_get}
 use Rattle.std.specs.Option.{option_map, option_and_then}
 use Rattle.std.proofs.Math.ListN.{set}
-use Rattle.std.proofs.lemmas.Option.{none-some, same_Some, get_or_from_slice_get}
+use Rattle.std.proofs.lemmas.Option.{none-some, same_Some, get_or_from_slice_get, option_and_then_some}
 use Rattle.er_event.specs.declared.scores.Games.{Games}
 use Rattle.er_event.specs.declared.matches.Match.{Match}
 use Rattle.er_event.specs.declared.rounds.Round.{Round}
@@ -15,7 +15,6 @@ use Rattle.er_event.specs.Event.{EventValue}
 use Rattle.er_event.specs.Round.{is_bye, numbered_from, is_at, match_in, match_at}
 use Rattle.er_event.specs.Score.{is_swiss_score}
 use Rattle.er_event.specs.Change.{scored, score_table}
-use Rattle.er_event.proofs.ScoreLemmas.{found}
 use Rattle.er_rules.specs.Commands.{is_enrolling, is_swiss, already}
 use Rattle.er_rules.specs.Step.{Steps, Makes, checks}
 use Rattle.er_rules.specs.Fold.{Folds}
@@ -89,14 +88,14 @@ hit_stays t u n s (m ∷ ms) (p, at, two, has) =
     (λ is. let here = hit_head t n m p (numbered_from (n + 1) ms) is at in (bye_same u n s m ∙ (ap (λ (q : ℕ × Match). is_bye q.1) here ∙ two), score_stays u n s m (subst (λ (q : ℕ × Match). HasScore q.1) (sym here) has)))
     (λ is. hit_stays t u (n + 1) s ms (p, hit_tail t n m p (numbered_from (n + 1) ms) is at, two, has))
 
-pub hit_now : (t n : ℕ) (s : Games) (ms : List Match) (p : ℕ × Match) → find (is_at t) (numbered_from n ms) ≡ Some p → is_bye p.1 ≡ false → Hit t (numbered_from n (map (score_table t s) (numbered_from n ms)))
+hit_now : (t n : ℕ) (s : Games) (ms : List Match) (p : ℕ × Match) → find (is_at t) (numbered_from n ms) ≡ Some p → is_bye p.1 ≡ false → Hit t (numbered_from n (map (score_table t s) (numbered_from n ms)))
 hit_now t n s [] p at two = absurd (none-some p at)
 hit_now t n s (m ∷ ms) p at two =
     hit_cons t n (score_table t s (n, m)) _ (is_at t (n, m)) (table_same t t n s m)
     (λ is. (bye_same t n s m ∙ (ap (λ (q : ℕ × Match). is_bye q.1) (hit_head t n m p (numbered_from (n + 1) ms) is at) ∙ two), (s, rw is refl)))
     (λ is. hit_now t (n + 1) s ms p (hit_tail t n m p (numbered_from (n + 1) ms) is at) two)
 
-pub found_in : (ms : List Match) (t : ℕ) (m : Match) → match_in ms t ≡ Some m → (p : ℕ × Match) × (find (is_at t) (numbered_from 1 ms) ≡ Some p) × (p.1 ≡ m)
+found_in : (ms : List Match) (t : ℕ) (m : Match) → match_in ms t ≡ Some m → (p : ℕ × Match) × (find (is_at t) (numbered_from 1 ms) ≡ Some p) × (p.1 ≡ m)
 found_in ms t m at = by_option (find (is_at t) (numbered_from 1 ms)) refl at
   where
     by_option : (o : Option (ℕ × Match)) → find (is_at t) (numbered_from 1 ms) ≡ o → option_map (λ (q : ℕ × Match). q.1) o ≡ Some m → (p : ℕ × Match) × (find (is_at t) (numbered_from 1 ms) ≡ Some p) × (p.1 ≡ m)
@@ -112,7 +111,7 @@ pub record IsEntered (round table : ℕ) (rounds : List Round) : Type 0 where
   pub stored : slice_get rounds (round - 1) ≡ Some of
   pub hit : Hit table (numbered_from 1 of.matches)
 
-pub entered_as : (round table : ℕ) (rounds : List Round) (r : Round) → (round == 0) ≡ false → slice_get rounds (round - 1) ≡ Some r → Hit table (numbered_from 1 r.matches) → IsEntered round table rounds
+entered_as : (round table : ℕ) (rounds : List Round) (r : Round) → (round == 0) ≡ false → slice_get rounds (round - 1) ≡ Some r → Hit table (numbered_from 1 r.matches) → IsEntered round table rounds
 entered_as round table rounds r numbered at hit = record { numbered = numbered; of = r; stored = at; hit = hit }
 
 abbrev pub scored_round : List Round → ℕ → ℕ → Games → Round
@@ -146,34 +145,46 @@ entered_kept round table e next c steps has = (begun_stays e next c steps has.0,
     made Cut is = stored_as _ (ap (λ (x : EventValue). x.stored) (same_Ok next _ is.2)) has.1
     made (PlayOff k t s) is = stored_as _ (ap (λ (x : EventValue). x.stored) (same_Ok next _ is)) has.1
 
+-- ---- a score is entered
+
+-- where the match of this table of this round stands
+pub record IsStored (e : EventValue) (round table : ℕ) (m : Match) : Type 0 where
+  pub numbered : (round == 0) ≡ false
+  pub of : Round
+  pub stored : slice_get e.stored (round - 1) ≡ Some of
+  pub here : match_in of.matches table ≡ Some m
+
+pub stored_at : (e : EventValue) (round table : ℕ) (m : Match) → match_at e round table ≡ Some m → IsStored e round table m
+stored_at e round table m at = by_zero (round == 0) refl at
+  where
+    by_zero : (b : Bool) → (round == 0) ≡ b → cond b None (option_and_then (λ (r : Round). match_in r.matches table) (slice_get e.stored (round - 1))) ≡ Some m → IsStored e round table m
+    by_zero true is h = absurd (none-some m h)
+    by_zero false is h =
+        option_and_then_some (λ (r : Round). match_in r.matches table) (slice_get e.stored (round - 1)) m h (λ r stored here. record { numbered = is; of = r; stored = stored; here = here })
+
+-- a match of two players that is given a score has it
+pub entered_now : (e : EventValue) (round table : ℕ) (s : Games) (m : Match) → match_at e round table ≡ Some m → is_bye m ≡ false
+    → IsEntered round table (set e.stored (round - 1) (scored_round e.stored round table s))
+entered_now e round table s m at two =
+    let f = stored_at e round table m at in
+    let p = found_in f.of.matches table m f.here in
+    let read : get_or e.stored (round - 1) (record { matches = [] }) ≡ f.of = get_or_from_slice_get e.stored (round - 1) f.of (record { matches = [] }) f.stored in
+    let hit = hit_now table 1 s f.of.matches p.0 p.1 (ap is_bye p.2 ∙ two) in
+    entered_as round table _ (scored_round e.stored round table s) f.numbered (get_there e.stored (round - 1) (scored_round e.stored round table s) f.of f.stored)
+    (subst (λ (r : Round). Hit table (numbered_from 1 (map (score_table table s) (numbered_from 1 r.matches)))) (sym read) hit)
+
 module _ (e next later : EventValue) (more : List Command) (folds : Folds next more later) (result : Result EventValue Refusal) (round table : ℕ) (score : Games) where
   pub report_again : Steps e (Report round table score) (Ok next) → Steps later (Report round table score) result → (why : Refusal) × (result ≡ Err why) × IsRetryRefusal (Report round table score) why
   report_again taken again =
       let it = is_taken e next (Report round table score) taken in
       let pass = passes (checks e (Report round table score)) it.0 in
       let there = asked (match_at e round table) (λ m. (is_bye m, IsBye) ∷ already m.score ++ (not (is_swiss_score score), BadScore) ∷ []) pass.1 in
-      let f = found e round table there.0 there.1 in
-      let p = found_in f.round.matches table there.0 f.here in
-      let hit = hit_now table 1 score f.round.matches p.0 p.1 (ap is_bye p.2 ∙ there.2.0) in
       let is = same_Ok next _ it.1 in
-      let entered = put f.stored hit (not_zero there.1) in
+      let entered = entered_now e round table score there.0 there.1 there.2.0 in
       let begun : is_enrolling next.phase ≡ false = ap (λ (x : EventValue). is_enrolling x.phase) is ∙ swiss_began e.phase (yes _ pass.0) in
       let now = kept_on (HasEntered round table) (entered_kept round table) next later more folds (begun, subst (IsEntered round table) (sym (ap (λ (x : EventValue). x.stored) is)) entered) in
       by_phase now.1 (is_swiss later.phase) refl again
     where
-      not_zero : {m : Match} → match_at e round table ≡ Some m → (round == 0) ≡ false
-      not_zero {m} at = by_test (round == 0) refl at
-        where
-          by_test : (b : Bool) → (round == 0) ≡ b → cond b None (option_and_then (λ (r : Round). match_in r.matches table) (slice_get e.stored (round - 1))) ≡ Some m → (round == 0) ≡ false
-          by_test true is h = absurd (none-some m h)
-          by_test false is h = is
-
-      put : {r : Round} → slice_get e.stored (round - 1) ≡ Some r → Hit table (numbered_from 1 (map (score_table table score) (numbered_from 1 r.matches))) → (round == 0) ≡ false → IsEntered round table (set e.stored (round - 1) (scored_round e.stored round table score))
-      put {r} at hit some =
-          let read : get_or e.stored (round - 1) (record { matches = [] }) ≡ r = get_or_from_slice_get e.stored (round - 1) r (record { matches = [] }) at in
-          entered_as round table _ (scored_round e.stored round table score) some (get_there e.stored (round - 1) (scored_round e.stored round table score) r at)
-          (subst (λ (q : Round). Hit table (numbered_from 1 (map (score_table table score) (numbered_from 1 q.matches)))) (sym read) hit)
-
       by_phase : IsEntered round table later.stored → (b : Bool) → is_swiss later.phase ≡ b → Steps later (Report round table score) result → (why : Refusal) × (result ≡ Err why) × IsRetryRefusal (Report round table score) why
       by_phase it false is again = (NotSwiss, refused_by later (Report round table score) NotSwiss result (rw is refl) again, inr refl)
       by_phase it true is again =

@@ -1,14 +1,12 @@
 -- The step keeps an event sound.
-use Rattle.std.proofs.Common.{◌≡◌, ◌≢◌, inl, inr, ℕ, ◌+◌, ◌<◌, ◌≤◌, ◌==◌, nat_le, nat_lt, Bool, true, false, not, List, [], ◌∷◌, ◌++◌, length, All, AllPairs, Contains, Option, Some, None, MatchOption, Result, Ok, IsTrue, IsFalse, refl, sym, ap, subst, ◌∙◌, arith, true≢false, is_none}
-use Rattle.std.specs.List.{list_any}
+use Rattle.std.proofs.Common.{◌≡◌, ◌≢◌, inr, ℕ, ◌+◌, ◌<◌, ◌≤◌, ◌==◌, nat_le, nat_lt, Bool, true, false, not, List, [], ◌∷◌, ◌++◌, length, All, AllPairs, Contains, Option, Some, None, MatchOption, Result, Ok, refl, sym, ap, subst, ◌∙◌, arith, true≢false, is_none}
 use Rattle.std.proofs.lemmas.Bool.Decides.{nat_tests}
-use Rattle.std.proofs.lemmas.List.Elements.{All-weaker}
 use Rattle.std.proofs.lemmas.Option.{none-some}
 use Rattle.er_event.specs.declared.scores.Games.{Games}
 use Rattle.er_event.specs.declared.events.Phase.{Phase}
 use Rattle.er_event.specs.declared.events.Phase.TheVariants.{Enrolling, Swiss, Playoff, Finished}
 use Rattle.er_event.specs.declared.matches.Match.{Match}
-use Rattle.er_event.specs.declared.rounds.Round.{Round}
+use Rattle.er_event.specs.declared.changes.Change.TheVariants.{AddPlayer, SetDropped, SetPhase, AddRound, SetScore, AddBracket, SetBracketScore}
 use Rattle.er_event.specs.declared.commands.Command.{Command}
 use Rattle.er_event.specs.declared.commands.Command.TheVariants.{Enrol, Start, Pair, Result as Report, Correct, Drop, Cut, Playoff as PlayOff}
 use Rattle.er_event.specs.declared.refusals.Refusal.{Refusal}
@@ -16,31 +14,24 @@ use Rattle.er_event.specs.declared.refusals.Refusal.TheVariants.{IsBye, BadScore
 use Rattle.er_event.specs.Event.{EventValue}
 use Rattle.er_event.specs.Name.{is_lawful_name}
 use Rattle.er_event.specs.Score.{is_swiss_score, is_playoff_score}
-use Rattle.er_event.specs.Round.{is_bye, is_counted, is_same_pairing, matches_of, match_at}
-use Rattle.er_event.specs.Bracket.{slot_at}
-use Rattle.er_event.specs.Change.{with_player, with_dropped, with_phase, with_round, with_score, IsNextRound}
-use Rattle.er_event.specs.Sound.{IsSoundButForSeeds, IsInPlayoff, numbers}
-use Rattle.er_event.proofs.PlayerLemmas.{IsSound-with}
-use Rattle.er_event.proofs.DropLemmas.{IsSound-dropped}
-use Rattle.er_event.proofs.RoundLemmas.{of-All}
-use Rattle.er_event.proofs.AddLemmas.{IsSound-round}
-use Rattle.er_event.proofs.ScoreLemmas.{Fits-score}
-use Rattle.er_event.proofs.SlotScoreLemmas.{Fits-open}
-use Rattle.er_event.proofs.PlayoffLemmas.{opening-fits}
+use Rattle.er_event.specs.Round.{is_bye, match_at}
+use Rattle.er_event.specs.Bracket.{slot_at, following, is_over}
+use Rattle.er_event.specs.Change.{with_player, with_dropped, with_phase, with_round, with_score}
+use Rattle.er_event.specs.Sound.{IsSoundButForSeeds, numbers}
+use Rattle.er_event.specs.Safe.{ChangesKeepSound}
 use Rattle.er_bracket.specs.Seeds.{first_stage}
 use Rattle.er_pair.specs.Met.{have_met}
 use Rattle.er_pair.specs.Order.{seed_words}
 use Rattle.er_pair.specs.Pairing.{entries}
-use Rattle.er_pair.proofs.Seating.{first_before_second, each_sits, none_has_met}
+use Rattle.er_pair.specs.Laws.{StandOnce, LegalSeats}
 use Rattle.er_rules.specs.Commands.{Check, first_refusal, is_enrolling, is_swiss, active, already, checks_at}
-use Rattle.er_rules.specs.Step.{Steps, Makes, Refuses, checks, with_stage_score}
+use Rattle.er_rules.specs.Step.{Steps, Makes, Refuses, checks, scored_at, with_stage_score}
 use Rattle.er_rules.specs.Sound.{IsSound}
 use Rattle.er_rules.specs.Tables.{tables_of}
 use Rattle.er_rules.proofs.Rounds.{IsPairing, may_come_next, tables_are}
 use Rattle.er_rules.proofs.Seeding.{top_known, top_apart, top_count}
 use Rattle.er_rules.proofs.Opening.{is_cut, opening, rounds_done}
 use Rattle.er_rules.proofs.Keeping.{step_keeps}
-use Rattle.er_rules.proofs.Differing.{orders_differ}
 
 -- no check of the list fails
 abbrev pub AllPass : List Check → Type 0
@@ -86,7 +77,7 @@ pub open_yet : (o : Option Games) (rest : List Check) → AllPass (already o ++ 
 open_yet None rest is = (refl, is)
 open_yet (Some s) rest is = absurd (true≢false is.0)
 
-module _ (e : EventValue) (h : IsSoundButForSeeds e) where
+module _ (keeps : ChangesKeepSound) (once : StandOnce) (seats : LegalSeats) (e : EventValue) (h : IsSoundButForSeeds e) where
   enrolled : (name : List ℕ) → first_refusal (checks e (Enrol name)) ≡ None → IsSoundButForSeeds (with_player e name)
   enrolled name free =
       let a = passes (checks e (Enrol name)) free in
@@ -95,7 +86,7 @@ module _ (e : EventValue) (h : IsSoundButForSeeds e) where
       let d = c.1 in
       let full : nat_le 512 (length e.players) ≡ false = d.0 in
       let room : length e.players < 512 = grind (arith, nat_tests) in
-      IsSound-with e name h (yes (is_lawful_name name) b.0) room (ap not c.0)
+      keeps e (AddPlayer name) h (yes (is_lawful_name name) b.0, room, c.0)
 
   started : first_refusal (checks e Start) ≡ None → IsSoundButForSeeds (with_phase e Swiss)
   started free =
@@ -104,24 +95,7 @@ module _ (e : EventValue) (h : IsSoundButForSeeds e) where
       let phase = enrolling_is e.phase a.0 in
       let few : nat_lt (length e.players) 2 ≡ false = b.0 in
       let two : 2 ≤ length e.players = grind (arith, nat_tests) in
-      record {
-        set_up = h.set_up;
-        players = record { few = h.players.few; numbered = h.players.numbered; lawful = h.players.lawful; distinct = h.players.distinct; enrolling = λ is. absurd (let never : Swiss ≡ Enrolling = is in cc); started = λ _. two };
-        rounds = record { few = h.rounds.few; enrolling = λ is. absurd (let never : Swiss ≡ Enrolling = is in cc); each = h.rounds.each; no_repeats = h.rounds.no_repeats; earlier_done = h.rounds.earlier_done; done = λ over. absurd (early over) };
-        bracket = record {
-          none = λ _. h.bracket.none (inl phase);
-          bracket = λ over. absurd (early over);
-          decided = λ is. absurd (early (inr is));
-          undecided = λ is. absurd (early (inl is));
-        };
-      }
-    where
-      early : IsInPlayoff (with_phase e Swiss) → ⊥
-      early (inl is) = let never : Swiss ≡ Playoff = is in cc
-      early (inr is) = let never : Swiss ≡ Finished = is in cc
-
-  fits_round : (ms : List Match) → IsNextRound e ms → IsSoundButForSeeds (with_round e ms)
-  fits_round ms next = IsSound-round e ms h next.swiss next.room (record { done = next.done; round = next.round; new = next.new })
+      keeps e (SetPhase Swiss) h (phase, refl, two)
 
   paired : (round : ℕ) (seed : List ℕ) (next : EventValue) → first_refusal (checks e (Pair round seed)) ≡ None → Makes e (Pair round seed) (Ok next) → IsSoundButForSeeds next
   paired round seed next free (order, ordered, (pairs, earliest, is)) =
@@ -135,16 +109,17 @@ module _ (e : EventValue) (h : IsSoundButForSeeds e) where
       let few : nat_lt (length (active e)) 2 ≡ false = f.0 in
       let two : 2 ≤ length (active e) = grind (arith, nat_tests) in
       let ps = entries order pairs in
+      let seated = seats (have_met e) order pairs earliest.legal in
       let it : IsPairing (have_met e) order ps = record {
         pairs = pairs;
         earliest = earliest;
         are = refl;
-        rising = first_before_second (have_met e) order pairs earliest.legal;
-        seated_all = each_sits (have_met e) order pairs ps earliest.legal refl;
-        new = none_has_met (have_met e) order pairs ps earliest.legal refl;
+        rising = seated.in_order;
+        seated_all = seated.each_once;
+        new = seated.new_opponents;
       } in
-      let may = may_come_next e (seed_words seed) order ps ordered (orders_differ e (seed_words seed) order h ordered) two it h (swiss_is e.phase a.0) room d.0 in
-      subst IsSoundButForSeeds (ap (λ (ms : List Match). with_round e ms) (tables_are order pairs) ∙ sym is) (fits_round (tables_of ps) may)
+      let may = may_come_next e (seed_words seed) order ps ordered (once e (seed_words seed) order h ordered) two it h (swiss_is e.phase a.0) room d.0 in
+      subst IsSoundButForSeeds (ap (λ (ms : List Match). with_round e ms) (tables_are order pairs) ∙ sym is) (keeps e (AddRound (tables_of ps)) h may)
 
   reported : (round table : ℕ) (score : Games) → first_refusal (checks e (Report round table score)) ≡ None → IsSoundButForSeeds (with_score e round table score)
   reported round table score free =
@@ -153,7 +128,7 @@ module _ (e : EventValue) (h : IsSoundButForSeeds e) where
       let c = b.2 in
       let d = open_yet b.0.score ((not (is_swiss_score score), BadScore) ∷ []) c.1 in
       let f = d.1 in
-      (Fits-score e round table score b.0 b.1 c.0 (yes (is_swiss_score score) f.0) h).sound
+      keeps e (SetScore round table score) h ((b.0, b.1, c.0), yes (is_swiss_score score) f.0)
 
   corrected : (round table : ℕ) (score : Games) → first_refusal (checks e (Correct round table score)) ≡ None → IsSoundButForSeeds (with_score e round table score)
   corrected round table score free =
@@ -161,12 +136,12 @@ module _ (e : EventValue) (h : IsSoundButForSeeds e) where
       let b = asked (match_at e round table) (λ m. (is_bye m, IsBye) ∷ (is_none m.score, NotReported) ∷ (not (is_swiss_score score), BadScore) ∷ []) a.1 in
       let c = b.2 in
       let f = c.1.1 in
-      (Fits-score e round table score b.0 b.1 c.0 (yes (is_swiss_score score) f.0) h).sound
+      keeps e (SetScore round table score) h ((b.0, b.1, c.0), yes (is_swiss_score score) f.0)
 
   dropped : (player : ℕ) → first_refusal (checks e (Drop player)) ≡ None → IsSoundButForSeeds (with_dropped e player)
   dropped player free =
       let a = passes (checks e (Drop player)) free in
-      IsSound-dropped e player h (λ is. let never : Swiss ≡ Enrolling = sym (swiss_is e.phase a.0) ∙ is in cc)
+      keeps e (SetDropped player) h (λ is. let never : Swiss ≡ Enrolling = sym (swiss_is e.phase a.0) ∙ is in cc)
 
   cut : (next : EventValue) → first_refusal (checks e Cut) ≡ None → Makes e Cut (Ok next) → IsSoundButForSeeds next
   cut next free (seeds, top, is) =
@@ -186,7 +161,7 @@ module _ (e : EventValue) (h : IsSoundButForSeeds e) where
       let opens = opening e seeds phase (rounds_done e (yes _ c.0)) played kind long known apart in
       let none : e.bracket.stages ≡ [] = h.bracket.none (inr phase) in
       let Begins : List (List Match) → EventValue = λ stages. (let f : EventValue = record e { phase = Playoff; bracket = record { stages = stages } } in f) in
-      subst IsSoundButForSeeds (ap (λ stages. Begins (stages ++ first_stage seeds ∷ [])) none ∙ sym (same_Ok next (Begins (first_stage seeds ∷ [])) is)) (opening-fits e (first_stage seeds) h opens).sound
+      subst IsSoundButForSeeds (ap (λ stages. Begins (stages ++ first_stage seeds ∷ [])) none ∙ sym (same_Ok next (Begins (first_stage seeds ∷ [])) is)) (keeps e (AddBracket (first_stage seeds)) h opens)
 
   played_on : (stage slot : ℕ) (score : Games) → first_refusal (checks e (PlayOff stage slot score)) ≡ None → IsSoundButForSeeds (with_stage_score e stage slot score)
   played_on stage slot score free =
@@ -194,7 +169,7 @@ module _ (e : EventValue) (h : IsSoundButForSeeds e) where
       let b = asked (slot_at e stage slot) (λ m. already m.score ++ (not (is_playoff_score score), BadScore) ∷ []) a.1 in
       let c = open_yet b.0.score ((not (is_playoff_score score), BadScore) ∷ []) b.2 in
       let d = c.1 in
-      (Fits-open e stage slot score b.0 b.1 h c.0 (yes (is_playoff_score score) d.0)).sound
+      keeps e (SetBracketScore stage slot score (following (scored_at e stage slot score)) (is_over (scored_at e stage slot score))) h (b.0, b.1, c.0, yes (is_playoff_score score) d.0, refl, refl)
 
   after : (c : Command) (next : EventValue) → first_refusal (checks e c) ≡ None → Makes e c (Ok next) → IsSoundButForSeeds next
   after (Enrol name) next free made = subst IsSoundButForSeeds (sym (same_Ok next _ made)) (enrolled name free)
@@ -206,7 +181,7 @@ module _ (e : EventValue) (h : IsSoundButForSeeds e) where
   after Cut next free made = cut next free made
   after (PlayOff stage slot score) next free made = subst IsSoundButForSeeds (sym (same_Ok next _ made)) (played_on stage slot score free)
 
-pub keeps_sound : (e next : EventValue) (c : Command) → IsSound e → Steps e c (Ok next) → IsSound next
-keeps_sound e next c sound steps =
+pub keeps_sound : ChangesKeepSound → StandOnce → LegalSeats → (e next : EventValue) (c : Command) → IsSound e → Steps e c (Ok next) → IsSound next
+keeps_sound keeps once seats e next c sound steps =
     let taken = is_taken e next c steps in
-    step_keeps e c next sound steps (after e sound.but_for_seeds c next taken.0 taken.1)
+    step_keeps e c next sound steps (after keeps once seats e sound.but_for_seeds c next taken.0 taken.1)

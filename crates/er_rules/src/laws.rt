@@ -1,4 +1,4 @@
-//! Laws of the step, over the definitions alone. A law is a function with no code, whose contract is the law.
+//! Laws of the step, over the definitions alone. A law is a function with no code of its own, whose contract is the law.
 
 ghost use Rattle.std.specs.Prelude.{◌≡◌, ℕ, Result, Ok, Err};
 ghost use Rattle.er_event.specs.declared.commands.Command.{Command};
@@ -10,18 +10,30 @@ ghost use Rattle.er_rules.specs.Sound.{IsSound};
 ghost use Rattle.er_rules.specs.Step.{Steps, Answers, NeedsMoreSteps};
 ghost use Rattle.er_rules.specs.Retry.{NoDoubleEffect};
 
+use er_event::laws::changes_keep_sound;
+use er_pair::laws::{legal_seats, one_earliest, one_order, stand_once};
+use er_rank::laws::one_top;
+
 /// A command does one thing to a sound event: it is taken with one event after it, or refused in one way.
 pub fn one_step()
     ensures { (event : EventValue) (command : Command) (one other : Result EventValue Refusal)
         → IsSoundButForSeeds event → Steps event command one → Steps event command other
         → one ≡ other }
-{}
+{
+    one_order();
+    one_earliest();
+    one_top();
+}
 
 /// The step keeps an event sound, its seeds too.
 pub fn step_keeps_sound()
     ensures { (event next : EventValue) (command : Command) → IsSound event
         → Steps event command (Ok next) → IsSound next }
-{}
+{
+    changes_keep_sound();
+    stand_once();
+    legal_seats();
+}
 
 /// `Budget` is answered only where the search for a round needs more than its steps.
 pub fn budget_searches()

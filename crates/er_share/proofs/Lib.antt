@@ -1,5 +1,5 @@
-pub mod Examples
-pub mod Fractions
-pub mod Parts
-pub mod Shares
-pub mod Table
+mod Examples
+mod Fractions
+mod Parts
+mod Shares
+mod Table

@@ -1,6 +1,6 @@
 -- The fractions that this crate's shares are, what its functions give, and what the layers above can cite.
 use Rattle.std.proofs.Common.{◌≡◌, ℕ, ◌+◌, ◌*◌, ◌/◌, ◌%◌, ◌<◌, ◌≤◌, max, ◌==◌, false, inl, inr, List, [], ◌∷◌, ◌++◌, length, sum, map, refl, sym, ◌∙◌, ap, arith, mul-zero}
-use Rattle.std.proofs.Math.Nat.{mul-mod_left, div-mul_cancel, dvd-mul_right, eq_of_mul-eq-mul_right}
+use Rattle.std.proofs.Math.Nat.{mul-mod_left, div-mul_cancel, dvd-mul_right}
 use Rattle.std.proofs.lemmas.Nat.{mul-mod_second}
 use Rattle.std.proofs.lemmas.Nat.Gcd.{dvd_of_mod-eq-zero, dvd_trans}
 use Rattle.std.proofs.lemmas.Bool.{cases_lt}
@@ -11,8 +11,8 @@ use Rattle.er_share.specs.declared.TheConstants.{MAX_ROUNDS, MAX_GAMES, BASE, WH
 use Rattle.er_share.specs.declared.share.TheConstants.{MINIMUM}
 use Rattle.er_share.specs.Fraction.{Fraction, fraction, fraction_cmp, minimum_percentage, percentage, average, hundredths}
 use Rattle.er_share.specs.Share.{fraction_of, IsShareOf, IsBase}
-use Rattle.er_share.specs.Order.{share_cmp}
-use Rattle.er_share.proofs.Fractions.{nat_cmp-mul, IsSame-trans, fraction_cmp-same, hundredths-same}
+use Rattle.er_share.specs.Order.{nat_cmp-mul, share_cmp}
+use Rattle.er_share.proofs.Fractions.{hundredths-same}
 use Rattle.er_share.proofs.Parts.{ArePartsOf, parts_of_parts, ArePartsOf-points, ArePartsOf-minimum, ArePartsOf-floored, ArePartsOf-average, hundredths-parts}
 use Rattle.er_share.proofs.Table.{whole_above, minimum_is_least, minimum_is_base, whole_divides, base_divides}
 
@@ -104,23 +104,12 @@ pub share_cmp-parts : (a b : ℕ) → share_cmp a b ≡ nat_cmp a b
 unfolding fraction_of fraction_cmp
 share_cmp-parts a b = nat_cmp-mul a b WHOLE whole_above
 
-pub share_cmp-same : (a b : ℕ) (f g : Fraction) → IsShareOf a f → IsShareOf b g → share_cmp a b ≡ fraction_cmp f g
-share_cmp-same a b f g first second =
-    fraction_cmp-same (fraction_of a) (fraction_of b) f g
-    (IsShareOf-fraction_of a).has_den (IsShareOf-fraction_of b).has_den first.has_den second.has_den first.same second.same
-
 pub hundredths-share : (share up : ℕ) (f : Fraction) → let rest = 100 * (100 * share % WHOLE) in (WHOLE ≤ 2 * (rest % WHOLE) → up ≡ 1) → (2 * (rest % WHOLE) < WHOLE → up ≡ 0) → IsShareOf share f → 100 * (100 * share / WHOLE) + rest / WHOLE + up ≡ hundredths f
 unfolding fraction_of
 hundredths-share share up f half less is =
     hundredths-parts WHOLE share up whole_above half less ∙ hundredths-same (fraction share WHOLE) f whole_above is.has_den is.same
 
--- ---- for the layers above
-
--- a fraction is one share at most
-pub IsShareOf-unique : (a b : ℕ) (f : Fraction) → IsShareOf a f → IsShareOf b f → a ≡ b
-unfolding fraction_of
-IsShareOf-unique a b f first second =
-    eq_of_mul-eq-mul_right WHOLE whole_above a b (IsSame-trans (fraction_of a) f (fraction_of b) first.has_den first.same (sym second.same))
+-- ---- shares that are averaged as they come
 
 -- one more share, and its fraction
 pub IsShareOf-push : (shares : List ℕ) (fs : List Fraction) (share : ℕ) (f : Fraction) → AllZip IsShareOf shares fs → IsShareOf share f → AllZip IsShareOf (shares ++ share ∷ []) (fs ++ f ∷ [])

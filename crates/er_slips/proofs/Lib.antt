@@ -1,10 +1,10 @@
-pub mod Bytes
-pub mod Paths
-pub mod Digits
-pub mod Named
-pub mod Refusing
-pub mod Asking
-pub mod Unique
-pub mod Answering
-pub mod Retrying
+mod Bytes
+mod Paths
+mod Digits
+mod Named
+mod Refusing
+mod Asking
+mod Unique
+mod Answering
+mod Retrying
 mod Examples

@@ -2,7 +2,7 @@
 use Rattle.std.proofs.Common.{◌≡◌, ◌≢◌, ℕ, zero, suc, ◌+◌, ◌-◌, ◌<◌, ◌≤◌, ◌==◌, Bool, true, false, cond, List, [], ◌∷◌, ◌++◌, map, filter, find, length, take, Option, Some, None, option_map, option_to_list, slice_get, All, IfSome, IsTrue, IsFalse, refl, sym, ap, ap₂, subst, ◌∙◌, true≢false, arith}
 use Rattle.std.specs.Option.{option_and_then}
 use Rattle.std.specs.List.{AllByRecursion}
-use Rattle.std.proofs.lemmas.List.Elements.{All-nil, All-head, All-tail, filter-append}
+use Rattle.std.proofs.lemmas.List.Elements.{All-nil, All-head, All-tail, All-weaker, filter-append}
 use Rattle.std.proofs.lemmas.Bool.Decides.{nat_tests}
 use Rattle.sqlite.specs.Order.{Row, column}
 use Rattle.sqlite.specs.declared.types.Value.{Value}
@@ -16,7 +16,7 @@ use Rattle.er_event.specs.declared.rows.pairing.PairingRow.{PairingRow}
 use Rattle.er_event.specs.Event.{EventValue}
 use Rattle.er_event.specs.Round.{is_bye, numbered_from, is_at, match_in, match_at}
 use Rattle.er_event.specs.Rows.{pairing_row, round_rows, pairing_rows_from, pairing_rows}
-use Rattle.er_event.specs.Sound.{names}
+use Rattle.er_event.specs.Sound.{names, numbers, IsRound, IsSoundButForSeeds}
 use Rattle.er_event.specs.Name.{is_lawful_name}
 use Rattle.er_event.specs.Slip.{name_in}
 use Rattle.er_store.specs.Rows.{pairing_columns}
@@ -32,17 +32,20 @@ Seated m = IsFalse (is_bye m)
 abbrev pub ByeLast : List Match → Type 0
 ByeLast ms = All (λ (m : Match). IsFalse (is_bye m)) (take (length ms - 1) ms)
 
+pub all_bye_last : (e : EventValue) → IsSoundButForSeeds e → All (λ (r : Round). ByeLast r.matches) e.stored
+all_bye_last e sound = All-weaker (λ (r : Round). IsRound (numbers e.players) r.matches) (λ (r : Round). ByeLast r.matches) (λ r h. h.bye_last) e.stored sound.rounds.each
+
 one_less : (n : Match) (ms : List Match) → length (n ∷ ms) - 1 ≡ length ms
 one_less n ms = omega arith
 
 bye_last : (m n : Match) (ms : List Match) → ByeLast (m ∷ n ∷ ms) → All Seated (m ∷ take (length ms) (n ∷ ms))
 bye_last m n ms h = subst (λ k. All Seated (take k (m ∷ n ∷ ms))) (one_less m (n ∷ ms)) h
 
-last_tail : (m : Match) (ms : List Match) → ByeLast (m ∷ ms) → ByeLast ms
+pub last_tail : (m : Match) (ms : List Match) → ByeLast (m ∷ ms) → ByeLast ms
 last_tail m [] h = All-nil Seated
 last_tail m (n ∷ ms) h = subst (λ k. All Seated (take k (n ∷ ms))) (sym (one_less n ms)) (All-tail Seated m (take (length ms) (n ∷ ms)) (bye_last m n ms h))
 
-last_head : (m n : Match) (ms : List Match) → ByeLast (m ∷ n ∷ ms) → IsFalse (is_bye m)
+pub last_head : (m n : Match) (ms : List Match) → ByeLast (m ∷ n ∷ ms) → IsFalse (is_bye m)
 last_head m n ms h = All-head Seated m (take (length ms) (n ∷ ms)) (bye_last m n ms h)
 
 none_later : (t n : ℕ) (ms : List Match) → 1 ≤ t → t < n → AllByRecursion (λ x. is_at t x ≡ false) (numbered_from n ms)

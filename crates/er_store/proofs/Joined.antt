@@ -1,10 +1,10 @@
 -- What the join of a slip reads of tables that stand for an event.
-use Rattle.std.proofs.Common.{◌≡◌, ◌≢◌, ◌⊎◌, inl, inr, ℕ, ℤ, pos, ◌==◌, ◌<◌, ◌≤◌, min, max, nat_lt, nat_le, Bool, true, false, cond, List, [], ◌∷◌, ◌++◌, map, filter, find, length, get_or, Result, Ok, Err, IfErr, MatchResult, Option, Some, None, option_map, option_to_list, All, Contains, IfSome, IsTrue, IsFalse, refl, sym, ap, ap₂, subst, ◌∙◌, true≢false, arith}
-use Rattle.std.specs.List.{range_with_len}
+use Rattle.std.proofs.Common.{◌≡◌, ◌≢◌, ◌⊎◌, inl, inr, ℕ, suc, ℤ, pos, ◌==◌, ◌<◌, ◌≤◌, min, max, nat_lt, nat_le, Bool, true, false, cond, List, [], ◌∷◌, ◌++◌, map, flat_map, filter, find, length, get_or, Result, Ok, Err, IfErr, MatchResult, Option, Some, None, option_map, option_to_list, All, AllPairs, Contains, IfSome, IsTrue, IsFalse, refl, sym, ap, ap₂, subst, ◌∙◌, true≢false, arith}
+use Rattle.std.specs.List.{AllByRecursion, range_with_len}
 use Rattle.std.specs.Option.{ok_or}
 use Rattle.std.specs.List.Sorted.{IsPermutation}
 use Rattle.std.proofs.lemmas.List.Sorted.{IsPermutation-sym}
-use Rattle.std.proofs.lemmas.List.Elements.{All-nil, All-cons, All-from_get_or, All-weaker, recursion_from_All}
+use Rattle.std.proofs.lemmas.List.Elements.{All-nil, All-cons, All-from_get_or, All-from_recursion, All-weaker, recursion_from_All}
 use Rattle.std.proofs.lemmas.List.FromFn.{length-range_with_len, get_or-range_with_len}
 use Rattle.std.proofs.lemmas.Bool.Decides.{nat_tests}
 use Rattle.sqlite.specs.declared.types.Value.{Value}
@@ -24,12 +24,11 @@ use Rattle.er_event.specs.declared.slips.SlipRow.{SlipRow}
 use Rattle.er_event.specs.Event.{EventValue}
 use Rattle.er_event.specs.Match.{is_known, is_lawful_match, is_lawful_score, MayStand}
 use Rattle.er_event.specs.Name.{is_lawful_name}
-use Rattle.er_event.specs.Round.{is_bye, is_at, table_of, match_at}
+use Rattle.er_event.specs.Round.{is_bye, seats, is_at, table_of, match_at}
 use Rattle.er_event.specs.Rows.{pairing_row, pairing_rows}
 use Rattle.er_event.specs.Score.{is_swiss_score, bye_score}
 use Rattle.er_event.specs.Slip.{name_of, second_of, slip_row, slip_of}
 use Rattle.er_event.specs.Sound.{numbers, names, IsRound, IsSoundButForSeeds}
-use Rattle.er_event.proofs.SeatLemmas.{seats-apart}
 use Rattle.std.specs.Prelude.{IsUtf8}
 use Rattle.er_store.specs.declared.rows.NamedPairing.{NamedPairing}
 use Rattle.er_store.specs.Reading.{first_columns}
@@ -45,7 +44,7 @@ use Rattle.er_store.proofs.Meaning.{slip_query}
 use Rattle.er_store.proofs.Where.{one_picked}
 use Rattle.er_store.proofs.Picking.{picks, picks_one, picks_none, row_of, rows_of}
 use Rattle.er_store.proofs.PickingTable.{picks_table}
-use Rattle.er_store.proofs.Alone.{ByeLast, Finds, finds, numbered_at, numbered-match, table_alone, picked-name, picked-lawful}
+use Rattle.er_store.proofs.Alone.{all_bye_last, Finds, finds, numbered_at, numbered-match, table_alone, picked-name, picked-lawful}
 use Rattle.er_store.proofs.Joining.{numbered_as, none_permuted, slip_one, slip_none}
 
 -- ---- a test that picks none
@@ -140,6 +139,10 @@ lawful_match n m few a b won score = by_bye (is_bye m) refl
         let told = open_or_swiss m.score score in
         rw (first, is, second, told) refl
 
+seats_apart : (ms : List Match) → AllPairs (λ p q. p ≢ q) (flat_map seats ms) → AllByRecursion (λ (m : Match). m.a ≢ m.b) ms
+seats_apart [] h = tt
+seats_apart (m ∷ ms) h = (h 0 1 0 (omega arith) (omega arith), seats_apart ms (λ i j d before within. h (suc (suc i)) (suc (suc j)) d (omega arith) (omega arith)))
+
 no_match : Match
 no_match = record { a = 0; b = 0; score = None }
 
@@ -150,7 +153,7 @@ round_matches n ms few h = All-from_get_or (IsMatch (range_with_len 1 n)) ms no_
       first = h.first_known i no_match low;
       second = h.second_known i no_match low;
       lawful = lawful_match n m few (h.first_known i no_match low) (h.second_known i no_match low) (h.byes_won i no_match low) (h.scores i no_match low);
-      apart = seats-apart ms i m no_match low refl h.seated_once;
+      apart = All-from_recursion (λ (k : Match). k.a ≢ k.b) ms (seats_apart ms h.seated_once) i no_match low;
     })
 
 pub all_matches : (e : EventValue) → IsSoundButForSeeds e → All (λ (r : Round). All (IsMatch (numbers e.players)) r.matches) e.stored
@@ -158,9 +161,6 @@ all_matches e sound =
     All-weaker (λ (r : Round). IsRound (numbers e.players) r.matches) (λ (r : Round). All (IsMatch (numbers e.players)) r.matches)
     (λ r h. subst (λ known. All (IsMatch known) r.matches) (sym sound.players.numbered) (round_matches (length e.players) r.matches sound.players.few (subst (λ known. IsRound known r.matches) sound.players.numbered h)))
     e.stored sound.rounds.each
-
-all_bye_last : (e : EventValue) → IsSoundButForSeeds e → All (λ (r : Round). ByeLast r.matches) e.stored
-all_bye_last e sound = All-weaker (λ (r : Round). IsRound (numbers e.players) r.matches) (λ (r : Round). ByeLast r.matches) (λ r h. h.bye_last) e.stored sound.rounds.each
 
 -- ---- the slip of a match
 

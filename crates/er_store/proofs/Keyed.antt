@@ -1,5 +1,5 @@
 -- A read of the pairings gives them in the order of their key.
-use Rattle.std.proofs.Common.{◌≡◌, ℕ, ◌+◌, ◌<◌, pos, List, [], ◌∷◌, map, not, All, ◌⊎◌, inl, inr, IsFalse, refl, sym, ap, ap₂, subst, ◌∙◌, arith, int_cmp, true}
+use Rattle.std.proofs.Common.{◌≡◌, ℕ, ◌+◌, ◌<◌, pos, List, [], ◌∷◌, Bool, true, false, cond, ◌++◌, map, filter, not, All, ◌⊎◌, inl, inr, refl, sym, ap, ap₂, subst, ◌∙◌, arith, int_cmp}
 use Rattle.std.specs.Ordering.{ordering_then}
 use Rattle.std.specs.List.{AllByRecursion}
 use Rattle.std.specs.List.Sorted.{IsPermutation}
@@ -21,13 +21,11 @@ use Rattle.er_event.specs.declared.rounds.Round.{Round}
 use Rattle.er_event.specs.declared.rows.pairing.PairingRow.{PairingRow}
 use Rattle.er_event.specs.Round.{is_bye, numbered_from}
 use Rattle.er_event.specs.Sound.{IsSoundButForSeeds}
-use Rattle.er_event.specs.Pairings.{AreTables, AreShown, table_rows}
 use Rattle.er_event.specs.Rows.{pairing_row, by_key, round_rows, keyed_round_rows, pairing_rows, pairing_rows_from, keyed_rows_from, keyed_pairing_rows}
-use Rattle.er_event.proofs.PairingLemmas.{WithBye, bye_or_tables, keyed-tables, with_bye_rows}
-use Rattle.er_event.proofs.ShownLemmas.{event_shown}
 use Rattle.er_store.specs.Rows.{pairing_columns, columns_at, pairing_places}
 use Rattle.er_store.specs.Standing.{StandsFor}
 use Rattle.er_store.specs.Reading.{by_first_two, Lists}
+use Rattle.er_store.proofs.Alone.{ByeLast, last_head, last_tail, all_bye_last}
 use Rattle.er_store.proofs.Exact.{IsBelow, lower, level}
 
 -- ---- the same rows
@@ -63,34 +61,64 @@ earlier_table round i j a b at bt ai bj less =
     ap (λ o. ordering_then o (value_cmp (Int a.tab) (Int b.tab))) (value_cmp-Int a.round b.round ∙ (ap₂ int_cmp at bt ∙ level round))
     ∙ (value_cmp-Int a.tab b.tab ∙ (ap₂ int_cmp ai bj ∙ lower i j less))
 
-table_is : (round j : ℕ) (m : Match) → IsFalse (is_bye m) → (pairing_row round (j, m)).tab ≡ pos j
+table_is : (round j : ℕ) (m : Match) → is_bye m ≡ false → (pairing_row round (j, m)).tab ≡ pos j
 table_is round j m seated = rw seated
 
-abbrev Seated : Match → Type 0
-Seated m = IsFalse (is_bye m)
+bye_table : (round : ℕ) (n : ℕ × Match) → is_bye n.1 ≡ true → (pairing_row round n).tab ≡ pos 0
+bye_table round n alone = rw alone
 
-before_tables : (round i j : ℕ) (a : PairingRow) (ms : List Match) → a.round ≡ pos round → a.tab ≡ pos i → i < j → AreTables ms → IsEarlier a (table_rows round j ms)
-before_tables round i j a [] at ai less seated = tt
-before_tables round i j a (m ∷ ms) at ai less seated = (
-  earlier_table round i j a (pairing_row round (j, m)) at refl ai (table_is round j m (All-head Seated m ms seated)) less,
-  before_tables round i (j + 1) a ms at ai (omega arith) (All-tail Seated m ms seated),
-)
+abbrev is_seated : ℕ × Match → Bool
+is_seated n = not (is_bye n.1)
 
-tables_rise : (round j : ℕ) (ms : List Match) → AreTables ms → Rise (table_rows round j ms)
-tables_rise round j [] seated = tt
-tables_rise round j (m ∷ ms) seated =
-    let later = All-tail Seated m ms seated in
-    (before_tables round j (j + 1) (pairing_row round (j, m)) ms refl (table_is round j m (All-head Seated m ms seated)) (omega arith) later, tables_rise round (j + 1) ms later)
+-- the rows of the tables, from this number on
+abbrev tables : ℕ → ℕ → List Match → List PairingRow
+tables round n ms = map (pairing_row round) (filter is_seated (numbered_from n ms))
+
+before_tables : (round i n : ℕ) (a : PairingRow) (ms : List Match) → a.round ≡ pos round → a.tab ≡ pos i → i < n → IsEarlier a (tables round n ms)
+before_tables round i n a [] at ai less = tt
+before_tables round i n a (m ∷ ms) at ai less = by_bye (is_bye m) refl (before_tables round i (n + 1) a ms at ai (omega arith))
+  where
+    by_bye : (b : Bool) → is_bye m ≡ b → IsEarlier a (tables round (n + 1) ms)
+        → IsEarlier a (map (pairing_row round) (cond (not b) ((n, m) ∷ filter is_seated (numbered_from (n + 1) ms)) (filter is_seated (numbered_from (n + 1) ms))))
+    by_bye true is more = more
+    by_bye false is more = (earlier_table round i n a (pairing_row round (n, m)) at refl ai (table_is round n m is) less, more)
+
+tables_rise : (round n : ℕ) (ms : List Match) → Rise (tables round n ms)
+tables_rise round n [] = tt
+tables_rise round n (m ∷ ms) = by_bye (is_bye m) refl (tables_rise round (n + 1) ms)
+  where
+    by_bye : (b : Bool) → is_bye m ≡ b → Rise (tables round (n + 1) ms)
+        → Rise (map (pairing_row round) (cond (not b) ((n, m) ∷ filter is_seated (numbered_from (n + 1) ms)) (filter is_seated (numbered_from (n + 1) ms))))
+    by_bye true is more = more
+    by_bye false is more = (before_tables round n (n + 1) (pairing_row round (n, m)) ms refl (table_is round n m is) (omega arith), more)
+
+abbrev byes : ℕ → List Match → List (ℕ × Match)
+byes n ms = filter (λ (k : ℕ × Match). is_bye k.1) (numbered_from n ms)
+
+-- a bye, if there is one, and no other
+abbrev AtMostBye : List (ℕ × Match) → Type 0
+AtMostBye ns = (ns ≡ []) ⊎ ((k : ℕ × Match) × (ns ≡ k ∷ []) × (is_bye k.1 ≡ true))
+
+one_bye : (n : ℕ) (ms : List Match) → ByeLast ms → AtMostBye (byes n ms)
+one_bye n [] last = inl refl
+one_bye n (m ∷ []) last = by_bye (is_bye m) refl
+  where
+    by_bye : (b : Bool) → is_bye m ≡ b → AtMostBye (cond {A = List (ℕ × Match)} b ((n, m) ∷ []) [])
+    by_bye true is = inr ((n, m), refl, is)
+    by_bye false is = inl refl
+one_bye n (m ∷ x ∷ xs) last = let seated = last_head m x xs last in rw seated (one_bye (n + 1) (x ∷ xs) (last_tail m (x ∷ xs) last))
+
+-- these are ahead of the tables, and all rise
+abbrev RiseAhead : ℕ → List Match → List (ℕ × Match) → Type 0
+RiseAhead round ms ahead = Rise (map (pairing_row round) (ahead ++ filter is_seated (numbered_from 1 ms)))
 
 -- a bye's table 0 comes first
-round_rises : (round : ℕ) (ms : List Match) → AreTables ms ⊎ WithBye ms → Rise (keyed_round_rows round ms)
-round_rises round ms (inl seated) = subst Rise (sym (keyed-tables round ms seated)) (tables_rise round 1 ms seated)
-round_rises round ms (inr w) =
-    subst Rise (sym (with_bye_rows round (keyed_round_rows round ms) ms w refl))
-    (before_tables round 0 1 (pairing_row round (0, w.bye)) w.tables refl (table_is_none w.bye w.is_bye) (omega arith) w.no_byes, tables_rise round 1 w.tables w.no_byes)
+round_rises : (round : ℕ) (ms : List Match) → ByeLast ms → Rise (keyed_round_rows round ms)
+round_rises round ms last = by_byes (one_bye 1 ms last)
   where
-    table_is_none : (m : Match) → is_bye m ≡ true → (pairing_row round (0, m)).tab ≡ pos 0
-    table_is_none m alone = rw alone
+    by_byes : AtMostBye (byes 1 ms) → Rise (keyed_round_rows round ms)
+    by_byes (inl none) = subst (RiseAhead round ms) (sym none) (tables_rise round 1 ms)
+    by_byes (inr (k, one, alone)) = subst (RiseAhead round ms) (sym one) (before_tables round 0 1 (pairing_row round k) ms refl (bye_table round k alone) (omega arith), tables_rise round 1 ms)
 
 before_round : (a : PairingRow) (m round : ℕ) (numbered : List (ℕ × Match)) → a.round ≡ pos m → m < round → IsEarlier a (map (pairing_row round) numbered)
 before_round a m round [] at less = tt
@@ -108,15 +136,12 @@ all_before : (round : ℕ) (numbered : List (ℕ × Match)) (later : List Round)
 all_before round [] later = tt
 all_before round (n ∷ numbered) later = (before_rounds (pairing_row round n) round (round + 1) later refl (omega arith), all_before round numbered later)
 
-abbrev Shown : Round → Type 0
-Shown r = AreShown r.matches
-
-rounds_rise : (round : ℕ) (rounds : List Round) → All Shown rounds → Rise (keyed_rows_from round rounds)
+rounds_rise : (round : ℕ) (rounds : List Round) → All (λ (r : Round). ByeLast r.matches) rounds → Rise (keyed_rows_from round rounds)
 rounds_rise round [] all = tt
 rounds_rise round (first ∷ later) all =
     subst (IsAscending IsBelow) (sym (map-append pairing_columns (keyed_round_rows round first.matches) (keyed_rows_from (round + 1) later)))
     (ascending-append IsBelow (map pairing_columns (keyed_round_rows round first.matches)) (map pairing_columns (keyed_rows_from (round + 1) later))
-    (round_rises round first.matches (bye_or_tables first.matches (All-head Shown first later all))) (rounds_rise (round + 1) later (All-tail Shown first later all))
+    (round_rises round first.matches (All-head (λ (r : Round). ByeLast r.matches) first later all)) (rounds_rise (round + 1) later (All-tail (λ (r : Round). ByeLast r.matches) first later all))
     (all_before round (by_key (numbered_from 1 first.matches)) later))
 
 -- ---- what is listed
@@ -125,5 +150,5 @@ pub pairings_exact : (db : Database) (e : EventValue) (s : ℕ) (listed : List R
     → listed ≡ map pairing_columns (keyed_pairing_rows e)
 pairings_exact db e s listed stands sound h =
     sorted_unique by_first_two (then_total (on_total (λ (r : Row). column r 0) value_cmp_total) (on_total (λ (r : Row). column r 1) value_cmp_total)) (map pairing_columns (keyed_pairing_rows e)) listed
-    (rounds_rise 1 e.stored (event_shown e sound))
+    (rounds_rise 1 e.stored (all_bye_last e sound))
     (IsPermutation-trans _ _ _ (IsPermutation-sym _ _ (keyed_permutes e)) (IsPermutation-trans _ _ _ (IsPermutation-sym _ _ (stands.rows PairingTable)) h.same)) h.sorted

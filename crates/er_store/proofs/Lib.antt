@@ -1,43 +1,43 @@
-pub mod Meaning
-pub mod Values
-pub mod Inserts
-pub mod Updates
-pub mod Effects
-pub mod Together
-pub mod Pairing
-pub mod Slots
-pub mod Rounds
-pub mod StageLemmas
-pub mod Where
-pub mod Picking
-pub mod Dropping
-pub mod PickingTotals
-pub mod Totalling
-pub mod Recounting
-pub mod PickingTable
-pub mod Alone
-pub mod SlipLemmas
-pub mod Joining
-pub mod Joined
-pub mod Counted
-pub mod Mates
-pub mod OneAtATime
-pub mod TallyLists
-pub mod PickingSlot
-pub mod Scoring
-pub mod Crash
-pub mod Creates
-pub mod Finding
-pub mod TypedLemmas
-pub mod ReadLemmas
-pub mod Refusals
-pub mod Exact
-pub mod Keyed
-pub mod LoadLemmas
-pub mod Loaded
-pub mod Selecting
-pub mod Committed
-pub mod Damaging
-pub mod TableLemmas
-pub mod LookupLemmas
-pub mod Reopening
+mod Meaning
+mod Values
+mod Inserts
+mod Updates
+mod Effects
+mod Together
+mod Pairing
+mod Slots
+mod Rounds
+mod StageLemmas
+mod Where
+mod Picking
+mod Dropping
+mod PickingTotals
+mod Totalling
+mod Recounting
+mod PickingTable
+mod Alone
+mod SlipLemmas
+mod Joining
+mod Joined
+mod Counted
+mod Mates
+mod OneAtATime
+mod TallyLists
+mod PickingSlot
+mod Scoring
+mod Crash
+mod Creates
+mod Finding
+mod TypedLemmas
+mod ReadLemmas
+mod Refusals
+mod Exact
+mod Keyed
+mod LoadLemmas
+mod Loaded
+mod Selecting
+mod Committed
+mod Damaging
+mod TableLemmas
+mod LookupLemmas
+mod Reopening

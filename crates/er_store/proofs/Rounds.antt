@@ -1,9 +1,9 @@
 -- How many rounds, and matches of a round, a sound event may have.
-use Rattle.std.proofs.Common.{◌≡◌, ◌≢◌, ◌≤◌, ◌<◌, ◌+◌, ◌||◌, ◌==◌, ℕ, Bool, true, false, List, [], ◌∷◌, map, flat_map, length, Contains, refl, subst, arith}
-use Rattle.std.specs.List.{AllByRecursion, list_any, range_with_len}
+use Rattle.std.proofs.Common.{◌≡◌, ◌≤◌, ◌<◌, ◌+◌, ◌||◌, ◌==◌, ℕ, Bool, true, false, List, [], ◌∷◌, ◌++◌, All, map, flat_map, length, Contains, refl, subst, arith}
+use Rattle.std.specs.List.{AllByRecursion, IsDistinct, list_any, range_with_len}
 use Rattle.std.proofs.lemmas.Bool.Decides.{nat_tests, Decides-eqb}
 use Rattle.std.proofs.lemmas.List.{length-map}
-use Rattle.std.proofs.lemmas.List.Elements.{recursion_from_All}
+use Rattle.std.proofs.lemmas.List.Elements.{All-head, All-tail, recursion_from_All}
 use Rattle.std.proofs.lemmas.List.FromFn.{length-range_with_len, get_or-range_with_len}
 use Rattle.std.proofs.lemmas.Map.Made.{IsDistinct-from_AllPairs}
 use Rattle.std.proofs.lemmas.Map.Steps.{length-le_from_distinct_below}
@@ -13,10 +13,9 @@ use Rattle.er_event.specs.Event.{EventValue}
 use Rattle.er_event.specs.Change.{with_round}
 use Rattle.er_event.specs.Round.{seats}
 use Rattle.er_event.specs.Sound.{IsRound, IsSoundButForSeeds, numbers}
-use Rattle.er_event.proofs.Pairs.{Rec, from_rec, to_rec, all_right}
 
 abbrev Apart : ℕ → ℕ → Type 0
-Apart p q = p ≢ q
+Apart p q = (p == q) ≡ false
 
 -- who is named first at each table
 abbrev firsts : List Match → List ℕ
@@ -26,7 +25,8 @@ first_apart : (p : ℕ) (ms : List Match) → AllByRecursion (Apart p) (flat_map
 first_apart p [] h = tt
 first_apart p (m ∷ ms) h = (h.0, first_apart p ms h.1.1)
 
-firsts_apart : (ms : List Match) → Rec Apart (flat_map seats ms) → Rec Apart (firsts ms)
+firsts_apart : (ms : List Match) → IsDistinct ◌==◌ (flat_map seats ms) → IsDistinct ◌==◌ (firsts ms)
+unfolding IsDistinct
 firsts_apart [] h = tt
 firsts_apart (m ∷ ms) h = (first_apart m.a ms h.0.1, firsts_apart ms h.1.1)
 
@@ -49,16 +49,19 @@ firsts_below count q (m ∷ ms) known has = one_of_both (q == m.a) refl (known_b
 -- nobody is named first at two tables
 few_firsts : (count : ℕ) (ms : List Match) → IsRound (range_with_len 1 count) ms → length ms ≤ count + 1
 few_firsts count ms round =
-    let apart = IsDistinct-from_AllPairs Decides-eqb (firsts ms) (from_rec Apart (firsts ms) (firsts_apart ms (to_rec Apart (flat_map seats ms) round.seated_once))) in
+    let apart = firsts_apart ms (IsDistinct-from_AllPairs Decides-eqb (flat_map seats ms) round.seated_once) in
     let known = recursion_from_All (λ (m : Match). Contains (range_with_len 1 count) m.a) ms round.first_known in
     let few = length-le_from_distinct_below (firsts ms) (count + 1) apart (λ q has. firsts_below count q ms known has) in
     let long = length-map ms (λ (m : Match). m.a) in
     omega arith
 
+module _ (P : Round → Type 0) (last : Round) where
+  last_of : (rounds : List Round) → All P (rounds ++ last ∷ []) → P last
+  last_of [] all = All-head P last [] all
+  last_of (r ∷ rounds) all = last_of rounds (All-tail P r (rounds ++ last ∷ []) all)
+
 newest : (e : EventValue) (ms : List Match) → IsSoundButForSeeds (with_round e ms) → IsRound (numbers e.players) ms
-newest e ms sound =
-    let each = recursion_from_All (λ (r : Round). IsRound (numbers e.players) r.matches) (with_round e ms).stored sound.rounds.each in
-    (all_right (λ (r : Round). IsRound (numbers e.players) r.matches) e.stored (record { matches = ms } ∷ []) each).0
+newest e ms sound = last_of (λ (r : Round). IsRound (numbers e.players) r.matches) (record { matches = ms }) e.stored sound.rounds.each
 
 pub few_matches : (e : EventValue) (ms : List Match) → IsSoundButForSeeds (with_round e ms) → length ms ≤ 513
 few_matches e ms sound =

@@ -1,11 +1,11 @@
 -- A slip and the row that it is read of.
 use Rattle.std.proofs.Common.{◌≡◌, ℕ, min, max, Bool, true, false, cond, List, Option, Some, IfSome, refl, sym, ap, ap₂, subst, ◌∙◌, arith}
 use Rattle.std.proofs.lemmas.Bool.Decides.{nat_tests}
+use Rattle.std.proofs.lemmas.Option.{same_Some}
 use Rattle.er_event.specs.declared.matches.Match.{Match}
 use Rattle.er_event.specs.declared.slips.SlipRow.{SlipRow}
 use Rattle.er_event.specs.Match.{MayStand}
 use Rattle.er_event.specs.Rows.{pairing_row}
-use Rattle.er_event.proofs.PairingLemmas.{some_same}
 use Rattle.er_store.specs.declared.rows.NamedPairing.{NamedPairing}
 use Rattle.er_store.specs.Slip.{Side, number_in, name_in, match_of, is_swapped, named_pairing, IsPlayer, IsLawful}
 
@@ -21,7 +21,7 @@ pub played_is : (slip : SlipRow) (round table : ℕ) (row : NamedPairing) (read 
     → read ≡ Some played → ((m : Match) → MayStand table m → row.pairing ≡ pairing_row round (table, m) → read ≡ Some m) → played ≡ match_of slip
 played_is slip round table row read played lawful r t is found exact =
     let it = match_row slip round table row lawful r t is in
-    some_same played (match_of slip) (sym found ∙ exact (match_of slip) it.0 it.1)
+    same_Some played (match_of slip) (sym found ∙ exact (match_of slip) it.0 it.1)
 
 -- who has the lower number, and who the higher
 abbrev pub low_of : SlipRow → Side

@@ -1,7 +1,7 @@
-pub mod WordKinds
-pub mod Leaves
-pub mod Refusals
-pub mod Seeds
-pub mod Walks
-pub mod WordLemmas
-pub mod Examples
+mod WordKinds
+mod Leaves
+mod Refusals
+mod Seeds
+mod Walks
+mod WordLemmas
+mod Examples

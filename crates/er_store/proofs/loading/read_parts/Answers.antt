@@ -1,6 +1,5 @@
 use Rattle.std.proofs.Common.{rules}
 use Rattle.sqlite.specs.Held.{state}
-use Rattle.er_event.proofs.ReadingLemmas.{parts_same}
 use Rattle.er_event.specs.declared.refusals.Place.TheVariants.{EventTable, PlayerTable, PairingTable, BracketTable}
 use Rattle.er_store.proofs.TableLemmas.{event_is_ours, player_is_ours, pairing_is_ours, bracket_is_ours}
 use Rattle.er_store.proofs.LookupLemmas.{looks_then, found_as, missed_as, first_misread}
@@ -64,5 +63,10 @@ returns-clause-looks g c =
     found_as s0 s4 c.in_ok-bracket.bracket _ (λ db it. record {
       reads = record { event = it.0.reads; players = it.1.0.reads; pairings = it.1.1.0.reads; bracket = it.1.1.1.reads };
       lists = λ has. record { event = it.0.lists has; players = it.1.0.lists has; pairings = it.1.1.0.lists has; bracket = it.1.1.1.lists has };
-      exact = λ e s stands sound. parts_same _ _ _ _ _ (it.0.exact e s stands sound) (it.1.0.exact e s stands sound) (it.1.1.0.exact e s stands sound) (it.1.1.1.exact e s stands sound);
+      exact = λ e s stands sound.
+          let event = it.0.exact e s stands sound in
+          let players = it.1.0.exact e s stands sound in
+          let pairings = it.1.1.0.exact e s stands sound in
+          let bracket = it.1.1.1.exact e s stands sound in
+          cc;
     }) look

@@ -1,6 +1,6 @@
 use Rattle.std.proofs.Common.{◌∙◌, map, sym, ap, ap₂, filter, List, All, Option, ℤ, subst}
 use Rattle.std.proofs.lemmas.List.{take_all}
-use Rattle.er_event.proofs.PairingLemmas.{never_none}
+use Rattle.std.proofs.lemmas.Option.{none-some}
 use Rattle.er_event.specs.Tallies.{meetings}
 use Rattle.er_store.specs.declared.rows.MeetingRow.{MeetingRow}
 use Rattle.er_store.specs.inside.Meetings.{is_over, counted_rows, sides_in}
@@ -11,7 +11,7 @@ pub returns-in_default-clause-event : goal.returns-in_default-clause-event
 returns-in_default-clause-event c e sound rows =
     let shows : All (IsMeetingRow e) c.args.rows.now = subst (All (IsMeetingRow e)) (sym rows) (all-show e sound) in
     let it = shows c.loop-row.row-index _ c.loop-row-test.true in
-    never_none c.meeting_of.result _ c.in_default.is (c.meeting_of.ensures.event e it.it sound it.low it.high it.sides)
+    absurd (none-some _ (sym c.in_default.is ∙ (c.meeting_of.ensures.event e it.it sound it.low it.high it.sides)))
 
 pub returns-clause-event : goal.returns-clause-event
 returns-clause-event c e sound rows =

@@ -1,6 +1,7 @@
 use Rattle.std.proofs.Common.{◌≡◌, rules, pos, Some, sym, ap, ◌∙◌}
+use Rattle.std.proofs.lemmas.Option.{same_Some}
 use Rattle.er_event.specs.declared.rows.bracket.BracketRow.{BracketRow}
-use Rattle.er_event.proofs.PairingLemmas.{match_same, never_none, some_same}
+use Rattle.er_event.proofs.PairingLemmas.{match_same, never_none}
 use Rattle.er_event.proofs.rows.bracket.match_of.Goals as goal
 
 pub returns-in_err-score : goal.returns-in_err-score
@@ -12,4 +13,4 @@ returns c stage n shown is =
     let second : c.args.row.now.b ≡ pos n.1.b = ap (λ (r : BracketRow). r.b) is in
     let a : c.in_ok-a.a ≡ n.1.a = search rules in
     let b : c.in_ok-b.b ≡ n.1.b = search rules in
-    ap Some (match_same c.in_ok-a.a c.in_ok-b.b c.in_ok-score.score n.1 a b (some_same c.in_ok-score.score n.1.score (sym c.in_ok-score.was ∙ c.score_of.ensures stage n shown is)))
+    ap Some (match_same c.in_ok-a.a c.in_ok-b.b c.in_ok-score.score n.1 a b (same_Some c.in_ok-score.score n.1.score (sym c.in_ok-score.was ∙ c.score_of.ensures stage n shown is)))

@@ -1,7 +1,8 @@
 use Rattle.std.proofs.Common.{◌≡◌, sym, ap, ◌∙◌, true≢false}
+use Rattle.std.proofs.lemmas.Option.{same_Some}
 use Rattle.er_event.specs.declared.matches.Match.{Match}
 use Rattle.er_event.specs.Rows.{bracket_row}
-use Rattle.er_event.proofs.PairingLemmas.{never_none, some_same}
+use Rattle.er_event.proofs.PairingLemmas.{never_none}
 use Rattle.er_event.proofs.StageLemmas.{rows_equal, columns_equal}
 use Rattle.er_event.proofs.rows.bracket.read_match.Goals as goal
 
@@ -16,6 +17,6 @@ returns-then-eq-clause-exact c m shown is = sym c.in-Some.is ∙ c.match_of.ensu
 
 pub returns-else-eq-clause-exact : goal.returns-else-eq-clause-exact
 returns-else-eq-clause-exact c m shown is =
-    let found : c.in-Some.played ≡ m = some_same c.in-Some.played m (sym c.in-Some.is ∙ c.match_of.ensures c.args.stage (c.args.slot, m) shown is) in
+    let found : c.in-Some.played ≡ m = same_Some c.in-Some.played m (sym c.in-Some.is ∙ c.match_of.ensures c.args.stage (c.args.slot, m) shown is) in
     let same : c.of.result ≡ c.args.row.now = c.of.ensures ∙ (ap (λ (k : Match). bracket_row c.args.stage (c.args.slot, k)) found ∙ sym is) in
     absurd (true≢false (sym (columns_equal c.of.result c.args.row.now same) ∙ (sym c.eq.ensures ∙ c.if-eq.false)))

@@ -1,6 +1,7 @@
 use Rattle.std.proofs.Common.{◌≡◌, ◌+◌, ◌++◌, [], ◌∷◌, length, sym, ap, ◌∙◌, append-nil, length-append}
+use Rattle.std.proofs.lemmas.Option.{same_Some}
 use Rattle.er_event.specs.inside.Stages.{slot_rows}
-use Rattle.er_event.proofs.PairingLemmas.{never_none, some_same}
+use Rattle.er_event.proofs.PairingLemmas.{never_none}
 use Rattle.er_event.proofs.StageLemmas.{here_shown, rows_more, nothing_left}
 use Rattle.er_event.proofs.rows.bracket.read_slots.Goals as goal
 
@@ -24,7 +25,7 @@ loop-place-preserved c =
       λ ms shown are.
           let left = c.loop-place.invariant.2 ms shown are in
           let here = here_shown c.args.stage at rows c.loop-place-test.true items ms left.0 shown left.1 left.2 in
-          let found : m ≡ here.0 = some_same m here.0 (sym c.in-Some.is ∙ c.read_match.ensures.exact here.0 here.2 here.3) in
+          let found : m ≡ here.0 = same_Some m here.0 (sym c.in-Some.is ∙ c.read_match.ensures.exact here.0 here.2 here.3) in
           (here.1, here.4 ∙ ap (λ l. l ++ here.1) (ap (λ k. items ++ k ∷ []) (sym found) ∙ sym pushed), here.5),
     )
 

@@ -1,9 +1,10 @@
 use Rattle.std.proofs.Common.{◌≡◌, ◌+◌, ◌++◌, [], ◌∷◌, length, IsFalse, sym, ap, subst, ◌∙◌, append-nil, length-append}
 use Rattle.std.proofs.lemmas.List.Elements.{All-push}
+use Rattle.std.proofs.lemmas.Option.{same_Some}
 use Rattle.er_event.specs.declared.matches.Match.{Match}
 use Rattle.er_event.specs.Round.{is_bye}
 use Rattle.er_event.specs.Pairings.{AreTables, table_rows}
-use Rattle.er_event.proofs.PairingLemmas.{never_none, some_same, here_shown, rows_more, nothing_left}
+use Rattle.er_event.proofs.PairingLemmas.{never_none, here_shown, rows_more, nothing_left}
 use Rattle.er_event.proofs.rows.pairing.read_tables.Goals as goal
 
 pub returns-in_default-clause-exact : goal.returns-in_default-clause-exact
@@ -27,7 +28,7 @@ loop-place-preserved c =
       λ ms shown tables are.
           let left = c.loop-place.invariant.3 ms shown tables are in
           let here = here_shown c.args.round at rows c.loop-place-test.true items ms left.0 shown tables left.1 left.2 in
-          let found : m ≡ here.0 = some_same m here.0 (sym c.in-Some.is ∙ c.read_table.ensures.exact here.0 here.2 here.3 here.4) in
+          let found : m ≡ here.0 = same_Some m here.0 (sym c.in-Some.is ∙ c.read_table.ensures.exact here.0 here.2 here.3 here.4) in
           (here.1, here.5 ∙ ap (λ l. l ++ here.1) (ap (λ k. items ++ k ∷ []) (sym found) ∙ sym pushed), here.6),
     )
 

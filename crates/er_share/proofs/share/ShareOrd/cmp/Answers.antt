@@ -1,5 +1,6 @@
 use Rattle.std.proofs.Common.{sym, ◌∙◌}
-use Rattle.er_share.proofs.Shares.{share_cmp-parts, share_cmp-same}
+use Rattle.er_share.specs.Order.{share_cmp-same}
+use Rattle.er_share.proofs.Shares.{share_cmp-parts}
 use Rattle.er_share.proofs.share.ShareOrd.cmp.Goals as goal
 
 pub returns-clause-value : goal.returns-clause-value

@@ -1,0 +1,27 @@
+-- What is true of every order and every legal pairing.
+use Rattle.std.specs.Prelude.{◌≡◌, ◌≢◌, ℕ, ◌<◌, Bool, IsFalse, List, All, AllPairs, IsPermutation}
+use Rattle.er_event.specs.Event.{EventValue}
+use Rattle.er_event.specs.Sound.{IsSoundButForSeeds}
+use Rattle.er_pair.specs.Order.{IsOrder}
+use Rattle.er_pair.specs.Pairing.{Pair, positions, entries, IsLegal, IsEarliest}
+
+-- under given keys an event has at most one order
+abbrev pub OneOrder : Type 0
+OneOrder = (event : EventValue) (key : ℕ → ℕ) (order other : List ℕ) → IsOrder event key order → IsOrder event key other → order ≡ other
+
+-- in an order of a sound event nobody stands twice, nor does the bye
+abbrev pub StandOnce : Type 0
+StandOnce = (event : EventValue) (key : ℕ → ℕ) (order : List ℕ) → IsSoundButForSeeds event → IsOrder event key order → AllPairs (λ p q. p ≢ q) order
+
+-- an order has at most one earliest legal pairing
+abbrev pub OneEarliest : Type 0
+OneEarliest = (met : ℕ → ℕ → Bool) (order : List ℕ) (pairs other : List Pair) → IsEarliest met order pairs → IsEarliest met order other → pairs ≡ other
+
+-- each entry sits once, no pair has met before, and the first of a pair stands before the second
+pub record SeatsEach (met : ℕ → ℕ → Bool) (order : List ℕ) (pairs : List Pair) : Type 0 where
+  pub each_once : IsPermutation order (positions (entries order pairs))
+  pub new_opponents : All (λ (pair : Pair). IsFalse (met pair.0 pair.1)) (entries order pairs)
+  pub in_order : All (λ (pair : Pair). pair.0 < pair.1) pairs
+
+abbrev pub LegalSeats : Type 0
+LegalSeats = (met : ℕ → ℕ → Bool) (order : List ℕ) (pairs : List Pair) → IsLegal met order pairs → SeatsEach met order pairs

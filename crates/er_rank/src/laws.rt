@@ -1,0 +1,8 @@
+//! A law of standings, over the definitions alone. A law is a function with no code, whose contract is the law.
+
+ghost use Rattle.er_rank.specs.Standings.{HasOneTop};
+
+/// A sound event has at most one list of its first `k` active players.
+pub fn one_top()
+    ensures { HasOneTop }
+{}
