@@ -1,5 +1,5 @@
 -- The rounds of a sound event can be shown by rows.
-use Rattle.std.proofs.Common.{◌≡◌, ℕ, ◌<◌, ◌≤◌, Bool, true, false, List, [], ◌∷◌, length, All, Contains, IsTrue, IsFalse, IfSome, refl, subst, arith}
+use Rattle.std.proofs.Common.{◌≡◌, ℕ, ◌<◌, ◌≤◌, Bool, true, false, List, [], ◌∷◌, All, Contains, IsTrue, IsFalse, IfSome, refl, arith}
 use Rattle.std.specs.List.{range_with_len}
 use Rattle.std.proofs.lemmas.Bool.Decides.{nat_tests}
 use Rattle.std.proofs.lemmas.List.FromFn.{length-range_with_len, get_or-range_with_len}
@@ -9,8 +9,7 @@ use Rattle.er_event.specs.declared.matches.Match.{Match}
 use Rattle.er_event.specs.declared.rounds.Round.{Round}
 use Rattle.er_event.specs.Score.{is_swiss_score}
 use Rattle.er_event.specs.Round.{is_bye}
-use Rattle.er_event.specs.Event.{EventValue}
-use Rattle.er_event.specs.Sound.{IsRound, AreRounds, IsSoundButForSeeds}
+use Rattle.er_event.specs.Sound.{IsRound, AreRounds}
 use Rattle.er_event.specs.Pairings.{IsShown, AreShown}
 
 module _ (n : ℕ) (few : n ≤ 512) where
@@ -44,6 +43,3 @@ module _ (n : ℕ) (few : n ≤ 512) where
 pub rounds_shown : (phase : Phase) (limit n : ℕ) (rounds : List Round) → n ≤ 512 → AreRounds phase limit (range_with_len 1 n) rounds → All (λ (r : Round). AreShown r.matches) rounds
 rounds_shown phase limit n rounds few h =
     All-weaker (λ (r : Round). IsRound (range_with_len 1 n) r.matches) (λ (r : Round). AreShown r.matches) (λ r. round_shown n few r.matches) rounds h.each
-
-pub event_shown : (e : EventValue) → IsSoundButForSeeds e → All (λ (r : Round). AreShown r.matches) e.stored
-event_shown e h = rounds_shown e.phase e.rounds (length e.players) e.stored h.players.few (subst (λ (known : List ℕ). AreRounds e.phase e.rounds known e.stored) h.players.numbered h.rounds)

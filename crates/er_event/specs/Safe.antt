@@ -14,7 +14,8 @@ use Rattle.er_event.specs.Change.{has_name, stage_of, scored_slot, NamesStored, 
 
 abbrev pub IsSafe : EventValue → Change → Type 0
 -- a lawful name that nobody has, and room for one more
-IsSafe event (AddPlayer name) = IsTrue (is_lawful_name name) × (length event.players < MAX_PLAYERS) × IsFalse (has_name event.players name)
+IsSafe event (AddPlayer name) =
+    IsTrue (is_lawful_name name) × (length event.players < MAX_PLAYERS) × IsFalse (has_name event.players name)
 -- an event that has started
 IsSafe event (SetDropped player) = event.phase ≢ Enrolling
 -- from Enrolling to Swiss, with at least two players
@@ -23,11 +24,14 @@ IsSafe event (AddRound matches) = IsNextRound event matches
 -- a stored match of two players, and a score that a Swiss match may end with
 IsSafe event (SetScore round table score) = NamesStored event (SetScore round table score) × IsTrue (is_swiss_score score)
 IsSafe event (AddBracket matches) = IsOpening event matches
--- an open slot, a score that a match of the playoff may end with, and the next stage, or the end, where the score completes the stage
+-- an open slot, a score that a match of the playoff may end with, and the next stage, or the end, where the score
+-- completes the stage
 IsSafe event (SetBracketScore stage slot score next finished) =
     let played = scored_slot (stage_of event.bracket.stages stage) slot score in
-    (m : Match) × (slot_at event stage slot ≡ Some m) × (m.score ≡ None) × IsTrue (is_playoff_score score) × (next ≡ following played) × (finished ≡ is_over played)
+    (m : Match) × (slot_at event stage slot ≡ Some m) × (m.score ≡ None) × IsTrue (is_playoff_score score)
+    × (next ≡ following played) × (finished ≡ is_over played)
 
 -- a safe change keeps an event sound, but for its seeds
 abbrev pub ChangesKeepSound : Type 0
-ChangesKeepSound = (event : EventValue) (change : Change) → IsSoundButForSeeds event → IsSafe event change → IsSoundButForSeeds (after event change)
+ChangesKeepSound = (event : EventValue) (change : Change) → IsSoundButForSeeds event → IsSafe event change
+    → IsSoundButForSeeds (after event change)

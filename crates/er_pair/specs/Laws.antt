@@ -7,15 +7,18 @@ use Rattle.er_pair.specs.Pairing.{Pair, positions, entries, IsLegal, IsEarliest}
 
 -- under given keys an event has at most one order
 abbrev pub OneOrder : Type 0
-OneOrder = (event : EventValue) (key : ℕ → ℕ) (order other : List ℕ) → IsOrder event key order → IsOrder event key other → order ≡ other
+OneOrder = (event : EventValue) (key : ℕ → ℕ) (order other : List ℕ)
+    → IsOrder event key order → IsOrder event key other → order ≡ other
 
 -- in an order of a sound event nobody stands twice, nor does the bye
 abbrev pub StandOnce : Type 0
-StandOnce = (event : EventValue) (key : ℕ → ℕ) (order : List ℕ) → IsSoundButForSeeds event → IsOrder event key order → AllPairs (λ p q. p ≢ q) order
+StandOnce = (event : EventValue) (key : ℕ → ℕ) (order : List ℕ)
+    → IsSoundButForSeeds event → IsOrder event key order → AllPairs (λ p q. p ≢ q) order
 
 -- an order has at most one earliest legal pairing
 abbrev pub OneEarliest : Type 0
-OneEarliest = (met : ℕ → ℕ → Bool) (order : List ℕ) (pairs other : List Pair) → IsEarliest met order pairs → IsEarliest met order other → pairs ≡ other
+OneEarliest = (met : ℕ → ℕ → Bool) (order : List ℕ) (pairs other : List Pair)
+    → IsEarliest met order pairs → IsEarliest met order other → pairs ≡ other
 
 -- each entry sits once, no pair has met before, and the first of a pair stands before the second
 pub record SeatsEach (met : ℕ → ℕ → Bool) (order : List ℕ) (pairs : List Pair) : Type 0 where
@@ -24,4 +27,5 @@ pub record SeatsEach (met : ℕ → ℕ → Bool) (order : List ℕ) (pairs : Li
   pub in_order : All (λ (pair : Pair). pair.0 < pair.1) pairs
 
 abbrev pub LegalSeats : Type 0
-LegalSeats = (met : ℕ → ℕ → Bool) (order : List ℕ) (pairs : List Pair) → IsLegal met order pairs → SeatsEach met order pairs
+LegalSeats = (met : ℕ → ℕ → Bool) (order : List ℕ) (pairs : List Pair)
+    → IsLegal met order pairs → SeatsEach met order pairs
