@@ -86,7 +86,8 @@ fn listen<S: Alter, O: Write, E: Write>(
     out: &mut O,
     err: &mut E,
 ) -> u8
-    ensures { Serves (O.contents out.old) (O.contents out.new) (E.contents err.old) (E.contents err.new) result count }
+    ensures { Serves (O.contents out.old) (O.contents out.new) (E.contents err.old)
+        (E.contents err.new) result count }
 {
     match TcpListener::bind(rt, (Ipv4Addr::LOCALHOST, port)) {
         Ok(listener) => serve_on(rt.alloc(), desk, &listener, count, out),
@@ -105,7 +106,8 @@ fn do_task<S: Alter + Drop, O: Write, E: Write>(
     requires sound { IsSound desk.event }
     requires low { desk.serial ≤ MAX_SERIAL }
     requires ready { IsFalse (standing desk).stopped }
-    ensures { Does S.Store desk task (O.contents out.old) (O.contents out.new) (E.contents err.old) (E.contents err.new) result }
+    ensures { Does S.Store desk task (O.contents out.old) (O.contents out.new) (E.contents err.old)
+        (E.contents err.new) result }
 {
     match task {
         Task::Ask { request } => tell(out, err, &answer(rt.alloc(), &mut desk, request)),
@@ -116,7 +118,8 @@ fn do_task<S: Alter + Drop, O: Write, E: Write>(
 
 /// Tells why a file was not opened.
 fn tell_refusal<O: Write, E: Write>(out: &mut O, err: &mut E, why: Refusal) -> u8
-    ensures { Tells (Answer.Refused why) (O.contents out.old) (O.contents out.new) (E.contents err.old) (E.contents err.new) result }
+    ensures { Tells (Answer.Refused why) (O.contents out.old) (O.contents out.new)
+        (E.contents err.old) (E.contents err.new) result }
 {
     tell(out, err, &Answer::Refused(why))
 }
@@ -129,7 +132,8 @@ fn open<O: Write, E: Write>(
     out: &mut O,
     err: &mut E,
 ) -> u8
-    ensures { EndsLine ⟦<FileStore<FileFrom<Wary>> as Store>⟧ (Open task) (O.contents out.old) (O.contents out.new) (E.contents err.old) (E.contents err.new) result }
+    ensures { EndsLine ⟦<FileStore<FileFrom<Wary>> as Store>⟧ (Open task) (O.contents out.old)
+        (O.contents out.new) (E.contents err.old) (E.contents err.new) result }
 {
     if let Err(why) = find_file(rt, path) {
         return tell_refusal(out, err, why);
@@ -142,7 +146,8 @@ fn open<O: Write, E: Write>(
 
 /// Does what a command line asks of its file, and gives the status to end with.
 pub fn act<O: Write, E: Write>(rt: &HostRuntime, line: Line, out: &mut O, err: &mut E) -> u8
-    ensures { EndsLine ⟦<FileStore<FileFrom<Wary>> as Store>⟧ (action_of line) (O.contents out.old) (O.contents out.new) (E.contents err.old) (E.contents err.new) result }
+    ensures { EndsLine ⟦<FileStore<FileFrom<Wary>> as Store>⟧ (action_of line) (O.contents out.old)
+        (O.contents out.new) (E.contents err.old) (E.contents err.new) result }
 {
     let (file, action) = line.into_parts();
     match action {

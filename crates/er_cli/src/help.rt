@@ -297,7 +297,8 @@ Ctrl-D ends it, Ctrl-C leaves it. For an event in a file, try: event_reporter --
 /// Writes a text, and has the writer pass it on.
 pub fn say<W: Write>(writer: &mut W, text: &str) -> Result<(), WriteFault>
     ensures sent { OnOk result (Appends (W.contents writer.old) (W.contents writer.new) text.now) }
-    ensures part { OnErr result (AppendsPart (W.contents writer.old) (W.contents writer.new) text.now) }
+    ensures part { OnErr result (AppendsPart (W.contents writer.old)
+        (W.contents writer.new) text.now) }
 {
     send(writer, text.as_bytes())?;
     flush(writer)

@@ -116,7 +116,8 @@ fn enrol<S: Alter>(alloc: Global, desk: &mut Desk<S>, name: &Name) -> Reply
 /// Hands the names to the desk in order, until one is refused otherwise than as taken.
 fn enrol_all<S: Alter>(alloc: Global, desk: &mut Desk<S>, lines: &[PlayerLine]) -> Enrolled
     requires { IsFalse (standing desk.old).stopped }
-    ensures enrols { Enrols (names_of lines.now) (standing desk.old) result.tally result.stop (standing desk.new) }
+    ensures enrols { Enrols (names_of lines.now) (standing desk.old) result.tally result.stop
+        (standing desk.new) }
     ensures clean { HasCleanDisk (state S.Store desk.new) → HasCleanDisk (state S.Store desk.old) }
     ensures stands { HasCleanDisk (state S.Store desk.new) → ShowsOwn S.Store desk.old
         → IsFalse (standing desk.new).stopped → ShowsOwn S.Store desk.new }
@@ -148,7 +149,8 @@ fn enrol_all<S: Alter>(alloc: Global, desk: &mut Desk<S>, lines: &[PlayerLine]) 
 
 /// Prints how many were enrolled, and the refusal that ended it, where there is one.
 fn print_tally<O: Write, E: Write>(out: &mut O, err: &mut E, enrolled: Enrolled) -> u8
-    ensures { PrintsTally enrolled.tally enrolled.stop (O.contents out.old) (O.contents out.new) (E.contents err.old) (E.contents err.new) result }
+    ensures { PrintsTally enrolled.tally enrolled.stop (O.contents out.old) (O.contents out.new)
+        (E.contents err.old) (E.contents err.new) result }
 {
     let Ok(()) = print_line(out, &tally_line(enrolled.tally)) else {
         return DEVICE;
@@ -169,7 +171,10 @@ fn import_list<S: Alter, O: Write, E: Write>(
 ) -> u8
     requires { IsFalse (standing desk.old).stopped }
     ensures imports { ((standing desk.new ≡ standing desk.old)
-        × Tells (Answer.Refused Refusal.Memory) (O.contents out.old) (O.contents out.new) (E.contents err.old) (E.contents err.new) result) ⊎ TakesList (standing desk.old) (standing desk.new) (O.contents out.old) (O.contents out.new) (E.contents err.old) (E.contents err.new) result list.now }
+        × Tells (Answer.Refused Refusal.Memory) (O.contents out.old) (O.contents out.new)
+        (E.contents err.old) (E.contents err.new) result)
+        ⊎ TakesList (standing desk.old) (standing desk.new) (O.contents out.old)
+        (O.contents out.new) (E.contents err.old) (E.contents err.new) result list.now }
     ensures clean { HasCleanDisk (state S.Store desk.new) → HasCleanDisk (state S.Store desk.old) }
     ensures stands { HasCleanDisk (state S.Store desk.new) → ShowsOwn S.Store desk.old
         → IsFalse (standing desk.new).stopped → ShowsOwn S.Store desk.new }
@@ -197,7 +202,8 @@ pub fn import<S: Alter, O: Write, E: Write>(
     err: &mut E,
 ) -> u8
     requires { IsFalse (standing desk.old).stopped }
-    ensures imports { Imports (standing desk.old) (standing desk.new) (O.contents out.old) (O.contents out.new) (E.contents err.old) (E.contents err.new) result }
+    ensures imports { Imports (standing desk.old) (standing desk.new) (O.contents out.old)
+        (O.contents out.new) (E.contents err.old) (E.contents err.new) result }
     ensures clean { HasCleanDisk (state S.Store desk.new) → HasCleanDisk (state S.Store desk.old) }
     ensures stands { HasCleanDisk (state S.Store desk.new) → ShowsOwn S.Store desk.old
         → IsFalse (standing desk.new).stopped → ShowsOwn S.Store desk.new }

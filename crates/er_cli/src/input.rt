@@ -21,7 +21,8 @@ fn read_after<R: Read>(reader: &mut R, buf: &mut [u8], filled: usize) -> io::Res
     requires { filled < length buf.old }
     ensures bound { IfOk result (λ count. filled + count ≤ length buf.new) }
     ensures kept { take filled buf.new ≡ take filled buf.old }
-    ensures came { IfOk result (λ count. Consumes (R.remaining reader.old) (R.remaining reader.new) (slice_range buf.new filled (filled + count))) }
+    ensures came { IfOk result (λ count. Consumes (R.remaining reader.old) (R.remaining reader.new)
+        (slice_range buf.new filled (filled + count))) }
     ensures ended { IfOk result (λ count. count ≡ 0 → IsAtEnd (R.remaining reader.new)) }
 {
     reader.read(&mut buf[filled..])

@@ -73,8 +73,10 @@ fn answer_script<R: Read, W: Write>(
     reader: &mut R,
     writer: &mut W,
 ) -> Result<u8, WriteFault>
-    ensures ends { IfOk result (Ends (R.remaining reader.old) (W.contents writer.old) (W.contents writer.new)) }
-    ensures part { OnErr result (Breaks (R.remaining reader.old) (W.contents writer.old) (W.contents writer.new)) }
+    ensures ends { IfOk result (Ends (R.remaining reader.old) (W.contents writer.old)
+        (W.contents writer.new)) }
+    ensures part { OnErr result (Breaks (R.remaining reader.old) (W.contents writer.old)
+        (W.contents writer.new)) }
 {
     let script = match read_script(alloc, reader) {
         Ok(script) => script,
@@ -114,8 +116,10 @@ fn refusal_status(why: &Refusal) -> u8
 
 /// Prints the only answer of a command line, and has the writer pass it on.
 fn print_last<W: Write>(writer: &mut W, answer: &Answer) -> Result<(), WriteFault>
-    ensures sent { OnOk result (Appends (W.contents writer.old) (W.contents writer.new) (answer_text answer.now)) }
-    ensures part { OnErr result (AppendsPart (W.contents writer.old) (W.contents writer.new) (answer_text answer.now)) }
+    ensures sent { OnOk result (Appends (W.contents writer.old) (W.contents writer.new)
+        (answer_text answer.now)) }
+    ensures part { OnErr result (AppendsPart (W.contents writer.old) (W.contents writer.new)
+        (answer_text answer.now)) }
 {
     print_answer(writer, answer)?;
     flush(writer)
@@ -123,7 +127,8 @@ fn print_last<W: Write>(writer: &mut W, answer: &Answer) -> Result<(), WriteFaul
 
 /// Prints an answer to the stream that it goes to: a refusal to the errors. Gives the status that comes with it.
 fn tell<O: Write, E: Write>(out: &mut O, err: &mut E, answer: &Answer) -> u8
-    ensures { Tells answer.now (O.contents out.old) (O.contents out.new) (E.contents err.old) (E.contents err.new) result }
+    ensures { Tells answer.now (O.contents out.old) (O.contents out.new) (E.contents err.old)
+        (E.contents err.new) result }
 {
     let (told, status) = match answer {
         Answer::Accepted(_) | Answer::Text(_) => (print_last(out, answer), DONE),
@@ -151,7 +156,8 @@ fn say_all<W: Write>(writer: &mut W, text: &str, due: u8) -> u8
 /// Says which of the words was not understood and how to go on, and gives the status that comes with it.
 fn say_usage<O: Write, E: Write>(alloc: Global, words: &[String], out: &mut O, err: &mut E) -> u8
     ensures { line_of (map string_bytes words.now) ≡ None
-        → EndsAsUsage (map string_bytes words.now) (O.contents out.old) (O.contents out.new) (E.contents err.old) (E.contents err.new) result }
+        → EndsAsUsage (map string_bytes words.now) (O.contents out.old) (O.contents out.new)
+        (E.contents err.old) (E.contents err.new) result }
 {
     match complaint(alloc, words) {
         Ok(text) => say_all(err, text.as_str(), USAGE),
@@ -162,14 +168,21 @@ fn say_usage<O: Write, E: Write>(alloc: Global, words: &[String], out: &mut O, e
 /// Does what the words of a command line ask, and gives the status to end with. The event's file is opened, asked and closed again.
 pub fn run<O: Write, E: Write>(rt: &HostRuntime, words: &[String], out: &mut O, err: &mut E) -> u8
     // A text that the words ask for goes to the output.
-    ensures asked { IfSome (text_for (map string_bytes words.now)) (λ text. Says text DONE (record { meant = O.contents out.old; other = E.contents err.old }) (record { meant = O.contents out.new; other = E.contents err.new }) result) }
+    ensures asked { IfSome (text_for (map string_bytes words.now))
+        (λ text. Says text DONE (record { meant = O.contents out.old; other = E.contents err.old })
+        (record { meant = O.contents out.new; other = E.contents err.new }) result) }
     // Of what is no command line, the errors get what is wrong with it, and the output stays as it is.
     ensures unread { text_for (map string_bytes words.now) ≡ None
         → line_of (map string_bytes words.now) ≡ None
-        → EndsAsUsage (map string_bytes words.now) (O.contents out.old) (O.contents out.new) (E.contents err.old) (E.contents err.new) result }
+        → EndsAsUsage (map string_bytes words.now) (O.contents out.old) (O.contents out.new)
+        (E.contents err.old) (E.contents err.new) result }
     // What is one is answered as the event of the file has it, with the status of that answer. Memory may be wanting to read it.
     ensures answered { text_for (map string_bytes words.now) ≡ None
-        → IfSome (line_of (map string_bytes words.now)) (λ line. EndsLine ⟦<FileStore<FileFrom<Wary>> as Store>⟧ (action_of line) (O.contents out.old) (O.contents out.new) (E.contents err.old) (E.contents err.new) result ⊎ Tells (Answer.Refused Refusal.Memory) (O.contents out.old) (O.contents out.new) (E.contents err.old) (E.contents err.new) result) }
+        → IfSome (line_of (map string_bytes words.now))
+        (λ line. EndsLine ⟦<FileStore<FileFrom<Wary>> as Store>⟧ (action_of line)
+        (O.contents out.old) (O.contents out.new) (E.contents err.old) (E.contents err.new) result
+        ⊎ Tells (Answer.Refused Refusal.Memory) (O.contents out.old) (O.contents out.new)
+        (E.contents err.old) (E.contents err.new) result) }
 {
     if let Some(text) = text_for(words) {
         return say_all(out, text, DONE);
@@ -192,7 +205,10 @@ pub fn say_awaiting<E: Write>(err: &mut E)
 /// Answers where there was no memory to read the words of the command line, and gives the status to end with.
 pub fn refuse_memory<W: Write>(writer: &mut W) -> u8
     ensures { ((result ≡ MEMORY)
-        × Appends (W.contents writer.old) (W.contents writer.new) (answer_text (Answer.Refused Refusal.Memory))) ⊎ ((result ≡ DEVICE) × AppendsPart (W.contents writer.old) (W.contents writer.new) (answer_text (Answer.Refused Refusal.Memory))) }
+        × Appends (W.contents writer.old) (W.contents writer.new)
+        (answer_text (Answer.Refused Refusal.Memory)))
+        ⊎ ((result ≡ DEVICE) × AppendsPart (W.contents writer.old) (W.contents writer.new)
+        (answer_text (Answer.Refused Refusal.Memory))) }
 {
     match print_fault(writer, InputFault::Memory) {
         Ok(status) => status,

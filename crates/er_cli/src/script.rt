@@ -44,7 +44,8 @@ fn create_desk(alloc: Global, name: Name, rounds: u8, cut: u8) -> Result<Desk<Me
 
 impl Runner {
     fn init(&mut self, name: &[u8], rounds: u8, cut: u8) -> Reply
-        ensures acts { Acts (standing_of self.old.desk) (Init name.now rounds cut) (reply_answer result) (standing_of self.new.desk) }
+        ensures acts { Acts (standing_of self.old.desk) (Init name.now rounds cut)
+            (reply_answer result) (standing_of self.new.desk) }
         ensures written { IsWritten self.old.desk → IsWritten self.new.desk }
     {
         let name = set_up(self.alloc, name, rounds, cut)?;
@@ -58,7 +59,8 @@ impl Runner {
 
     fn ask(&mut self, request: Request) -> Answer
         requires { IsWritten self.old.desk }
-        ensures acts { Acts (standing_of self.old.desk) (Open (Ask request)) result (standing_of self.new.desk) }
+        ensures acts { Acts (standing_of self.old.desk) (Open (Ask request)) result
+            (standing_of self.new.desk) }
         ensures written { IsWritten self.new.desk }
     {
         match &mut self.desk {
@@ -69,7 +71,8 @@ impl Runner {
 
     fn open(&mut self, task: Task) -> Answer
         requires { IsWritten self.old.desk }
-        ensures acts { Acts (standing_of self.old.desk) (Open task) result (standing_of self.new.desk) }
+        ensures acts { Acts (standing_of self.old.desk) (Open task) result
+            (standing_of self.new.desk) }
         ensures written { IsWritten self.new.desk }
     {
         match task {
@@ -95,7 +98,8 @@ impl Runner {
     /// The answer to a line.
     fn answer(&mut self, line: &[u8]) -> Answer
         requires { IsWritten self.old.desk }
-        ensures answers { LineAnswers (standing_of self.old.desk) (script_action line.now) result (standing_of self.new.desk) }
+        ensures answers { LineAnswers (standing_of self.old.desk) (script_action line.now) result
+            (standing_of self.new.desk) }
         ensures written { IsWritten self.new.desk }
     {
         match read_line(self.alloc, line) {
@@ -111,8 +115,10 @@ impl Runner {
 
 /// Runs lines one after the other, and prints their answers.
 pub fn run_lines<W: Write>(alloc: Global, lines: &[&[u8]], writer: &mut W) -> Result<(), WriteFault>
-    ensures whole { OnOk result (Prints (map (λ line. line.now) lines.now) (W.contents writer.old) (W.contents writer.new)) }
-    ensures part { OnErr result (PrintsPart (map (λ line. line.now) lines.now) (W.contents writer.old) (W.contents writer.new)) }
+    ensures whole { OnOk result (Prints (map (λ line. line.now) lines.now) (W.contents writer.old)
+        (W.contents writer.new)) }
+    ensures part { OnErr result (PrintsPart (map (λ line. line.now) lines.now)
+        (W.contents writer.old) (W.contents writer.new)) }
 {
     let mut runner = Runner { alloc, desk: None };
     for line in lines {

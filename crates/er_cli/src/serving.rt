@@ -61,7 +61,9 @@ fn serve_clients<S: Alter>(
     listener: &TcpListener,
     count: u32,
 ) -> Result<(), AcceptFault>
-    ensures turns { MatchResult result (λ _. ConnectsAll count (standing desk.old) (standing desk.new)) (λ _. ConnectsUpTo count (standing desk.old) (standing desk.new)) }
+    ensures turns { MatchResult result
+        (λ _. ConnectsAll count (standing desk.old) (standing desk.new))
+        (λ _. ConnectsUpTo count (standing desk.old) (standing desk.new)) }
     ensures waits { IsTrue (standing desk.old).stopped → desk.new ≡ desk.old }
     ensures clean { HasCleanDisk (state S.Store desk.new) → HasCleanDisk (state S.Store desk.old) }
     ensures stands { HasCleanDisk (state S.Store desk.new) → ShowsOwn S.Store desk.old

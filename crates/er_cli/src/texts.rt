@@ -22,7 +22,8 @@ pub struct WriteFault;
 /// Writes the bytes, by one call where the writer takes them all. A call that takes none has failed.
 pub fn send<W: Write>(writer: &mut W, bytes: &[u8]) -> Result<(), WriteFault>
     ensures sent { OnOk result (Appends (W.contents writer.old) (W.contents writer.new) bytes.now) }
-    ensures part { OnErr result (AppendsPart (W.contents writer.old) (W.contents writer.new) bytes.now) }
+    ensures part { OnErr result (AppendsPart (W.contents writer.old)
+        (W.contents writer.new) bytes.now) }
 {
     let mut sent = 0;
     for _ in 0..bytes.len() {
@@ -71,8 +72,10 @@ fn refusal_line(refusal: &Refusal) -> ShortText
 
 /// Prints an answer, by one write where the writer takes it whole. It takes no memory.
 pub fn print_answer<W: Write>(writer: &mut W, answer: &Answer) -> Result<(), WriteFault>
-    ensures sent { OnOk result (Appends (W.contents writer.old) (W.contents writer.new) (answer_text answer.now)) }
-    ensures part { OnErr result (AppendsPart (W.contents writer.old) (W.contents writer.new) (answer_text answer.now)) }
+    ensures sent { OnOk result (Appends (W.contents writer.old) (W.contents writer.new)
+        (answer_text answer.now)) }
+    ensures part { OnErr result (AppendsPart (W.contents writer.old) (W.contents writer.new)
+        (answer_text answer.now)) }
 {
     match answer {
         Answer::Accepted(receipt) => send(writer, ok_line(receipt.serial).as_slice()),
@@ -85,7 +88,8 @@ pub fn print_answer<W: Write>(writer: &mut W, answer: &Answer) -> Result<(), Wri
 /// Prints a line, and has the writer pass it on: whoever waits for the port reads it at once.
 pub fn print_line<W: Write>(writer: &mut W, line: &ShortText) -> Result<(), WriteFault>
     ensures sent { OnOk result (Appends (W.contents writer.old) (W.contents writer.new) line.now) }
-    ensures part { OnErr result (AppendsPart (W.contents writer.old) (W.contents writer.new) line.now) }
+    ensures part { OnErr result (AppendsPart (W.contents writer.old)
+        (W.contents writer.new) line.now) }
 {
     send(writer, line.as_slice())?;
     flush(writer)

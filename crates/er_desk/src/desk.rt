@@ -112,7 +112,8 @@ impl<S: Alter> Desk<S> {
         ensures spares { IfErr result (λ e. CanRead (sqlite.state S.Store conn).now.schema
             → Leaves (sqlite.state S.Store e.0) (sqlite.state S.Store conn).may_leave) }
         ensures crash { IfErr result (λ e. IsEmptyFile (sqlite.state S.Store conn)
-            → Leaves (sqlite.state S.Store e.0) (Either (sqlite.state S.Store conn).may_leave (IsStored (created name rounds cut) 0))) }
+            → Leaves (sqlite.state S.Store e.0)
+            (Either (sqlite.state S.Store conn).may_leave (IsStored (created name rounds cut) 0))) }
     {
         let event = match Event::create(alloc, name, rounds, cut) {
             Ok(event) => event,
@@ -138,7 +139,9 @@ impl<S: Alter> Desk<S> {
         ensures sound { IfOk result (λ it. IsSound it.event × (it.serial ≤ MAX_SERIAL)) }
         ensures repeats { IfOk result (λ it. RepeatsNobody it.event) }
         ensures clean { MatchResult result (λ it. HasCleanDisk (state S.Store it)
-            → HasCleanDisk (sqlite.state S.Store conn)) (λ e. HasCleanDisk (sqlite.state S.Store e.0) → HasCleanDisk (sqlite.state S.Store conn)) }
+            → HasCleanDisk (sqlite.state S.Store conn))
+            (λ e. HasCleanDisk (sqlite.state S.Store e.0)
+            → HasCleanDisk (sqlite.state S.Store conn)) }
 
         // Of tables that stand for a sound event just that is found, or memory or the store fails.
         ensures found { (point : Point)
@@ -172,10 +175,14 @@ impl<S: Alter> Desk<S> {
             → IsUnchanged (sqlite.state S.Store conn) (state S.Store it)) }
         ensures kept { IfErr result (λ e. HasCleanDisk (sqlite.state S.Store e.0)
             → KeepsTables (sqlite.state S.Store conn) (sqlite.state S.Store e.0)) }
-        ensures crash { MatchResult result (λ it. Leaves (state S.Store it) (sqlite.state S.Store conn).may_leave) (λ e. Leaves (sqlite.state S.Store e.0) (sqlite.state S.Store conn).may_leave) }
+        ensures crash { MatchResult result
+            (λ it. Leaves (state S.Store it) (sqlite.state S.Store conn).may_leave)
+            (λ e. Leaves (sqlite.state S.Store e.0) (sqlite.state S.Store conn).may_leave) }
         ensures left { IsTrue (sqlite.state S.Store conn).is_open
             → MatchResult result (λ it. Leaves (state S.Store it) (λ db. db
-            ≡ (sqlite.state S.Store conn).committed.trees)) (λ e. Leaves (sqlite.state S.Store e.0) (λ db. db ≡ (sqlite.state S.Store conn).committed.trees)) }
+            ≡ (sqlite.state S.Store conn).committed.trees))
+            (λ e. Leaves (sqlite.state S.Store e.0)
+            (λ db. db ≡ (sqlite.state S.Store conn).committed.trees)) }
     {
         let (store, event, serial) = Store::adopt(alloc, conn)?;
         match seeds_agree(alloc, &event) {
@@ -199,7 +206,8 @@ impl<S: Alter> Desk<S> {
     pub fn event(&self) -> Result<&Event, Refusal>
         ensures value { IfOk result (λ event. event.now ≡ self.now.event) }
         ensures repeats { IfOk result (λ event. RepeatsNobody event.now) }
-        ensures stopped { MatchResult result (λ _. IsFalse (standing self.now).stopped) (λ why. IsTrue (standing self.now).stopped × (why ≡ Refusal.NeedsReopen)) }
+        ensures stopped { MatchResult result (λ _. IsFalse (standing self.now).stopped)
+            (λ why. IsTrue (standing self.now).stopped × (why ≡ Refusal.NeedsReopen)) }
     {
         if self.needs_reopen {
             return Err(Refusal::NeedsReopen);
@@ -210,7 +218,8 @@ impl<S: Alter> Desk<S> {
     /// How many commands were accepted, where no fault of the store is behind.
     pub fn serial(&self) -> Result<u32, Refusal>
         ensures value { IfOk result (λ serial. (serial ≡ self.now.serial) × (serial ≤ MAX_SERIAL)) }
-        ensures stopped { MatchResult result (λ _. IsFalse (standing self.now).stopped) (λ why. IsTrue (standing self.now).stopped × (why ≡ Refusal.NeedsReopen)) }
+        ensures stopped { MatchResult result (λ _. IsFalse (standing self.now).stopped)
+            (λ why. IsTrue (standing self.now).stopped × (why ≡ Refusal.NeedsReopen)) }
     {
         if self.needs_reopen {
             return Err(Refusal::NeedsReopen);
@@ -221,7 +230,9 @@ impl<S: Alter> Desk<S> {
     /// The standings of the event.
     pub fn standings(&self, alloc: Global) -> Result<Vec<Row>, Refusal>
         ensures value { IfOk result (λ rows. AreTheStandings self.now.event rows.items) }
-        ensures stopped { MatchResult result (λ _. IsFalse (standing self.now).stopped) (λ why. (IsTrue (standing self.now).stopped × (why ≡ Refusal.NeedsReopen)) ⊎ (IsFalse (standing self.now).stopped × (why ≡ Refusal.Memory))) }
+        ensures stopped { MatchResult result (λ _. IsFalse (standing self.now).stopped)
+            (λ why. (IsTrue (standing self.now).stopped × (why ≡ Refusal.NeedsReopen))
+            ⊎ (IsFalse (standing self.now).stopped × (why ≡ Refusal.Memory))) }
     {
         let event = self.event()?;
         match standings(alloc, event) {
@@ -331,7 +342,8 @@ impl<S: Alter> Desk<S> {
         requires sound { IsSound self.old.event → IsSound (after self.old.event change.now) }
 
         ensures taken { IfOk result (λ receipt. (standing self.new
-            ≡ record { event = after self.old.event change.now; serial = self.old.serial + 1; stopped = false }) × (receipt.serial ≡ self.old.serial + 1)) }
+            ≡ record { event = after self.old.event change.now; serial = self.old.serial + 1;
+            stopped = false }) × (receipt.serial ≡ self.old.serial + 1)) }
         ensures refused { IfErr result (λ why. ((self.new ≡ self.old) × (why ≡ Refusal.Memory))
             ⊎ ((standing self.new ≡ record (standing self.old) { stopped = true })
             × IsFault why)) }
@@ -347,7 +359,9 @@ impl<S: Alter> Desk<S> {
         ensures acknowledged { ShowsOwn S.Store self.old
             → OnOk result (LeavesJust (state S.Store self.new) (point_of (standing self.new))) }
         ensures crash { ShowsOwn S.Store self.old
-            → Leaves (state S.Store self.new) (Either (IsStored self.old.event self.old.serial) (IsStored (after self.old.event change.now) (self.old.serial + 1))) }
+            → Leaves (state S.Store self.new)
+            (Either (IsStored self.old.event self.old.serial)
+            (IsStored (after self.old.event change.now) (self.old.serial + 1))) }
     {
         // What the tables stand for, a crash leaves: this tells the proof.
         shown_is_stored(&self.store);
@@ -461,9 +475,12 @@ impl<S: Alter> Desk<S> {
 
     /// Takes commands one after the other. The replies are reserved first, so that want of memory for them leaves all as it was.
     pub fn run(&mut self, alloc: Global, commands: Vec<Command>) -> Result<Vec<Reply>, AllocError>
-        ensures ran { IfOk result (λ replies. Runs (standing self.old) commands.items replies.items (standing self.new)) }
+        ensures ran { IfOk result (λ replies. Runs (standing self.old) commands.items replies.items
+            (standing self.new)) }
         // Each reply is lawful at the fold of the commands that were acknowledged before it, and after a fault of the store the rest ask for reopening.
-        ensures lawful { IfOk result (λ replies. IsRun (standing self.old) commands.items replies.items (standing self.new)) }
+        ensures lawful { IfOk result
+            (λ replies. IsRun (standing self.old) commands.items replies.items
+            (standing self.new)) }
         ensures untouched { IfErr result (λ _. self.new ≡ self.old) }
         ensures waits { IsTrue (standing self.old).stopped → self.new ≡ self.old }
 
@@ -478,7 +495,9 @@ impl<S: Alter> Desk<S> {
 
         // A crash leaves the fold of the acknowledged commands, or that with the one in doubt.
         ensures crash { IsFalse (standing self.old).stopped → ShowsOwn S.Store self.old
-            → IfOk result (λ replies. LeavesEnd (state S.Store self.new) (point_of (standing self.old)) (session_of commands.items replies.items (standing self.new).stopped)) }
+            → IfOk result (λ replies. LeavesEnd (state S.Store self.new)
+            (point_of (standing self.old))
+            (session_of commands.items replies.items (standing self.new).stopped)) }
     {
         let mut replies = Vec::with_capacity(alloc, commands.len())?;
         for command in &commands {

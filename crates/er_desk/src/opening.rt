@@ -100,7 +100,8 @@ pub fn open<S: Start>(
 
     // Whatever the file held, no table changes, and a crash leaves just that.
     ensures kept { (db : Trees) → HoldsDatabase (image_at S.Start) db
-        → MatchResult result (λ it. SeesStill (state over_files it) db) (λ why. OnRefused why (λ conn. SeesStill (file_state conn) db)) }
+        → MatchResult result (λ it. SeesStill (state over_files it) db)
+        (λ why. OnRefused why (λ conn. SeesStill (file_state conn) db)) }
     ensures left { (db : Trees) → HoldsDatabase (image_at S.Start) db
         → MatchResult result (λ it. Leaves (state over_files it) (λ trees. trees
         ≡ db)) (λ why. OnRefused why (λ conn. Leaves (file_state conn) (λ trees. trees

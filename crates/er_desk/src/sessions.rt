@@ -30,12 +30,17 @@ pub fn session<S: Start>(
     // begins there.
     ensures next { (new first : Point) (ends : List Ended)
         → WasLeftBy (image_at S.Start) new ends first
-        → MatchResult result (λ it. MatchResult it.1 (λ replies. Leaves (state over_files it.0) (NextBegins new ends (session_of commands.items replies.items (standing it.0).stopped))) (λ _. Leaves (state over_files it.0) (NextBegins new ends no_session))) (λ why. OnRefused why (λ conn. Leaves (file_state conn) (NextBegins new ends no_session))) }
+        → MatchResult result (λ it. MatchResult it.1
+        (λ replies. Leaves (state over_files it.0)
+        (NextBegins new ends (session_of commands.items replies.items (standing it.0).stopped)))
+        (λ _. Leaves (state over_files it.0) (NextBegins new ends no_session)))
+        (λ why. OnRefused why (λ conn. Leaves (file_state conn) (NextBegins new ends no_session))) }
     // Each reply is lawful at the fold of the commands that were acknowledged before it, from where the history ended.
     ensures lawful { (new first : Point) (ends : List Ended)
         → WasLeftBy (image_at S.Start) new ends first
         → IfOk result (λ it. HasCleanDisk (state over_files it.0)
-        → IfOk it.1 (λ replies. IsRun (running_at first) commands.items replies.items (standing it.0))) }
+        → IfOk it.1 (λ replies. IsRun (running_at first) commands.items replies.items
+        (standing it.0))) }
     // It is refused for memory or by the device alone. Of files that were not opened, what is left stands for what they held, as the
     // storage crate has it.
     ensures why { (new first : Point) (ends : List Ended)

@@ -33,8 +33,10 @@ pub fn read_standings<S: Alter>(alloc: Global, store: &mut Store<S>) -> Result<V
         → IsFalse (tables.is_stopped store.new)
         → IsUnchanged (tables.state S.Store store.old) (tables.state S.Store store.new) }
     ensures kept { HasCleanDisk (tables.state S.Store store.new)
-        → OnErr result (KeepsTables (tables.state S.Store store.old) (tables.state S.Store store.new)) }
-    ensures crash { Leaves (tables.state S.Store store.new) (tables.state S.Store store.old).may_leave }
+        → OnErr result (KeepsTables (tables.state S.Store store.old)
+        (tables.state S.Store store.new)) }
+    ensures crash { Leaves (tables.state S.Store store.new)
+        (tables.state S.Store store.old).may_leave }
 {
     let tallies = store.tallies(alloc)?;
     let meetings = store.meetings(alloc)?;

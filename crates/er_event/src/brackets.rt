@@ -38,7 +38,8 @@ pub(crate) fn are_lawful(stage: &[Match]) -> bool
 }
 
 fn are_all_lawful(stages: &[Items<Match>]) -> bool
-    ensures { result ≡ list_all (λ stage. list_all (λ m. is_lawful_slot_score m.score) stage) stages.now }
+    ensures { result ≡ list_all (λ stage. list_all (λ m. is_lawful_slot_score m.score) stage)
+        stages.now }
 {
     stages.iter().all(|stage| are_lawful(stage.as_slice()))
 }

@@ -212,7 +212,9 @@ impl Event {
         ensures value { option_map (λ m. m.now) result ≡ slot_at self.now stage slot }
         ensures fits { IfSome result (λ m. m.now.score ≡ None → (score : Games)
             → IsTrue (is_playoff_score score)
-            → Fits self.now (Change.SetBracketScore stage slot score (following (scored_slot (stage_of self.now.bracket.stages stage) slot score)) (is_over (scored_slot (stage_of self.now.bracket.stages stage) slot score)))) }
+            → Fits self.now (Change.SetBracketScore stage slot score
+            (following (scored_slot (stage_of self.now.bracket.stages stage) slot score))
+            (is_over (scored_slot (stage_of self.now.bracket.stages stage) slot score)))) }
     {
         slot_in(self.bracket.stages.as_slice(), stage, slot)
     }

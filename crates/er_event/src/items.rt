@@ -96,7 +96,8 @@ impl<T: Copy> Items<Items<T>> {
     pub(crate) fn set_in(&mut self, row: usize, at: usize, element: T)
         requires row { row < length self.old }
         requires at { at < length (slice_index_or self.old row []) }
-        ensures { self.new ≡ slice_set self.old row (slice_set (slice_index_or self.old row []) at element) }
+        ensures { self.new ≡ slice_set self.old row
+            (slice_set (slice_index_or self.old row []) at element) }
     {
         self.vec[row].set(at, element);
     }

@@ -34,7 +34,8 @@ impl Model for Name {
 
     ghost view = { λ n. take n.len n.bytes };
 
-    ghost invariant = { λ n. (n.bytes ≡ padded (take n.len n.bytes)) × (length (take n.len n.bytes) ≡ n.len) × IsTrue (is_lawful_name (take n.len n.bytes)) };
+    ghost invariant = { λ n. (n.bytes ≡ padded (take n.len n.bytes))
+        × (length (take n.len n.bytes) ≡ n.len) × IsTrue (is_lawful_name (take n.len n.bytes)) };
 
     ghost inverse = { λ name. record { bytes = padded name; len = length name } };
 
@@ -87,7 +88,8 @@ fn is_plain(bytes: &[u8]) -> bool
 /// Whether a space stands first or last.
 fn is_spaced(bytes: &[u8]) -> bool
     requires { 0 < length bytes.now }
-    ensures { result ≡ (slice_index_or bytes.now 0 0 == 32 || slice_index_or bytes.now (length bytes.now - 1) 0 == 32) }
+    ensures { result ≡ (slice_index_or bytes.now 0 0 == 32 || slice_index_or bytes.now
+        (length bytes.now - 1) 0 == 32) }
 {
     bytes[0] == b' ' || bytes[bytes.len() - 1] == b' '
 }

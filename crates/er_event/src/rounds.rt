@@ -63,7 +63,8 @@ fn has_pairing(matches: &[Match], played: &Match) -> bool
 
 /// Whether the two players of the match, or the player and the bye, have met in a stored round.
 fn have_met(stored: &[Round], played: &Match) -> bool
-    ensures { result ≡ list_any (λ r. list_any (λ m. is_same_pairing m played.now) r.matches) stored.now }
+    ensures { result ≡ list_any (λ r. list_any (λ m. is_same_pairing m played.now) r.matches)
+        stored.now }
 {
     stored
         .iter()
@@ -72,7 +73,9 @@ fn have_met(stored: &[Round], played: &Match) -> bool
 
 /// Whether nobody meets an opponent, or has a bye, again.
 fn are_new(stored: &[Round], matches: &[Match]) -> bool
-    ensures { result ≡ list_all (λ m. not (list_any (λ r. list_any (λ n. is_same_pairing n m) r.matches) stored.now)) matches.now }
+    ensures { result ≡ list_all (λ m.
+        not (list_any (λ r. list_any (λ n. is_same_pairing n m) r.matches) stored.now))
+        matches.now }
 {
     matches.iter().all(|played| !have_met(stored, played))
 }

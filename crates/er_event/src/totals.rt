@@ -172,7 +172,8 @@ fn games_with(matches: &[Match], table: usize, score: Score, player: u16) -> Opt
     requires seated { IsSeatedOnce (scored_slot matches.now table score) }
     requires player { 0 < player }
     ensures value { (round : ℕ)
-        → totals_of (own player (flat_map (lines_of_match round) (scored_slot matches.now table score))) ≡ totals_of_games result }
+        → totals_of (own player (flat_map (lines_of_match round)
+        (scored_slot matches.now table score))) ≡ totals_of_games result }
     ensures few { IfSome result AreFew }
 {
     for at in 0..matches.len() {
@@ -189,7 +190,8 @@ fn games_in_with(matches: &[Match], table: usize, score: Score, player: u16) -> 
     requires seated { IsSeatedOnce (scored_slot matches.now table score) }
     requires player { 0 < player }
     ensures value { (number : ℕ)
-        → totals_of (own player (counted_lines number (record { matches = scored_slot matches.now table score }))) ≡ totals_of_games result }
+        → totals_of (own player (counted_lines number
+        (record { matches = scored_slot matches.now table score }))) ≡ totals_of_games result }
     ensures few { IfSome result AreFew }
 {
     if is_complete_with(matches, table, score) {
@@ -211,10 +213,13 @@ struct NewScore {
 fn games_at(rounds: &[Round], at: usize, new: &NewScore, player: u16) -> Option<Games>
     requires within { at < length rounds.now }
     requires table { HasTable rounds.now new.now.place new.now.table }
-    requires seated { All (λ round. IsSeatedOnce round.matches) (rescored rounds.now new.now.place new.now.table new.now.score) }
+    requires seated { All (λ round. IsSeatedOnce round.matches)
+        (rescored rounds.now new.now.place new.now.table new.now.score) }
     requires player { 0 < player }
     ensures value { (round : Round)
-        → round ≡ slice_index_or (rescored rounds.now new.now.place new.now.table new.now.score) at round → (number : ℕ) → totals_of (own player (counted_lines number round)) ≡ totals_of_games result }
+        → round ≡ slice_index_or (rescored rounds.now new.now.place new.now.table new.now.score) at
+        round → (number : ℕ) → totals_of (own player (counted_lines number round))
+        ≡ totals_of_games result }
     ensures few { IfSome result AreFew }
 {
     let matches = rounds[at].matches.as_slice();
@@ -229,9 +234,11 @@ fn games_at(rounds: &[Round], at: usize, new: &NewScore, player: u16) -> Option<
 fn totals_with(rounds: &[Round], new: &NewScore, player: u16) -> Totals
     requires few { length rounds.now ≤ MAX_ROUNDS }
     requires table { HasTable rounds.now new.now.place new.now.table }
-    requires seated { All (λ round. IsSeatedOnce round.matches) (rescored rounds.now new.now.place new.now.table new.now.score) }
+    requires seated { All (λ round. IsSeatedOnce round.matches)
+        (rescored rounds.now new.now.place new.now.table new.now.score) }
     requires player { 0 < player }
-    ensures { result ≡ totals_of (own player (lines_from 1 (rescored rounds.now new.now.place new.now.table new.now.score))) }
+    ensures { result ≡ totals_of (own player
+        (lines_from 1 (rescored rounds.now new.now.place new.now.table new.now.score))) }
 {
     let mut totals = Totals::none();
     for at in 0..rounds.len() {

@@ -78,7 +78,8 @@ pub fn first_pairing(alloc: Global, order: &[u16], met: &Met) -> Result<Vec<(u16
         × IsEarliest (has_met met.now) order.now pairs
         × (found.items ≡ entries order.now pairs)) }
     ensures seated { IfOk result (λ found. IsPermutation order.now (positions found.items)) }
-    ensures new_opponents { IfOk result (λ found. All (λ pair. IsFalse (has_met met.now pair.0 pair.1)) found.items) }
+    ensures new_opponents { IfOk result
+        (λ found. All (λ pair. IsFalse (has_met met.now pair.0 pair.1)) found.items) }
     ensures in_order { (pairs : List Pair) → IsLegal (has_met met.now) order.now pairs
         → All (λ pair. pair.0 < pair.1) pairs }
     ensures one { (pairs other : List Pair) → IsEarliest (has_met met.now) order.now pairs

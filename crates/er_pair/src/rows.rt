@@ -92,7 +92,8 @@ impl Cursor {
         requires word { self.old.index < WORDS }
         requires end { end ≤ PLACES }
         ensures word { self.new.index < WORDS }
-        ensures found { MatchOption result (IsNoneAhead one.now other.now self.old end) (IsNext one.now other.now self.old self.new end) }
+        ensures found { MatchOption result (IsNoneAhead one.now other.now self.old end)
+            (IsNext one.now other.now self.old self.new end) }
     {
         while self.left == 0 {
             if 64 * (self.index + 1) >= end {

@@ -30,7 +30,8 @@ fn last_pair(
     requires word { ahead.index < WORDS }
     requires one { length pairs.old ≡ 1 }
     requires two { length (free_ahead used.now ahead (length rows.now)) ≡ 2 }
-    ensures answer { SearchAnswers (answer_ahead rows.now used.now ahead) steps.old pairs.new steps.new result }
+    ensures answer { SearchAnswers (answer_ahead rows.now used.now ahead) steps.old pairs.new
+        steps.new result }
 {
     let mut others = ahead;
     let Some(first) = others.next(used, used, rows.len()) else {
@@ -67,7 +68,8 @@ pub fn search(
         ≡ 2 * length pairs.old }
     requires known { AreDeadEnds rows.now kept.old }
     ensures known { AreDeadEnds rows.now kept.new }
-    ensures answer { SearchAnswers (answer_ahead rows.now used.old ahead) steps.old pairs.new steps.new result }
+    ensures answer { SearchAnswers (answer_ahead rows.now used.old ahead) steps.old pairs.new
+        steps.new result }
     ensures as_before { result ≡ Outcome.DeadEnd → (position : ℕ)
         → has_place used.new position ≡ has_place used.old position }
 {

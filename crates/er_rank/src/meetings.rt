@@ -52,7 +52,8 @@ pub fn meetings_of(
     requires numbered { map (λ t. t.no) tallies.now ≡ range_with_len 1 (length tallies.now) }
     requires known { All (λ round. AreKnownTo (length tallies.now) round.matches) rounds.now }
     ensures { IfOk result (λ list. list.items
-        ≡ map (meeting_by (totals_of tallies.now)) (filter (λ m. not (is_bye m)) (counted_matches rounds.now))) }
+        ≡ map (meeting_by (totals_of tallies.now))
+        (filter (λ m. not (is_bye m)) (counted_matches rounds.now))) }
 {
     let mut meetings = Vec::new(alloc);
     for round in rounds {

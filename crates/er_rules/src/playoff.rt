@@ -114,7 +114,9 @@ fn check_playoff(event: &Event, stage: u8, slot: u8, games: Games) -> Result<Sco
     ensures score { IfOk result (λ score. (score ≡ games) × IsTrue (is_playoff_score games)) }
     ensures playing { OnOk result (event.now.phase ≡ Playoff) }
     ensures found { OnOk result ((m : Match) × (slot_at event.now stage slot ≡ Some m)) }
-    ensures fits { OnOk result (Fits event.now (Change.SetBracketScore stage slot games (following (scored_at event.now stage slot games)) (is_over (scored_at event.now stage slot games)))) }
+    ensures fits { OnOk result (Fits event.now
+        (Change.SetBracketScore stage slot games (following (scored_at event.now stage slot games))
+        (is_over (scored_at event.now stage slot games)))) }
     ensures refused { IfErr result (λ why. first_refusal (playoff_checks event.now stage slot games)
         ≡ Some why) }
     ensures named { IfErr result IsOfRules }
@@ -154,7 +156,8 @@ pub fn decide_playoff(
     games: Games,
 ) -> Result<Change, Refusal>
     ensures change { IfOk result (λ change. change
-        ≡ Change.SetBracketScore stage slot games (following (scored_at event.now stage slot games)) (is_over (scored_at event.now stage slot games))) }
+        ≡ Change.SetBracketScore stage slot games (following (scored_at event.now stage slot games))
+        (is_over (scored_at event.now stage slot games))) }
     ensures fits { IfOk result (Fits event.now) }
     ensures accepted { OnOk result (first_refusal (playoff_checks event.now stage slot games)
         ≡ None) }

@@ -69,7 +69,8 @@ pub fn decide_correct(event: &Event, round: u8, table: u16, games: Games) -> Res
     ensures fits { IfOk result (Fits event.now) }
     ensures accepted { OnOk result (first_refusal (correct_checks event.now round table games)
         ≡ None) }
-    ensures refused { IfErr result (λ why. first_refusal (correct_checks event.now round table games) ≡ Some why) }
+    ensures refused { IfErr result (λ why.
+        first_refusal (correct_checks event.now round table games) ≡ Some why) }
     ensures named { IfErr result IsOfRules }
 {
     let played = match_of_two(event, round, table)?;

@@ -68,7 +68,8 @@ impl Ord for Share {
 impl PartialOrd for Share {
     ghost partial_cmp = { as_partial_cmp share_cmp };
 
-    ghost laws = { partial_order_from_agreeing_total share_cmp share_cmp-total (λ _ _. refl) share_cmp-eq };
+    ghost laws = { partial_order_from_agreeing_total share_cmp share_cmp-total
+        (λ _ _. refl) share_cmp-eq };
 
     fn partial_cmp(&self, other: &Share) -> Option<Ordering> {
         Some(self.cmp(other))

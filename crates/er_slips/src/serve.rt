@@ -60,7 +60,8 @@ fn rows_answer<S: Alter>(alloc: Global, desk: &Desk<S>, rows: &[Row]) -> Answer
 
 fn standings<S: Alter>(alloc: Global, desk: &mut Desk<S>) -> Answer
     ensures answers { AnswersRequest (HasCleanDisk (state S.Store desk.new)
-        × ShowsOwn S.Store desk.old) (standing desk.old) (Ok asked.Standings) (answer_value result) (standing desk.new) }
+        × ShowsOwn S.Store desk.old) (standing desk.old) (Ok asked.Standings) (answer_value result)
+        (standing desk.new) }
     ensures waits { IsTrue (standing desk.old).stopped → desk.new ≡ desk.old }
     ensures clean { HasCleanDisk (state S.Store desk.new) → HasCleanDisk (state S.Store desk.old) }
     ensures stands { HasCleanDisk (state S.Store desk.new) → ShowsOwn S.Store desk.old
@@ -100,7 +101,8 @@ fn slip_row_answer(alloc: Global, read: &Result<SlipRow, Refusal>) -> Answer
 
 fn slip<S: Alter>(alloc: Global, desk: &mut Desk<S>, round: u8, table: u16) -> Answer
     ensures answers { AnswersRequest (HasCleanDisk (state S.Store desk.new)
-        × ShowsOwn S.Store desk.old) (standing desk.old) (Ok (asked.Slip round table)) (answer_value result) (standing desk.new) }
+        × ShowsOwn S.Store desk.old) (standing desk.old) (Ok (asked.Slip round table))
+        (answer_value result) (standing desk.new) }
     ensures waits { IsTrue (standing desk.old).stopped → desk.new ≡ desk.old }
     ensures clean { HasCleanDisk (state S.Store desk.new) → HasCleanDisk (state S.Store desk.old) }
     ensures stands { HasCleanDisk (state S.Store desk.new) → ShowsOwn S.Store desk.old
@@ -135,7 +137,8 @@ fn report<S: Alter>(
     score: Games,
 ) -> Answer
     ensures answers { AnswersRequest (HasCleanDisk (state S.Store desk.new)
-        × ShowsOwn S.Store desk.old) (standing desk.old) (Ok (asked.Report round table score)) (answer_value result) (standing desk.new) }
+        × ShowsOwn S.Store desk.old) (standing desk.old) (Ok (asked.Report round table score))
+        (answer_value result) (standing desk.new) }
     ensures waits { IsTrue (standing desk.old).stopped → desk.new ≡ desk.old }
     ensures clean { HasCleanDisk (state S.Store desk.new) → HasCleanDisk (state S.Store desk.old) }
     ensures stands { HasCleanDisk (state S.Store desk.new) → ShowsOwn S.Store desk.old
@@ -162,7 +165,8 @@ fn report<S: Alter>(
 /// What the desk answers. It is asked once.
 fn answer<S: Alter>(alloc: Global, desk: &mut Desk<S>, asked: Asked) -> Answer
     ensures answers { AnswersRequest (HasCleanDisk (state S.Store desk.new)
-        × ShowsOwn S.Store desk.old) (standing desk.old) (Ok asked) (answer_value result) (standing desk.new) }
+        × ShowsOwn S.Store desk.old) (standing desk.old) (Ok asked) (answer_value result)
+        (standing desk.new) }
     ensures waits { IsTrue (standing desk.old).stopped → desk.new ≡ desk.old }
     ensures clean { HasCleanDisk (state S.Store desk.new) → HasCleanDisk (state S.Store desk.old) }
     ensures stands { HasCleanDisk (state S.Store desk.new) → ShowsOwn S.Store desk.old
@@ -189,7 +193,8 @@ fn answer<S: Alter>(alloc: Global, desk: &mut Desk<S>, asked: Asked) -> Answer
 
 /// Sends a whole answer.
 fn deliver<W: Write>(writer: &mut W, answer: &Answer) -> Served
-    ensures { Writes (W.contents writer.old) (W.contents writer.new) result (answer_value answer.now) }
+    ensures { Writes (W.contents writer.old) (W.contents writer.new) result
+        (answer_value answer.now) }
 {
     match send(writer, answer.as_slice()) {
         Sent::All => Served::Answered {
@@ -207,11 +212,13 @@ pub fn serve_one<S: Alter, R: Read, W: Write>(
     writer: &mut W,
 ) -> Served
     ensures ends { EndsServing (HasCleanDisk (state S.Store desk.new)
-        × ShowsOwn S.Store desk.old) (R.remaining reader.old) (standing desk.old) (standing desk.new) (W.contents writer.old) (W.contents writer.new) result }
+        × ShowsOwn S.Store desk.old) (R.remaining reader.old) (standing desk.old)
+        (standing desk.new) (W.contents writer.old) (W.contents writer.new) result }
     // Where the desk runs and its tables stand for its event, that is the answer to the input, or a 503.
     ensures written { IfSome (R.remaining reader.old) (λ input. IsFalse (standing desk.old).stopped
         → HasCleanDisk (state S.Store desk.new) × ShowsOwn S.Store desk.old
-        → IsWritten (standing desk.old) input (W.contents writer.old) (W.contents writer.new) result) }
+        → IsWritten (standing desk.old) input (W.contents writer.old)
+        (W.contents writer.new) result) }
 
     ensures waits { IsTrue (standing desk.old).stopped → desk.new ≡ desk.old }
     ensures clean { HasCleanDisk (state S.Store desk.new) → HasCleanDisk (state S.Store desk.old) }

@@ -88,7 +88,8 @@ impl<S: Alter> Store<S> {
         ensures spares { IfErr result (λ e. CanRead (state S.Store conn).now.schema
             → Leaves (state S.Store e.0) (state S.Store conn).may_leave) }
         ensures crash { IfErr result (λ e. (state S.Store conn).now.schema ≡ no_schema
-            → Leaves (state S.Store e.0) (Either (state S.Store conn).may_leave (IsStored event.now 0))) }
+            → Leaves (state S.Store e.0)
+            (Either (state S.Store conn).may_leave (IsStored event.now 0))) }
     {
         match has_event(&mut conn) {
             Ok(true) => return Err((conn, Refusal::EventExists)),
@@ -159,8 +160,10 @@ impl<S: Alter> Store<S> {
             → IsUnchanged (state S.Store conn) (store.state S.Store it.0)) }
         ensures kept { IfErr result (λ r. HasCleanDisk (state S.Store r.0)
             → KeepsTables (state S.Store conn) (state S.Store r.0)) }
-        ensures crash_ok { IfOk result (λ it. Leaves (store.state S.Store it.0) (state S.Store conn).may_leave) }
-        ensures crash { IfErr result (λ r. Leaves (state S.Store r.0) (state S.Store conn).may_leave) }
+        ensures crash_ok { IfOk result
+            (λ it. Leaves (store.state S.Store it.0) (state S.Store conn).may_leave) }
+        ensures crash { IfErr result
+            (λ r. Leaves (state S.Store r.0) (state S.Store conn).may_leave) }
     {
         // Outside a transaction a connection sees the last commit, which obeys its schema: these tell the proof.
         let _ = conn.is_autocommit();
@@ -194,7 +197,8 @@ impl<S: Alter> Store<S> {
 
         // A refusal changes no table, whatever the tables hold.
         ensures kept { HasCleanDisk (store.state S.Store self.new)
-            → OnErr result (KeepsTables (store.state S.Store self.old) (store.state S.Store self.new)) }
+            → OnErr result (KeepsTables (store.state S.Store self.old)
+            (store.state S.Store self.new)) }
 
         // At every exit the other tables stay, as long as the connection shows any.
         ensures others { HasCleanDisk (store.state S.Store self.new)
@@ -205,14 +209,17 @@ impl<S: Alter> Store<S> {
         // A change that is made is there with the next serial, also after a crash, and one that is cut off is there whole or not at all.
         ensures written { HasCleanDisk (store.state S.Store self.new)
             → Shows (store.state S.Store self.old) event.now serial
-            → OnOk result (Shows (store.state S.Store self.new) (after event.now change.now) (serial + 1)) }
+            → OnOk result (Shows (store.state S.Store self.new) (after event.now change.now)
+            (serial + 1)) }
         ensures acknowledged { HasCleanDisk (store.state S.Store self.new)
             → Shows (store.state S.Store self.old) event.now serial
             → OnOk result ((trees : Trees) → (store.state S.Store self.new).may_leave trees
             → IsStored (after event.now change.now) (serial + 1) trees) }
         ensures crash { IsFalse (is_stopped self.old)
             → Shows (store.state S.Store self.old) event.now serial
-            → Leaves (store.state S.Store self.new) (Either (IsStored event.now serial) (IsStored (after event.now change.now) (serial + 1))) }
+            → Leaves (store.state S.Store self.new)
+            (Either (IsStored event.now serial)
+            (IsStored (after event.now change.now) (serial + 1))) }
     {
         if self.needs_reopen {
             return Err(Refusal::NeedsReopen);
@@ -231,7 +238,8 @@ impl<S: Alter> Store<S> {
         ensures stopped { IsTrue (is_stopped self.old) → (result ≡ Err Refusal.NeedsReopen)
             × (self.new ≡ self.old) }
         ensures stops { IsFalse (is_stopped self.old)
-            → MatchResult result (λ _. IsFalse (is_stopped self.new)) (λ why. FaultOrDamage why (is_stopped self.new)) }
+            → MatchResult result (λ _. IsFalse (is_stopped self.new))
+            (λ why. FaultOrDamage why (is_stopped self.new)) }
         ensures clean { HasCleanDisk (store.state S.Store self.new)
             → HasCleanDisk (store.state S.Store self.old) }
         ensures low { IfOk result (λ it. it.1 ≤ MAX_SERIAL) }
@@ -261,10 +269,13 @@ impl<S: Alter> Store<S> {
 
         // Whatever the schema is, nothing is written.
         ensures same { HasCleanDisk (store.state S.Store self.new)
-            → OnOk result (IsUnchanged (store.state S.Store self.old) (store.state S.Store self.new)) }
+            → OnOk result (IsUnchanged (store.state S.Store self.old)
+            (store.state S.Store self.new)) }
         ensures kept { HasCleanDisk (store.state S.Store self.new)
-            → OnErr result (KeepsTables (store.state S.Store self.old) (store.state S.Store self.new)) }
-        ensures crash { Leaves (store.state S.Store self.new) (store.state S.Store self.old).may_leave }
+            → OnErr result (KeepsTables (store.state S.Store self.old)
+            (store.state S.Store self.new)) }
+        ensures crash { Leaves (store.state S.Store self.new)
+            (store.state S.Store self.old).may_leave }
     {
         if self.needs_reopen {
             return Err(Refusal::NeedsReopen);
@@ -307,8 +318,10 @@ impl<S: Alter> Store<S> {
         ensures same { HasCleanDisk (store.state S.Store self.new) → IsFalse (is_stopped self.new)
             → IsUnchanged (store.state S.Store self.old) (store.state S.Store self.new) }
         ensures kept { HasCleanDisk (store.state S.Store self.new)
-            → OnErr result (KeepsTables (store.state S.Store self.old) (store.state S.Store self.new)) }
-        ensures crash { Leaves (store.state S.Store self.new) (store.state S.Store self.old).may_leave }
+            → OnErr result (KeepsTables (store.state S.Store self.old)
+            (store.state S.Store self.new)) }
+        ensures crash { Leaves (store.state S.Store self.new)
+            (store.state S.Store self.old).may_leave }
     {
         if self.needs_reopen {
             return Err(Refusal::NeedsReopen);
@@ -335,10 +348,13 @@ impl<S: Alter> Store<S> {
 
         // Whatever the schema is, nothing is written.
         ensures same { HasCleanDisk (store.state S.Store self.new)
-            → OnOk result (IsUnchanged (store.state S.Store self.old) (store.state S.Store self.new)) }
+            → OnOk result (IsUnchanged (store.state S.Store self.old)
+            (store.state S.Store self.new)) }
         ensures kept { HasCleanDisk (store.state S.Store self.new)
-            → OnErr result (KeepsTables (store.state S.Store self.old) (store.state S.Store self.new)) }
-        ensures crash { Leaves (store.state S.Store self.new) (store.state S.Store self.old).may_leave }
+            → OnErr result (KeepsTables (store.state S.Store self.old)
+            (store.state S.Store self.new)) }
+        ensures crash { Leaves (store.state S.Store self.new)
+            (store.state S.Store self.old).may_leave }
     {
         if self.needs_reopen {
             return Err(Refusal::NeedsReopen);
@@ -365,10 +381,13 @@ impl<S: Alter> Store<S> {
 
         // Whatever the schema is, nothing is written.
         ensures same { HasCleanDisk (store.state S.Store self.new)
-            → OnOk result (IsUnchanged (store.state S.Store self.old) (store.state S.Store self.new)) }
+            → OnOk result (IsUnchanged (store.state S.Store self.old)
+            (store.state S.Store self.new)) }
         ensures kept { HasCleanDisk (store.state S.Store self.new)
-            → OnErr result (KeepsTables (store.state S.Store self.old) (store.state S.Store self.new)) }
-        ensures crash { Leaves (store.state S.Store self.new) (store.state S.Store self.old).may_leave }
+            → OnErr result (KeepsTables (store.state S.Store self.old)
+            (store.state S.Store self.new)) }
+        ensures crash { Leaves (store.state S.Store self.new)
+            (store.state S.Store self.old).may_leave }
     {
         if self.needs_reopen {
             return Err(Refusal::NeedsReopen);

@@ -30,7 +30,8 @@ fn load_rows<T: TableRow, S: Alter>(
 ) -> Result<Items<T>, Refusal>
     requires { IsOurs T.form T.table }
     ensures mode { conn.old.in_transaction ≡ false → conn.new.in_transaction ≡ false }
-    ensures looks { LooksUp (FindsRows T.form T.table) (MissesRows T.form T.table) (state S.Store conn.old) (state S.Store conn.new) result }
+    ensures looks { LooksUp (FindsRows T.form T.table) (MissesRows T.form T.table)
+        (state S.Store conn.old) (state S.Store conn.new) result }
 {
     match read_table(alloc, conn) {
         Ok(rows) => Ok(Items::from(rows)),
@@ -41,7 +42,8 @@ fn load_rows<T: TableRow, S: Alter>(
 /// The rows of the four tables that an event is made of.
 fn read_parts<S: Alter>(alloc: Global, conn: &mut Connection<S>) -> Result<Parts, Refusal>
     ensures mode { conn.old.in_transaction ≡ false → conn.new.in_transaction ≡ false }
-    ensures looks { LooksUp FindsParts MissesTables (state S.Store conn.old) (state S.Store conn.new) result }
+    ensures looks { LooksUp FindsParts MissesTables (state S.Store conn.old)
+        (state S.Store conn.new) result }
 {
     let event = load_rows::<EventRow, S>(alloc, conn)?;
     let players = load_rows::<PlayerRow, S>(alloc, conn)?;
@@ -61,7 +63,8 @@ fn read_tables<S: Alter>(
     conn: &mut Connection<S>,
 ) -> Result<(Parts, Items<TallyRow>), Refusal>
     ensures mode { conn.old.in_transaction ≡ false → conn.new.in_transaction ≡ false }
-    ensures looks { LooksUp FindsTables MissesTables (state S.Store conn.old) (state S.Store conn.new) result }
+    ensures looks { LooksUp FindsTables MissesTables (state S.Store conn.old)
+        (state S.Store conn.new) result }
 {
     let parts = read_parts(alloc, conn)?;
     let tallies = load_rows::<TallyRow, S>(alloc, conn)?;

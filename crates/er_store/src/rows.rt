@@ -34,7 +34,8 @@ pub trait FromRow: Sized + Drop {
 
     fn from_row(row: &SqlRow) -> Result<Self, Error>
         ensures value { IfOk result (λ r. form.columns r ≡ first_columns form.width row.now) }
-        ensures refused { IfErr result (λ e. e ≢ out_of_memory → (r : Self) → form.is_text r → row.now ≢ form.columns r) };
+        ensures refused { IfErr result (λ e. e ≢ out_of_memory → (r : Self) → form.is_text r
+            → row.now ≢ form.columns r) };
 }
 
 impl FromRow for EventRow {

@@ -75,7 +75,9 @@ pub fn find_slip<S: Alter>(
         × IsLawful slip) }
     ensures fault { IfErr result (λ why. (why ≡ Refusal.NoSuchMatch) ⊎ IsReadFault why) }
     ensures same { HasCleanDisk (state S.Store conn.new)
-        → MatchResult result (λ _. IsUnchanged (state S.Store conn.old) (state S.Store conn.new)) (λ why. why ≡ Refusal.NoSuchMatch → IsUnchanged (state S.Store conn.old) (state S.Store conn.new)) }
+        → MatchResult result (λ _. IsUnchanged (state S.Store conn.old) (state S.Store conn.new))
+        (λ why. why ≡ Refusal.NoSuchMatch
+        → IsUnchanged (state S.Store conn.old) (state S.Store conn.new)) }
     ensures kept { HasCleanDisk (state S.Store conn.new)
         → OnErr result (KeepsTables (state S.Store conn.old) (state S.Store conn.new)) }
     ensures survives { Survives (state S.Store conn.old) (state S.Store conn.new) (λ _. ⊥) }

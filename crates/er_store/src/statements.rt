@@ -30,7 +30,8 @@ pub fn run<S: Alter>(
 ) -> Result<(), Error>
     ensures same_reference { tx.new.conn.ghost_name ≡ tx.old.conn.ghost_name }
     ensures ran { HasCleanDisk (state S.Store tx.new.conn.now)
-        → OnOk result (Ran sql.now (bound params.now) (state S.Store tx.old.conn.now) (state S.Store tx.new.conn.now)) }
+        → OnOk result (Ran sql.now (bound params.now) (state S.Store tx.old.conn.now)
+        (state S.Store tx.new.conn.now)) }
     ensures stays { Stays (state S.Store tx.old.conn.now) (state S.Store tx.new.conn.now) }
 {
     tx.execute(sql, params)?;
@@ -49,7 +50,8 @@ pub fn insert_player<S: Alter>(
     ensures same_reference { tx.new.conn.ghost_name ≡ tx.old.conn.ghost_name }
     ensures puts { HasCleanDisk (state S.Store tx.new.conn.now)
         → HasTables (state S.Store tx.old.conn.now).now.schema
-        → OnOk result (Puts 1 (stored_player number name.now dropped) (state S.Store tx.old.conn.now) (state S.Store tx.new.conn.now)) }
+        → OnOk result (Puts 1 (stored_player number name.now dropped)
+        (state S.Store tx.old.conn.now) (state S.Store tx.new.conn.now)) }
     ensures stays { Stays (state S.Store tx.old.conn.now) (state S.Store tx.new.conn.now) }
 {
     run(tx, INSERT_PLAYER, params![number, name, dropped])
@@ -67,7 +69,8 @@ pub fn insert_event<S: Alter>(
     ensures same_reference { tx.new.conn.ghost_name ≡ tx.old.conn.ghost_name }
     ensures puts { HasCleanDisk (state S.Store tx.new.conn.now)
         → HasTables (state S.Store tx.old.conn.now).now.schema
-        → OnOk result (Puts 0 (stored_event event.now serial) (state S.Store tx.old.conn.now) (state S.Store tx.new.conn.now)) }
+        → OnOk result (Puts 0 (stored_event event.now serial) (state S.Store tx.old.conn.now)
+        (state S.Store tx.new.conn.now)) }
     ensures inside { HasCleanDisk (state S.Store tx.new.conn.now)
         → OnOk result (IsTrue (state S.Store tx.new.conn.now).in_transaction) }
     ensures stays { Stays (state S.Store tx.old.conn.now) (state S.Store tx.new.conn.now) }
@@ -91,7 +94,8 @@ pub fn set_serial<S: Alter>(tx: &mut Transaction<'_, S>, serial: u32) -> Result<
     ensures makes { HasCleanDisk (state S.Store tx.new.conn.now)
         → (e : EventValue) (s : ℕ) (t : List TallyRow)
         → StandsWith (state S.Store tx.old.conn.now).now e s t
-        → OnOk result (BringsToWith (state S.Store tx.old.conn.now) (state S.Store tx.new.conn.now) e serial t) }
+        → OnOk result (BringsToWith (state S.Store tx.old.conn.now)
+        (state S.Store tx.new.conn.now) e serial t) }
     ensures inside { HasCleanDisk (state S.Store tx.new.conn.now)
         → OnOk result (IsTrue (state S.Store tx.new.conn.now).in_transaction) }
     ensures stays { Stays (state S.Store tx.old.conn.now) (state S.Store tx.new.conn.now) }
@@ -107,7 +111,8 @@ pub fn set_phase<S: Alter>(tx: &mut Transaction<'_, S>, phase: Phase) -> Result<
     ensures makes { HasCleanDisk (state S.Store tx.new.conn.now)
         → (e : EventValue) (s : ℕ) (t : List TallyRow)
         → StandsWith (state S.Store tx.old.conn.now).now e s t
-        → OnOk result (BringsToWith (state S.Store tx.old.conn.now) (state S.Store tx.new.conn.now) (with_phase e phase) s t) }
+        → OnOk result (BringsToWith (state S.Store tx.old.conn.now) (state S.Store tx.new.conn.now)
+        (with_phase e phase) s t) }
     ensures stays { Stays (state S.Store tx.old.conn.now) (state S.Store tx.new.conn.now) }
 {
     run(tx, SET_PHASE, params![u32::from(phase.code())])
@@ -123,7 +128,8 @@ pub fn set_dropped<S: Alter>(tx: &mut Transaction<'_, S>, number: u32) -> Result
         → StandsWith (state S.Store tx.old.conn.now).now e s t
         → numbers e.players ≡ range_with_len 1 (length e.players)
         → Contains (numbers e.players) number
-        → OnOk result (BringsToWith (state S.Store tx.old.conn.now) (state S.Store tx.new.conn.now) (with_dropped e number) s t) }
+        → OnOk result (BringsToWith (state S.Store tx.old.conn.now) (state S.Store tx.new.conn.now)
+        (with_dropped e number) s t) }
     ensures stays { Stays (state S.Store tx.old.conn.now) (state S.Store tx.new.conn.now) }
 {
     run(tx, SET_DROPPED, params![number])
@@ -144,7 +150,8 @@ pub fn set_score<S: Alter>(
         → (e : EventValue) (s : ℕ) (t : List TallyRow)
         → StandsWith (state S.Store tx.old.conn.now).now e s t → (m : Match)
         → match_at e round table ≡ Some m → IsFalse (is_bye m)
-        → OnOk result (BringsToWith (state S.Store tx.old.conn.now) (state S.Store tx.new.conn.now) (with_score e round table score) s t) }
+        → OnOk result (BringsToWith (state S.Store tx.old.conn.now) (state S.Store tx.new.conn.now)
+        (with_score e round table score) s t) }
     ensures stays { Stays (state S.Store tx.old.conn.now) (state S.Store tx.new.conn.now) }
 {
     let Games { x, y, d } = score.games();
@@ -165,7 +172,8 @@ pub fn insert_pairing<S: Alter>(tx: &mut Transaction<'_, S>, row: &PairingRow) -
         → (e : EventValue) (before : List Match) (m : Match) (s : ℕ) (t : List TallyRow)
         → StandsWith (state S.Store tx.old.conn.now).now (with_round e before) s t
         → row.now ≡ pairing_row (length e.stored + 1) (length before + 1, m)
-        → OnOk result (BringsToWith (state S.Store tx.old.conn.now) (state S.Store tx.new.conn.now) (with_round e (before ++ m ∷ [])) s t) }
+        → OnOk result (BringsToWith (state S.Store tx.old.conn.now) (state S.Store tx.new.conn.now)
+        (with_round e (before ++ m ∷ [])) s t) }
     ensures stays { Stays (state S.Store tx.old.conn.now) (state S.Store tx.new.conn.now) }
 {
     run(
@@ -195,7 +203,8 @@ pub fn insert_slot<S: Alter>(tx: &mut Transaction<'_, S>, row: &BracketRow) -> R
         → (e : EventValue) (before : List Match) (m : Match) (s : ℕ) (t : List TallyRow)
         → StandsWith (state S.Store tx.old.conn.now).now (with_stage e before) s t
         → row.now ≡ bracket_row (length e.bracket.stages + 1) (length before + 1, m)
-        → OnOk result (BringsToWith (state S.Store tx.old.conn.now) (state S.Store tx.new.conn.now) (with_stage e (before ++ m ∷ [])) s t) }
+        → OnOk result (BringsToWith (state S.Store tx.old.conn.now) (state S.Store tx.new.conn.now)
+        (with_stage e (before ++ m ∷ [])) s t) }
     ensures stays { Stays (state S.Store tx.old.conn.now) (state S.Store tx.new.conn.now) }
 {
     run(
@@ -222,7 +231,8 @@ pub fn set_slot_score<S: Alter>(
         → (e : EventValue) (s : ℕ) (t : List TallyRow)
         → StandsWith (state S.Store tx.old.conn.now).now e s t → (m : Match)
         → slot_at e stage slot ≡ Some m
-        → OnOk result (BringsToWith (state S.Store tx.old.conn.now) (state S.Store tx.new.conn.now) (with_slot_score e stage slot score) s t) }
+        → OnOk result (BringsToWith (state S.Store tx.old.conn.now) (state S.Store tx.new.conn.now)
+        (with_slot_score e stage slot score) s t) }
     ensures stays { Stays (state S.Store tx.old.conn.now) (state S.Store tx.new.conn.now) }
 {
     let Games { x, y, d } = score.games();
@@ -242,7 +252,8 @@ pub fn insert_tally<S: Alter>(tx: &mut Transaction<'_, S>, row: &TallyRow) -> Re
     ensures makes { HasCleanDisk (state S.Store tx.new.conn.now)
         → (e : EventValue) (s : ℕ) (t : List TallyRow)
         → StandsWith (state S.Store tx.old.conn.now).now e s t
-        → OnOk result (BringsToWith (state S.Store tx.old.conn.now) (state S.Store tx.new.conn.now) e s (t ++ row.now ∷ [])) }
+        → OnOk result (BringsToWith (state S.Store tx.old.conn.now)
+        (state S.Store tx.new.conn.now) e s (t ++ row.now ∷ [])) }
     ensures stays { Stays (state S.Store tx.old.conn.now) (state S.Store tx.new.conn.now) }
 {
     run(
@@ -270,7 +281,9 @@ pub fn set_tally<S: Alter>(tx: &mut Transaction<'_, S>, row: &TallyRow) -> Resul
         → row.now ≡ tally_row number totals
         → numbers e.players ≡ range_with_len 1 (length e.players)
         → Contains (numbers e.players) number
-        → OnOk result (BringsToWith (state S.Store tx.old.conn.now) (state S.Store tx.new.conn.now) e s (tally_rows_by (set_for number totals come_to) e.players)) }
+        → OnOk result (BringsToWith (state S.Store tx.old.conn.now)
+        (state S.Store tx.new.conn.now) e s
+        (tally_rows_by (set_for number totals come_to) e.players)) }
     ensures stays { Stays (state S.Store tx.old.conn.now) (state S.Store tx.new.conn.now) }
 {
     run(

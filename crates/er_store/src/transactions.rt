@@ -44,7 +44,8 @@ fn insert_round<S: Alter>(
     ensures same_reference { tx.new.conn.ghost_name ≡ tx.old.conn.ghost_name }
     ensures makes { HasCleanDisk (state S.Store tx.new.conn.now) → (s : ℕ) (t : List TallyRow)
         → StandsWith (state S.Store tx.old.conn.now).now event.now s t
-        → OnOk result (BringsToWith (state S.Store tx.old.conn.now) (state S.Store tx.new.conn.now) (with_round event.now matches.now) s t) }
+        → OnOk result (BringsToWith (state S.Store tx.old.conn.now) (state S.Store tx.new.conn.now)
+        (with_round event.now matches.now) s t) }
     ensures stays { Stays (state S.Store tx.old.conn.now) (state S.Store tx.new.conn.now) }
 {
     let round = event.stored().len() as u8 + 1;
@@ -66,7 +67,8 @@ fn insert_stage<S: Alter>(
     ensures makes { HasCleanDisk (state S.Store tx.new.conn.now)
         → (e : EventValue) (s : ℕ) (t : List TallyRow)
         → StandsWith (state S.Store tx.old.conn.now).now e s t → stage ≡ length e.bracket.stages + 1
-        → OnOk result (BringsToWith (state S.Store tx.old.conn.now) (state S.Store tx.new.conn.now) (with_stage e matches.now) s t) }
+        → OnOk result (BringsToWith (state S.Store tx.old.conn.now) (state S.Store tx.new.conn.now)
+        (with_stage e matches.now) s t) }
     ensures stays { Stays (state S.Store tx.old.conn.now) (state S.Store tx.new.conn.now) }
 {
     for (place, played) in matches.iter().enumerate() {
@@ -93,7 +95,8 @@ fn begin_playoff<S: Alter>(
     ensures same_reference { tx.new.conn.ghost_name ≡ tx.old.conn.ghost_name }
     ensures makes { HasCleanDisk (state S.Store tx.new.conn.now) → (s : ℕ) (t : List TallyRow)
         → StandsWith (state S.Store tx.old.conn.now).now event.now s t
-        → OnOk result (BringsToWith (state S.Store tx.old.conn.now) (state S.Store tx.new.conn.now) (with_bracket event.now matches.now) s t) }
+        → OnOk result (BringsToWith (state S.Store tx.old.conn.now) (state S.Store tx.new.conn.now)
+        (with_bracket event.now matches.now) s t) }
     ensures stays { Stays (state S.Store tx.old.conn.now) (state S.Store tx.new.conn.now) }
 {
     insert_stage(tx, next_number(event), matches)?;
@@ -114,7 +117,9 @@ fn score_stages<S: Alter>(
     ensures same_reference { tx.new.conn.ghost_name ≡ tx.old.conn.ghost_name }
     ensures makes { HasCleanDisk (state S.Store tx.new.conn.now) → (s : ℕ) (t : List TallyRow)
         → StandsWith (state S.Store tx.old.conn.now).now event.now s t
-        → OnOk result (BringsToWith (state S.Store tx.old.conn.now) (state S.Store tx.new.conn.now) (with_bracket_score event.now stage slot score (option_map (λ m. m.now) next.entry) false) s t) }
+        → OnOk result (BringsToWith (state S.Store tx.old.conn.now) (state S.Store tx.new.conn.now)
+        (with_bracket_score event.now stage slot score (option_map (λ m. m.now) next.entry) false) s
+        t) }
     ensures stays { Stays (state S.Store tx.old.conn.now) (state S.Store tx.new.conn.now) }
 {
     set_slot_score(tx, u32::from(stage), u32::from(slot), score)?;
@@ -134,7 +139,8 @@ fn change_rows<S: Alter>(
     ensures same_reference { tx.new.conn.ghost_name ≡ tx.old.conn.ghost_name }
     ensures makes { HasCleanDisk (state S.Store tx.new.conn.now) → (s : ℕ) (t : List TallyRow)
         → StandsWith (state S.Store tx.old.conn.now).now event.now s t
-        → OnOk result (BringsToWith (state S.Store tx.old.conn.now) (state S.Store tx.new.conn.now) (after event.now change.now) s t) }
+        → OnOk result (BringsToWith (state S.Store tx.old.conn.now) (state S.Store tx.new.conn.now)
+        (after event.now change.now) s t) }
     ensures stays { Stays (state S.Store tx.old.conn.now) (state S.Store tx.new.conn.now) }
 {
     match change {
@@ -182,7 +188,10 @@ fn recount_player<S: Alter>(
         → StandsWith (state S.Store tx.old.conn.now).now e s (tally_rows_by before e.players)
         → numbers e.players ≡ range_with_len 1 (length e.players)
         → Contains (numbers e.players) number
-        → OnOk result (BringsToWith (state S.Store tx.old.conn.now) (state S.Store tx.new.conn.now) e s (tally_rows_by (set_for number (totals (after event.now change.now) number) before) e.players)) }
+        → OnOk result (BringsToWith (state S.Store tx.old.conn.now)
+        (state S.Store tx.new.conn.now) e s
+        (tally_rows_by (set_for number (totals (after event.now change.now) number) before)
+        e.players)) }
     ensures stays { Stays (state S.Store tx.old.conn.now) (state S.Store tx.new.conn.now) }
 {
     let Some(player) = PlayerNo::try_new(number) else {
@@ -208,7 +217,10 @@ fn recount_match<S: Alter>(
         → (e : EventValue) (s : ℕ) (before : ℕ → Totals)
         → numbers e.players ≡ numbers event.now.players
         → StandsWith (state S.Store tx.old.conn.now).now e s (tally_rows_by before e.players)
-        → OnOk result (BringsToWith (state S.Store tx.old.conn.now) (state S.Store tx.new.conn.now) e s (tally_rows_by (set_for_all (played.now ∷ []) (totals (after event.now change.now)) before) e.players)) }
+        → OnOk result (BringsToWith (state S.Store tx.old.conn.now)
+        (state S.Store tx.new.conn.now) e s
+        (tally_rows_by (set_for_all (played.now ∷ []) (totals (after event.now change.now)) before)
+        e.players)) }
     ensures stays { Stays (state S.Store tx.old.conn.now) (state S.Store tx.new.conn.now) }
 {
     recount_player(tx, event, change, played.a)?;
@@ -229,7 +241,11 @@ fn recount<S: Alter>(
     ensures makes { HasCleanDisk (state S.Store tx.new.conn.now) → (e : EventValue) (s : ℕ)
         → numbers e.players ≡ numbers event.now.players
         → Moves (state S.Store tx.old.conn.now) (state S.Store tx.old.conn.now)
-        → StandsWith (state S.Store tx.old.conn.now).now e s (tally_rows_by (totals event.now) e.players) → OnOk result (BringsToWith (state S.Store tx.old.conn.now) (state S.Store tx.new.conn.now) e s (tally_rows_by (totals (after event.now change.now)) e.players)) }
+        → StandsWith (state S.Store tx.old.conn.now).now e s
+        (tally_rows_by (totals event.now) e.players)
+        → OnOk result (BringsToWith (state S.Store tx.old.conn.now)
+        (state S.Store tx.new.conn.now) e s
+        (tally_rows_by (totals (after event.now change.now)) e.players)) }
     ensures stays { Stays (state S.Store tx.old.conn.now) (state S.Store tx.new.conn.now) }
 {
     for played in event.matches_to_recount(change) {
@@ -250,7 +266,10 @@ fn count_player<S: Alter>(
     ensures makes { HasCleanDisk (state S.Store tx.new.conn.now)
         → (e : EventValue) (s : ℕ) (t : List TallyRow)
         → StandsWith (state S.Store tx.old.conn.now).now e s t
-        → OnOk result (BringsToWith (state S.Store tx.old.conn.now) (state S.Store tx.new.conn.now) e s (t ++ tally_row (length event.now.players + 1) (totals (after event.now change.now) (length event.now.players + 1)) ∷ [])) }
+        → OnOk result (BringsToWith (state S.Store tx.old.conn.now)
+        (state S.Store tx.new.conn.now) e s (t
+        ++ tally_row (length event.now.players + 1)
+        (totals (after event.now change.now) (length event.now.players + 1)) ∷ [])) }
     ensures stays { Stays (state S.Store tx.old.conn.now) (state S.Store tx.new.conn.now) }
 {
     let number = event.players().len() as u16 + 1;
@@ -271,7 +290,8 @@ fn change_tables<S: Alter>(
     ensures same_reference { tx.new.conn.ghost_name ≡ tx.old.conn.ghost_name }
     ensures makes { HasCleanDisk (state S.Store tx.new.conn.now) → (s : ℕ)
         → StandsFor (state S.Store tx.old.conn.now).now event.now s
-        → OnOk result (BringsTo (state S.Store tx.old.conn.now) (state S.Store tx.new.conn.now) (after event.now change.now) s) }
+        → OnOk result (BringsTo (state S.Store tx.old.conn.now) (state S.Store tx.new.conn.now)
+        (after event.now change.now) s) }
     ensures stays { Stays (state S.Store tx.old.conn.now) (state S.Store tx.new.conn.now) }
 {
     change_rows(tx, event, change)?;
@@ -293,7 +313,8 @@ fn change_event<S: Alter>(
     ensures same_reference { tx.new.conn.ghost_name ≡ tx.old.conn.ghost_name }
     ensures makes { HasCleanDisk (state S.Store tx.new.conn.now)
         → StandsFor (state S.Store tx.old.conn.now).now event.now serial
-        → OnOk result (BringsTo (state S.Store tx.old.conn.now) (state S.Store tx.new.conn.now) (after event.now change.now) (serial + 1)) }
+        → OnOk result (BringsTo (state S.Store tx.old.conn.now) (state S.Store tx.new.conn.now)
+        (after event.now change.now) (serial + 1)) }
     ensures inside { HasCleanDisk (state S.Store tx.new.conn.now)
         → OnOk result (IsTrue (state S.Store tx.new.conn.now).in_transaction) }
     ensures stays { Stays (state S.Store tx.old.conn.now) (state S.Store tx.new.conn.now) }
@@ -325,7 +346,8 @@ pub fn write_tables<S: Alter>(
         → OnOk result ((trees : Trees) → (state S.Store conn.new).may_leave trees
         → IsStored (after event.now change.now) (serial + 1) trees) }
     ensures crash { Shows (state S.Store conn.old) event.now serial
-        → Leaves (state S.Store conn.new) (Either (IsStored event.now serial) (IsStored (after event.now change.now) (serial + 1))) }
+        → Leaves (state S.Store conn.new)
+        (Either (IsStored event.now serial) (IsStored (after event.now change.now) (serial + 1))) }
 {
     let mut tx = conn.transaction();
     change_event(&mut tx, event, change, serial)?;
@@ -363,7 +385,8 @@ pub fn create_tables<S: Alter>(conn: &mut Connection<S>, event: &Event) -> Resul
         → OnOk result ((trees : Trees) → (state S.Store conn.new).may_leave trees
         → IsStored event.now 0 trees) }
     ensures crash { (state S.Store conn.old).now.schema ≡ no_schema
-        → Leaves (state S.Store conn.new) (Either (state S.Store conn.old).may_leave (IsStored event.now 0)) }
+        → Leaves (state S.Store conn.new)
+        (Either (state S.Store conn.old).may_leave (IsStored event.now 0)) }
 {
     let mut tx = conn.transaction();
     make_event(&mut tx, event)?;

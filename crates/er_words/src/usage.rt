@@ -40,7 +40,8 @@ enum Kind {
 
 /// What the words after a subcommand's name have to be.
 fn kinds_of(name: &str) -> Option<&'static [Kind]>
-    ensures { MatchOption result (IsFalse (names_one (name.now ∷ []))) (λ kinds. Takes kinds.now (line_by subcommands name.now)) }
+    ensures { MatchOption result (IsFalse (names_one (name.now ∷ [])))
+        (λ kinds. Takes kinds.now (line_by subcommands name.now)) }
 {
     match name {
         "init" => Some(&[Kind::Text, Kind::Text, Kind::SmallNumber, Kind::SmallNumber]),
@@ -116,7 +117,8 @@ fn values_fault(kinds: &[Kind], words: &[String]) -> Option<UsageFault>
 
 /// The place of the first word that begins with `-`.
 fn dash_at(words: &[String]) -> Option<usize>
-    ensures fault { IfSome result (λ place. HasFault (map string_bytes words.now) (UsageFault.LeadingDash place)) }
+    ensures fault { IfSome result (λ place. HasFault (map string_bytes words.now)
+        (UsageFault.LeadingDash place)) }
     ensures exact { is_some result ≡ list_any is_option (map string_bytes words.now) }
 {
     let mut place = 0;

@@ -62,7 +62,8 @@ fn add_next(stages: &mut Items<Items<Match>>, next: Option<Items<Match>>) -> Res
 /// Sets the score of the match in this slot of this stage.
 fn score_slot(stages: &mut Items<Items<Match>>, stage: u8, slot: u8, score: Score)
     requires { (m : Match) × (slot_in stages.old stage slot ≡ Some m) }
-    ensures { stages.new ≡ slice_set stages.old (stage - 1) (scored_slot (stage_of stages.old stage) slot score) }
+    ensures { stages.new ≡ slice_set stages.old (stage - 1)
+        (scored_slot (stage_of stages.old stage) slot score) }
 {
     let row = usize::from(stage) - 1;
     let at = usize::from(slot) - 1;

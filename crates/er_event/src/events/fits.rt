@@ -170,7 +170,8 @@ impl Event {
         finished: bool,
     ) -> bool
         ensures { IsTrue result
-            ↔ Fits self.now (Change.SetBracketScore stage slot score (option_map (λ m. m.now) next.entry) finished) }
+            ↔ Fits self.now (Change.SetBracketScore stage slot score
+            (option_map (λ m. m.now) next.entry) finished) }
     {
         let stages = self.bracket.stages.as_slice();
         let Some(played) = self.slot_at(stage, slot) else {
