@@ -13,14 +13,17 @@ use Rattle.er_event.specs.declared.matches.Match.{Match}
 use Rattle.er_event.specs.declared.rows.pairing.PairingRow.{PairingRow}
 use Rattle.er_event.specs.declared.rows.bracket.BracketRow.{BracketRow}
 use Rattle.er_event.specs.declared.scores.Games.{Games}
+use Rattle.er_event.specs.declared.totals.Totals.{Totals}
 use Rattle.er_event.specs.Bracket.{open_match}
 use Rattle.er_event.specs.Change.{with_player, with_dropped, with_score}
 use Rattle.er_event.specs.Event.{EventValue}
+use Rattle.er_event.specs.Lines.{Line}
 use Rattle.er_event.specs.Name.{is_lawful_name}
 use Rattle.er_event.specs.Round.{is_counted, match_at}
 use Rattle.er_event.specs.Rows.{event_row, player_rows, pairing_rows, keyed_pairing_rows, bracket_rows}
 use Rattle.er_event.specs.Score.{is_swiss_score, is_playoff_score}
 use Rattle.er_event.specs.Slip.{slip_of}
+use Rattle.er_event.specs.Totals.{totals_of}
 
 -- ---- each limit as the rules have it, so that the code's constant can't move from it
 
@@ -184,3 +187,18 @@ one_more_player = refl
 -- a dropped player stays listed
 pub one_player_dropped : with_dropped paired 3 ≡ event_of (player 1 (codes "Ana") false ∷ player 2 (codes "Bo") true ∷ player 3 (codes "Cy") true ∷ []) (first_round ∷ []) []
 one_player_dropped = refl
+
+-- ---- totals
+
+abbrev line : ℕ → ℕ → ℕ → ℕ → Line
+line opponent won lost drawn = record { round = 1; player = 1; opponent = opponent; games = Some (games won lost drawn) }
+
+pub two_matches : totals_of (line 2 2 1 0 ∷ line 3 1 1 1 ∷ []) ≡ record { points = 4; rounds = 2; game_points = 10; games = 6 }
+two_matches = refl
+
+-- a round that was missed counts, and earns nothing; no games at all are a draw
+pub missed_round : totals_of (record { round = 1; player = 1; opponent = 0; games = None } ∷ []) ≡ record { points = 0; rounds = 1; game_points = 0; games = 0 }
+missed_round = refl
+
+pub no_games : totals_of (line 2 0 0 0 ∷ []) ≡ record { points = 1; rounds = 1; game_points = 0; games = 0 }
+no_games = refl

@@ -7,13 +7,13 @@ use Rattle.er_event.specs.declared.rounds.Round.{Round}
 use Rattle.er_event.specs.declared.scores.Games.{Games}
 use Rattle.er_event.specs.declared.totals.Totals.{Totals}
 use Rattle.er_event.specs.Event.{EventValue}
-use Rattle.er_event.specs.Lines.{Line, own, as_second, lines_of_score, lines_of_match, counted_lines, lines_from}
+use Rattle.er_event.specs.Lines.{Line, own, turned, as_second, lines_of_score, lines_of_match, counted_lines, lines_from}
 use Rattle.er_event.specs.Round.{is_counted}
 use Rattle.er_event.specs.Score.{is_swiss_score}
 use Rattle.er_event.specs.inside.Seen.{IsSeatedOnce, AreFew, AreOver}
 use Rattle.er_event.specs.Sound.{IsRound, IsSoundButForSeeds}
 use Rattle.er_event.specs.Tallies.{AreReadable}
-use Rattle.er_event.specs.Totals.{points_of, totals_of, totals, plus}
+use Rattle.er_event.specs.Totals.{points_by, totals_of, totals, plus}
 use Rattle.er_event.proofs.TotalLemmas.{own-append, totals_of-append, absent-second, absent, apart_at, one_match}
 
 -- no more than so many games of each kind
@@ -33,17 +33,18 @@ round-few known ms round k d below = by_score (get_or ms k d).score (round.score
 none-over : (n : ℕ) → AreOver n (totals_of [])
 none-over n = record { points = omega arith; rounds_are = omega arith; game_points = omega arith; games = omega arith }
 
-points-few : (l : Line) → points_of l ≤ 3
-points-few l = by_tests (nat_lt l.lost l.won) (l.won == l.lost)
+points-few : (g : Games) → points_by (Some g) ≤ 3
+points-few g = by_tests (nat_lt g.y g.x) (g.x == g.y)
   where
     by_tests : (won drawn : Bool) → (if won then 3 else if drawn then 1 else 0) ≤ 3
     by_tests true drawn = omega arith
     by_tests false true = omega arith
     by_tests false false = omega arith
 
-line-over : (l : Line) → l.won ≤ 3 → l.lost ≤ 3 → l.drawn ≤ 3 → AreOver 1 (totals_of (l ∷ []))
-line-over l won lost drawn =
-    let points = points-few l in
+line-over : (round player opponent : ℕ) (g : Games) → AreFew g
+    → AreOver 1 (totals_of (record { round = round; player = player; opponent = opponent; games = Some g } ∷ []))
+line-over round player opponent g (won, lost, drawn) =
+    let points = points-few g in
     record { points = omega (arith, points); rounds_are = omega arith; game_points = omega (arith, won, drawn); games = omega (arith, won, lost, drawn) }
 
 -- the lines of one of the two
@@ -51,10 +52,10 @@ own-second : (player round a b : ℕ) (s : Games) → AreFew s → AreOver 1 (to
 own-second player round a b s few = by_bye (b == 0)
   where
     line : Line
-    line = record { round = round; player = b; opponent = a; won = s.y; lost = s.x; drawn = s.d }
+    line = record { round = round; player = b; opponent = a; games = Some (turned s) }
 
     by_player : (own_line : Bool) → AreOver 1 (totals_of (cond own_line (line ∷ []) []))
-    by_player true = line-over line few.1 few.0 few.2
+    by_player true = line-over round b a (turned s) (few.1, few.0, few.2)
     by_player false = none-over 1
 
     by_bye : (alone : Bool) → AreOver 1 (totals_of (own player (if alone then [] else line ∷ [])))
@@ -67,14 +68,14 @@ score-over player round a b None few apart = none-over 1
 score-over player round a b (Some s) few apart = by_first (a == player) refl
   where
     line : Line
-    line = record { round = round; player = a; opponent = b; won = s.x; lost = s.y; drawn = s.d }
+    line = record { round = round; player = a; opponent = b; games = Some s }
 
     by_first : (own_line : Bool) → (a == player) ≡ own_line → AreOver 1 (totals_of (cond own_line (line ∷ own player (as_second round a b s)) (own player (as_second round a b s))))
     by_first false other = own-second player round a b s few
     by_first true same =
         let other : b ≢ player = λ is. apart (grind (arith, nat_tests)) in
         let none : own player (as_second round a b s) ≡ [] = absent-second player round a b s other in
-        rw none (line-over line few.0 few.1 few.2)
+        rw none (line-over round a b s few)
 
 pub round-over : (player round : ℕ) (ms : List Match) → IsSeatedOnce ms → All HasFew ms → AreOver 1 (totals_of (own player (flat_map (lines_of_match round) ms)))
 round-over player round [] once few = none-over 1

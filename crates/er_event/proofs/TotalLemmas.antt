@@ -11,7 +11,7 @@ use Rattle.er_event.specs.declared.scores.Games.{Games}
 use Rattle.er_event.specs.declared.totals.Totals.{Totals}
 use Rattle.er_event.specs.Bracket.{open_match}
 use Rattle.er_event.specs.Change.{scored, scored_slot}
-use Rattle.er_event.specs.Lines.{Line, own, as_second, lines_of_score, lines_of_match, counted_lines, lines_from}
+use Rattle.er_event.specs.Lines.{Line, own, turned, as_second, lines_of_score, lines_of_match, counted_lines, lines_from}
 use Rattle.er_event.specs.Round.{seats}
 use Rattle.er_event.specs.Totals.{points_of, game_points_of, games_of, totals_of, totals_of_games, plus}
 use Rattle.er_event.proofs.ScoreLemmas.{set-All}
@@ -35,14 +35,14 @@ other_line player l rest other =
 pub absent-second : (player round a b : ℕ) (s : Games) → b ≢ player → own player (as_second round a b s) ≡ []
 absent-second player round a b s other = by_test (b == 0)
   where
-    by_test : (test : Bool) → own player (if test then [] else record { round = round; player = b; opponent = a; won = s.y; lost = s.x; drawn = s.d } ∷ []) ≡ []
+    by_test : (test : Bool) → own player (if test then [] else record { round = round; player = b; opponent = a; games = Some (turned s) } ∷ []) ≡ []
     by_test true = refl
-    by_test false = other_line player (record { round = round; player = b; opponent = a; won = s.y; lost = s.x; drawn = s.d }) [] other
+    by_test false = other_line player (record { round = round; player = b; opponent = a; games = Some (turned s) }) [] other
 
 absent_score : (player round a b : ℕ) (score : Option Games) → a ≢ player → b ≢ player → own player (lines_of_score round a b score) ≡ []
 absent_score player round a b None first second = refl
 absent_score player round a b (Some s) first second =
-    other_line player (record { round = round; player = a; opponent = b; won = s.x; lost = s.y; drawn = s.d }) (as_second round a b s) first ∙ absent-second player round a b s second
+    other_line player (record { round = round; player = a; opponent = b; games = Some s }) (as_second round a b s) first ∙ absent-second player round a b s second
 
 pub absent : (player round : ℕ) (m : Match) → m.a ≢ player → m.b ≢ player → own player (lines_of_match round m) ≡ []
 absent player round m first second = absent_score player round m.a m.b m.score first second

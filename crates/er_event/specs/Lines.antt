@@ -6,22 +6,25 @@ use Rattle.er_event.specs.declared.rounds.Round.{Round}
 use Rattle.er_event.specs.Round.{is_counted}
 use Rattle.er_event.specs.declared.scores.Games.{Games}
 
--- one match as one of its players saw it
+-- one round as one of its players saw it
 pub record Line : Type 0 where
   pub round : ℕ
   pub player : ℕ
   -- 0 for a bye
   pub opponent : ℕ
-  pub won : ℕ
-  pub lost : ℕ
-  pub drawn : ℕ
+  -- the player's own first; none are those of a round that was missed
+  pub games : Option Games
+
+-- the games as the other player saw them
+abbrev pub turned : Games → Games
+turned s = record { x = s.y; y = s.x; d = s.d }
 
 abbrev pub as_second : ℕ → ℕ → ℕ → Games → List Line
-as_second round a b s = if b == 0 then [] else record { round = round; player = b; opponent = a; won = s.y; lost = s.x; drawn = s.d } ∷ []
+as_second round a b s = if b == 0 then [] else record { round = round; player = b; opponent = a; games = Some (turned s) } ∷ []
 
 abbrev pub lines_of_score : ℕ → ℕ → ℕ → Option Games → List Line
 lines_of_score round a b None = []
-lines_of_score round a b (Some s) = record { round = round; player = a; opponent = b; won = s.x; lost = s.y; drawn = s.d } ∷ as_second round a b s
+lines_of_score round a b (Some s) = record { round = round; player = a; opponent = b; games = Some s } ∷ as_second round a b s
 
 abbrev pub lines_of_match : ℕ → Match → List Line
 lines_of_match round m = lines_of_score round m.a m.b m.score

@@ -5,15 +5,27 @@ use Rattle.er_event.specs.declared.totals.Totals.{Totals}
 use Rattle.er_event.specs.Event.{EventValue}
 use Rattle.er_event.specs.Lines.{Line, own_lines}
 
--- 3 for a match won, 1 for one drawn
+-- 3 for a match won, 1 for one drawn; a round that was missed gives none
+abbrev pub points_by : Option Games → ℕ
+points_by None = 0
+points_by (Some g) = if nat_lt g.y g.x then 3 else if g.x == g.y then 1 else 0
+
+abbrev pub game_points_by : Option Games → ℕ
+game_points_by None = 0
+game_points_by (Some g) = 3 * g.x + g.d
+
+abbrev pub games_by : Option Games → ℕ
+games_by None = 0
+games_by (Some g) = g.x + g.y + g.d
+
 abbrev pub points_of : Line → ℕ
-points_of l = if nat_lt l.lost l.won then 3 else if l.won == l.lost then 1 else 0
+points_of l = points_by l.games
 
 abbrev pub game_points_of : Line → ℕ
-game_points_of l = 3 * l.won + l.drawn
+game_points_of l = game_points_by l.games
 
 abbrev pub games_of : Line → ℕ
-games_of l = l.won + l.lost + l.drawn
+games_of l = games_by l.games
 
 -- what lines come to
 abbrev pub totals_of : List Line → Totals
@@ -38,4 +50,4 @@ totals event player = totals_of (own_lines event player)
 -- what one match comes to for a player who saw these games, the player's own first
 abbrev pub totals_of_games : Option Games → Totals
 totals_of_games None = totals_of []
-totals_of_games (Some g) = totals_of (record { round = 0; player = 0; opponent = 0; won = g.x; lost = g.y; drawn = g.d } ∷ [])
+totals_of_games (Some g) = totals_of (record { round = 0; player = 0; opponent = 0; games = Some g } ∷ [])

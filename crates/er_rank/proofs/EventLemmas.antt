@@ -1,10 +1,11 @@
 -- The tallies and the meetings of a sound event keep the limits.
-use Rattle.std.proofs.Common.{◌≡◌, ℕ, ◌*◌, ◌≤◌, ◌==◌, min, max, nat_lt, not, suc, Bool, true, false, if◌then◌else◌, List, [], ◌∷◌, map, filter, length, sum_by, get_or, All, refl, sym, ap, ◌∙◌, arith}
+use Rattle.std.proofs.Common.{◌≡◌, ℕ, ◌*◌, ◌≤◌, ◌==◌, min, max, nat_lt, not, suc, Bool, true, false, if◌then◌else◌, List, [], ◌∷◌, map, filter, length, sum_by, get_or, All, Option, Some, None, refl, sym, ap, ◌∙◌, arith}
 use Rattle.std.specs.List.{range_with_len}
 use Rattle.std.proofs.lemmas.List.{length-map}
 use Rattle.std.proofs.lemmas.List.Elements.{All-map, All-filter, filter_passes}
 use Rattle.std.proofs.lemmas.List.Sums.{sum_by-cons, length-filter}
 use Rattle.er_event.specs.declared.matches.Match.{Match}
+use Rattle.er_event.specs.declared.scores.Games.{Games}
 use Rattle.er_event.specs.declared.tallies.Meeting.{Meeting}
 use Rattle.er_event.specs.declared.tallies.Tally.{Tally}
 use Rattle.er_event.specs.Event.{EventValue}
@@ -12,7 +13,7 @@ use Rattle.er_event.specs.Lines.{Line, lines, own_lines}
 use Rattle.er_event.specs.Round.{is_bye}
 use Rattle.er_event.specs.Sound.{IsSoundButForSeeds}
 use Rattle.er_event.specs.Tallies.{tally_by, tallies, counted_matches, meeting_by, meetings}
-use Rattle.er_event.specs.Totals.{points_of, game_points_of, games_of, totals}
+use Rattle.er_event.specs.Totals.{points_by, game_points_by, games_by, points_of, game_points_of, games_of, totals}
 use Rattle.er_rank.specs.declared.lists.TheConstants.{MAX_GAMES_OF_MATCH}
 use Rattle.er_rank.specs.Meeting.{encounters, totals_of, IsRecord, AreTallies, AreEncounters, IsKnownTo, AreListsOf, AreLists}
 use Rattle.er_rank.specs.Standings.{opponents}
@@ -23,16 +24,18 @@ use Rattle.er_rank.proofs.OpponentLemmas.{met-count}
 use Rattle.er_rank.proofs.SoundLemmas.{AreWithin-sound, first_numbers, seats_known}
 use Rattle.er_rank.proofs.StandingLemmas.{map-map, map-agree, totals_of-known}
 
-points-low : (l : Line) → points_of l ≤ 3
-points-low l = by_tests (nat_lt l.lost l.won) (l.won == l.lost)
+points-low : (seen : Option Games) → points_by seen ≤ 3
+points-low None = omega arith
+points-low (Some g) = by_tests (nat_lt g.y g.x) (g.x == g.y)
   where
     by_tests : (won drawn : Bool) → (if won then 3 else if drawn then 1 else 0) ≤ 3
     by_tests true drawn = omega arith
     by_tests false true = omega arith
     by_tests false false = omega arith
 
-game_points-low : (l : Line) → game_points_of l ≤ 3 * games_of l
-game_points-low l = omega arith
+game_points-low : (seen : Option Games) → game_points_by seen ≤ 3 * games_by seen
+game_points-low None = omega arith
+game_points-low (Some g) = omega arith
 
 -- what short lines come to
 record AreShort (own : List Line) : Type 0 where
@@ -49,9 +52,9 @@ short-lines (l ∷ own) short =
     let games = sum_by-cons games_of l own in
     let game_points = sum_by-cons game_points_of l own in
     record {
-      points = omega (arith, points, points-low l, rest.points);
+      points = omega (arith, points, points-low l.games, rest.points);
       games = omega (arith, games, here, rest.games);
-      game_points = omega (arith, game_points, games, game_points-low l, rest.game_points);
+      game_points = omega (arith, game_points, games, game_points-low l.games, rest.game_points);
     }
 
 pub totals-record : (e : EventValue) → IsSoundButForSeeds e → (player : ℕ) → IsRecord (totals e player)

@@ -11,7 +11,7 @@ use Rattle.er_event.specs.declared.tallies.Meeting.{Meeting}
 use Rattle.er_event.specs.declared.totals.Totals.{Totals}
 use Rattle.er_event.specs.Event.{EventValue}
 use Rattle.er_event.specs.Lines as event
-use Rattle.er_event.specs.Lines.{own, as_second, lines_of_score, lines_of_match, counted_lines, lines_from}
+use Rattle.er_event.specs.Lines.{own, turned, as_second, lines_of_score, lines_of_match, counted_lines, lines_from}
 use Rattle.er_event.specs.Round.{is_bye, is_counted}
 use Rattle.er_event.specs.Tallies.{counted_matches, meeting_by, meetings}
 use Rattle.er_event.specs.Totals.{totals}
@@ -110,10 +110,10 @@ one_match : (come_to : ℕ → Totals) (player r a b : ℕ) (s : Games) → 0 < 
 one_match come_to player r a b s positive = by_test (b == 0) refl
   where
     first : event.Line
-    first = record { round = r; player = a; opponent = b; won = s.x; lost = s.y; drawn = s.d }
+    first = record { round = r; player = a; opponent = b; games = Some s }
 
     second : event.Line
-    second = record { round = r; player = b; opponent = a; won = s.y; lost = s.x; drawn = s.d }
+    second = record { round = r; player = b; opponent = a; games = Some (turned s) }
 
     by_test : (bye : Bool) → (b == 0) ≡ bye
         → opponents_of (encounters (map (meeting_by come_to) (cond (not bye) (match_by a b (Some s) ∷ []) []))) player ≡ seen_in come_to player (first ∷ (if bye then [] else second ∷ []))

@@ -15,7 +15,7 @@ use Rattle.er_event.specs.Event.{EventValue}
 use Rattle.er_event.specs.Round.{is_counted, seats}
 use Rattle.er_event.specs.Score.{is_swiss_score}
 use Rattle.er_event.specs.Sound.{numbers, IsRound, IsSoundButForSeeds}
-use Rattle.er_event.specs.Lines.{Line, as_second, lines_of_score, lines_of_match, counted_lines, lines_from, lines}
+use Rattle.er_event.specs.Lines.{Line, turned, as_second, lines_of_score, lines_of_match, counted_lines, lines_from, lines}
 use Rattle.er_event.specs.Totals.{games_of}
 use Rattle.er_rank.specs.Meeting.{AreKnownTo}
 use Rattle.er_event.specs.declared.events.TheConstants.{MAX_ROUNDS}
@@ -40,7 +40,7 @@ second_short : (r a b : ℕ) (s : Games) → s.x + s.y + s.d ≤ 6 → All IsSho
 second_short r a b s games = second_by (b == 0)
   where
     second_by : (zero : Bool)
-        → All IsShort (if zero then [] else record { round = r; player = b; opponent = a; won = s.y; lost = s.x; drawn = s.d } ∷ [])
+        → All IsShort (if zero then [] else record { round = r; player = b; opponent = a; games = Some (turned s) } ∷ [])
     second_by true = All-nil IsShort
     second_by false = All-cons IsShort _ [] (omega arith) (All-nil IsShort)
 
@@ -108,7 +108,7 @@ second_once : (player r a b : ℕ) (s : Games) → count_by (is_of player) (as_s
 second_once player r a b s = second_by (b == 0)
   where
     second_by : (zero : Bool)
-        → count_by (is_of player) (if zero then [] else record { round = r; player = b; opponent = a; won = s.y; lost = s.x; drawn = s.d } ∷ [])
+        → count_by (is_of player) (if zero then [] else record { round = r; player = b; opponent = a; games = Some (turned s) } ∷ [])
         ≤ cond (is_no player b) 1 0
     second_by true = omega arith
     second_by false = omega arith
@@ -117,7 +117,7 @@ score_once : (player r a b : ℕ) (score : Option Games)
     → count_by (is_of player) (lines_of_score r a b score) ≤ count_by (is_no player) (a ∷ b ∷ [])
 score_once player r a b None = omega arith
 score_once player r a b (Some s) =
-    let first : Line = record { round = r; player = a; opponent = b; won = s.x; lost = s.y; drawn = s.d } in
+    let first : Line = record { round = r; player = a; opponent = b; games = Some s } in
     let split : count_by (is_of player) (first ∷ as_second r a b s) ≡ cond (is_no player a) 1 0 + count_by (is_of player) (as_second r a b s) =
     sum_by-cons (λ l. cond (is_of player l) 1 0) first (as_second r a b s) in
     let second = second_once player r a b s in
