@@ -119,8 +119,6 @@ impl<S: Alter> Desk<S> {
             Ok(event) => event,
             Err(why) => return Err((conn, why)),
         };
-        // An event is always sound, as this tells the proof.
-        let _ = event.phase();
         let store = Store::create(conn, &event)?;
         Ok(Desk {
             store,
@@ -342,8 +340,11 @@ impl<S: Alter> Desk<S> {
         requires sound { IsSound self.old.event → IsSound (after self.old.event change.now) }
 
         ensures taken { IfOk result (λ receipt. (standing self.new
-            ≡ record { event = after self.old.event change.now; serial = self.old.serial + 1;
-            stopped = false }) × (receipt.serial ≡ self.old.serial + 1)) }
+            ≡ record {
+              event = after self.old.event change.now;
+              serial = self.old.serial + 1;
+              stopped = false;
+            }) × (receipt.serial ≡ self.old.serial + 1)) }
         ensures refused { IfErr result (λ why. ((self.new ≡ self.old) × (why ≡ Refusal.Memory))
             ⊎ ((standing self.new ≡ record (standing self.old) { stopped = true })
             × IsFault why)) }

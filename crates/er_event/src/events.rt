@@ -91,6 +91,7 @@ impl Event {
         ensures within { IsOk result ↔ ((1 ≤ rounds) × (rounds ≤ MAX_ROUNDS)
             × IsTrue (cut == 0 || cut == 2 || cut == 4 || cut == 8)) }
         ensures refused { IfErr result (λ why. why ≡ Refusal.BadSetup) }
+        ensures sound { IfOk result IsSoundButForSeeds }
     {
         if !is_setup(rounds, cut) {
             return Err(Refusal::BadSetup);
