@@ -2,12 +2,12 @@
 use Rattle.std.specs.Global.{Global}
 use Rattle.std.specs.Prelude.{◌≡◌, ◌⊎◌, ℕ, IsTrue, IsFalse, List, Option, Some, None, Result, Ok, Err, IfOk, Vec}
 use Rattle.er_event.specs.declared.refusals.Refusal.{Refusal}
-use Rattle.er_event.specs.declared.refusals.Refusal.TheVariants.{Memory, NeedsReopen, NoSuchMatch}
+use Rattle.er_event.specs.declared.refusals.Refusal.TheVariants.{Memory, NoSuchMatch}
 use Rattle.er_event.specs.Event.{EventValue}
 use Rattle.er_paper.specs.Texts.{players_text, rows_text, pairings_text, bracket_text}
 use Rattle.er_paper.specs.Tables.{players_csv, results_csv}
 use Rattle.er_rank.specs.declared.rows.Row.{Row}
-use Rattle.er_desk.specs.Desk.{Standing, Turn, ReadsRows}
+use Rattle.er_desk.specs.Desk.{Standing, Turn, ReadsRows, ShowsEvent}
 use Rattle.er_desk.specs.Headline.{AreTheStandings}
 use Rattle.er_desk.specs.Reply.{Reply}
 use Rattle.er_words.specs.declared.action.Request.{Request}
@@ -43,10 +43,6 @@ csv_of exported.Results event = results_csv event
 abbrev pub ShowsExport : ExportKind → EventValue → Answer → Type 0
 ShowsExport kind event answer = answer ≡ Text (csv_of kind event)
 
--- the event is shown, where memory serves and no fault of the store is behind
-abbrev pub IsShown : Standing → (EventValue → Answer → Type 0) → Answer → Type 0
-IsShown desk Shows answer = (IsFalse desk.stopped × (Shows desk.event answer ⊎ (answer ≡ Refused Memory))) ⊎ (IsTrue desk.stopped × (answer ≡ Refused NeedsReopen))
-
 -- of the standings that were read, their text, or want of memory in making it
 abbrev pub IsRowsAnswer : EventValue → Result (Vec Row Global) Refusal → Answer → Type 0
 IsRowsAnswer event (Ok rows) answer = (answer ≡ Text (rows_text event rows.items)) ⊎ (answer ≡ Refused Memory)
@@ -55,9 +51,9 @@ IsRowsAnswer event (Err why) answer = answer ≡ Refused why
 -- What a desk answers, and where it stands then. A text of what it holds leaves it as it is. `Stood` is that its tables stood for its event, on a clean disk: on this rest the standings, which are read of them.
 abbrev pub DeskAnswers : Type 0 → Standing → Request → Answer → Standing → Type 0
 DeskAnswers Stood old (Submit command) answer new = (reply : Reply) × Turn old command reply new × (answer ≡ reply_answer reply)
-DeskAnswers Stood old Players answer new = IsShown old ShowsPlayers answer × (new ≡ old)
+DeskAnswers Stood old Players answer new = ShowsEvent Refused old ShowsPlayers answer × (new ≡ old)
 DeskAnswers Stood old Standings answer new =
     (read : Result (Vec Row Global) Refusal) × ReadsRows old read new × (Stood → IfOk read (λ rows. AreTheStandings old.event rows.items)) × IsRowsAnswer old.event read answer
-DeskAnswers Stood old (Slips round) answer new = IsShown old (ShowsSlips round) answer × (new ≡ old)
-DeskAnswers Stood old Bracket answer new = IsShown old ShowsBracket answer × (new ≡ old)
-DeskAnswers Stood old (Export kind) answer new = IsShown old (ShowsExport kind) answer × (new ≡ old)
+DeskAnswers Stood old (Slips round) answer new = ShowsEvent Refused old (ShowsSlips round) answer × (new ≡ old)
+DeskAnswers Stood old Bracket answer new = ShowsEvent Refused old ShowsBracket answer × (new ≡ old)
+DeskAnswers Stood old (Export kind) answer new = ShowsEvent Refused old (ShowsExport kind) answer × (new ≡ old)

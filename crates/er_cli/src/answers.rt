@@ -1,8 +1,8 @@
 ghost use Rattle.std.specs.Prelude.{◌≡◌, ◌⊎◌, IfOk, IsFalse, MatchResult, option_map};
 ghost use Rattle.sqlite.specs.State.{HasCleanDisk};
-ghost use Rattle.er_desk.specs.Desk.{ShowsOwn, standing, state};
+ghost use Rattle.er_desk.specs.Desk.{ShowsEvent, ShowsOwn, standing, state};
 ghost use Rattle.er_paper.specs.Texts.{rows_text};
-ghost use Rattle.er_cli.specs.Answers.{DeskAnswers, IsShown, ShowsPlayers, ShowsSlips, ShowsBracket, ShowsExport, csv_of, reply_answer, slips_answer};
+ghost use Rattle.er_cli.specs.Answers.{DeskAnswers, ShowsPlayers, ShowsSlips, ShowsBracket, ShowsExport, csv_of, reply_answer, slips_answer};
 ghost use Rattle.er_words.specs.declared.action.Request.TheVariants.{Standings};
 
 use crate::texts::Answer;
@@ -48,7 +48,7 @@ fn slips_answer(text: Result<Option<Vec<u8>>, AllocError>) -> Answer
 }
 
 fn players<S: Alter>(alloc: Global, desk: &Desk<S>) -> Answer
-    ensures { IsShown (standing desk.now) ShowsPlayers result }
+    ensures { ShowsEvent Answer.Refused (standing desk.now) ShowsPlayers result }
 {
     match desk.event() {
         Ok(event) => text_answer(players_text(alloc, event)),
@@ -82,7 +82,7 @@ fn standings<S: Alter>(alloc: Global, desk: &mut Desk<S>) -> Answer
 }
 
 fn slips<S: Alter>(alloc: Global, desk: &Desk<S>, round: u8) -> Answer
-    ensures { IsShown (standing desk.now) (ShowsSlips round) result }
+    ensures { ShowsEvent Answer.Refused (standing desk.now) (ShowsSlips round) result }
 {
     match desk.event() {
         Ok(event) => slips_answer(pairings_text(alloc, event, round)),
@@ -91,7 +91,7 @@ fn slips<S: Alter>(alloc: Global, desk: &Desk<S>, round: u8) -> Answer
 }
 
 fn bracket<S: Alter>(alloc: Global, desk: &Desk<S>) -> Answer
-    ensures { IsShown (standing desk.now) ShowsBracket result }
+    ensures { ShowsEvent Answer.Refused (standing desk.now) ShowsBracket result }
 {
     match desk.event() {
         Ok(event) => text_answer(bracket_text(alloc, event)),
@@ -110,7 +110,7 @@ fn csv_of(alloc: Global, event: &Event, kind: ExportKind) -> Result<Vec<u8>, All
 }
 
 fn export<S: Alter>(alloc: Global, desk: &Desk<S>, kind: ExportKind) -> Answer
-    ensures { IsShown (standing desk.now) (ShowsExport kind) result }
+    ensures { ShowsEvent Answer.Refused (standing desk.now) (ShowsExport kind) result }
 {
     match desk.event() {
         Ok(event) => text_answer(csv_of(alloc, event, kind)),

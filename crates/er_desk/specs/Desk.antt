@@ -49,6 +49,10 @@ state g desk = store.state g desk.store
 abbrev pub standing : {S : Type 0} {g : Ghosts S} → Desk S g → Standing
 standing desk = record { event = desk.event; serial = desk.serial; stopped = store.is_stopped desk.store }
 
+-- the event is shown, where memory serves and no fault of the store is behind
+abbrev pub ShowsEvent : {A : Type 0} → (Refusal → A) → Standing → (EventValue → A → Type 0) → A → Type 0
+ShowsEvent refused desk Shows answer = (IsFalse desk.stopped × (Shows desk.event answer ⊎ (answer ≡ refused Memory))) ⊎ (IsTrue desk.stopped × (answer ≡ refused NeedsReopen))
+
 -- a crash leaves the event after the command, whole
 abbrev pub IsStoredAfter : EventValue → ℕ → Command → Trees → Type 0
 IsStoredAfter event serial command trees = (next : EventValue) × Answers event command (Ok next) × tables.IsStored next (serial + 1) trees

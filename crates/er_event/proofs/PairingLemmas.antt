@@ -13,7 +13,7 @@ use Rattle.er_event.specs.declared.scores.Games.{Games}
 use Rattle.er_event.specs.declared.matches.Match.{Match}
 use Rattle.er_event.specs.Round.{is_bye, numbered_from}
 use Rattle.er_event.specs.Rows.{pairing_row, by_key, keyed_round_rows, keyed_rows_from}
-use Rattle.er_event.specs.Pairings.{IsShown, AreTables, AreShown, table_rows, is_of}
+use Rattle.er_event.specs.Pairings.{FitsRow, AreTables, FitRows, table_rows, is_of}
 
 pair_first : (a b c d : ℕ) → ◌≡◌ {A = ℕ × ℕ} (a, b) (c, d) → a ≡ c
 pair_first a b c d e = ap (λ (p : ℕ × ℕ). p.0) e
@@ -102,14 +102,14 @@ module _ (r i : ℕ) (rows : List PairingRow) (below : i < length rows) where
       ∙ (sym (map-append (pairing_row r) (numbered_from 1 items) ((1 + length items, m) ∷ [])) ∙ ap (map (pairing_row r)) (sym (numbered-push 1 items m))))
 
   -- the match that stands here
-  pub here_shown : (items ms rest : List Match) → All IsShown ms → AreTables ms → ms ≡ items ++ rest → drop i rows ≡ table_rows r (i + 1) rest
-      → (m : Match) × (later : List Match) × IsShown m × IsFalse (is_bye m) × (row ≡ pairing_row r (i + 1, m)) × (ms ≡ (items ++ m ∷ []) ++ later) × (drop (i + 1) rows ≡ table_rows r (i + 1 + 1) later)
+  pub here_shown : (items ms rest : List Match) → All FitsRow ms → AreTables ms → ms ≡ items ++ rest → drop i rows ≡ table_rows r (i + 1) rest
+      → (m : Match) × (later : List Match) × FitsRow m × IsFalse (is_bye m) × (row ≡ pairing_row r (i + 1, m)) × (ms ≡ (items ++ m ∷ []) ++ later) × (drop (i + 1) rows ≡ table_rows r (i + 1 + 1) later)
   here_shown items ms rest shown tables split left =
       let first = first_table r (i + 1) row (drop (i + 1) rows) rest (sym next_row ∙ left) in
       let m = first.0 in
       let later = first.1 in
       let whole : ms ≡ (items ++ m ∷ []) ++ later = split ∙ (ap (λ l. items ++ l) first.2 ∙ sym (append_assoc items (m ∷ []) later)) in
-      (m, later, at IsShown items m later (subst (All IsShown) whole shown), at (λ k. IsFalse (is_bye k)) items m later (subst AreTables whole tables), first.3, whole, first.4)
+      (m, later, at FitsRow items m later (subst (All FitsRow) whole shown), at (λ k. IsFalse (is_bye k)) items m later (subst AreTables whole tables), first.3, whole, first.4)
     where
       rest_of : (P : Match → Type 0) (xs ys : List Match) → All P (xs ++ ys) → All P ys
       rest_of P [] ys all = all
@@ -160,9 +160,9 @@ pub record WithBye (ms : List Match) : Type 0 where
   pub tables : List Match
   pub bye : Match
   pub are : ms ≡ tables ++ bye ∷ []
-  pub shown : All IsShown tables
+  pub shown : All FitsRow tables
   pub no_byes : AreTables tables
-  pub bye_shown : IsShown bye
+  pub bye_shown : FitsRow bye
   pub is_bye : IsTrue (is_bye bye)
 
 All-left : (P : Match → Type 0) (xs ys : List Match) → All P (xs ++ ys) → All P xs
@@ -174,7 +174,7 @@ All-right P [] y all = All-head P y [] all
 All-right P (x ∷ xs) y all = All-right P xs y (All-tail P x (xs ++ y ∷ []) all)
 
 -- only the last may be a bye
-pub bye_or_tables : (ms : List Match) → AreShown ms → AreTables ms ⊎ WithBye ms
+pub bye_or_tables : (ms : List Match) → FitRows ms → AreTables ms ⊎ WithBye ms
 bye_or_tables ms h = by_last (all_last ms h.some)
   where
     all_last : (xs : List Match) → 0 < length xs → (init : List Match) × (last : Match) × (xs ≡ init ++ last ∷ [])
@@ -188,12 +188,12 @@ bye_or_tables ms h = by_last (all_last ms h.some)
         let short : length ms - 1 ≡ length init = omega arith in
         let before : take (length ms - 1) ms ≡ init = ap₂ take short split ∙ take-append_seam init (last ∷ []) in
         let tables : AreTables init = subst AreTables before h.bye_last in
-        let shown : All IsShown (init ++ last ∷ []) = subst (All IsShown) split h.each in
+        let shown : All FitsRow (init ++ last ∷ []) = subst (All FitsRow) split h.each in
         is_last (is_bye last) refl tables shown
       where
-        is_last : (b : Bool) → is_bye last ≡ b → AreTables init → All IsShown (init ++ last ∷ []) → AreTables ms ⊎ WithBye ms
+        is_last : (b : Bool) → is_bye last ≡ b → AreTables init → All FitsRow (init ++ last ∷ []) → AreTables ms ⊎ WithBye ms
         is_last false seated tables shown = inl (subst AreTables (sym split) (All-push (λ (k : Match). IsFalse (is_bye k)) init last tables seated))
-        is_last true alone tables shown = inr (record { tables = init; bye = last; are = split; shown = All-left IsShown init (last ∷ []) shown; no_byes = tables; bye_shown = All-right IsShown init last shown; is_bye = alone })
+        is_last true alone tables shown = inr (record { tables = init; bye = last; are = split; shown = All-left FitsRow init (last ∷ []) shown; no_byes = tables; bye_shown = All-right FitsRow init last shown; is_bye = alone })
 
 -- the rows of a round with a bye
 pub with_bye_rows : (r : ℕ) (rows : List PairingRow) (ms : List Match) (w : WithBye ms) → rows ≡ keyed_round_rows r ms → rows ≡ pairing_row r (0, w.bye) ∷ table_rows r 1 w.tables
@@ -226,7 +226,7 @@ some_rows rows some = grind (arith, nat_tests)
 -- ---- the rounds in turn
 
 abbrev Shown : Round → Type 0
-Shown r = AreShown r.matches
+Shown r = FitRows r.matches
 
 row_of_round : (r : ℕ) (n : Numbered) → is_of r (pairing_row r n) ≡ true
 row_of_round r n = (Decides-int_eq (pos r) (pos r)).1 refl
@@ -246,7 +246,7 @@ prefix_rows r [] ys e = e
 prefix_rows r (n ∷ ns) ys e = let here = row_of_round r n in rw here (let rest = prefix_rows r ns ys e in omega arith)
 
 -- a round has a row
-pub keyed_cons : (r : ℕ) (ms : List Match) → AreShown ms → (n : Numbered) × (rest : List PairingRow) × (keyed_round_rows r ms ≡ pairing_row r n ∷ rest)
+pub keyed_cons : (r : ℕ) (ms : List Match) → FitRows ms → (n : Numbered) × (rest : List PairingRow) × (keyed_round_rows r ms ≡ pairing_row r n ∷ rest)
 keyed_cons r ms shown = by_kind (bye_or_tables ms shown)
   where
     of_tables : (ks : List Match) → 0 < length ks → AreTables ks → (n : Numbered) × (rest : List PairingRow) × (keyed_round_rows r ks ≡ pairing_row r n ∷ rest)
@@ -264,7 +264,7 @@ later_none r (s ∷ later) all =
     let other = row_of_other r first.0 in
     ap (λ rows. prefix_len (is_of r) (rows ++ keyed_rows_from (r + 1 + 1) later)) first.2 ∙ rw other
 
-module _ (r : ℕ) (rows : List PairingRow) (ms : List Match) (later : List Round) (shown : AreShown ms) (all : All Shown later) (are : rows ≡ keyed_round_rows r ms ++ keyed_rows_from (r + 1) later) where
+module _ (r : ℕ) (rows : List PairingRow) (ms : List Match) (later : List Round) (shown : FitRows ms) (all : All Shown later) (are : rows ≡ keyed_round_rows r ms ++ keyed_rows_from (r + 1) later) where
   pub count_is : prefix_len (is_of r) rows ≡ length (keyed_round_rows r ms)
   count_is = ap (prefix_len (is_of r)) are ∙ prefix_rows r (by_key (numbered_from 1 ms)) (keyed_rows_from (r + 1) later) (later_none r later all)
 

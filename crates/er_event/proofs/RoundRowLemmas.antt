@@ -7,11 +7,11 @@ use Rattle.er_event.specs.declared.matches.Match.{Match}
 use Rattle.er_event.specs.declared.rounds.Round.{Round}
 use Rattle.er_event.specs.declared.rows.pairing.PairingRow.{PairingRow}
 use Rattle.er_event.specs.Rows.{keyed_round_rows, keyed_rows_from}
-use Rattle.er_event.specs.Pairings.{AreShown}
+use Rattle.er_event.specs.Pairings.{FitRows}
 use Rattle.er_event.proofs.PairingLemmas.{keyed_cons}
 
 abbrev pub Shown : Round → Type 0
-Shown r = AreShown r.matches
+Shown r = FitRows r.matches
 
 pub keyed-push : (n : ℕ) (rs : List Round) (r : Round) → keyed_rows_from n (rs ++ r ∷ []) ≡ keyed_rows_from n rs ++ keyed_round_rows (n + length rs) r.matches
 keyed-push n [] r = let e : n ≡ n + 0 = omega arith in append-nil (keyed_round_rows n r.matches) ∙ ap (λ k. keyed_round_rows k r.matches) e
@@ -35,7 +35,7 @@ module _ (rows : List PairingRow) (read : ℕ) (items : List Round) (k : ℕ) (k
   pub record Next (rs : List Round) : Type 0 where
     pub round : Round
     pub later : List Round
-    pub shown : AreShown round.matches
+    pub shown : FitRows round.matches
     pub all : All Shown later
     pub split : rs ≡ (items ++ round ∷ []) ++ later
     pub rows_are : left ≡ keyed_round_rows (k + 1) round.matches ++ keyed_rows_from (k + 1 + 1) later
@@ -71,7 +71,7 @@ pub no_rows : (rows : List PairingRow) (read n : ℕ) (rest : List Round) → Al
 no_rows rows read n [] all short are = refl
 no_rows rows read n (r ∷ rest) all short are = absurd (some_rows_none n r rest (All-head Shown r rest all) (let len = length-drop read rows in let same : length (drop read rows) ≡ length (keyed_rows_from n (r ∷ rest)) = ap length are in omega arith))
   where
-    some_rows_none : (n : ℕ) (r : Round) (rest : List Round) → AreShown r.matches → length (keyed_rows_from n (r ∷ rest)) ≡ 0 → ⊥
+    some_rows_none : (n : ℕ) (r : Round) (rest : List Round) → FitRows r.matches → length (keyed_rows_from n (r ∷ rest)) ≡ 0 → ⊥
     some_rows_none n r rest shown none =
         let first = keyed_cons n r.matches shown in
         let count : length (keyed_rows_from n (r ∷ rest)) ≡ suc (length (first.1 ++ keyed_rows_from (n + 1) rest)) = ap (λ l. length (l ++ keyed_rows_from (n + 1) rest)) first.2 in

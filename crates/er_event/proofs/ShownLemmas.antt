@@ -10,7 +10,7 @@ use Rattle.er_event.specs.declared.rounds.Round.{Round}
 use Rattle.er_event.specs.Score.{is_swiss_score}
 use Rattle.er_event.specs.Round.{is_bye}
 use Rattle.er_event.specs.Sound.{IsRound, AreRounds}
-use Rattle.er_event.specs.Pairings.{IsShown, AreShown}
+use Rattle.er_event.specs.Pairings.{FitsRow, FitRows}
 
 module _ (n : ℕ) (few : n ≤ 512) where
   pub below : (k : ℕ) → Contains (range_with_len 1 n) k → k < 65536
@@ -26,10 +26,10 @@ module _ (n : ℕ) (few : n ≤ 512) where
   second_below m false is known = below m.b (known is)
 
   each_shown : (ms : List Match) → All (λ (m : Match). Contains (range_with_len 1 n) m.a) ms → All (λ (m : Match). IsFalse (is_bye m) → Contains (range_with_len 1 n) m.b) ms
-      → All (λ (m : Match). IfSome m.score (λ s. IsTrue (is_swiss_score s))) ms → All IsShown ms
-  each_shown [] a b c = All-nil IsShown
+      → All (λ (m : Match). IfSome m.score (λ s. IsTrue (is_swiss_score s))) ms → All FitsRow ms
+  each_shown [] a b c = All-nil FitsRow
   each_shown (m ∷ ms) a b c =
-      All-cons IsShown m ms
+      All-cons FitsRow m ms
       (record {
         first = below m.a (All-head (λ (k : Match). Contains (range_with_len 1 n) k.a) m ms a);
         second = second_below m (is_bye m) refl (All-head (λ (k : Match). IsFalse (is_bye k) → Contains (range_with_len 1 n) k.b) m ms b);
@@ -37,9 +37,9 @@ module _ (n : ℕ) (few : n ≤ 512) where
       })
       (each_shown ms (All-tail (λ (k : Match). Contains (range_with_len 1 n) k.a) m ms a) (All-tail (λ (k : Match). IsFalse (is_bye k) → Contains (range_with_len 1 n) k.b) m ms b) (All-tail (λ (k : Match). IfSome k.score (λ s. IsTrue (is_swiss_score s))) m ms c))
 
-  round_shown : (ms : List Match) → IsRound (range_with_len 1 n) ms → AreShown ms
+  round_shown : (ms : List Match) → IsRound (range_with_len 1 n) ms → FitRows ms
   round_shown ms h = record { some = h.some; each = each_shown ms h.first_known h.second_known h.scores; bye_last = h.bye_last }
 
-pub rounds_shown : (phase : Phase) (limit n : ℕ) (rounds : List Round) → n ≤ 512 → AreRounds phase limit (range_with_len 1 n) rounds → All (λ (r : Round). AreShown r.matches) rounds
+pub rounds_shown : (phase : Phase) (limit n : ℕ) (rounds : List Round) → n ≤ 512 → AreRounds phase limit (range_with_len 1 n) rounds → All (λ (r : Round). FitRows r.matches) rounds
 rounds_shown phase limit n rounds few h =
-    All-weaker (λ (r : Round). IsRound (range_with_len 1 n) r.matches) (λ (r : Round). AreShown r.matches) (λ r. round_shown n few r.matches) rounds h.each
+    All-weaker (λ (r : Round). IsRound (range_with_len 1 n) r.matches) (λ (r : Round). FitRows r.matches) (λ r. round_shown n few r.matches) rounds h.each

@@ -10,7 +10,7 @@ use Rattle.er_event.specs.declared.rows.bracket.BracketRow.{BracketRow}
 use Rattle.er_event.specs.declared.matches.Match.{Match}
 use Rattle.er_event.specs.Round.{numbered_from}
 use Rattle.er_event.specs.Rows.{bracket_row, stage_rows, bracket_rows_from}
-use Rattle.er_event.specs.inside.Stages.{IsShownSlot, IsShownStage, slot_rows, is_of_stage}
+use Rattle.er_event.specs.inside.Stages.{FitsSlotRow, FitStageRows, slot_rows, is_of_stage}
 use Rattle.er_event.proofs.PairingLemmas.{and_true, numbered-push}
 
 -- ---- rows that agree in each column
@@ -71,14 +71,14 @@ module _ (r i : ℕ) (rows : List BracketRow) (below : i < length rows) where
       ∙ (sym (map-append (bracket_row r) (numbered_from 1 items) ((1 + length items, m) ∷ [])) ∙ ap (map (bracket_row r)) (sym (numbered-push 1 items m))))
 
   -- the match that stands here
-  pub here_shown : (items ms rest : List Match) → All IsShownSlot ms → ms ≡ items ++ rest → drop i rows ≡ slot_rows r (i + 1) rest
-      → (m : Match) × (later : List Match) × IsShownSlot m × (row ≡ bracket_row r (i + 1, m)) × (ms ≡ (items ++ m ∷ []) ++ later) × (drop (i + 1) rows ≡ slot_rows r (i + 1 + 1) later)
+  pub here_shown : (items ms rest : List Match) → All FitsSlotRow ms → ms ≡ items ++ rest → drop i rows ≡ slot_rows r (i + 1) rest
+      → (m : Match) × (later : List Match) × FitsSlotRow m × (row ≡ bracket_row r (i + 1, m)) × (ms ≡ (items ++ m ∷ []) ++ later) × (drop (i + 1) rows ≡ slot_rows r (i + 1 + 1) later)
   here_shown items ms rest shown split left =
       let first = first_slot r (i + 1) row (drop (i + 1) rows) rest (sym next_row ∙ left) in
       let m = first.0 in
       let later = first.1 in
       let whole : ms ≡ (items ++ m ∷ []) ++ later = split ∙ (ap (λ l. items ++ l) first.2 ∙ sym (append_assoc items (m ∷ []) later)) in
-      (m, later, at IsShownSlot items m later (subst (All IsShownSlot) whole shown), first.3, whole, first.4)
+      (m, later, at FitsSlotRow items m later (subst (All FitsSlotRow) whole shown), first.3, whole, first.4)
     where
       rest_of : (P : Match → Type 0) (xs ys : List Match) → All P (xs ++ ys) → All P ys
       rest_of P [] ys all = all
@@ -112,18 +112,18 @@ prefix_rows r [] ys e = e
 prefix_rows r (n ∷ ns) ys e = let here = row_of_stage r n in rw here (let rest = prefix_rows r ns ys e in omega arith)
 
 -- a stage has a row
-stage_cons : (r : ℕ) (ms : List Match) → IsShownStage ms → (n : ℕ × Match) × (rest : List BracketRow) × (stage_rows r ms ≡ bracket_row r n ∷ rest)
+stage_cons : (r : ℕ) (ms : List Match) → FitStageRows ms → (n : ℕ × Match) × (rest : List BracketRow) × (stage_rows r ms ≡ bracket_row r n ∷ rest)
 stage_cons r [] shown = absurd (let some = shown.some in omega arith)
 stage_cons r (m ∷ ms) shown = ((1, m), slot_rows r 2 ms, refl)
 
-later_none : (r : ℕ) (later : List (List Match)) → All IsShownStage later → prefix_len (is_of_stage r) (bracket_rows_from (r + 1) later) ≡ 0
+later_none : (r : ℕ) (later : List (List Match)) → All FitStageRows later → prefix_len (is_of_stage r) (bracket_rows_from (r + 1) later) ≡ 0
 later_none r [] all = refl
 later_none r (s ∷ later) all =
-    let first = stage_cons (r + 1) s (All-head IsShownStage s later all) in
+    let first = stage_cons (r + 1) s (All-head FitStageRows s later all) in
     let other = row_of_other r first.0 in
     ap (λ rows. prefix_len (is_of_stage r) (rows ++ bracket_rows_from (r + 1 + 1) later)) first.2 ∙ rw other
 
-module _ (r : ℕ) (rows : List BracketRow) (ms : List Match) (later : List (List Match)) (shown : IsShownStage ms) (all : All IsShownStage later) (are : rows ≡ stage_rows r ms ++ bracket_rows_from (r + 1) later) where
+module _ (r : ℕ) (rows : List BracketRow) (ms : List Match) (later : List (List Match)) (shown : FitStageRows ms) (all : All FitStageRows later) (are : rows ≡ stage_rows r ms ++ bracket_rows_from (r + 1) later) where
   pub count_is : prefix_len (is_of_stage r) rows ≡ length (stage_rows r ms)
   count_is = ap (prefix_len (is_of_stage r)) are ∙ prefix_rows r (numbered_from 1 ms) (bracket_rows_from (r + 1) later) (later_none r later all)
 
@@ -145,9 +145,9 @@ stage-push n (s ∷ rs) r =
     ∙ (sym (append_assoc (stage_rows n s) (bracket_rows_from (n + 1) rs) (stage_rows ((n + 1) + length rs) r))
     ∙ ap (λ k. bracket_rows_from n (s ∷ rs) ++ stage_rows k r) e)
 
-pub rest_of : (xs ys : List (List Match)) → All IsShownStage (xs ++ ys) → All IsShownStage ys
+pub rest_of : (xs ys : List (List Match)) → All FitStageRows (xs ++ ys) → All FitStageRows ys
 rest_of [] ys all = all
-rest_of (x ∷ xs) ys all = rest_of xs ys (All-tail IsShownStage x (xs ++ ys) all)
+rest_of (x ∷ xs) ys all = rest_of xs ys (All-tail FitStageRows x (xs ++ ys) all)
 
 module _ (rows : List BracketRow) (read : ℕ) (items : List (List Match)) (k : ℕ) (k_is : k ≡ length items) where
   abbrev left : List BracketRow
@@ -159,20 +159,20 @@ module _ (rows : List BracketRow) (read : ℕ) (items : List (List Match)) (k : 
   pub record Next (rs : List (List Match)) : Type 0 where
     pub stage : List Match
     pub later : List (List Match)
-    pub shown : IsShownStage stage
-    pub all : All IsShownStage later
+    pub shown : FitStageRows stage
+    pub all : All FitStageRows later
     pub split : rs ≡ (items ++ stage ∷ []) ++ later
     pub rows_are : left ≡ stage_rows (k + 1) stage ++ bracket_rows_from (k + 1 + 1) later
 
-  pub next_shown : (rs rest : List (List Match)) → read < length rows → All IsShownStage rs → rs ≡ items ++ rest → drop read rows ≡ bracket_rows_from (length items + 1) rest → Next rs
+  pub next_shown : (rs rest : List (List Match)) → read < length rows → All FitStageRows rs → rs ≡ items ++ rest → drop read rows ≡ bracket_rows_from (length items + 1) rest → Next rs
   next_shown rs [] more all split are = absurd (let len = length-drop read rows in let none : length (drop read rows) ≡ 0 = ap length are in omega arith)
   next_shown rs (r ∷ later) more all split are =
-      let shown = rest_of items (r ∷ later) (subst (All IsShownStage) split all) in
+      let shown = rest_of items (r ∷ later) (subst (All FitStageRows) split all) in
       record {
         stage = r;
         later = later;
-        shown = All-head IsShownStage r later shown;
-        all = All-tail IsShownStage r later shown;
+        shown = All-head FitStageRows r later shown;
+        all = All-tail FitStageRows r later shown;
         split = split ∙ sym (append_assoc items (r ∷ []) later);
         rows_are = rest_from ∙ (are ∙ ap (λ n. bracket_rows_from (n + 1) (r ∷ later)) (sym k_is));
       }
@@ -191,11 +191,11 @@ module _ (rows : List BracketRow) (read : ℕ) (items : List (List Match)) (k : 
       let dropped : drop (read + count) rows ≡ drop count (drop read rows) = sym (drop-drop count read rows) in
       dropped ∙ (ap₂ drop is (sym rest_from ∙ are) ∙ (drop-append_seam (stage_rows (k + 1) ms) (bracket_rows_from (k + 1 + 1) later) ∙ ap (λ n. bracket_rows_from n later) at))
 
-pub no_rows : (rows : List BracketRow) (read n : ℕ) (rest : List (List Match)) → All IsShownStage rest → length rows ≤ read → drop read rows ≡ bracket_rows_from n rest → rest ≡ []
+pub no_rows : (rows : List BracketRow) (read n : ℕ) (rest : List (List Match)) → All FitStageRows rest → length rows ≤ read → drop read rows ≡ bracket_rows_from n rest → rest ≡ []
 no_rows rows read n [] all short are = refl
-no_rows rows read n (r ∷ rest) all short are = absurd (some_rows_none n r rest (All-head IsShownStage r rest all) (let len = length-drop read rows in let same : length (drop read rows) ≡ length (bracket_rows_from n (r ∷ rest)) = ap length are in omega arith))
+no_rows rows read n (r ∷ rest) all short are = absurd (some_rows_none n r rest (All-head FitStageRows r rest all) (let len = length-drop read rows in let same : length (drop read rows) ≡ length (bracket_rows_from n (r ∷ rest)) = ap length are in omega arith))
   where
-    some_rows_none : (n : ℕ) (r : List Match) (rest : List (List Match)) → IsShownStage r → length (bracket_rows_from n (r ∷ rest)) ≡ 0 → ⊥
+    some_rows_none : (n : ℕ) (r : List Match) (rest : List (List Match)) → FitStageRows r → length (bracket_rows_from n (r ∷ rest)) ≡ 0 → ⊥
     some_rows_none n r rest shown none =
         let first = stage_cons n r shown in
         let count : length (bracket_rows_from n (r ∷ rest)) ≡ suc (length (first.1 ++ bracket_rows_from (n + 1) rest)) = ap (λ l. length (l ++ bracket_rows_from (n + 1) rest)) first.2 in

@@ -10,7 +10,7 @@ use Rattle.er_event.specs.Score.{is_playoff_score}
 use Rattle.er_event.specs.Round.{seats}
 use Rattle.er_event.specs.Bracket.{winner_with, next_stage, SameSlots, FollowOn}
 use Rattle.er_event.specs.Sound.{is_lawful_cut, IsBracket}
-use Rattle.er_event.specs.inside.Stages.{IsShownSlot, IsShownStage}
+use Rattle.er_event.specs.inside.Stages.{FitsSlotRow, FitStageRows}
 use Rattle.er_event.proofs.ShownLemmas.{below}
 
 -- the two numbers are 16 bits wide
@@ -57,21 +57,21 @@ half [] = (omega arith, omega arith)
 half (m ∷ []) = (omega arith, omega arith)
 half (m ∷ n ∷ more) = let rest = half more in (omega arith, omega arith)
 
-all_shown : (ms : List Match) → All IsNarrow ms → All IsScored ms → All IsShownSlot ms
-all_shown [] narrow scored = All-nil IsShownSlot
+all_shown : (ms : List Match) → All IsNarrow ms → All IsScored ms → All FitsSlotRow ms
+all_shown [] narrow scored = All-nil FitsSlotRow
 all_shown (m ∷ ms) narrow scored =
     let here = All-head IsNarrow m ms narrow in
-    All-cons IsShownSlot m ms (record { first = here.0; second = here.1; score = All-head IsScored m ms scored })
+    All-cons FitsSlotRow m ms (record { first = here.0; second = here.1; score = All-head IsScored m ms scored })
     (all_shown ms (All-tail IsNarrow m ms narrow) (All-tail IsScored m ms scored))
 
-follow_shown : (s : List Match) (more : List (List Match)) → 0 < length s → All IsNarrow s → FollowOn (s ∷ more) → All (λ (ms : List Match). All IsScored ms) (s ∷ more) → All IsShownStage (s ∷ more)
+follow_shown : (s : List Match) (more : List (List Match)) → 0 < length s → All IsNarrow s → FollowOn (s ∷ more) → All (λ (ms : List Match). All IsScored ms) (s ∷ more) → All FitStageRows (s ∷ more)
 follow_shown s [] some narrow follows scores =
-    All-cons IsShownStage s [] (record { some = some; each = all_shown s narrow (All-head (λ (ms : List Match). All IsScored ms) s [] scores) }) (All-nil IsShownStage)
+    All-cons FitStageRows s [] (record { some = some; each = all_shown s narrow (All-head (λ (ms : List Match). All IsScored ms) s [] scores) }) (All-nil FitStageRows)
 follow_shown s (next ∷ more) some narrow follows scores =
     let long = follows.1 in
     let count = same_length next (next_stage s) follows.2 in
     let halved = half s in
-    All-cons IsShownStage s (next ∷ more) (record { some = some; each = all_shown s narrow (All-head (λ (ms : List Match). All IsScored ms) s (next ∷ more) scores) })
+    All-cons FitStageRows s (next ∷ more) (record { some = some; each = all_shown s narrow (All-head (λ (ms : List Match). All IsScored ms) s (next ∷ more) scores) })
     (follow_shown next more (omega arith) (same_narrow next (next_stage s) follows.2 (next_narrow s narrow)) follows.3 (All-tail (λ (ms : List Match). All IsScored ms) s (next ∷ more) scores))
 
 follow_few : (s : List Match) (more : List (List Match)) → length s ≤ 4 → FollowOn (s ∷ more) → length (s ∷ more) ≤ 3
@@ -102,7 +102,7 @@ module _ (n cut : ℕ) (few : n ≤ 512) (limit : IsTrue (is_lawful_cut cut)) wh
   even : 0 < cut → 2 ≤ cut
   even some = grind (arith, nat_tests)
 
-  pub stages_shown : (stages : List (List Match)) → IsBracket (range_with_len 1 n) cut stages → All IsShownStage stages × (length stages ≤ 3)
+  pub stages_shown : (stages : List (List Match)) → IsBracket (range_with_len 1 n) cut stages → All FitStageRows stages × (length stages ≤ 3)
   stages_shown [] h = absurd (none-some h.first h.is_first)
   stages_shown (s ∷ more) h =
       let same : s ≡ h.first = same_Some s h.first h.is_first in

@@ -1,4 +1,4 @@
--- Which matches rows can show.
+-- Which matches fit the rows that show them.
 use Rattle.std.specs.Prelude.{ℕ, pos, Bool, ◌<◌, ◌-◌, IsTrue, IsFalse, IfSome, List, length, map, take, All}
 use Rattle.std.specs.Ordering.{int_eq}
 use Rattle.er_event.specs.declared.matches.Match.{Match}
@@ -8,7 +8,7 @@ use Rattle.er_event.specs.Round.{is_bye, numbered_from}
 use Rattle.er_event.specs.Rows.{pairing_row}
 
 -- the numbers are 16 bits wide, and a score is one of a Swiss round
-pub record IsShown (m : Match) : Type 0 where
+pub record FitsRow (m : Match) : Type 0 where
   pub first : m.a < 65536
   pub second : m.b < 65536
   pub score : IfSome m.score (λ s. IsTrue (is_swiss_score s))
@@ -22,9 +22,9 @@ abbrev pub table_rows : ℕ → ℕ → List Match → List PairingRow
 table_rows round table matches = map (pairing_row round) (numbered_from table matches)
 
 -- such matches, of which no other than the last is a bye
-pub record AreShown (matches : List Match) : Type 0 where
+pub record FitRows (matches : List Match) : Type 0 where
   pub some : 0 < length matches
-  pub each : All IsShown matches
+  pub each : All FitsRow matches
   pub bye_last : AreTables (take (length matches - 1) matches)
 
 -- a row of this round

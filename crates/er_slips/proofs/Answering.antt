@@ -19,7 +19,7 @@ use Rattle.er_rank.specs.declared.rows.Row.{Row}
 use Rattle.er_store.specs.Standing.{IsOther, KeepsOthers}
 use Rattle.sqlite_trees.specs.declared.store.Store.{Ghosts}
 use Rattle.er_desk.specs.declared.desk.Desk.{Desk}
-use Rattle.er_desk.specs.Desk.{Standing, Turn, ShowsOwn, point_of, standing, state, Reads, ReadsRows, ReadsSlip}
+use Rattle.er_desk.specs.Desk.{Standing, Turn, ShowsEvent, ShowsOwn, point_of, standing, state, Reads, ReadsRows, ReadsSlip}
 use Rattle.er_desk.specs.Headline.{LeavesJust, AreTheStandings}
 use Rattle.er_desk.specs.Reply.{Reply, receipt, reply_to, IsDue}
 use Rattle.er_slips.specs.declared.answer.Answer.{Answer}
@@ -35,10 +35,10 @@ use Rattle.er_slips.specs.Answer.{AnswerValue, answer_value, fault_answer, refus
 use Rattle.er_slips.specs.Whole.{ShowsStandings, ShowsPairings, row_answer, reply_answer, IsAnswered, submitted, IsAnswerUnless503}
 use Rattle.er_store.specs.Fault.{IsReadFault}
 use Rattle.er_store.specs.Slip.{FindsSlip}
-use Rattle.er_slips.specs.Serving.{IsShown, IsRowsAnswer, IsSlipAnswer, AnswersRequest, IsServed, IsUnserved, Writes, EndsServing, IsWritten}
+use Rattle.er_slips.specs.Serving.{IsRowsAnswer, IsSlipAnswer, AnswersRequest, IsServed, IsUnserved, Writes, EndsServing, IsWritten}
 
 pub reopening : (desk : Standing) (Shows : EventValue → AnswerValue → Type 0) (answer : AnswerValue) (why : Refusal)
-    → IsTrue desk.stopped × (why ≡ NeedsReopen) → answer ≡ refusal_answer why → IsShown desk Shows answer
+    → IsTrue desk.stopped × (why ≡ NeedsReopen) → answer ≡ refusal_answer why → ShowsEvent refusal_answer desk Shows answer
 reopening desk Shows answer why stopped is = inr (stopped.0, is ∙ ap refusal_answer stopped.1)
 
 -- an answer that was made, or want of memory
@@ -114,7 +114,7 @@ module _ (old new : Standing) (input : List ℕ) (answer : AnswerValue) (runs : 
   runs-on stopped = absurd (true≢false (sym stopped ∙ runs))
 
   shown-by : (asked : Result Asked Fault) (Shows : EventValue → AnswerValue → Type 0) → Asks input asked
-      → (Shows old.event answer → IsAnswered old.event old.serial asked answer) → IsShown old Shows answer → IsAnswerUnless503 old.event old.serial input answer
+      → (Shows old.event answer → IsAnswered old.event old.serial asked answer) → ShowsEvent refusal_answer old Shows answer → IsAnswerUnless503 old.event old.serial input answer
   shown-by asked Shows is to (inl (running, inl shows)) = exact asked is (to shows)
   shown-by asked Shows is to (inl (running, inr memory)) = hindered Memory refl memory
   shown-by asked Shows is to (inr (stopped, e)) = runs-on stopped

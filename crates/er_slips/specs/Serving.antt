@@ -4,13 +4,13 @@ use Rattle.std.specs.Prelude.{◌≡◌, ◌⊎◌, ◌≤◌, ℕ, IsTrue, IsFa
 use Rattle.std.specs.Io.KnownBytes.{Appends, Keeps}
 use Rattle.er_event.specs.declared.commands.Command.TheVariants.{Result as Hand}
 use Rattle.er_event.specs.declared.refusals.Refusal.{Refusal}
-use Rattle.er_event.specs.declared.refusals.Refusal.TheVariants.{Memory, NeedsReopen}
+use Rattle.er_event.specs.declared.refusals.Refusal.TheVariants.{Memory}
 use Rattle.er_event.specs.declared.slips.SlipRow.{SlipRow}
 use Rattle.er_event.specs.Event.{EventValue}
 use Rattle.er_paper.specs.Texts.{rows_text}
 use Rattle.er_rank.specs.declared.rows.Row.{Row}
 use Rattle.er_store.specs.Slip.{FindsSlip}
-use Rattle.er_desk.specs.Desk.{Standing, Turn, ReadsRows, ReadsSlip}
+use Rattle.er_desk.specs.Desk.{Standing, Turn, ReadsRows, ReadsSlip, ShowsEvent}
 use Rattle.er_desk.specs.Headline.{AreTheStandings}
 use Rattle.er_desk.specs.Reply.{Reply}
 use Rattle.er_slips.specs.declared.request.asked.Asked.{Asked}
@@ -23,10 +23,6 @@ use Rattle.er_slips.specs.Answer.{AnswerValue, fault_answer, refusal_answer, tex
 use Rattle.er_slips.specs.Whole.{ShowsPairings, row_answer, reply_answer, IsAnswerUnless503}
 
 -- ---- the desk
-
--- the event is shown, where memory serves and no fault of the store is behind
-abbrev pub IsShown : Standing → (EventValue → AnswerValue → Type 0) → AnswerValue → Type 0
-IsShown desk Shows answer = (IsFalse desk.stopped × (Shows desk.event answer ⊎ (answer ≡ refusal_answer Memory))) ⊎ (IsTrue desk.stopped × (answer ≡ refusal_answer NeedsReopen))
 
 -- of what was read, its slip, or want of memory in making it
 abbrev pub IsSlipAnswer : Result SlipRow Refusal → AnswerValue → Type 0
@@ -43,7 +39,7 @@ abbrev pub AnswersRequest : Type 0 → Standing → Result Asked Fault → Answe
 AnswersRequest Stood old (Err fault) answer new = (answer ≡ fault_answer fault) × (new ≡ old)
 AnswersRequest Stood old (Ok Standings) answer new =
     (read : Result (Vec Row Global) Refusal) × ReadsRows old read new × (Stood → IfOk read (λ rows. AreTheStandings old.event rows.items)) × IsRowsAnswer old.event read answer
-AnswersRequest Stood old (Ok (Pairings round)) answer new = IsShown old (ShowsPairings round) answer × (new ≡ old)
+AnswersRequest Stood old (Ok (Pairings round)) answer new = ShowsEvent refusal_answer old (ShowsPairings round) answer × (new ≡ old)
 AnswersRequest Stood old (Ok (Slip round table)) answer new =
     (read : Result SlipRow Refusal) × ReadsSlip old read new × (Stood → FindsSlip old.event round table read) × IsSlipAnswer read answer
 AnswersRequest Stood old (Ok (Report round table score)) answer new = (reply : Reply) × Turn old (Hand round table score) reply new × (answer ≡ reply_answer reply)

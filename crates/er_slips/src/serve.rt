@@ -2,13 +2,13 @@ ghost use Rattle.std.specs.Prelude.{◌≡◌, ◌⊎◌, Ok, IfSome, IsTrue, Is
 ghost use Rattle.sqlite.specs.State.{HasCleanDisk};
 ghost use Rattle.er_event.specs.declared.commands.Command.TheVariants as command;
 ghost use Rattle.er_store.specs.Standing.{KeepsOthers};
-ghost use Rattle.er_desk.specs.Desk.{Turn, ShowsOwn, point_of, standing, state};
+ghost use Rattle.er_desk.specs.Desk.{Turn, ShowsEvent, ShowsOwn, point_of, standing, state};
 ghost use Rattle.er_desk.specs.Headline.{LeavesJust};
 ghost use Rattle.er_paper.specs.Texts.{rows_text};
 ghost use Rattle.er_slips.specs.declared.request.asked.Asked.TheVariants as asked;
 ghost use Rattle.er_slips.specs.Answer.{answer_value, refusal_answer, text_answer};
 ghost use Rattle.er_slips.specs.Whole.{ShowsPairings, reply_answer};
-ghost use Rattle.er_slips.specs.Serving.{IsShown, IsSlipAnswer, AnswersRequest, Writes, EndsServing, IsWritten};
+ghost use Rattle.er_slips.specs.Serving.{IsSlipAnswer, AnswersRequest, Writes, EndsServing, IsWritten};
 
 mod sending;
 
@@ -81,7 +81,8 @@ fn standings<S: Alter>(alloc: Global, desk: &mut Desk<S>) -> Answer
 }
 
 fn pairings<S: Alter>(alloc: Global, desk: &Desk<S>, round: u8) -> Answer
-    ensures { IsShown (standing desk.now) (ShowsPairings round) (answer_value result) }
+    ensures { ShowsEvent refusal_answer (standing desk.now) (ShowsPairings round)
+        (answer_value result) }
 {
     match desk.event() {
         Ok(event) => answer_or_memory(pairings_answer(alloc, event, round)),

@@ -5,7 +5,7 @@ ghost use Rattle.er_event.specs.Sound.{IsPlayoff, AreStages, is_lawful_cut};
 ghost use Rattle.er_event.specs.declared.matches.Match.{Match};
 ghost use Rattle.er_event.specs.declared.refusals.Place.{Place};
 ghost use Rattle.er_event.specs.Rows.{bracket_row, stage_rows, bracket_rows_from};
-ghost use Rattle.er_event.specs.inside.Stages.{IsShownSlot, IsShownStage, is_of_stage};
+ghost use Rattle.er_event.specs.inside.Stages.{FitsSlotRow, FitStageRows, is_of_stage};
 ghost use Rattle.er_event.specs.declared.rows.bracket.TheConstants.{MAX_STAGES};
 
 use super::event::Setup;
@@ -56,7 +56,7 @@ const DAMAGED: PartsFault = PartsFault::Damaged(Place::BracketTable);
 const MAX_STAGES: u8 = 3;
 
 fn score_of(row: &BracketRow) -> Option<Option<Score>>
-    ensures { (stage : ℕ) (n : ℕ × Match) → IsShownSlot n.1 → row.now ≡ bracket_row stage n
+    ensures { (stage : ℕ) (n : ℕ × Match) → FitsSlotRow n.1 → row.now ≡ bracket_row stage n
         → result ≡ Some n.1.score }
 {
     match row.done {
@@ -73,7 +73,7 @@ fn score_of(row: &BracketRow) -> Option<Option<Score>>
 
 /// The match that a row can be of, if it is one.
 fn match_of(row: &BracketRow) -> Option<Match>
-    ensures { (stage : ℕ) (n : ℕ × Match) → IsShownSlot n.1 → row.now ≡ bracket_row stage n
+    ensures { (stage : ℕ) (n : ℕ × Match) → FitsSlotRow n.1 → row.now ≡ bracket_row stage n
         → result ≡ Some n.1 }
 {
     let a = u16::try_from(row.a).ok()?;
@@ -86,7 +86,7 @@ fn match_of(row: &BracketRow) -> Option<Match>
 fn read_match(stage: u8, slot: usize, row: &BracketRow) -> Option<Match>
     requires { slot < 9223372036854775808 }
     ensures value { IfSome result (λ m. row.now ≡ bracket_row stage (slot, m)) }
-    ensures exact { (m : Match) → IsShownSlot m → row.now ≡ bracket_row stage (slot, m)
+    ensures exact { (m : Match) → FitsSlotRow m → row.now ≡ bracket_row stage (slot, m)
         → result ≡ Some m }
 {
     let Some(played) = match_of(row) else {
@@ -102,7 +102,7 @@ fn read_match(stage: u8, slot: usize, row: &BracketRow) -> Option<Match>
 /// The matches of the slots 1, 2, .. of a stage.
 fn read_slots(alloc: Global, stage: u8, rows: &[BracketRow]) -> Result<Items<Match>, PartsFault>
     ensures value { IfOk result (λ ms. rows.now ≡ stage_rows stage ms) }
-    ensures exact { (ms : List Match) → All IsShownSlot ms → rows.now ≡ stage_rows stage ms
+    ensures exact { (ms : List Match) → All FitsSlotRow ms → rows.now ≡ stage_rows stage ms
         → MatchResult result (λ found. found ≡ ms) (λ why. why ≡ PartsFault.Memory) }
     ensures damaged { (place : Place) → result ≡ Err (PartsFault.Damaged place)
         → place ≡ Place.BracketTable }
@@ -134,8 +134,8 @@ fn read_next(
 ) -> Result<(Items<Match>, usize), PartsFault>
     ensures value { IfOk result (λ it. (take it.1 rows.now ≡ stage_rows stage it.0) × (0 < it.1)
         × (it.1 ≤ length rows.now)) }
-    ensures exact { (ms : List Match) (later : List (List Match)) → IsShownStage ms
-        → All IsShownStage later
+    ensures exact { (ms : List Match) (later : List (List Match)) → FitStageRows ms
+        → All FitStageRows later
         → rows.now ≡ stage_rows stage ms ++ bracket_rows_from (stage + 1) later
         → MatchResult result (λ it. (it.0 ≡ ms)
         × (it.1 ≡ length (stage_rows stage ms))) (λ why. why ≡ PartsFault.Memory) }
@@ -153,7 +153,7 @@ fn read_next(
 /// The stages of these rows, in the order of their key.
 fn read_stages(alloc: Global, rows: &[BracketRow]) -> Result<Vec<Items<Match>>, PartsFault>
     ensures value { IfOk result (λ stages. rows.now ≡ bracket_rows_from 1 stages.items) }
-    ensures exact { (stages : List (List Match)) → All IsShownStage stages
+    ensures exact { (stages : List (List Match)) → All FitStageRows stages
         → length stages ≤ MAX_STAGES → rows.now ≡ bracket_rows_from 1 stages
         → MatchResult result (λ found. found.items ≡ stages) (λ why. why ≡ PartsFault.Memory) }
     ensures damaged { (place : Place) → result ≡ Err (PartsFault.Damaged place)

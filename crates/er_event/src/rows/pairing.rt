@@ -10,7 +10,7 @@ ghost use Rattle.er_event.specs.Round.{is_bye, numbered_from, table_of};
 ghost use Rattle.er_event.specs.Score.{is_swiss_score};
 ghost use Rattle.er_event.specs.Match.{MayStand};
 ghost use Rattle.er_event.specs.declared.events.TheConstants.{MAX_ROUNDS};
-ghost use Rattle.er_event.specs.Pairings.{IsShown, AreTables, AreShown, table_rows, is_of};
+ghost use Rattle.er_event.specs.Pairings.{FitsRow, AreTables, FitRows, table_rows, is_of};
 
 use super::event::Setup;
 use crate::events::{MAX_ROUNDS, PartsFault, Phase};
@@ -59,7 +59,7 @@ impl PairingRow {
 const DAMAGED: PartsFault = PartsFault::Damaged(Place::PairingTable);
 
 fn score_of(row: &PairingRow) -> Option<Option<Score>>
-    ensures { (round : ℕ) (n : ℕ × Match) → IsShown n.1 → row.now ≡ pairing_row round n
+    ensures { (round : ℕ) (n : ℕ × Match) → FitsRow n.1 → row.now ≡ pairing_row round n
         → result ≡ Some n.1.score }
 {
     match row.done {
@@ -76,7 +76,7 @@ fn score_of(row: &PairingRow) -> Option<Option<Score>>
 
 /// The two players, the first-named one first.
 fn players_of(row: &PairingRow) -> Option<(u16, u16)>
-    ensures { (round : ℕ) (n : ℕ × Match) → IsShown n.1 → row.now ≡ pairing_row round n
+    ensures { (round : ℕ) (n : ℕ × Match) → FitsRow n.1 → row.now ≡ pairing_row round n
         → result ≡ Some (n.1.a, n.1.b) }
 {
     let lo = u16::try_from(row.lo).ok()?;
@@ -90,7 +90,7 @@ fn players_of(row: &PairingRow) -> Option<(u16, u16)>
 
 /// The match that a row can be of, if it is one.
 fn match_of(row: &PairingRow) -> Option<Match>
-    ensures { (round : ℕ) (n : ℕ × Match) → IsShown n.1 → row.now ≡ pairing_row round n
+    ensures { (round : ℕ) (n : ℕ × Match) → FitsRow n.1 → row.now ≡ pairing_row round n
         → result ≡ Some n.1 }
 {
     let Some((a, b)) = players_of(row) else {
@@ -113,7 +113,7 @@ fn table_of(table: usize, played: &Match) -> usize
 fn read_match(round: u8, table: usize, row: &PairingRow) -> Option<Match>
     requires { table < 9223372036854775808 }
     ensures value { IfSome result (λ m. row.now ≡ pairing_row round (table, m)) }
-    ensures exact { (m : Match) → IsShown m → row.now ≡ pairing_row round (table, m)
+    ensures exact { (m : Match) → FitsRow m → row.now ≡ pairing_row round (table, m)
         → result ≡ Some m }
 {
     let Some(played) = match_of(row) else {
@@ -144,7 +144,7 @@ fn read_table(round: u8, table: usize, row: &PairingRow) -> Option<Match>
     requires { table < 9223372036854775808 }
     ensures value { IfSome result (λ m. (row.now ≡ pairing_row round (table, m))
         × IsFalse (is_bye m)) }
-    ensures exact { (m : Match) → IsShown m → IsFalse (is_bye m)
+    ensures exact { (m : Match) → FitsRow m → IsFalse (is_bye m)
         → row.now ≡ pairing_row round (table, m) → result ≡ Some m }
 {
     match read_match(round, table, row) {
@@ -156,7 +156,7 @@ fn read_table(round: u8, table: usize, row: &PairingRow) -> Option<Match>
 /// The matches of the tables 1, 2, .. of a round.
 fn read_tables(alloc: Global, round: u8, rows: &[PairingRow]) -> Result<Items<Match>, PartsFault>
     ensures value { IfOk result (λ ms. (rows.now ≡ table_rows round 1 ms) × AreTables ms) }
-    ensures exact { (ms : List Match) → All IsShown ms → AreTables ms
+    ensures exact { (ms : List Match) → All FitsRow ms → AreTables ms
         → rows.now ≡ table_rows round 1 ms
         → MatchResult result (λ found. found ≡ ms) (λ why. why ≡ PartsFault.Memory) }
     ensures damaged { (place : Place) → result ≡ Err (PartsFault.Damaged place)
@@ -175,7 +175,7 @@ fn read_tables(alloc: Global, round: u8, rows: &[PairingRow]) -> Result<Items<Ma
 /// The bye that a row has.
 fn read_bye(round: u8, row: &PairingRow) -> Option<Match>
     ensures value { IfSome result (λ m. (row.now ≡ pairing_row round (0, m)) × IsTrue (is_bye m)) }
-    ensures exact { (m : Match) → IsShown m → IsTrue (is_bye m) → row.now ≡ pairing_row round (0, m)
+    ensures exact { (m : Match) → FitsRow m → IsTrue (is_bye m) → row.now ≡ pairing_row round (0, m)
         → result ≡ Some m }
 {
     match read_match(round, 0, row) {
@@ -192,7 +192,7 @@ fn read_with_bye(
     tables: &[PairingRow],
 ) -> Result<Items<Match>, PartsFault>
     ensures value { IfOk result (λ ms. bye.now ∷ tables.now ≡ keyed_round_rows round ms) }
-    ensures exact { (ms : List Match) (b : Match) → All IsShown ms → AreTables ms → IsShown b
+    ensures exact { (ms : List Match) (b : Match) → All FitsRow ms → AreTables ms → FitsRow b
         → IsTrue (is_bye b) → bye.now ≡ pairing_row round (0, b)
         → tables.now ≡ table_rows round 1 ms
         → MatchResult result (λ found. found ≡ ms ++ b ∷ []) (λ why. why ≡ PartsFault.Memory) }
@@ -217,7 +217,7 @@ fn is_bye_row(row: &PairingRow) -> bool
 /// The matches of a round of these rows, of which a bye's comes first.
 fn read_round(alloc: Global, round: u8, rows: &[PairingRow]) -> Result<Items<Match>, PartsFault>
     ensures value { IfOk result (λ ms. rows.now ≡ keyed_round_rows round ms) }
-    ensures exact { (ms : List Match) → AreShown ms → rows.now ≡ keyed_round_rows round ms
+    ensures exact { (ms : List Match) → FitRows ms → rows.now ≡ keyed_round_rows round ms
         → MatchResult result (λ found. found ≡ ms) (λ why. why ≡ PartsFault.Memory) }
     ensures damaged { (place : Place) → result ≡ Err (PartsFault.Damaged place)
         → place ≡ Place.PairingTable }
@@ -245,8 +245,8 @@ fn read_next(
 ) -> Result<(Items<Match>, usize), PartsFault>
     ensures value { IfOk result (λ it. (take it.1 rows.now ≡ keyed_round_rows round it.0)
         × (0 < it.1) × (it.1 ≤ length rows.now)) }
-    ensures exact { (ms : List Match) (later : List Round) → AreShown ms
-        → All (λ (r : Round). AreShown r.matches) later
+    ensures exact { (ms : List Match) (later : List Round) → FitRows ms
+        → All (λ (r : Round). FitRows r.matches) later
         → rows.now ≡ keyed_round_rows round ms ++ keyed_rows_from (round + 1) later
         → MatchResult result (λ it. (it.0 ≡ ms)
         × (it.1 ≡ length (keyed_round_rows round ms))) (λ why. why ≡ PartsFault.Memory) }
@@ -264,7 +264,7 @@ fn read_next(
 /// The rounds of these rows, in the order of their key.
 fn read_rounds(alloc: Global, rows: &[PairingRow]) -> Result<Vec<Round>, PartsFault>
     ensures value { IfOk result (λ rounds. rows.now ≡ keyed_rows_from 1 rounds.items) }
-    ensures exact { (rounds : List Round) → All (λ (r : Round). AreShown r.matches) rounds
+    ensures exact { (rounds : List Round) → All (λ (r : Round). FitRows r.matches) rounds
         → length rounds ≤ MAX_ROUNDS → rows.now ≡ keyed_rows_from 1 rounds
         → MatchResult result (λ found. found.items ≡ rounds) (λ why. why ≡ PartsFault.Memory) }
     ensures damaged { (place : Place) → result ≡ Err (PartsFault.Damaged place)

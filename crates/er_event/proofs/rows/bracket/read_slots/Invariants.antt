@@ -1,10 +1,10 @@
 use Rattle.std.proofs.Common.{◌≡◌, ◌+◌, ◌++◌, List, length, take, drop, All}
 use Rattle.er_event.specs.declared.matches.Match.{Match}
-use Rattle.er_event.specs.inside.Stages.{IsShownSlot, slot_rows}
+use Rattle.er_event.specs.inside.Stages.{FitsSlotRow, slot_rows}
 use Rattle.er_event.proofs.rows.bracket.read_slots.Given as goal
 
 abbrev pub invariant-loop-place : goal.invariant-loop-place
 invariant-loop-place l =
     (length l.matches ≡ l.place) × (take l.place l.rows ≡ slot_rows l.stage 1 l.matches)
-    × ((ms : List Match) → All IsShownSlot ms → l.rows ≡ slot_rows l.stage 1 ms
+    × ((ms : List Match) → All FitsSlotRow ms → l.rows ≡ slot_rows l.stage 1 ms
     → (rest : List Match) × (ms ≡ l.matches ++ rest) × (drop l.place l.rows ≡ slot_rows l.stage (l.place + 1) rest))

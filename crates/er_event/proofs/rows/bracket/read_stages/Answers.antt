@@ -4,7 +4,7 @@ use Rattle.std.proofs.lemmas.Grind.{common_steps}
 use Rattle.er_event.specs.declared.matches.Match.{Match}
 use Rattle.er_event.specs.declared.events.parts.PartsFault.TheVariants.{Memory}
 use Rattle.er_event.specs.Rows.{bracket_rows_from}
-use Rattle.er_event.specs.inside.Stages.{IsShownStage}
+use Rattle.er_event.specs.inside.Stages.{FitStageRows}
 use Rattle.er_event.proofs.StageLemmas.{next_shown, rest_from, value_more, drop_more, no_rows, rest_of}
 use Rattle.er_event.proofs.rows.bracket.read_stages.Goals as goal
 
@@ -53,5 +53,5 @@ loop-read-preserved c =
 pub returns-clause-exact : goal.returns-clause-exact
 returns-clause-exact c rs all few are =
     let left = c.loop-read.invariant.3 rs all few are in
-    let none = no_rows c.args.rows.now c.loop-read.read (length c.loop-read.stages.items + 1) left.0 (rest_of c.loop-read.stages.items left.0 (subst (All IsShownStage) left.1 all)) c.loop-read-test.false left.2 in
+    let none = no_rows c.args.rows.now c.loop-read.read (length c.loop-read.stages.items + 1) left.0 (rest_of c.loop-read.stages.items left.0 (subst (All FitStageRows) left.1 all)) c.loop-read-test.false left.2 in
     sym (left.1 ∙ (ap (λ l. c.loop-read.stages.items ++ l) none ∙ append-nil c.loop-read.stages.items))

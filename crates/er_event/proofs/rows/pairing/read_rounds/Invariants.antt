@@ -1,13 +1,13 @@
 use Rattle.std.proofs.Common.{◌≡◌, ◌≤◌, ◌+◌, ◌-◌, ◌++◌, List, length, take, drop, All}
 use Rattle.er_event.specs.declared.rounds.Round.{Round}
 use Rattle.er_event.specs.Rows.{keyed_rows_from}
-use Rattle.er_event.specs.Pairings.{AreShown}
+use Rattle.er_event.specs.Pairings.{FitRows}
 use Rattle.er_event.proofs.rows.pairing.read_rounds.Given as goal
 
 abbrev pub invariant-loop-read : goal.invariant-loop-read
 invariant-loop-read l =
     (l.read ≤ length l.rows) × (length l.rounds.items ≤ 9) × (take l.read l.rows ≡ keyed_rows_from 1 l.rounds.items)
-    × ((rs : List Round) → All (λ (r : Round). AreShown r.matches) rs → length rs ≤ 9 → l.rows ≡ keyed_rows_from 1 rs
+    × ((rs : List Round) → All (λ (r : Round). FitRows r.matches) rs → length rs ≤ 9 → l.rows ≡ keyed_rows_from 1 rs
     → (rest : List Round) × (rs ≡ l.rounds.items ++ rest) × (drop l.read l.rows ≡ keyed_rows_from (length l.rounds.items + 1) rest))
 
 abbrev pub decreases-loop-read : goal.decreases-loop-read

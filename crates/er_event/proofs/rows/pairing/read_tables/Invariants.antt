@@ -1,10 +1,10 @@
 use Rattle.std.proofs.Common.{◌≡◌, ◌+◌, ◌++◌, List, length, take, drop, All}
 use Rattle.er_event.specs.declared.matches.Match.{Match}
-use Rattle.er_event.specs.Pairings.{IsShown, AreTables, table_rows}
+use Rattle.er_event.specs.Pairings.{FitsRow, AreTables, table_rows}
 use Rattle.er_event.proofs.rows.pairing.read_tables.Given as goal
 
 abbrev pub invariant-loop-place : goal.invariant-loop-place
 invariant-loop-place l =
     (length l.matches ≡ l.place) × AreTables l.matches × (take l.place l.rows ≡ table_rows l.round 1 l.matches)
-    × ((ms : List Match) → All IsShown ms → AreTables ms → l.rows ≡ table_rows l.round 1 ms
+    × ((ms : List Match) → All FitsRow ms → AreTables ms → l.rows ≡ table_rows l.round 1 ms
     → (rest : List Match) × (ms ≡ l.matches ++ rest) × (drop l.place l.rows ≡ table_rows l.round (l.place + 1) rest))
