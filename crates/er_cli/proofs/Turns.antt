@@ -16,10 +16,6 @@ use Rattle.er_words.specs.declared.action.Action.{Action}
 use Rattle.er_cli.specs.declared.texts.Answer.TheVariants.{Refused}
 use Rattle.er_cli.specs.Script.{LineAnswers, standing_of}
 
-pub is_some-standing : {S : Type 0} {g : Ghosts S} (desk : Option (Desk S g)) → is_some (standing_of desk) ≡ is_some desk
-is_some-standing None = refl
-is_some-standing (Some desk) = refl
-
 -- memory may be wanting for any line, and then all stays as it is
 pub memory_answers : (old : Option Standing) (action : Option Action) → LineAnswers old action (Refused Memory) old
 memory_answers old None = (inr refl, refl)

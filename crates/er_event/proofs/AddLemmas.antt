@@ -117,10 +117,6 @@ take-before (s ∷ rs) r =
     let e : length ((s ∷ rs) ++ r ∷ []) - 1 ≡ suc (length (rs ++ r ∷ []) - 1) = let len = length-append rs (r ∷ []) in omega arith in
     ap (λ n. take n (s ∷ (rs ++ r ∷ []))) e ∙ ap (λ l. s ∷ l) (take-before rs r)
 
-some-stored : (rs : List Round) (r : Round) → rs ++ r ∷ [] ≡ [] → ⊥
-some-stored [] r e = cc
-some-stored (s ∷ rs) r e = cc
-
 abbrev Counted : Round → Type 0
 Counted r = IsTrue (is_counted r.matches)
 
@@ -179,16 +175,3 @@ module _ (e : EventValue) (ms : List Match) where
 
     pub round-follows : MayFollow (numbers e.players) e.stored ms
     round-follows = may_follow (numbers e.players) e.stored ms e.phase e.rounds h.rounds
-
-    -- a sound event with all its rounds takes no more
-    pub round-swiss : IsSoundButForSeeds e → e.phase ≡ Swiss
-    round-swiss old = by_phase e.phase refl
-      where
-        over : IsPlayoff e.phase → ⊥
-        over is = let all = (old.rounds.done is).0 in let few = round-few in omega arith
-
-        by_phase : (p : _) → e.phase ≡ p → e.phase ≡ Swiss
-        by_phase Enrolling is = absurd (some-stored e.stored (record { matches = ms }) (h.rounds.enrolling is))
-        by_phase Swiss is = is
-        by_phase Playoff is = absurd (over (inl is))
-        by_phase Finished is = absurd (over (inr is))

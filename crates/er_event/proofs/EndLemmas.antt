@@ -120,9 +120,6 @@ module _ (e : EventValue) (stage slot : ℕ) (m : Match) (is : slot_at e stage s
   pub low-stage : 1 ≤ stage
   low-stage = f.low.0
 
-  pub low-slot : 1 ≤ slot
-  low-slot = f.low.1
-
   few-old : length old ≤ 4
   few-old =
       let over = over e (stage - 1) old old f.at (slots-refl old) h in
@@ -137,9 +134,6 @@ module _ (e : EventValue) (stage slot : ℕ) (m : Match) (is : slot_at e stage s
   behind-some l at = ap (λ (i : ℕ). drop i e.bracket.stages) (next-place stage low-stage) ∙ drop-some stage e.bracket.stages l at
 
   module _ (stages : List (List Match)) (list : stages ≡ e.bracket.stages) (i j : ℕ) (same : i ≡ stage) (place : j ≡ slot) where
-    pub stage-within : i - 1 < length stages
-    stage-within = let within = within-get e.bracket.stages (stage - 1) old f.at in let count = ap length list in omega arith
-
     module _ (x : List Match) (there : x ≡ get_or stages (i - 1) x) where
       pub stage-is : x ≡ old
       stage-is = there ∙ (ap (λ (n : ℕ). get_or stages (n - 1) x) same ∙ (ap (λ (ss : List (List Match)). get_or ss (stage - 1) x) list ∙ get_or_from_slice_get e.bracket.stages (stage - 1) old x f.at))

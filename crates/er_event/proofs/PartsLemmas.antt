@@ -213,19 +213,6 @@ lawful_players phase players h k d below =
     let lawful = h.lawful k d.name (omega arith) in
     record { low = omega arith; high = omega arith; name = subst (λ n. IsTrue (is_lawful_name n)) (get_or-map (λ (q : Player). q.name) players k d) lawful }
 
-pub damaged_same : {A : Type 0} (table place : Place) → ◌≡◌ {A = Result A PartsFault} (Err (Damaged table)) (Err (Damaged place)) → table ≡ place
-damaged_same table place e = cc
-
-pub some-when : {A : Type 0} (xs ys : List A) → xs ≡ ys → (length xs == 0) ≡ false → ys ≢ []
-some-when {A} xs ys same some none = true≢false (sym (ap (λ (zs : List A). length zs == 0) (same ∙ none)) ∙ some)
-
 pub none-when : {A : Type 0} (xs ys : List A) → xs ≡ ys → (length xs == 0) ≡ true → ys ≡ []
 none-when [] ys same none = sym same
 none-when (x ∷ xs) ys same none = absurd (let n : ◌≡◌ {A = ℕ} (suc (length xs)) 0 = grind (arith, nat_tests) in omega arith)
-
-pub some-of : {A : Type 0} (xs : List A) (count : ℕ) → count ≡ length xs → (count == 0) ≡ false → xs ≢ []
-some-of {A} xs count is some none = true≢false (sym (ap (λ n. n == 0) (is ∙ ap (length {A = A}) none)) ∙ some)
-
-pub none-of : {A : Type 0} (xs : List A) (count : ℕ) → count ≡ length xs → (count == 0) ≡ true → xs ≡ []
-none-of [] count is none = refl
-none-of (x ∷ xs) count is none = absurd (let n : ◌≡◌ {A = ℕ} count 0 = grind (arith, nat_tests) in omega arith)

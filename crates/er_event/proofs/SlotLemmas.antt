@@ -45,9 +45,6 @@ module _ (ms ns : List Match) (half : length ns ≡ length ms / 2) (i : ℕ) whe
     pub winners-more : n.a ≡ winner x → n.b ≡ winner y → Winners ms ns i ↔ Winners ms ns (i + 1)
     winners-more a b = (λ h. (subst (λ (T : Type 0). T) winners-here h).1, λ h. subst (λ (T : Type 0). T) (sym winners-here) ((a, b), h))
 
-    pub winners-both : Winners ms ns i → (n.a ≡ winner x) × (n.b ≡ winner y)
-    winners-both h = (subst (λ (T : Type 0). T) winners-here h).0
-
   pub winners-end : length ns ≤ i → Winners ms ns i
   winners-end end = none (drop i ns) (drop (2 * i) ms) (let count = length-drop i ns in omega arith) (let count = length-drop (2 * i) ms in omega arith)
     where
@@ -84,13 +81,6 @@ follow-here stages i s within is =
     let here : drop i stages ≡ s ∷ drop (i + 1) stages = drop_more stages i s within ∙ ap (λ (t : List Match). t ∷ drop (i + 1) stages) (sym is) in
     subst (λ (ss : List (List Match)). FollowOn ss ↔ (Stands s (slice_get stages (i + 1)) × FollowOn (drop (i + 1) stages))) (sym here)
     (subst (λ (o : Option (List Match)). FollowOn (s ∷ drop (i + 1) stages) ↔ (Stands s o × FollowOn (drop (i + 1) stages))) (get-first stages (i + 1)) (follow-split s (drop (i + 1) stages)))
-
-pub follow-end : (stages : List (List Match)) (i : ℕ) → length stages ≤ i → FollowOn (drop i stages)
-follow-end stages i end = none (drop i stages) (let count = length-drop i stages in omega arith)
-  where
-    none : (ss : List (List Match)) → length ss ≡ 0 → FollowOn ss
-    none [] e = tt
-    none (s ∷ ss) e = absurd (omega arith)
 
 -- ---- the last stage
 

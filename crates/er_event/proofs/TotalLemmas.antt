@@ -88,16 +88,6 @@ one_match (n ∷ rest) once (suc k) m player below is sits round =
     own-append player (lines_of_match round n) (flat_map (lines_of_match round) rest)
     ∙ ap₂ ◌++◌ none (one_match rest (λ i j d before within. once (suc (suc i)) (suc (suc j)) d (omega arith) (omega arith)) k m player (omega arith) is sits round)
 
--- no line in the matches so far, nor in the next one
-pub unseen-more : (player : ℕ) (matches : List Match) (i : ℕ) (m : Match) → i < length matches → m ≡ get_or matches i m
-    → ((round : ℕ) → own player (flat_map (lines_of_match round) (take i matches)) ≡ []) → ((round : ℕ) → own player (lines_of_match round m) ≡ [])
-    → (round : ℕ) → own player (flat_map (lines_of_match round) (take (i + 1) matches)) ≡ []
-unseen-more player matches i m below is before none round =
-    ap (λ (front : List Match). own player (flat_map (lines_of_match round) front)) (take_more matches i m below ∙ ap (λ (x : Match). take i matches ++ x ∷ []) (sym is))
-    ∙ (ap (own player) (flat_map-append (lines_of_match round) (take i matches) (m ∷ []))
-    ∙ (own-append player (flat_map (lines_of_match round) (take i matches)) (flat_map (lines_of_match round) (m ∷ []))
-    ∙ ap₂ ◌++◌ (before round) (ap (own player) (append-nil (lines_of_match round m)) ∙ none round)))
-
 -- nor in any
 pub own-all : (player : ℕ) (matches : List Match) (i round : ℕ) → length matches ≤ i
     → own player (flat_map (lines_of_match round) (take i matches)) ≡ [] → own player (flat_map (lines_of_match round) matches) ≡ []

@@ -10,10 +10,6 @@ abbrev pub after_lines : {L : Type 0} → List L → Result (List L) CsvFault �
 after_lines lines (Ok later) = Ok (lines ++ later)
 after_lines lines (Err fault) = Err fault
 
-after_none : {L : Type 0} (r : Result (List L) CsvFault) → r ≡ after_lines [] r
-after_none (Ok lines) = refl
-after_none (Err fault) = refl
-
 after_one : {L : Type 0} (lines : List L) (place : ℕ) (line : L) (r : Result (List L) CsvFault) → after_lines lines (with_line place (Some line) r) ≡ after_lines (lines ++ line ∷ []) r
 after_one lines place line (Ok later) = ap Ok (sym (append_assoc lines (line ∷ []) later))
 after_one lines place line (Err fault) = refl
@@ -29,9 +25,6 @@ module _ {L : Type 0} (line : ℕ → List (List ℕ) → Option L) (rows : List
   abbrev pub Reached : List L → ℕ → Type 0
   Reached lines at = lines_from line 1 (map fields_of rows) ≡ after_lines lines (lines_from line (1 + at) (map fields_of (drop at rows)))
 
-  pub reached-start : Reached [] 0
-  reached-start = after_none (lines_from line 1 (map fields_of rows))
-
   module _ (lines : List L) (at : ℕ) (row : Row) (below : at < length rows) (is : row ≡ get_or rows at row) (so_far : Reached lines at) where
     here : lines_from line 1 (map fields_of rows) ≡ after_lines lines (with_line (1 + at) (line (1 + at) (fields_of row)) (lines_from line (1 + at + 1) (map fields_of (drop (suc at) rows))))
     here = so_far ∙ ap (λ (rs : List Row). after_lines lines (lines_from line (1 + at) (map fields_of rs))) (drop-cons rows at row below ∙ ap (λ r. r ∷ drop (suc at) rows) (sym is))
@@ -43,10 +36,3 @@ module _ {L : Type 0} (line : ℕ → List (List ℕ) → Option L) (rows : List
         here ∙ ap (λ o. after_lines lines (with_line (1 + at) o (lines_from line (1 + at + 1) (map fields_of (drop (suc at) rows))))) e
         ∙ after_one lines (1 + at) next (lines_from line (1 + at + 1) (map fields_of (drop (suc at) rows)))
         ∙ ap₂ (λ (n k : ℕ). after_lines (lines ++ next ∷ []) (lines_from line n (map fields_of (drop k rows)))) number later
-
-    pub reached-bad : line (1 + at) (fields_of row) ≡ None → lines_from line 1 (map fields_of rows) ≡ Err (BadRow (1 + at))
-    reached-bad e = here ∙ ap (λ o. after_lines lines (with_line (1 + at) o (lines_from line (1 + at + 1) (map fields_of (drop (suc at) rows))))) e
-
-  pub reached-end : (lines : List L) (at : ℕ) → length rows ≡ at → Reached lines at → lines_from line 1 (map fields_of rows) ≡ Ok lines
-  reached-end lines at n so_far =
-      so_far ∙ ap (λ (rs : List Row). after_lines lines (lines_from line (1 + at) (map fields_of rs))) (none_left rows at (omega arith)) ∙ ap Ok (append-nil lines)

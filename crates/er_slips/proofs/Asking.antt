@@ -47,15 +47,6 @@ path-text t is = by (path-cut t)
 -- ---- the head
 
 module _ (bytes : List ℕ) (headers : List HeaderSpan) (spans : RequestSpans) (head : RequestHead) (at : IsRequestAt bytes headers spans head) where
-  fields-of : List HeaderSpan
-  fields-of = take spans.headers headers
-
-  pub next-is : next_of head ≡ next_on (route_of (path_of (span_bytes bytes spans.path))) (span_bytes bytes spans.method) (map (header_bytes bytes) (take spans.headers headers))
-  next-is =
-      ap (λ t. next_on (route_of (path_of t)) head.method (map name_and_value head.fields)) (sym at.path)
-      ∙ ap (λ m. next_on (route_of (path_of (span_bytes bytes spans.path))) m (map name_and_value head.fields)) (sym at.method)
-      ∙ ap (λ fs. next_on (route_of (path_of (span_bytes bytes spans.path))) (span_bytes bytes spans.method) fs) (sym at.fields)
-
   pub path-is-text : IsUtf8 (path_of (span_bytes bytes spans.path))
   path-is-text = subst (λ t. IsUtf8 (path_of t)) (sym at.path) (path-text head.target at.reads.0.target_text)
 

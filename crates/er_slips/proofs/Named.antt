@@ -74,12 +74,6 @@ second-at fields i field value below is so so_far =
     ∙ ap (λ fs. fs ++ filter counted (drop (i + 1) fields)) front in
     ap (λ fs. if list_any refused fields then Err BadRequest else only_length fs) counts ∙ second (list_any refused fields) (so_far.0, value.now) field (filter counted (drop (i + 1) fields))
 
-pub none-found : (fields : List HeadField) → list_any refused fields ≡ false → HasFound fields None → body_length fields ≡ Err BadRequest
-none-found fields not so_far = rw (not, so_far) refl
-
-pub one-found : (fields : List HeadField) (value : Bor (List ℕ)) → list_any refused fields ≡ false → HasFound fields (Some value) → body_length fields ≡ length_of value.now
-one-found fields value not so_far = rw (not, so_far.1) refl
-
 pub second-found : (fields : List HeadField) (i : ℕ) (field : HeadField) (found : Option (Bor (List ℕ))) → i < length fields → field ≡ get_or fields i field → counted field ≡ true
     → is_some found ≡ true → HasFound (take i fields) found → body_length fields ≡ Err BadRequest
 second-found fields i field None below is so some so_far = absurd (cc)

@@ -289,9 +289,6 @@ root text h =
 abbrev plain : Rows
 plain = (table_pattern, 2) ∷ (round_pattern, 1) ∷ (codes "/standings", 0) ∷ []
 
-plain_is : plain ≡ prepend (47 ∷ []) (rounds_rows ++ standings_rows)
-plain_is = refl
-
 pub first_plain : (path : List ℕ) → IsText path → first plain path ≡ number_of_route path
 first_plain path h =
     first-prefix (47 ∷ []) (rounds_rows ++ standings_rows) path (lit< tt, tt)

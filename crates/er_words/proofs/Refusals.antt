@@ -84,9 +84,6 @@ and_no false = refl
 abbrev top_built : Shape
 top_built = record bare.top { is_leaf = false; is_built = true }
 
-top_is : (built program).top ≡ top_built
-top_is = refl
-
 name_turn : (w : Text) → is_name w ≡ true → turn_fault top_built labels (walk_from nothing_held) w ≡ []
 name_turn w named =
     ap₂ (λ (o : Option Text) (m : Held × Step). or_else (other_fault top_built o w nothing_held) (step_fault top_built 1 m.0 m.1))

@@ -120,15 +120,6 @@ leaf_built n = record (leaf n) { rules = leaf_rules; is_built = true; no_binary_
 abbrev pub label_built : Text → Text × List Text
 label_built n = (n, [])
 
-subs_are : (built program).subs ≡ map leaf_built names
-subs_are = refl
-
-rules_are : (built program).top.rules ≡ []
-rules_are = refl
-
-names_are : names_of (built program) ≡ map label_built names
-names_are = refl
-
 pub simple_and_free : is_simple_and_free program ≡ true
 simple_and_free = refl
 

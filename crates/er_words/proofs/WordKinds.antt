@@ -28,82 +28,11 @@ mapped : {A B : Type 0} (f : A → B) (o : Option A) → is_some o ≡ is_some (
 mapped f None = refl
 mapped f (Some a) = refl
 
-some_both : {A B : Type 0} (a : Option A) (b : Option B) → (is_some a && is_some b) ≡ is_some (both a b)
-some_both (Some a) (Some b) = refl
-some_both (Some a) None = refl
-some_both None b = refl
-
 some_three : {A B C : Type 0} (a : Option A) (b : Option B) (c : Option C) → (is_some a && (is_some b && is_some c)) ≡ is_some (all_three a b c)
 some_three (Some a) (Some b) (Some c) = refl
 some_three (Some a) (Some b) None = refl
 some_three (Some a) None c = refl
 some_three None b c = refl
-
--- FILE alone
-pub takes-lone : (f : List ℕ → Line) → Takes (Text ∷ []) (λ words. option_map f (lone_file words))
-takes-lone f [] = refl
-takes-lone f (file ∷ []) = refl
-takes-lone f (file ∷ more ∷ words) = refl
-
--- FILE and a value
-lone_value : {A : Type 0} (value : Option A) (f : A → Line) → (is_some value && true) ≡ is_some (option_map f value)
-lone_value value f = and_true (is_some value) ∙ mapped f value
-
--- two values behind FILE
-two_values : {A B : Type 0} (a : Option A) (b : Option B) (f : A × B → Line) → (is_some a && (is_some b && true)) ≡ is_some (option_map f (both a b))
-two_values a b f = ap (λ (last : Bool). is_some a && last) (and_true (is_some b)) ∙ some_both a b ∙ mapped f (both a b)
-
-pub takes-init : Takes (Text ∷ Text ∷ SmallNumber ∷ SmallNumber ∷ []) init_of
-takes-init [] = refl
-takes-init (file ∷ []) = refl
-takes-init (file ∷ name ∷ []) = refl
-takes-init (file ∷ name ∷ rounds ∷ []) = and_false (is_some (number_below 256 rounds))
-takes-init (file ∷ name ∷ rounds ∷ cut ∷ []) = two_values (number_below 256 rounds) (number_below 256 cut) _
-takes-init (file ∷ name ∷ rounds ∷ cut ∷ more ∷ words) = ap (λ (last : Bool). is_some (number_below 256 rounds) && last) (and_false (is_some (number_below 256 cut))) ∙ and_false (is_some (number_below 256 rounds))
-
-pub takes-enrol : Takes (Text ∷ Text ∷ []) enrol_of
-takes-enrol [] = refl
-takes-enrol (file ∷ []) = refl
-takes-enrol (file ∷ name ∷ []) = refl
-takes-enrol (file ∷ name ∷ more ∷ words) = refl
-
-pub takes-import : Takes (Text ∷ Text ∷ []) import_of
-takes-import [] = refl
-takes-import (file ∷ []) = refl
-takes-import (file ∷ list ∷ []) = refl
-takes-import (file ∷ list ∷ more ∷ words) = refl
-
-pub takes-pair : Takes (Text ∷ SmallNumber ∷ Seed ∷ []) pair_of
-takes-pair [] = refl
-takes-pair (file ∷ []) = refl
-takes-pair (file ∷ round ∷ []) = and_false (is_some (number_below 256 round))
-takes-pair (file ∷ round ∷ seed ∷ []) = two_values (number_below 256 round) (seed_of seed) _
-takes-pair (file ∷ round ∷ seed ∷ more ∷ words) = ap (λ (last : Bool). is_some (number_below 256 round) && last) (and_false (is_some (seed_of seed))) ∙ and_false (is_some (number_below 256 round))
-
-pub takes-drop : Takes (Text ∷ Number ∷ []) drop_of
-takes-drop [] = refl
-takes-drop (file ∷ []) = refl
-takes-drop (file ∷ player ∷ []) = lone_value (number_below 65536 player) _
-takes-drop (file ∷ player ∷ more ∷ words) = and_false (is_some (number_below 65536 player))
-
-pub takes-slips : Takes (Text ∷ SmallNumber ∷ []) slips_of
-takes-slips [] = refl
-takes-slips (file ∷ []) = refl
-takes-slips (file ∷ round ∷ []) = lone_value (number_below 256 round) _
-takes-slips (file ∷ round ∷ more ∷ words) = and_false (is_some (number_below 256 round))
-
-pub takes-export : Takes (Text ∷ ListKind ∷ []) export_of
-takes-export [] = refl
-takes-export (file ∷ []) = refl
-takes-export (file ∷ kind ∷ []) = lone_value (kind_of kind) _
-takes-export (file ∷ kind ∷ more ∷ words) = and_false (is_some (kind_of kind))
-
-pub takes-serve : Takes (Text ∷ Number ∷ Count ∷ []) serve_of
-takes-serve [] = refl
-takes-serve (file ∷ []) = refl
-takes-serve (file ∷ port ∷ []) = and_false (is_some (number_below 65536 port))
-takes-serve (file ∷ port ∷ count ∷ []) = two_values (number_below 65536 port) (count_of count) _
-takes-serve (file ∷ port ∷ count ∷ more ∷ words) = ap (λ (last : Bool). is_some (number_below 65536 port) && last) (and_false (is_some (count_of count))) ∙ and_false (is_some (number_below 65536 port))
 
 -- ---- scores
 

@@ -45,16 +45,6 @@ module _ (bits limit : ℕ) (is_limit : 2 ^ bits ≡ limit) (word : List ℕ) (a
       let unread : ¬ ((0 < length word) × (digits_value 10 word < 2 ^ bits)) = parse_digits numerals {E = E} bits word (Err e) parsed all in
       sym (below-none (λ h. unread (h.1, subst (λ m. digits_value 10 word < m) (sym is_limit) h.2)))
 
--- a number of connections, by the number that the word is
-pub count_of-none : (word : List ℕ) → number_below 4294967296 word ≡ None → count_of word ≡ None
-count_of-none word none = grind (arith, nat_tests)
-
-pub count_of-some : (word : List ℕ) (n : ℕ) → number_below 4294967296 word ≡ Some n → 0 < n → n ≤ 1000000 → count_of word ≡ Some n
-count_of-some word n is some most = grind (arith, nat_tests)
-
-pub count_of-out : (word : List ℕ) (n : ℕ) → number_below 4294967296 word ≡ Some n → ¬ ((0 < n) × (n ≤ 1000000)) → count_of word ≡ None
-count_of-out word n is out = grind (arith, nat_tests)
-
 -- ---- a line of a script
 
 script_line-text : (line : List ℕ) → IsUtf8 line → script_line line ≡ line_of (with_file (fields_of line))
@@ -75,15 +65,6 @@ words-fields [] items d line words same are some is = absurd (omega arith)
 words-fields (f ∷ rest) items d line words same are some is =
     is ∙ ap (λ (vs : List (Bor (List ℕ))). f.now ∷ codes "script" ∷ map (λ (value : Bor (List ℕ)). value.now) vs) (take_all (length (f ∷ rest) - 1) rest (omega arith))
     ∙ ap with_file (ap (map (λ (field : Bor (List ℕ)). field.now)) same ∙ are)
-
-pub words-push : {S : Type 0} (text : S → List ℕ) (words : List S) (word : S) (front : List (List ℕ)) (values : List (Bor (List ℕ))) (i : ℕ) (d : Bor (List ℕ)) → i < length values
-    → map text words ≡ front ++ map (λ (value : Bor (List ℕ)). value.now) (take i values) → text word ≡ (get_or values i d).now
-    → map text (words ++ word ∷ []) ≡ front ++ map (λ (value : Bor (List ℕ)). value.now) (take (i + 1) values)
-words-push text words word front values i d within are is =
-    map-append text words (word ∷ [])
-    ∙ ap₂ (λ (ws : List (List ℕ)) (w : List ℕ). ws ++ w ∷ []) are is
-    ∙ append_assoc front (map (λ (value : Bor (List ℕ)). value.now) (take i values)) ((get_or values i d).now ∷ [])
-    ∙ ap (λ ws. front ++ ws) (sym (map_more (λ (value : Bor (List ℕ)). value.now) values i d within))
 
 -- ---- the subcommand that words name
 
