@@ -7,9 +7,9 @@ function are put into one copy of the crate, and one check says of each function
 judge, as a function that calls another one that is refused, is tried again without these beside it, and at last alone.
 
 Beside the gate, which leaves processors idle while crates wait for those below them, a crate's wrong bodies are tried as soon as the gate
-has proved it, over copies of the libraries that it made. There those of public functions are tried each time, and those with a line
-`tried: always`; the others of private functions come in turns, by the day of the commit. With no turn given, all are tried. Where time is
-short, on a machine that others use, what is left is named, and not tried.
+has proved it, over copies of the libraries that it made. There those with a line `tried: always` are tried each time, and so is one of each public function, which changes by the day of
+the commit; those of private functions come in turns by that day too. With no turn given, all are tried. Where time is short, on a machine
+that others use, what is left is named, and not tried.
 """
 import argparse
 import concurrent.futures
@@ -161,9 +161,16 @@ def is_public(crate, function):
 
 
 def of_turn(crate, bodies, turn):
-    """The wrong bodies that are tried in this turn: those that are tried each time, and a part of the others."""
-    always = [it for it in bodies if it.is_always or any(is_public(crate, function) for function in it.functions)]
-    return always + [it for it in bodies if it not in always][turn % TURNS :: TURNS]
+    """The wrong bodies that are tried in this turn: those that are tried each time, one of each public function, and a part of the others."""
+    always = [it for it in bodies if it.is_always or EXAMPLES in it.functions]
+    public, private = {}, []
+    for body in (it for it in bodies if it not in always):
+        called = sorted(function for function in body.functions if is_public(crate, function))
+        if called:
+            public.setdefault(called[0], []).append(body)
+        else:
+            private.append(body)
+    return always + [its[turn % len(its)] for its in public.values()] + private[turn % TURNS :: TURNS]
 
 
 def said_of(crate, function, output, constants):
