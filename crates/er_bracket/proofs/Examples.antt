@@ -12,7 +12,8 @@ won a b = record { a = a; b = b; score = Some (record { x = 2; y = 0; d = 0 }) }
 lost : ℕ → ℕ → Match
 lost a b = record { a = a; b = b; score = Some (record { x = 0; y = 2; d = 0 }) }
 
-eight_seeds : first_stage (11 ∷ 12 ∷ 13 ∷ 14 ∷ 15 ∷ 16 ∷ 17 ∷ 18 ∷ []) ≡ open_match 11 18 ∷ open_match 14 15 ∷ open_match 12 17 ∷ open_match 13 16 ∷ []
+eight_seeds : first_stage (11 ∷ 12 ∷ 13 ∷ 14 ∷ 15 ∷ 16 ∷ 17 ∷ 18 ∷ []) ≡ open_match 11 18 ∷ open_match 14 15 ∷ open_match 12 17 ∷ open_match
+    13 16 ∷ []
 eight_seeds = refl
 
 four_seeds : first_stage (5 ∷ 6 ∷ 1 ∷ 3 ∷ []) ≡ open_match 5 3 ∷ open_match 6 1 ∷ []

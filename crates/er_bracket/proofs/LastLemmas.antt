@@ -1,5 +1,6 @@
 -- The last match of a bracket is the only match of its last stage.
-use Rattle.std.proofs.Common.{◌≡◌, ◌≢◌, ℕ, zero, suc, ◌+◌, ◌-◌, ◌<◌, ◌≤◌, List, [], ◌∷◌, length, get_or, Option, Some, None, refl, sym, ap, ◌∙◌, arith}
+use Rattle.std.proofs.Common.{◌≡◌, ◌≢◌, ℕ, zero, suc, ◌+◌, ◌-◌, ◌<◌, ◌≤◌, List, [], ◌∷◌, length, get_or, Option, Some, None, refl, sym, ap}
+use Rattle.std.proofs.Common.{◌∙◌, arith}
 use Rattle.er_event.specs.declared.matches.Match.{Match}
 use Rattle.er_event.specs.Bracket.{last_match}
 
@@ -27,7 +28,8 @@ last-at (s ∷ t ∷ more) zero d end = absurd (omega arith)
 last-at (s ∷ t ∷ more) (suc i) d end = last-after s t more ∙ last-at (t ∷ more) i d (omega arith)
 
 -- the last stage as it is read
-pub last-read : (stages : List (List Match)) (last : List Match) → 1 ≤ length stages → last ≡ get_or stages (length stages - 1) last → last_match stages ≡ only_match last
+pub last-read : (stages : List (List Match)) (last : List Match) → 1 ≤ length stages → last ≡ get_or stages (length stages - 1) last
+    → last_match stages ≡ only_match last
 last-read stages last some is = last-at stages (length stages - 1) last (omega arith) ∙ ap only_match (sym is)
 
 pub only-one : (stage : List Match) (m : Match) → 1 ≤ length stage → length stage < 2 → m ≡ get_or stage 0 m → only_match stage ≡ Some m

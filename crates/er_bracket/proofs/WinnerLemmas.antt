@@ -1,5 +1,6 @@
 -- Each player of a sound event's bracket is one of the event's, and so is its champion.
-use Rattle.std.proofs.Common.{◌≡◌, ℕ, ◌≤◌, ◌&&◌, inr, Bool, true, false, cond, List, [], ◌∷◌, length, flat_map, Contains, IsSome, IfSome, Option, Some, None, is_some, refl, sym, ap, subst, ◌∙◌, true≢false, arith}
+use Rattle.std.proofs.Common.{◌≡◌, ℕ, ◌≤◌, ◌&&◌, inr, Bool, true, false, cond, List, [], ◌∷◌, length, flat_map, Contains, IsSome, IfSome}
+use Rattle.std.proofs.Common.{Option, Some, None, is_some, refl, sym, ap, subst, ◌∙◌, true≢false, arith}
 use Rattle.std.specs.List.{slice_get, range_with_len, AllByRecursion}
 use Rattle.std.proofs.lemmas.List.Elements.{recursion_from_All}
 use Rattle.std.proofs.lemmas.List.FromFn.{get_or-range_with_len, length-range_with_len}
@@ -65,14 +66,17 @@ module _ (P : ℕ → Type 0) where
   same-each (m ∷ ms) [] same h = absurd same
   same-each (m ∷ ms) (n ∷ ns) same h = ((subst P (sym same.0.0) h.0.0, subst P (sym same.0.1) h.0.1), same-each ms ns same.1 h.1)
 
-  last-both : (stage : List Match) (later : List (List Match)) (m : Match) → FollowOn (stage ∷ later) → Each stage → last_match (stage ∷ later) ≡ Some m → Both m
+  last-both : (stage : List Match) (later : List (List Match)) (m : Match) → FollowOn (stage ∷ later) → Each stage
+      → last_match (stage ∷ later) ≡ Some m → Both m
   last-both [] [] m follow h is = absurd (none-some m is)
   last-both (n ∷ []) [] m follow h is = subst Both (same_Some n m is) h.0
   last-both (n ∷ k ∷ more) [] m follow h is = absurd (none-some m is)
   last-both stage (next ∷ more) m follow h is =
-      last-both next more m follow.3 (same-each next (next_stage stage) follow.2 (next-each stage follow.0 h)) (sym (last-after stage next more) ∙ is)
+      last-both next more m follow.3 (same-each next (next_stage stage) follow.2 (next-each stage follow.0 h))
+      (sym (last-after stage next more) ∙ is)
 
-  from-first : (stages : List (List Match)) (first : List Match) (m : Match) → slice_get stages 0 ≡ Some first → FollowOn stages → Each first → last_match stages ≡ Some m → Both m
+  from-first : (stages : List (List Match)) (first : List Match) (m : Match) → slice_get stages 0 ≡ Some first → FollowOn stages
+      → Each first → last_match stages ≡ Some m → Both m
   from-first [] first m at follow h is = absurd (none-some first at)
   from-first (stage ∷ later) first m at follow h is = last-both stage later m follow (subst Each (sym (same_Some stage first at)) h) is
 
@@ -86,7 +90,8 @@ known-number players k has =
     let is = has.2 in
     (omega arith, omega arith)
 
-module _ (e : EventValue) (sound : IsSoundButForSeeds e) (over : e.phase ≡ Finished) (m : Match) (is : last_match e.bracket.stages ≡ Some m) where
+module _ (e : EventValue) (sound : IsSoundButForSeeds e) (over : e.phase ≡ Finished) (m : Match)
+    (is : last_match e.bracket.stages ≡ Some m) where
   last-played : IsSome m.score
   last-played = MatchOption-at_some ⊥ (λ (k : Match). IsSome k.score) m is (sound.bracket.decided over)
 
@@ -95,8 +100,10 @@ module _ (e : EventValue) (sound : IsSoundButForSeeds e) (over : e.phase ≡ Fin
       let known : ℕ → Type 0 = λ k. Contains (numbers e.players) k in
       let b = sound.bracket.bracket (inr over) in
       let seated = each-seated known b.first (recursion_from_All known (flat_map seats b.first) b.known_players) in
-      let has = won known m (played-true m.score last-played) (from-first known e.bracket.stages b.first m b.is_first b.follows seated is) in
-      let within = known-number (length e.players) (winner m) (subst (λ (ns : List ℕ). Contains ns (winner m)) sound.players.numbered has) in
+      let has = won known m (played-true m.score last-played) (from-first known e.bracket.stages b.first m b.is_first b.follows seated is)
+      in
+      let within = known-number (length e.players) (winner m) (subst (λ (ns : List ℕ). Contains ns (winner m)) sound.players.numbered has)
+      in
       let few = sound.players.few in
       (within.0, omega arith)
 

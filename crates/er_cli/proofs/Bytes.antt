@@ -3,7 +3,9 @@ use Rattle.std.proofs.Common.{◌≡◌, ℕ, ◌+◌, ◌-◌, List, ◌++◌, 
 use Rattle.std.proofs.Math.Seq.{take-add}
 
 -- one read more
-pub grown : (old new : List ℕ) (filled count : ℕ) → take filled new ≡ take filled old → take filled old ++ slice_range new filled (filled + count) ≡ take (filled + count) new
+pub grown : (old new : List ℕ) (filled count : ℕ) → take filled new ≡ take filled old
+    → take filled old ++ slice_range new filled (filled + count) ≡ take (filled + count) new
 grown old new filled count kept =
     let e : filled + count - filled ≡ count = omega arith in
-    ap (λ k. take filled old ++ take k (drop filled new)) e ∙ ap (λ t. t ++ take count (drop filled new)) (sym kept) ∙ sym (take-add filled count new)
+    ap (λ k. take filled old ++ take k (drop filled new)) e ∙ ap (λ t. t ++ take count (drop filled new)) (sym kept)
+    ∙ sym (take-add filled count new)

@@ -13,38 +13,71 @@ prints_whole lines before after prints = record {
   count = length lines;
   answers = prints.answers;
   last = prints.last;
-  runs = subst (λ (ls : List (List ℕ)). RunsLines None ls prints.answers prints.last) (sym (take_all (length lines) lines (omega arith))) prints.runs;
+  runs = subst (λ (ls : List (List ℕ)). RunsLines None ls prints.answers prints.last) (sym (take_all (length lines) lines (omega arith)))
+      prints.runs;
   printed = whole_part before after _ prints.printed;
 }
 
 pub serves_part : (input before after : Option (List ℕ)) → Serves input before after → Breaks input before after
-serves_part input before after served = inr (inl (record { script = served.script; whole = served.whole; small = served.small; prints = prints_whole _ before after served.prints }))
+serves_part input before after served = inr (inl (record {
+  script = served.script;
+  whole = served.whole;
+  small = served.small;
+  prints = prints_whole _ before after served.prints;
+}))
 
 pub Breaks-kept : (input before mid after : Option (List ℕ)) → Breaks input before mid → Keeps mid after → Breaks input before after
 Breaks-kept input before mid after (inl none) keeps = inl (Keeps-trans before mid after none keeps)
 Breaks-kept input before mid after (inr (inl served)) keeps =
     let prints = served.prints in
-    inr (inl (record { script = served.script; whole = served.whole; small = served.small; prints = record { count = prints.count; answers = prints.answers; last = prints.last; runs = prints.runs; printed = part_kept before mid after _ prints.printed keeps } }))
+    inr (inl (record {
+      script = served.script;
+      whole = served.whole;
+      small = served.small;
+      prints = record {
+        count = prints.count;
+        answers = prints.answers;
+        last = prints.last;
+        runs = prints.runs;
+        printed = part_kept before mid after _ prints.printed keeps;
+      };
+    }))
 Breaks-kept input before mid after (inr (inr (inl long))) keeps = inr (inr (inl (long.0, part_kept before mid after _ long.1 keeps)))
 Breaks-kept input before mid after (inr (inr (inr memory))) keeps = inr (inr (inr (part_kept before mid after _ memory keeps)))
 
-pub Ends-kept : (input before mid after : Option (List ℕ)) (status : ℕ) → Ends input before mid status → Keeps mid after → Ends input before after status
+pub Ends-kept : (input before mid after : Option (List ℕ)) (status : ℕ) → Ends input before mid status → Keeps mid after
+    → Ends input before after status
 Ends-kept input before mid after status ends keeps = record {
-  done = λ is. let served = ends.done is in let prints = served.prints in record { script = served.script; whole = served.whole; small = served.small; prints = record { answers = prints.answers; last = prints.last; runs = prints.runs; printed = Appends-kept before mid after _ prints.printed keeps } };
+  done = λ is. let served = ends.done is in let prints =
+      served.prints in record {
+        script = served.script;
+        whole = served.whole;
+        small = served.small;
+        prints = record {
+          answers = prints.answers;
+          last = prints.last;
+          runs = prints.runs;
+          printed = Appends-kept before mid after _ prints.printed keeps;
+        };
+      };
   too_long = λ is. ((ends.too_long is).0, Appends-kept before mid after _ (ends.too_long is).1 keeps);
   device = λ is. Breaks-kept input before mid after (ends.device is) keeps;
   memory = λ is. Appends-kept before mid after _ (ends.memory is) keeps;
   one_of = ends.one_of;
 }
 
-broken : (input before after : Option (List ℕ)) (status : ℕ) → Ends input before after status → (status ≡ DONE) ⊎ (status ≡ USAGE) ⊎ (status ≡ DEVICE) ⊎ (status ≡ MEMORY) → Breaks input before after
+broken : (input before after : Option (List ℕ)) (status : ℕ) → Ends input before after status
+    → (status ≡ DONE) ⊎ (status ≡ USAGE) ⊎ (status ≡ DEVICE) ⊎ (status ≡ MEMORY) → Breaks input before after
 broken input before after status ends (inl is) = serves_part input before after (ends.done is)
-broken input before after status ends (inr (inl is)) = inr (inr (inl ((ends.too_long is).0, whole_part before after _ (ends.too_long is).1)))
+broken input before after status ends (inr (inl is)) =
+    inr (inr (inl ((ends.too_long is).0, whole_part before after _ (ends.too_long is).1)))
 broken input before after status ends (inr (inr (inl is))) = ends.device is
 broken input before after status ends (inr (inr (inr is))) = inr (inr (inr (whole_part before after _ (ends.memory is))))
 
-pub Ends-breaks : (input before mid after : Option (List ℕ)) (status : ℕ) → Ends input before mid status → Keeps mid after → Breaks input before after
-Ends-breaks input before mid after status ends keeps = Breaks-kept input before mid after (broken input before mid status ends ends.one_of) keeps
+pub Ends-breaks : (input before mid after : Option (List ℕ)) (status : ℕ) → Ends input before mid status → Keeps mid after
+    → Breaks input before after
+Ends-breaks input before mid after status ends keeps =
+    Breaks-kept input before mid after (broken input before mid status ends ends.one_of) keeps
 
 -- the status of a fault says no more than what was printed
 pub Ends-device : (input before after : Option (List ℕ)) → Breaks input before after → Ends input before after DEVICE

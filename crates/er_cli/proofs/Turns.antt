@@ -1,10 +1,8 @@
 -- The turns of a script's lines.
-use Rattle.std.proofs.Common.{◌≡◌, IsFalse, Option, Some, None, Result, Ok, Err, IfOk, is_some, is_ok, true≢false, refl, ap, subst, inl, inr}
+use Rattle.std.proofs.Common.{IsFalse, Option, Some, None, Result, Ok, Err, IfOk, is_ok, true≢false, refl, ap, subst, inl, inr}
 use Rattle.std.specs.Prelude.{⊤}
-use Rattle.sqlite_trees.specs.declared.store.Store.{Ghosts}
 use Rattle.er_event.specs.declared.refusals.Refusal.{Refusal}
 use Rattle.er_event.specs.declared.refusals.Refusal.TheVariants.{Memory}
-use Rattle.er_desk.specs.declared.desk.Desk.{Desk}
 use Rattle.er_desk.specs.Desk.{Standing, Turn, Reads}
 use Rattle.er_desk.specs.Reply.{Reply}
 use Rattle.er_event.specs.declared.commands.Command.{Command}
@@ -14,7 +12,7 @@ use Rattle.er_cli.specs.declared.texts.Answer.{Answer}
 use Rattle.er_cli.specs.Answers.{DeskAnswers}
 use Rattle.er_words.specs.declared.action.Action.{Action}
 use Rattle.er_cli.specs.declared.texts.Answer.TheVariants.{Refused}
-use Rattle.er_cli.specs.Script.{LineAnswers, standing_of}
+use Rattle.er_cli.specs.Script.{LineAnswers}
 
 -- memory may be wanting for any line, and then all stays as it is
 pub memory_answers : (old : Option Standing) (action : Option Action) → LineAnswers old action (Refused Memory) old
@@ -27,13 +25,15 @@ ran_on old new command reply (inr (inl it)) runs = it.was_running
 ran_on old new command reply (inr (inr (inl it))) runs = it.was_running
 ran_on old new command reply (inr (inr (inr it))) runs = subst (λ (s : Standing). IsFalse s.stopped) it.same runs
 
-ran_reading : {A : Type 0} (passing : Refusal) (old new : Standing) (read : Result A Refusal) → Reads passing old read new → IsFalse new.stopped → IsFalse old.stopped
+ran_reading : {A : Type 0} (passing : Refusal) (old new : Standing) (read : Result A Refusal) → Reads passing old read new
+    → IsFalse new.stopped → IsFalse old.stopped
 ran_reading passing old new read (inl it) runs = it.0
 ran_reading passing old new read (inr (inl it)) runs = it.0
 ran_reading passing old new read (inr (inr it)) runs = subst (λ (s : Standing). IsFalse s.stopped) it.1 runs
 
 -- a desk that no fault has stopped had none before
-pub ran_before : (Stood : Type 0) (old new : Standing) (request : Request) (answer : Answer) → DeskAnswers Stood old request answer new → IsFalse new.stopped → IsFalse old.stopped
+pub ran_before : (Stood : Type 0) (old new : Standing) (request : Request) (answer : Answer) → DeskAnswers Stood old request answer new
+    → IsFalse new.stopped → IsFalse old.stopped
 ran_before Stood old new (Submit command) answer it runs = ran_on old new command it.0 it.1 runs
 ran_before Stood old new Players answer it runs = subst (λ (s : Standing). IsFalse s.stopped) it.1 runs
 ran_before Stood old new Standings answer it runs = ran_reading Memory old new it.0 it.1 runs
@@ -42,7 +42,8 @@ ran_before Stood old new Bracket answer it runs = subst (λ (s : Standing). IsFa
 ran_before Stood old new (Export kind) answer it runs = subst (λ (s : Standing). IsFalse s.stopped) it.1 runs
 
 -- what is read rests on the tables of a desk that runs, and else nothing is read
-read_stood : {A : Type 0} (Stood : Type 0) (Are : A → Type 0) (passing : Refusal) (old new : Standing) (read : Result A Refusal) → (IsFalse old.stopped → Stood)
+read_stood : {A : Type 0} (Stood : Type 0) (Are : A → Type 0) (passing : Refusal) (old new : Standing) (read : Result A Refusal)
+    → (IsFalse old.stopped → Stood)
     → Reads passing old read new → (Stood → IfOk read Are) → IfOk read Are
 read_stood Stood Are passing old new (Ok it) stood (inl reads) found = found (stood reads.0)
 read_stood Stood Are passing old new (Ok it) stood (inr (inl (running, same, why, fault, e))) found = absurd (true≢false (ap is_ok e))
@@ -50,11 +51,13 @@ read_stood Stood Are passing old new (Ok it) stood (inr (inr (stopped, same, e))
 read_stood Stood Are passing old new (Err why) stood reads found = tt
 
 -- over tables that stand, the answers rest on nothing else
-pub stood_answers : (Stood : Type 0) (old new : Standing) (request : Request) (answer : Answer) → (IsFalse old.stopped → Stood) → DeskAnswers Stood old request answer new
+pub stood_answers : (Stood : Type 0) (old new : Standing) (request : Request) (answer : Answer) → (IsFalse old.stopped → Stood)
+    → DeskAnswers Stood old request answer new
     → DeskAnswers ⊤ old request answer new
 stood_answers Stood old new (Submit command) answer stood it = it
 stood_answers Stood old new Players answer stood it = it
-stood_answers Stood old new Standings answer stood (read, reads, found, e) = (read, reads, (λ _. read_stood Stood _ Memory old new read stood reads found), e)
+stood_answers Stood old new Standings answer stood (read, reads, found, e) =
+    (read, reads, (λ _. read_stood Stood _ Memory old new read stood reads found), e)
 stood_answers Stood old new (Slips round) answer stood it = it
 stood_answers Stood old new Bracket answer stood it = it
 stood_answers Stood old new (Export kind) answer stood it = it

@@ -1,6 +1,6 @@
 -- What a desk answers to a request.
 use Rattle.std.specs.Global.{Global}
-use Rattle.std.specs.Prelude.{◌≡◌, ◌⊎◌, ℕ, IsTrue, IsFalse, List, Option, Some, None, Result, Ok, Err, IfOk, Vec}
+use Rattle.std.specs.Prelude.{◌≡◌, ◌⊎◌, ℕ, List, Option, Some, None, Result, Ok, Err, IfOk, Vec}
 use Rattle.er_event.specs.declared.refusals.Refusal.{Refusal}
 use Rattle.er_event.specs.declared.refusals.Refusal.TheVariants.{Memory, NoSuchMatch}
 use Rattle.er_event.specs.Event.{EventValue}

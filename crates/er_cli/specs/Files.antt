@@ -16,7 +16,6 @@ use Rattle.er_words.specs.declared.action.Action.{Action}
 use Rattle.er_words.specs.declared.action.Action.TheVariants.{Init, Open}
 use Rattle.er_words.specs.declared.action.Task.{Task}
 use Rattle.er_words.specs.declared.action.Task.TheVariants.{Ask, Import, Serve}
-use Rattle.er_words.specs.declared.action.Request.{Request}
 use Rattle.er_cli.specs.declared.texts.Answer.{Answer}
 use Rattle.er_cli.specs.declared.texts.Answer.TheVariants.{Refused}
 use Rattle.er_cli.specs.declared.TheConstants.{DEVICE}

@@ -19,11 +19,13 @@ use Rattle.er_desk.specs.Desk.{Point}
 use Rattle.er_desk.specs.Headline.{WasLeft}
 use Rattle.er_desk.proofs.Turns.{unchanged_keeps}
 
-pub point_is : (point : Point) (e : EventValue) (n : ℕ) → e ≡ point.event → n ≡ point.serial → ◌≡◌ {A = Point} (record { event = e; serial = n }) point
+pub point_is : (point : Point) (e : EventValue) (n : ℕ) → e ≡ point.event → n ≡ point.serial
+    → ◌≡◌ {A = Point} (record { event = e; serial = n }) point
 point_is point e n event serial = ap₂ (λ (x : EventValue) (k : ℕ). (let p : Point = record { event = x; serial = k } in p)) event serial
 
 pub shows_as : (s : State) (e f : EventValue) (m n : ℕ) → f ≡ e → n ≡ m → Shows s e m → Shows s f n
-shows_as s e f m n event serial shows = subst (λ (k : ℕ). Shows s f k) (sym serial) (subst (λ (x : EventValue). Shows s x m) (sym event) shows)
+shows_as s e f m n event serial shows = subst (λ (k : ℕ). Shows s f k) (sym serial)
+    (subst (λ (x : EventValue). Shows s x m) (sym event) shows)
 
 -- the event's rows are read where the tables are
 pub read_whole : (db : Database) (parts : Parts) → ReadsParts db parts → ReadsEvent db.schema
@@ -48,14 +50,22 @@ module _ (s : State) (image : Image) (opened : Opens s × IsLive s) (found : Fin
   sees db holds = ap (λ (d : Database). d.trees) opened.0.clean ∙ found.holds db holds
 
   -- what a crash left stands for its event again
-  pub opened_stands : (point : Point) → ((db : Database) (e : EventValue) (n : ℕ) → IsDatabase db → IsStored e n db.trees → StandsFor db e n) → WasLeft image point → StandsFor s.now point.event point.serial
-  opened_stands point law (db, holds, stored) = law s.now point.event point.serial (opened.1 opened.0.is_open).0 (subst (IsStored point.event point.serial) (sym (sees db holds)) stored)
+  pub opened_stands : (point : Point) → ((db : Database) (e : EventValue) (n : ℕ) → IsDatabase db → IsStored e n db.trees
+      → StandsFor db e n) → WasLeft image point → StandsFor s.now point.event point.serial
+  opened_stands point law (db, holds, stored) = law s.now point.event point.serial (opened.1 opened.0.is_open).0
+      (subst (IsStored point.event point.serial) (sym (sees db holds)) stored)
 
-  pub sees_unchanged : (new : State) (db : Trees) → HoldsDatabase image db → IsUnchanged s new → (new.now.trees ≡ db) × (new.now ≡ new.committed)
-  sees_unchanged new db holds same = (ap (λ (d : Database). d.trees) same.0.now_is ∙ sees db holds, same.0.now_is ∙ (opened.0.clean ∙ sym same.0.committed_is))
+  pub sees_unchanged : (new : State) (db : Trees) → HoldsDatabase image db → IsUnchanged s new
+      → (new.now.trees ≡ db) × (new.now ≡ new.committed)
+  sees_unchanged new db holds same = (
+    ap (λ (d : Database). d.trees) same.0.now_is ∙ sees db holds,
+    same.0.now_is ∙ (opened.0.clean ∙ sym same.0.committed_is),
+  )
 
-  pub sees_kept : (new : State) (db : Trees) → HoldsDatabase image db → KeepsTables s new → IsTrue new.is_open → (new.now.trees ≡ db) × (new.now ≡ new.committed)
-  sees_kept new db holds keeps is_open = let kept = keeps opened.0.clean is_open in (ap (λ (d : Database). d.trees) kept.0 ∙ sees db holds, kept.0 ∙ sym kept.1)
+  pub sees_kept : (new : State) (db : Trees) → HoldsDatabase image db → KeepsTables s new → IsTrue new.is_open
+      → (new.now.trees ≡ db) × (new.now ≡ new.committed)
+  sees_kept new db holds keeps is_open = let kept =
+      keeps opened.0.clean is_open in (ap (λ (d : Database). d.trees) kept.0 ∙ sees db holds, kept.0 ∙ sym kept.1)
 
 -- less is told of what is left
 pub if_left : {A : Type 0} (o : Option A) (P Q : A → Type 0) → ((a : A) → P a → Q a) → IfSome o P → IfSome o Q

@@ -1,5 +1,6 @@
 -- A history is one fold.
-use Rattle.std.proofs.Common.{◌≡◌, ◌⊎◌, inl, inr, ℕ, ◌+◌, eqb, true, false, List, [], ◌∷◌, ◌++◌, length, take, drop, Option, Some, None, Ok, MatchOption, IfSome, refl, sym, ap, ap₂, subst, ◌∙◌, arith, length-append, append-nil}
+use Rattle.std.proofs.Common.{◌≡◌, ◌⊎◌, inl, inr, ℕ, ◌+◌, eqb, true, false, List, [], ◌∷◌, ◌++◌, length, take, drop, Option, Some, None, Ok}
+use Rattle.std.proofs.Common.{MatchOption, IfSome, refl, sym, ap, ap₂, subst, ◌∙◌, arith, length-append, append-nil}
 use Rattle.std.specs.List.{slice_get}
 use Rattle.std.proofs.lemmas.Bool.Decides.{nat_tests}
 use Rattle.std.proofs.lemmas.List.{take-append-drop, take-take, drop-take, take_more}
@@ -18,7 +19,8 @@ use Rattle.er_desk.specs.History.{Ended, IsHistory, LeadsTo, found_of, accepted,
 use Rattle.er_desk.specs.Resuming.{SendsFrom, AllResume}
 use Rattle.er_desk.proofs.Folding.{Folds-append, Folds-one}
 
-pub leads_then : (first mid last : Point) (xs ys : List Command) → LeadsTo first xs mid → LeadsTo mid ys last → LeadsTo first (xs ++ ys) last
+pub leads_then : (first mid last : Point) (xs ys : List Command) → LeadsTo first xs mid → LeadsTo mid ys last
+    → LeadsTo first (xs ++ ys) last
 leads_then first mid last xs ys one two =
     let long = length-append xs ys in
     let a = one.serial in
@@ -28,42 +30,57 @@ leads_then first mid last xs ys one two =
 kept_leads : (first : Point) (s : Session) (last : Point) → EndsAfterKept first s last → LeadsTo first s.kept last
 kept_leads first s last ends = record { event = ends.event; serial = ends.serial }
 
-doubt_leads : (first : Point) (s : Session) (last : Point) (doubt : Command) → EndsWithDoubt first s last doubt → LeadsTo first (s.kept ++ doubt ∷ []) last
+doubt_leads : (first : Point) (s : Session) (last : Point) (doubt : Command) → EndsWithDoubt first s last doubt
+    → LeadsTo first (s.kept ++ doubt ∷ []) last
 doubt_leads first s last doubt ends =
-    let more : LeadsTo ends.mid (doubt ∷ []) last = record { event = Folds-one ends.mid.event last.event doubt ends.event; serial = ends.serial } in
+    let more : LeadsTo ends.mid (doubt ∷ []) last =
+    record { event = Folds-one ends.mid.event last.event doubt ends.event; serial = ends.serial } in
     leads_then first ends.mid last s.kept (doubt ∷ []) (kept_leads first s ends.mid ends.kept) more
 
 -- with the doubt, the serial is one higher
-doubt_serial : (first : Point) (s : Session) (last : Point) (doubt : Command) → EndsWithDoubt first s last doubt → eqb last.serial (first.serial + length s.kept) ≡ false
+doubt_serial : (first : Point) (s : Session) (last : Point) (doubt : Command) → EndsWithDoubt first s last doubt
+    → eqb last.serial (first.serial + length s.kept) ≡ false
 doubt_serial first s last doubt ends =
     let a = ends.kept.serial in
     let b = ends.serial in
     grind (arith, nat_tests)
 
-kept_serial : (first : Point) (s : Session) (last : Point) → EndsAfterKept first s last → eqb last.serial (first.serial + length s.kept) ≡ true
+kept_serial : (first : Point) (s : Session) (last : Point) → EndsAfterKept first s last
+    → eqb last.serial (first.serial + length s.kept) ≡ true
 kept_serial first s last ends = let a = ends.serial in grind (arith, nat_tests)
 
 -- what the next session found
 pub found_leads : (first : Point) (it : Ended) → MayEnd first it.session it.last → LeadsTo first (found_of first.serial it) it.last
-found_leads first it (inl kept) = rw (kept_serial first it.session it.last kept) (rw (append-nil it.session.kept) (kept_leads first it.session it.last kept))
+found_leads first it (inl kept) = rw (kept_serial first it.session it.last kept)
+    (rw (append-nil it.session.kept) (kept_leads first it.session it.last kept))
 found_leads first it (inr with_doubt) = by_doubt it.session.doubt refl with_doubt
   where
-    by_doubt : (o : Option Command) → it.session.doubt ≡ o → MatchOption o ⊥ (EndsWithDoubt first it.session it.last) → LeadsTo first (found_of first.serial it) it.last
+    by_doubt : (o : Option Command) → it.session.doubt ≡ o → MatchOption o ⊥ (EndsWithDoubt first it.session it.last)
+        → LeadsTo first (found_of first.serial it) it.last
     by_doubt None is none = absurd none
-    by_doubt (Some doubt) is ends = rw (doubt_serial first it.session it.last doubt ends) (rw is (doubt_leads first it.session it.last doubt ends))
+    by_doubt (Some doubt) is ends = rw (doubt_serial first it.session it.last doubt ends)
+        (rw is (doubt_leads first it.session it.last doubt ends))
 
 -- the last session may have its doubt or not
-last_leads : (first : Point) (it : Ended) → MayEnd first it.session it.last → LeadsTo first (it.session.kept ++ listed it.session.doubt) it.last ⊎ LeadsTo first it.session.kept it.last
+last_leads : (first : Point) (it : Ended) → MayEnd first it.session it.last
+    → LeadsTo first (it.session.kept ++ listed it.session.doubt) it.last ⊎ LeadsTo first it.session.kept it.last
 last_leads first it (inl kept) = inr (kept_leads first it.session it.last kept)
 last_leads first it (inr with_doubt) = by_doubt it.session.doubt refl with_doubt
   where
-    by_doubt : (o : Option Command) → it.session.doubt ≡ o → MatchOption o ⊥ (EndsWithDoubt first it.session it.last) → LeadsTo first (it.session.kept ++ listed it.session.doubt) it.last ⊎ LeadsTo first it.session.kept it.last
+    by_doubt : (o : Option Command) → it.session.doubt ≡ o → MatchOption o ⊥ (EndsWithDoubt first it.session it.last)
+        → LeadsTo first (it.session.kept ++ listed it.session.doubt) it.last ⊎ LeadsTo first it.session.kept it.last
     by_doubt None is none = absurd none
     by_doubt (Some doubt) is ends = inl (rw is (doubt_leads first it.session it.last doubt ends))
 
-pub history_leads : (first : Point) (ends : List Ended) (last : Point) → IsHistory first ends last → LeadsTo first (accepted first.serial ends) last ⊎ LeadsTo first (accepted_surely first.serial ends) last
-history_leads first [] last is = inl (record { event = ap (λ (p : Point). p.event) is; serial = let same = ap (λ (p : Point). p.serial) is in omega arith })
-history_leads first (it ∷ []) last (ends, is) = subst (λ (p : Point). LeadsTo first (it.session.kept ++ listed it.session.doubt) p ⊎ LeadsTo first it.session.kept p) (sym is) (last_leads first it ends)
+pub history_leads : (first : Point) (ends : List Ended) (last : Point) → IsHistory first ends last
+    → LeadsTo first (accepted first.serial ends) last ⊎ LeadsTo first (accepted_surely first.serial ends) last
+history_leads first [] last is = inl (record {
+  event = ap (λ (p : Point). p.event) is;
+  serial = let same = ap (λ (p : Point). p.serial) is in omega arith;
+})
+history_leads first (it ∷ []) last (ends, is) = subst
+    (λ (p : Point). LeadsTo first (it.session.kept ++ listed it.session.doubt) p ⊎ LeadsTo first it.session.kept p) (sym is)
+    (last_leads first it ends)
 history_leads first (it ∷ next ∷ more) last (ends, rest) =
     let before = found_leads first it ends in
     elim (history_leads it.last (next ∷ more) last rest) [
@@ -79,7 +96,8 @@ KeepsSound = (event next : EventValue) (command : Command) → IsSound event →
 
 pub fold_sound : KeepsSound → (first last : EventValue) (commands : List Command) → IsSound first → Folds first commands last → IsSound last
 fold_sound keeps first last [] sound is = subst IsSound (sym is) sound
-fold_sound keeps first last (command ∷ more) sound (next, steps, rest) = fold_sound keeps next last more (keeps first next command sound steps) rest
+fold_sound keeps first last (command ∷ more) sound (next, steps, rest) =
+    fold_sound keeps next last more (keeps first next command sound steps) rest
 
 -- ---- a new event
 
@@ -124,30 +142,41 @@ take_add a b xs =
     sym (take-append-drop a (take (a + b) xs)) ∙ ap₂ ◌++◌ (take-take a (a + b) xs (omega arith)) (drop-take a b xs)
 
 one_more : (xs : List Command) (n : ℕ) (d : Command) → slice_get xs n ≡ Some d → take (n + 1) xs ≡ take n xs ++ d ∷ []
-one_more xs n d at = take_more xs n d (slice_get_within xs n d at) ∙ ap (λ (x : Command). take n xs ++ x ∷ []) (get_or_from_slice_get xs n d d at)
+one_more xs n d at = take_more xs n d (slice_get_within xs n d at) ∙ ap
+    (λ (x : Command). take n xs ++ x ∷ []) (get_or_from_slice_get xs n d d at)
 
-sent : (start : EventValue) (commands : List Command) (first : Point) (it : Ended) → Folds start (take first.serial commands) first.event → SendsFrom commands first.serial it.session → (mid : Point)
+sent : (start : EventValue) (commands : List Command) (first : Point) (it : Ended) → Folds start (take first.serial commands) first.event
+    → SendsFrom commands first.serial it.session → (mid : Point)
     → EndsAfterKept first it.session mid → Folds start (take mid.serial commands) mid.event
 sent start commands first it so_far sends mid ends =
     let whole : take mid.serial commands ≡ take first.serial commands ++ it.session.kept
-    = ap (λ (n : ℕ). take n commands) ends.serial ∙ (take_add first.serial (length it.session.kept) commands ∙ ap (λ (xs : List Command). take first.serial commands ++ xs) (sym sends.kept)) in
-    subst (λ (xs : List Command). Folds start xs mid.event) (sym whole) (Folds-append start first.event mid.event (take first.serial commands) it.session.kept so_far ends.event)
+    = ap (λ (n : ℕ). take n commands) ends.serial
+    ∙ (take_add first.serial (length it.session.kept) commands ∙ ap (λ (xs : List Command). take first.serial commands ++ xs)
+    (sym sends.kept)) in
+    subst (λ (xs : List Command). Folds start xs mid.event) (sym whole)
+    (Folds-append start first.event mid.event (take first.serial commands) it.session.kept so_far ends.event)
 
-one_sent : (start : EventValue) (commands : List Command) (first : Point) (it : Ended) → Folds start (take first.serial commands) first.event → SendsFrom commands first.serial it.session
+one_sent : (start : EventValue) (commands : List Command) (first : Point) (it : Ended)
+    → Folds start (take first.serial commands) first.event → SendsFrom commands first.serial it.session
     → MayEnd first it.session it.last → Folds start (take it.last.serial commands) it.last.event
 one_sent start commands first it so_far sends (inl kept) = sent start commands first it so_far sends it.last kept
 one_sent start commands first it so_far sends (inr with_doubt) = by_doubt it.session.doubt refl with_doubt sends.doubt
   where
-    by_doubt : (o : Option Command) → it.session.doubt ≡ o → MatchOption o ⊥ (EndsWithDoubt first it.session it.last) → IfSome o (λ d. slice_get commands (first.serial + length it.session.kept) ≡ Some d)
+    by_doubt : (o : Option Command) → it.session.doubt ≡ o → MatchOption o ⊥ (EndsWithDoubt first it.session it.last)
+        → IfSome o (λ d. slice_get commands (first.serial + length it.session.kept) ≡ Some d)
         → Folds start (take it.last.serial commands) it.last.event
     by_doubt None is none at = absurd none
     by_doubt (Some d) is ends at =
         let before = sent start commands first it so_far sends ends.mid ends.kept in
         let place : slice_get commands ends.mid.serial ≡ Some d = ap (slice_get commands) ends.kept.serial ∙ at in
-        let more : take it.last.serial commands ≡ take ends.mid.serial commands ++ d ∷ [] = ap (λ (n : ℕ). take n commands) ends.serial ∙ one_more commands ends.mid.serial d place in
-        subst (λ (xs : List Command). Folds start xs it.last.event) (sym more) (Folds-append start ends.mid.event it.last.event (take ends.mid.serial commands) (d ∷ []) before (Folds-one ends.mid.event it.last.event d ends.event))
+        let more : take it.last.serial commands ≡ take ends.mid.serial commands ++ d ∷ [] = ap (λ (n : ℕ). take n commands) ends.serial
+        ∙ one_more commands ends.mid.serial d place in
+        subst (λ (xs : List Command). Folds start xs it.last.event) (sym more)
+        (Folds-append start ends.mid.event it.last.event (take ends.mid.serial commands) (d ∷ []) before
+        (Folds-one ends.mid.event it.last.event d ends.event))
 
-pub all_sent : (start : EventValue) (commands : List Command) (first : Point) (ends : List Ended) (last : Point) → Folds start (take first.serial commands) first.event → IsHistory first ends last
+pub all_sent : (start : EventValue) (commands : List Command) (first : Point) (ends : List Ended) (last : Point)
+    → Folds start (take first.serial commands) first.event → IsHistory first ends last
     → AllResume commands first.serial ends → Folds start (take last.serial commands) last.event
 all_sent start commands first [] last so_far is resume = subst (λ (p : Point). Folds start (take p.serial commands) p.event) (sym is) so_far
 all_sent start commands first (it ∷ more) last so_far (ends, rest) (sends, later) =

@@ -1,5 +1,6 @@
 -- A run in plain words.
-use Rattle.std.proofs.Common.{◌≡◌, ◌⊎◌, inl, inr, ℕ, zero, suc, ◌+◌, ◌<◌, IsTrue, List, [], ◌∷◌, length, take, Some, Ok, Err, refl, sym, ap, subst, ◌∙◌, arith}
+use Rattle.std.proofs.Common.{◌≡◌, ◌⊎◌, inl, inr, ℕ, zero, suc, ◌+◌, ◌<◌, IsTrue, List, [], ◌∷◌, length, take, Some, Ok, Err, refl, sym, ap}
+use Rattle.std.proofs.Common.{subst, ◌∙◌, arith}
 use Rattle.std.specs.List.{slice_get}
 use Rattle.std.proofs.lemmas.Option.{none-some, same_Some}
 use Rattle.er_event.specs.declared.commands.Command.{Command}
@@ -22,15 +23,18 @@ runs_stopped old new (c ∷ cs) [] is was = absurd is
 runs_stopped old new (c ∷ cs) (r ∷ rs) (mid, turn, rest) was = runs_stopped mid new cs rs rest (stopped_of old mid c r turn (inl was))
 
 -- each reply is lawful, or the desk is stopped
-pub turn_lawful : (old new : Standing) (c : Command) (r : Reply) → Turn old c r new → IsLawful old.event old.serial c r ⊎ ((r ≡ Err NeedsReopen) × IsTrue old.stopped)
+pub turn_lawful : (old new : Standing) (c : Command) (r : Reply) → Turn old c r new
+    → IsLawful old.event old.serial c r ⊎ ((r ≡ Err NeedsReopen) × IsTrue old.stopped)
 turn_lawful old new c r (inl it) =
     inl (inl (Ok new.event, it.taken, it.answered ∙ (ap (λ (n : ℕ). Ok (receipt n)) it.serial_is ∙ reply-low old.serial new.event it.room)))
 turn_lawful old new c r (inr (inl it)) = by_cause it.cause
   where
-    by_cause : (it.why ≡ Memory) ⊎ IsDue old.event old.serial c (Err it.why) → IsLawful old.event old.serial c r ⊎ ((r ≡ Err NeedsReopen) × IsTrue old.stopped)
+    by_cause : (it.why ≡ Memory) ⊎ IsDue old.event old.serial c (Err it.why)
+        → IsLawful old.event old.serial c r ⊎ ((r ≡ Err NeedsReopen) × IsTrue old.stopped)
     by_cause (inl memory) = inl (inr (inl (it.answered ∙ ap (λ (w : Refusal). Err w) memory)))
     by_cause (inr due) = inl (inl (due.0, due.1, it.answered ∙ due.2))
-turn_lawful old new c r (inr (inr (inl it))) = inl (inr (inr ((Ok it.next, it.taken, reply-low old.serial it.next it.room), it.why, it.fault, it.answered)))
+turn_lawful old new c r (inr (inr (inl it))) = inl
+    (inr (inr ((Ok it.next, it.taken, reply-low old.serial it.next it.room), it.why, it.fault, it.answered)))
 turn_lawful old new c r (inr (inr (inr it))) = inr (it.answered, it.was_stopped)
 
 -- at each place
@@ -40,26 +44,32 @@ At old cs rs new k c r =
     × (IsLawful mid (old.serial + length (acknowledged (take k cs) (take k rs))) c r ⊎ ((r ≡ Err NeedsReopen) × IsTrue new.stopped))
 
 -- the runs before and after a place
-split : (old new : Standing) (cs : List Command) (rs : List Reply) (k : ℕ) (c : Command) (r : Reply) → Runs old cs rs new → slice_get cs k ≡ Some c → slice_get rs k ≡ Some r
-    → (mid : Standing) × (next : Standing) × Runs old (take k cs) (take k rs) mid × Turn mid c r next × (IsTrue next.stopped → IsTrue new.stopped)
+split : (old new : Standing) (cs : List Command) (rs : List Reply) (k : ℕ) (c : Command) (r : Reply) → Runs old cs rs new
+    → slice_get cs k ≡ Some c → slice_get rs k ≡ Some r
+    → (mid : Standing) × (next : Standing) × Runs old (take k cs) (take k rs) mid × Turn mid c r next
+    × (IsTrue next.stopped → IsTrue new.stopped)
 split old new [] rs k c r is at there = absurd (none-some c at)
 split old new (x ∷ cs) [] k c r is at there = absurd (none-some r there)
 split old new (x ∷ cs) (y ∷ rs) zero c r (mid, turn, rest) at there =
-    let here : Turn old c r mid = subst (λ (a : Command). Turn old a r mid) (same_Some x c at) (subst (λ (b : Reply). Turn old x b mid) (same_Some y r there) turn) in
+    let here : Turn old c r mid = subst (λ (a : Command). Turn old a r mid) (same_Some x c at)
+    (subst (λ (b : Reply). Turn old x b mid) (same_Some y r there) turn) in
     (old, mid, refl, here, runs_stopped mid new cs rs rest)
 split old new (x ∷ cs) (y ∷ rs) (suc k) c r (mid, turn, rest) at there =
     let more = split mid new cs rs k c r rest at there in
     (more.0, more.1, (mid, turn, more.2), more.3, more.4)
 
 -- a stopped desk answers each command alike
-all_wait : (old new : Standing) (cs : List Command) (rs : List Reply) → Runs old cs rs new → IsTrue old.stopped → (k : ℕ) (r : Reply) → slice_get rs k ≡ Some r → r ≡ Err NeedsReopen
+all_wait : (old new : Standing) (cs : List Command) (rs : List Reply) → Runs old cs rs new → IsTrue old.stopped → (k : ℕ) (r : Reply)
+    → slice_get rs k ≡ Some r → r ≡ Err NeedsReopen
 all_wait old new cs [] is was k r at = absurd (none-some r at)
 all_wait old new [] (y ∷ rs) is was k r at = absurd is
 all_wait old new (c ∷ cs) (y ∷ rs) (mid, turn, rest) was zero r at = sym (same_Some y r at) ∙ waits_of old mid c y turn was
-all_wait old new (c ∷ cs) (y ∷ rs) (mid, turn, rest) was (suc k) r at = all_wait mid new cs rs rest (stopped_of old mid c y turn (inl was)) k r at
+all_wait old new (c ∷ cs) (y ∷ rs) (mid, turn, rest) was (suc k) r at =
+    all_wait mid new cs rs rest (stopped_of old mid c y turn (inl was)) k r at
 
 -- a fault of the store is behind a desk that stops
-runs_stopped_by : (old new : Standing) (cs : List Command) (rs : List Reply) → Runs old cs rs new → IsTrue new.stopped → IsTrue old.stopped ⊎ ((k : ℕ) × FailsAt rs k)
+runs_stopped_by : (old new : Standing) (cs : List Command) (rs : List Reply) → Runs old cs rs new → IsTrue new.stopped
+    → IsTrue old.stopped ⊎ ((k : ℕ) × FailsAt rs k)
 runs_stopped_by old new [] [] is stopped = inl (sym (ap (λ (s : Standing). s.stopped) is) ∙ stopped)
 runs_stopped_by old new [] (r ∷ rs) is stopped = absurd is
 runs_stopped_by old new (c ∷ cs) [] is stopped = absurd is
@@ -82,10 +92,12 @@ runs_stopped_by old new (c ∷ cs) (r ∷ rs) (mid, turn, rest) stopped = elim (
     by_turn was (inr stops) = inr (0, ((stops.why, stops.fault, ap (λ (x : Reply). Some x) stops.answered), first was))
 
 -- and each fault stops it
-runs_fault : (old new : Standing) (cs : List Command) (rs : List Reply) → Runs old cs rs new → (k : ℕ) (cause : Cause) → slice_get rs k ≡ Some (Err (Store cause)) → IsTrue new.stopped
+runs_fault : (old new : Standing) (cs : List Command) (rs : List Reply) → Runs old cs rs new → (k : ℕ) (cause : Cause)
+    → slice_get rs k ≡ Some (Err (Store cause)) → IsTrue new.stopped
 runs_fault old new cs [] is k cause at = absurd (none-some _ at)
 runs_fault old new [] (r ∷ rs) is k cause at = absurd is
-runs_fault old new (c ∷ cs) (r ∷ rs) (mid, turn, rest) zero cause at = runs_stopped mid new cs rs rest (turn_fault old mid c r turn cause (same_Some r _ at))
+runs_fault old new (c ∷ cs) (r ∷ rs) (mid, turn, rest) zero cause at =
+    runs_stopped mid new cs rs rest (turn_fault old mid c r turn cause (same_Some r _ at))
 runs_fault old new (c ∷ cs) (r ∷ rs) (mid, turn, rest) (suc k) cause at = runs_fault mid new cs rs rest k cause at
 
 pub runs_plain : (old new : Standing) (cs : List Command) (rs : List Reply) → Runs old cs rs new → IsRun old cs rs new

@@ -1,5 +1,6 @@
 -- A run of commands, and where a crash leaves it.
-use Rattle.std.proofs.Common.{◌≡◌, ◌⊎◌, inl, inr, ℕ, ◌+◌, Bool, true, false, IsTrue, IsFalse, List, [], ◌∷◌, ◌++◌, length, Option, Some, None, Ok, Err, IfSome, MatchOption, refl, sym, ap, ap₂, subst, ◌∙◌, arith, true≢false}
+use Rattle.std.proofs.Common.{◌≡◌, ◌⊎◌, inl, inr, ℕ, ◌+◌, Bool, true, false, IsTrue, IsFalse, List, [], ◌∷◌, ◌++◌, length, Option, Some}
+use Rattle.std.proofs.Common.{None, Ok, Err, IfSome, MatchOption, refl, sym, ap, ap₂, subst, ◌∙◌, arith, true≢false}
 use Rattle.sqlite_trees.specs.declared.store.Store.{Ghosts}
 use Rattle.sqlite.specs.Tree.{Trees}
 use Rattle.sqlite.specs.State.{HasCleanDisk}
@@ -35,7 +36,8 @@ pub steps_of : (event next : EventValue) (command : Command) → Answers event c
 steps_of event next command (inl steps) = steps.0
 steps_of event next command (inr budget) = absurd (never next _ budget.0)
 
-accepts_of : (old new : Standing) (command : Command) (receipt : Receipt) → Turn old command (Ok receipt) new → Accepts old command (Ok receipt) new
+accepts_of : (old new : Standing) (command : Command) (receipt : Receipt) → Turn old command (Ok receipt) new
+    → Accepts old command (Ok receipt) new
 accepts_of old new command receipt (inl it) = it
 accepts_of old new command receipt (inr (inl it)) = absurd (no_receipt receipt _ it.answered)
 accepts_of old new command receipt (inr (inr (inl it))) = absurd (no_receipt receipt _ it.answered)
@@ -48,20 +50,27 @@ stays old new command why (inr (inl it)) = ap point_of it.same
 stays old new command why (inr (inr (inl it))) = ap point_of it.stopped
 stays old new command why (inr (inr (inr it))) = ap point_of it.same
 
-stops_now : (old new : Standing) (command : Command) (reply : Reply) → IsFalse old.stopped → IsTrue new.stopped → Turn old command reply new → Stops old command reply new
-stops_now old new command reply runs stopped turn = elim (stops_of old new command reply turn stopped) [ inl was ↦ absurd (true≢false (sym was ∙ runs)) | inr stops ↦ stops ]
+stops_now : (old new : Standing) (command : Command) (reply : Reply) → IsFalse old.stopped → IsTrue new.stopped → Turn old command reply new
+    → Stops old command reply new
+stops_now old new command reply runs stopped turn =
+    elim (stops_of old new command reply turn stopped) [ inl was ↦ absurd (true≢false (sym was ∙ runs)) | inr stops ↦ stops ]
 
 -- ---- many
 
-pub runs_push : (old mid new : Standing) (cs : List Command) (rs : List Reply) (c : Command) (r : Reply) → Runs old cs rs mid → Turn mid c r new → Runs old (cs ++ c ∷ []) (rs ++ r ∷ []) new
+pub runs_push : (old mid new : Standing) (cs : List Command) (rs : List Reply) (c : Command) (r : Reply) → Runs old cs rs mid
+    → Turn mid c r new → Runs old (cs ++ c ∷ []) (rs ++ r ∷ []) new
 runs_push old mid new [] [] c r is turn = (new, subst (λ (s : Standing). Turn s c r new) is turn, refl)
 runs_push old mid new [] (s ∷ rs) c r is turn = absurd is
 runs_push old mid new (d ∷ cs) [] c r is turn = absurd is
 runs_push old mid new (d ∷ cs) (s ∷ rs) c r is turn = (is.0, is.1, runs_push is.0 mid new cs rs c r is.2 turn)
 
 -- the acknowledged commands lead to where the desk stands
-pub runs_lead : (old new : Standing) (cs : List Command) (rs : List Reply) → Runs old cs rs new → LeadsTo (point_of old) (acknowledged cs rs) (point_of new)
-runs_lead old new [] [] is = record { event = ap (λ (s : Standing). s.event) is; serial = let same = ap (λ (s : Standing). s.serial) is in omega arith }
+pub runs_lead : (old new : Standing) (cs : List Command) (rs : List Reply) → Runs old cs rs new
+    → LeadsTo (point_of old) (acknowledged cs rs) (point_of new)
+runs_lead old new [] [] is = record {
+  event = ap (λ (s : Standing). s.event) is;
+  serial = let same = ap (λ (s : Standing). s.serial) is in omega arith;
+}
 runs_lead old new [] (r ∷ rs) is = absurd is
 runs_lead old new (c ∷ cs) [] is = absurd is
 runs_lead old new (c ∷ cs) (Ok r ∷ rs) (mid, turn, rest) =
@@ -73,20 +82,23 @@ runs_lead old new (c ∷ cs) (Ok r ∷ rs) (mid, turn, rest) =
 runs_lead old new (c ∷ cs) (Err why ∷ rs) (mid, turn, rest) =
     subst (λ (p : Point). LeadsTo p (acknowledged cs rs) (point_of new)) (stays old mid c why turn) (runs_lead mid new cs rs rest)
 
-refused_push : (old mid : Standing) (cs : List Command) (rs : List Reply) (c : Command) (why : Refusal) → Runs old cs rs mid → acknowledged (cs ++ c ∷ []) (rs ++ Err why ∷ []) ≡ acknowledged cs rs
+refused_push : (old mid : Standing) (cs : List Command) (rs : List Reply) (c : Command) (why : Refusal) → Runs old cs rs mid
+    → acknowledged (cs ++ c ∷ []) (rs ++ Err why ∷ []) ≡ acknowledged cs rs
 refused_push old mid [] [] c why is = refl
 refused_push old mid [] (s ∷ rs) c why is = absurd is
 refused_push old mid (d ∷ cs) [] c why is = absurd is
 refused_push old mid (d ∷ cs) (Ok r ∷ rs) c why is = ap (λ (xs : List Command). d ∷ xs) (refused_push is.0 mid cs rs c why is.2)
 refused_push old mid (d ∷ cs) (Err e ∷ rs) c why is = refused_push is.0 mid cs rs c why is.2
 
-waited_push : (old mid : Standing) (cs : List Command) (rs : List Reply) (c : Command) → Runs old cs rs mid → last_tried (cs ++ c ∷ []) (rs ++ Err NeedsReopen ∷ []) ≡ last_tried cs rs
+waited_push : (old mid : Standing) (cs : List Command) (rs : List Reply) (c : Command) → Runs old cs rs mid
+    → last_tried (cs ++ c ∷ []) (rs ++ Err NeedsReopen ∷ []) ≡ last_tried cs rs
 waited_push old mid [] [] c is = refl
 waited_push old mid [] (s ∷ rs) c is = absurd is
 waited_push old mid (d ∷ cs) [] c is = absurd is
 waited_push old mid (d ∷ cs) (s ∷ rs) c is = ap (λ (o : Option Command). tried_or o d s) (waited_push is.0 mid cs rs c is.2)
 
-tried_push : (old mid : Standing) (cs : List Command) (rs : List Reply) (c : Command) (r : Reply) → tried_or None c r ≡ Some c → Runs old cs rs mid → last_tried (cs ++ c ∷ []) (rs ++ r ∷ []) ≡ Some c
+tried_push : (old mid : Standing) (cs : List Command) (rs : List Reply) (c : Command) (r : Reply) → tried_or None c r ≡ Some c
+    → Runs old cs rs mid → last_tried (cs ++ c ∷ []) (rs ++ r ∷ []) ≡ Some c
 tried_push old mid [] [] c r tried is = tried
 tried_push old mid [] (s ∷ rs) c r tried is = absurd is
 tried_push old mid (d ∷ cs) [] c r tried is = absurd is
@@ -99,46 +111,57 @@ fault_tried c why (inr refused) = ap (λ (w : Refusal). tried_or None c (Err w))
 -- ---- sessions
 
 -- a command that finds the desk stopped changes nothing of the session
-pub session_waits : (old mid : Standing) (cs : List Command) (rs : List Reply) (c : Command) (r : Reply) → r ≡ Err NeedsReopen → Runs old cs rs mid → session_of (cs ++ c ∷ []) (rs ++ r ∷ []) true ≡ session_of cs rs true
+pub session_waits : (old mid : Standing) (cs : List Command) (rs : List Reply) (c : Command) (r : Reply) → r ≡ Err NeedsReopen
+    → Runs old cs rs mid → session_of (cs ++ c ∷ []) (rs ++ r ∷ []) true ≡ session_of cs rs true
 session_waits old mid cs rs c r answer is =
     let same : session_of (cs ++ c ∷ []) (rs ++ Err NeedsReopen ∷ []) true ≡ session_of cs rs true
-    = ap₂ (λ (k : List Command) (d : Option Command). (let s : Session = record { kept = k; doubt = d } in s)) (refused_push old mid cs rs c NeedsReopen is) (waited_push old mid cs rs c is) in
+    = ap₂ (λ (k : List Command) (d : Option Command). (let s : Session = record { kept = k; doubt = d } in s))
+    (refused_push old mid cs rs c NeedsReopen is) (waited_push old mid cs rs c is) in
     subst (λ (x : Reply). session_of (cs ++ c ∷ []) (rs ++ x ∷ []) true ≡ session_of cs rs true) (sym answer) same
 
 -- where the doubt is a command that the step takes, the session may end before or after it
-ends_either : (first : Point) (mid : Standing) (s : Session) (c : Command) (next : EventValue) (trees : Trees) → LeadsTo first s.kept (point_of mid) → s.doubt ≡ Some c → Steps mid.event c (Ok next)
+ends_either : (first : Point) (mid : Standing) (s : Session) (c : Command) (next : EventValue) (trees : Trees)
+    → LeadsTo first s.kept (point_of mid) → s.doubt ≡ Some c → Steps mid.event c (Ok next)
     → Either (IsStored mid.event mid.serial) (IsStoredAfter mid.event mid.serial c) trees → IsStoredEnd first s trees
 ends_either first mid s c next trees leads doubt steps left =
-    let taken : IfSome s.doubt (λ (d : Command). (n : EventValue) × Steps mid.event d (Ok n)) = subst (λ (o : Option Command). IfSome o (λ (d : Command). (n : EventValue) × Steps mid.event d (Ok n))) (sym doubt) (next, steps) in
+    let taken : IfSome s.doubt (λ (d : Command). (n : EventValue) × Steps mid.event d (Ok n)) =
+    subst (λ (o : Option Command). IfSome o (λ (d : Command). (n : EventValue) × Steps mid.event d (Ok n))) (sym doubt) (next, steps) in
     let kept : EndsAfterKept first s (point_of mid) = record { event = leads.event; serial = leads.serial; taken = taken } in
     elim left [
       | inl before ↦ (point_of mid, inl kept, before)
       | inr (n, answers, after) ↦
           let last : Point = record { event = n; serial = mid.serial + 1 } in
-          let ends : EndsWithDoubt first s last c = record { mid = point_of mid; kept = kept; event = steps_of mid.event n c answers; serial = refl } in
+          let ends : EndsWithDoubt first s last c =
+          record { mid = point_of mid; kept = kept; event = steps_of mid.event n c answers; serial = refl } in
           (last, inr (subst (λ (o : Option Command). MatchOption o ⊥ (EndsWithDoubt first s last)) (sym doubt) ends), after)
     ]
 
 -- the store has failed in this command
-pub session_stops : (old mid new : Standing) (cs : List Command) (rs : List Reply) (c : Command) (r : Reply) (trees : Trees) → Runs old cs rs mid → Stops mid c r new
-    → Either (IsStored mid.event mid.serial) (IsStoredAfter mid.event mid.serial c) trees → IsStoredEnd (point_of old) (session_of (cs ++ c ∷ []) (rs ++ r ∷ []) true) trees
+pub session_stops : (old mid new : Standing) (cs : List Command) (rs : List Reply) (c : Command) (r : Reply) (trees : Trees)
+    → Runs old cs rs mid → Stops mid c r new
+    → Either (IsStored mid.event mid.serial) (IsStoredAfter mid.event mid.serial c) trees
+    → IsStoredEnd (point_of old) (session_of (cs ++ c ∷ []) (rs ++ r ∷ []) true) trees
 session_stops old mid new cs rs c r trees is it left =
     subst (λ (x : Reply). IsStoredEnd (point_of old) (session_of (cs ++ c ∷ []) (rs ++ x ∷ []) true) trees) (sym it.answered)
     (ends_either (point_of old) mid (session_of (cs ++ c ∷ []) (rs ++ Err it.why ∷ []) true) c it.next trees
-    (subst (λ (ks : List Command). LeadsTo (point_of old) ks (point_of mid)) (sym (refused_push old mid cs rs c it.why is)) (runs_lead old mid cs rs is))
+    (subst (λ (ks : List Command). LeadsTo (point_of old) ks (point_of mid)) (sym (refused_push old mid cs rs c it.why is))
+    (runs_lead old mid cs rs is))
     (tried_push old mid cs rs c (Err it.why) (fault_tried c it.why it.fault) is) (steps_of mid.event it.next c it.taken) left)
 
 -- it has not failed
-pub session_goes_on : (old new : Standing) (cs : List Command) (rs : List Reply) (trees : Trees) → Runs old cs rs new → IsStored new.event new.serial trees → IsStoredEnd (point_of old) (session_of cs rs false) trees
+pub session_goes_on : (old new : Standing) (cs : List Command) (rs : List Reply) (trees : Trees) → Runs old cs rs new
+    → IsStored new.event new.serial trees → IsStoredEnd (point_of old) (session_of cs rs false) trees
 session_goes_on old new cs rs trees is stored =
     let leads = runs_lead old new cs rs is in
     (point_of new, inl (record { event = leads.event; serial = leads.serial; taken = tt }), stored)
 
-pub was_running : (old new : Standing) (command : Command) (reply : Reply) → IsFalse new.stopped → Turn old command reply new → IsFalse old.stopped
+pub was_running : (old new : Standing) (command : Command) (reply : Reply) → IsFalse new.stopped → Turn old command reply new
+    → IsFalse old.stopped
 was_running old new command reply runs (inl it) = it.was_running
 was_running old new command reply runs (inr (inl it)) = it.was_running
 was_running old new command reply runs (inr (inr (inl it))) = it.was_running
-was_running old new command reply runs (inr (inr (inr it))) = absurd (true≢false (sym it.was_stopped ∙ (sym (ap (λ (s : Standing). s.stopped) it.same) ∙ runs)))
+was_running old new command reply runs (inr (inr (inr it))) =
+    absurd (true≢false (sym it.was_stopped ∙ (sym (ap (λ (s : Standing). s.stopped) it.same) ∙ runs)))
 
 -- ---- desks
 
@@ -146,43 +169,60 @@ module _ {S : Type 0} (g : Ghosts S) (first : Desk S g) where
   -- where the store has failed, a crash leaves an end of the session
   abbrev pub CrashesAt : Desk S g → List Command → List Reply → Type 0
   CrashesAt now cs rs =
-      IsFalse (standing first).stopped → ShowsOwn g first → HasCleanDisk (state g now) → IsTrue (standing now).stopped → (trees : Trees) → (state g now).may_leave trees
+      IsFalse (standing first).stopped → ShowsOwn g first → HasCleanDisk (state g now) → IsTrue (standing now).stopped → (trees : Trees)
+      → (state g now).may_leave trees
       → IsStoredEnd (point_of (standing first)) (session_of cs rs true) trees
 
   module _ (old new : Desk S g) (cs : List Command) (rs : List Reply) (c : Command) (r : Reply) where
-    pub crash_more : Runs (standing first) cs rs (standing old) → Turn (standing old) c r (standing new) → (IsTrue (standing old).stopped → new ≡ old)
+    pub crash_more : Runs (standing first) cs rs (standing old) → Turn (standing old) c r (standing new)
+        → (IsTrue (standing old).stopped → new ≡ old)
         → (IsFalse (standing old).stopped → ShowsOwn g old → LeavesEither (state g new) (point_of (standing old)) c)
-        → (HasCleanDisk (state g new) → HasCleanDisk (state g old)) → (HasCleanDisk (state g old) → ShowsOwn g first → IsFalse (standing old).stopped → ShowsOwn g old)
+        → (HasCleanDisk (state g new) → HasCleanDisk (state g old))
+        → (HasCleanDisk (state g old) → ShowsOwn g first → IsFalse (standing old).stopped → ShowsOwn g old)
         → CrashesAt old cs rs → CrashesAt new (cs ++ c ∷ []) (rs ++ r ∷ [])
     crash_more runs turn waits undecided clean stands before going shows late stopped trees may = by_stop (standing old).stopped refl
       where
-        by_stop : (b : Bool) → (standing old).stopped ≡ b → IsStoredEnd (point_of (standing first)) (session_of (cs ++ c ∷ []) (rs ++ r ∷ []) true) trees
+        by_stop : (b : Bool) → (standing old).stopped ≡ b
+            → IsStoredEnd (point_of (standing first)) (session_of (cs ++ c ∷ []) (rs ++ r ∷ []) true) trees
         by_stop true is =
             let left = before going shows (clean late) is trees (subst (λ (d : Desk S g). (state g d).may_leave trees) (waits is) may) in
-            subst (λ (s : Session). IsStoredEnd (point_of (standing first)) s trees) (sym (session_waits (standing first) (standing old) cs rs c r (waits_of (standing old) (standing new) c r turn is) runs)) left
+            subst (λ (s : Session). IsStoredEnd (point_of (standing first)) s trees)
+            (sym (session_waits (standing first) (standing old) cs rs c r (waits_of (standing old) (standing new) c r turn is) runs))
+            left
         by_stop false is =
-            session_stops (standing first) (standing old) (standing new) cs rs c r trees runs (stops_now (standing old) (standing new) c r is stopped turn) (undecided is (stands (clean late) shows is) late trees may)
+            session_stops (standing first) (standing old) (standing new) cs rs c r trees runs
+            (stops_now (standing old) (standing new) c r is stopped turn) (undecided is (stands (clean late) shows is) late trees may)
 
-  pub crash_end : (now : Desk S g) (cs : List Command) (rs : List Reply) → Runs (standing first) cs rs (standing now) → (ShowsOwn g now → LeavesJust (state g now) (point_of (standing now)))
+  pub crash_end : (now : Desk S g) (cs : List Command) (rs : List Reply) → Runs (standing first) cs rs (standing now)
+      → (ShowsOwn g now → LeavesJust (state g now) (point_of (standing now)))
       → (HasCleanDisk (state g now) → ShowsOwn g first → IsFalse (standing now).stopped → ShowsOwn g now) → CrashesAt now cs rs
-      → IsFalse (standing first).stopped → ShowsOwn g first → LeavesEnd (state g now) (point_of (standing first)) (session_of cs rs (standing now).stopped)
+      → IsFalse (standing first).stopped → ShowsOwn g first
+      → LeavesEnd (state g now) (point_of (standing first)) (session_of cs rs (standing now).stopped)
   crash_end now cs rs runs leaves stands crash going shows clean trees may = by_stop (standing now).stopped refl
     where
-      by_stop : (b : Bool) → (standing now).stopped ≡ b → IsStoredEnd (point_of (standing first)) (session_of cs rs (standing now).stopped) trees
-      by_stop true is = subst (λ (b : Bool). IsStoredEnd (point_of (standing first)) (session_of cs rs b) trees) (sym is) (crash going shows clean is trees may)
-      by_stop false is = subst (λ (b : Bool). IsStoredEnd (point_of (standing first)) (session_of cs rs b) trees) (sym is) (session_goes_on (standing first) (standing now) cs rs trees runs (leaves (stands clean shows is) clean trees may))
+      by_stop : (b : Bool) → (standing now).stopped ≡ b
+          → IsStoredEnd (point_of (standing first)) (session_of cs rs (standing now).stopped) trees
+      by_stop true is = subst (λ (b : Bool). IsStoredEnd (point_of (standing first)) (session_of cs rs b) trees) (sym is)
+          (crash going shows clean is trees may)
+      by_stop false is = subst (λ (b : Bool). IsStoredEnd (point_of (standing first)) (session_of cs rs b) trees) (sym is)
+          (session_goes_on (standing first) (standing now) cs rs trees runs (leaves (stands clean shows is) clean trees may))
 
 -- a desk that was stopped stays as it is
 module _ {S : Type 0} {g : Ghosts S} (first old new : Desk S g) where
-  pub waits_more : (IsTrue (standing first).stopped → old ≡ first) → (IsTrue (standing old).stopped → new ≡ old) → IsTrue (standing first).stopped → new ≡ first
+  pub waits_more : (IsTrue (standing first).stopped → old ≡ first) → (IsTrue (standing old).stopped → new ≡ old)
+      → IsTrue (standing first).stopped → new ≡ first
   waits_more before more stopped = let is = before stopped in more (ap (λ (d : Desk S g). (standing d).stopped) is ∙ stopped) ∙ is
 
 -- other tables stay from one command to the next, also where the desk has stopped
 module _ {S : Type 0} (g : Ghosts S) (first old new : Desk S g) where
-  pub keeps_more : (IsTrue (standing old).stopped → new ≡ old) → (IsFalse (standing old).stopped → ShowsOwn g old) → (IsTrue (state g old).is_open → KeepsOthers (state g first).now (state g old).now)
-      → (ShowsOwn g old → IsTrue (state g new).is_open → KeepsOthers (state g old).now (state g new).now) → IsTrue (state g new).is_open → KeepsOthers (state g first).now (state g new).now
+  pub keeps_more : (IsTrue (standing old).stopped → new ≡ old) → (IsFalse (standing old).stopped → ShowsOwn g old)
+      → (IsTrue (state g old).is_open → KeepsOthers (state g first).now (state g old).now)
+      → (ShowsOwn g old → IsTrue (state g new).is_open → KeepsOthers (state g old).now (state g new).now) → IsTrue (state g new).is_open
+      → KeepsOthers (state g first).now (state g new).now
   keeps_more waits stands before more is_open = by_stop (standing old).stopped refl
     where
       by_stop : (b : Bool) → (standing old).stopped ≡ b → KeepsOthers (state g first).now (state g new).now
-      by_stop true is = subst (λ (d : Desk S g). KeepsOthers (state g first).now (state g d).now) (sym (waits is)) (before (subst (λ (d : Desk S g). IsTrue (state g d).is_open) (waits is) is_open))
-      by_stop false is = let shows = stands is in keeps_then (state g first).now (state g old).now (state g new).now (before shows.is_open) (more shows is_open)
+      by_stop true is = subst (λ (d : Desk S g). KeepsOthers (state g first).now (state g d).now) (sym (waits is))
+          (before (subst (λ (d : Desk S g). IsTrue (state g d).is_open) (waits is) is_open))
+      by_stop false is = let shows = stands is in keeps_then (state g first).now (state g old).now (state g new).now (before shows.is_open)
+          (more shows is_open)

@@ -10,8 +10,10 @@ use Rattle.er_desk.proofs.Turns.{keeps_self}
 keeps_same : (old new : Database) → new ≡ old → KeepsOthers old new
 keeps_same old new same = subst (KeepsOthers old) (sym same) (keeps_self old)
 
-pub read_others : {A : Type 0} (Fails : Refusal → Type 0) (read : Result A Refusal) (stopped : Bool) (old new : State) → old.now ≡ old.committed → IsTrue new.is_open
-    → MatchResult read (λ _. IsFalse stopped) Fails → (IsFalse stopped → IsUnchanged old new) → OnErr read (KeepsTables old new) → KeepsOthers old.now new.now
+pub read_others : {A : Type 0} (Fails : Refusal → Type 0) (read : Result A Refusal) (stopped : Bool) (old new : State)
+    → old.now ≡ old.committed → IsTrue new.is_open
+    → MatchResult read (λ _. IsFalse stopped) Fails → (IsFalse stopped → IsUnchanged old new) → OnErr read (KeepsTables old new)
+    → KeepsOthers old.now new.now
 read_others Fails (Ok row) stopped old new settled is_open still same kept = keeps_same old.now new.now (same still).0.now_is
 read_others Fails (Err why) stopped old new settled is_open stops same kept = keeps_same old.now new.now (kept settled is_open).0
 

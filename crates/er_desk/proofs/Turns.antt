@@ -1,5 +1,6 @@
 -- What a command does to a desk.
-use Rattle.std.proofs.Common.{◌≡◌, ◌⊎◌, inl, inr, ℕ, ◌+◌, ◌<◌, eqb, Bool, cond, true, false, List, [], ◌∷◌, Result, Ok, Err, IfOk, IfErr, OnOk, IsErrAnd, IsTrue, IsFalse, refl, sym, ap, subst, ◌∙◌, arith, true≢false}
+use Rattle.std.proofs.Common.{◌≡◌, ◌⊎◌, inl, inr, ℕ, ◌+◌, ◌<◌, eqb, Bool, cond, true, false, List, [], ◌∷◌, Result, Ok, Err, IfOk, IfErr}
+use Rattle.std.proofs.Common.{OnOk, IsErrAnd, IsTrue, IsFalse, refl, sym, ap, subst, ◌∙◌, arith, true≢false}
 use Rattle.std.specs.List.{AllByRecursion}
 use Rattle.std.proofs.lemmas.Bool.Decides.{nat_tests}
 use Rattle.sqlite_trees.specs.declared.store.Store.{Ghosts}
@@ -36,9 +37,11 @@ module _ (old : Standing) (runs : IsFalse old.stopped) (command : Command) where
   declines why cause own = inr (inl (record { was_running = runs; same = refl; why = why; answered = refl; cause = cause; own = own }))
 
   -- the step refuses it, or memory is wanting
-  pub declined : (result : Reply) (why : Refusal) → IsErrAnd result (λ e. e ≡ why) → (why ≡ Memory) ⊎ Answers old.event command (Err why) → (why ≡ Memory) ⊎ IsOfRules why → Turn old command result old
+  pub declined : (result : Reply) (why : Refusal) → IsErrAnd result (λ e. e ≡ why) → (why ≡ Memory) ⊎ Answers old.event command (Err why)
+      → (why ≡ Memory) ⊎ IsOfRules why → Turn old command result old
   declined (Ok r) why is cause named = absurd is
-  declined (Err e) why is cause named = subst (λ (w : Refusal). Turn old command (Err w) old) (sym is) (declines why (due cause) (own named))
+  declined (Err e) why is cause named = subst (λ (w : Refusal). Turn old command (Err w) old) (sym is)
+      (declines why (due cause) (own named))
     where
       due : (why ≡ Memory) ⊎ Answers old.event command (Err why) → (why ≡ Memory) ⊎ IsDue old.event old.serial command (Err why)
       due (inl memory) = inl memory
@@ -53,7 +56,8 @@ module _ (old : Standing) (runs : IsFalse old.stopped) (command : Command) where
   full next taken last = declines SerialFull (inr (Ok next, taken, reply-full old.serial next last)) (inr (inl refl))
 
   -- it is written, or not
-  pub written : (new : Standing) (result : Reply) (next : EventValue) (Same : Type 0) → (Same → new ≡ old) → Answers old.event command (Ok next) → old.serial < 999999
+  pub written : (new : Standing) (result : Reply) (next : EventValue) (Same : Type 0) → (Same → new ≡ old)
+      → Answers old.event command (Ok next) → old.serial < 999999
       → IfOk result (λ r. (new ≡ record { event = next; serial = old.serial + 1; stopped = false }) × (r.serial ≡ old.serial + 1))
       → IfErr result (λ why. (Same × (why ≡ Memory)) ⊎ ((new ≡ record old { stopped = true }) × IsFault why))
       → Turn old command result new
@@ -68,9 +72,19 @@ module _ (old : Standing) (runs : IsFalse old.stopped) (command : Command) where
         runs = ap (λ (s : Standing). s.stopped) is;
         answered = ap (λ (n : ℕ). Ok (receipt n)) number;
       })
-  written new (Err e) next Same same taken room done (inl own) = inr (inl (record { was_running = runs; same = same own.0; why = e; answered = refl; cause = inl own.1; own = inl own.1 }))
+  written new (Err e) next Same same taken room done (inl own) =
+      inr (inl (record { was_running = runs; same = same own.0; why = e; answered = refl; cause = inl own.1; own = inl own.1 }))
   written new (Err e) next Same same taken room done (inr stops) =
-      inr (inr (inl (record { was_running = runs; next = next; taken = taken; room = room; stopped = stops.0; why = e; fault = stops.1; answered = refl })))
+      inr (inr (inl (record {
+        was_running = runs;
+        next = next;
+        taken = taken;
+        room = room;
+        stopped = stops.0;
+        why = e;
+        fault = stops.1;
+        answered = refl;
+      })))
 
 -- ---- what a turn tells
 
@@ -147,32 +161,39 @@ module _ (old new : Standing) (command : Command) where
   due_budget steps (Ok next, answers, is) = let never : Budget steps ≡ SerialFull = full_or_taken _ _ _ is in absurd (cc)
   due_budget steps (Err why, answers, is) = subst (λ (w : Refusal). Answers old.event command (Err w)) (sym (same_refusal _ _ is)) answers
 
-  declined_budget : (why : Refusal) (steps : ℕ) → why ≡ Budget steps → (why ≡ Memory) ⊎ IsDue old.event old.serial command (Err why) → Answers old.event command (Err (Budget steps))
+  declined_budget : (why : Refusal) (steps : ℕ) → why ≡ Budget steps → (why ≡ Memory) ⊎ IsDue old.event old.serial command (Err why)
+      → Answers old.event command (Err (Budget steps))
   declined_budget why steps is (inl memory) = let never : Memory ≡ Budget steps = sym memory ∙ is in absurd (cc)
   declined_budget why steps is (inr due) = due_budget steps (subst (λ (w : Refusal). IsDue old.event old.serial command (Err w)) is due)
 
   -- where the search has too few steps, the step said so
-  pub turn_budget : (result : Reply) → Turn old command result new → (steps : ℕ) → result ≡ Err (Budget steps) → Answers old.event command (Err (Budget steps))
+  pub turn_budget : (result : Reply) → Turn old command result new → (steps : ℕ) → result ≡ Err (Budget steps)
+      → Answers old.event command (Err (Budget steps))
   turn_budget result (inl it) steps is = absurd (no_receipt _ _ (sym it.answered ∙ is))
   turn_budget result (inr (inl it)) steps is = declined_budget it.why steps (same_refusal _ _ (sym it.answered ∙ is)) it.cause
-  turn_budget result (inr (inr (inl it))) steps is = absurd (fault_is_no_budget it.why steps it.fault (same_refusal _ _ (sym it.answered ∙ is)))
-  turn_budget result (inr (inr (inr it))) steps is = let never : NeedsReopen ≡ Budget steps = same_refusal _ _ (sym it.answered ∙ is) in absurd (cc)
+  turn_budget result (inr (inr (inl it))) steps is =
+      absurd (fault_is_no_budget it.why steps it.fault (same_refusal _ _ (sym it.answered ∙ is)))
+  turn_budget result (inr (inr (inr it))) steps is = let never : NeedsReopen ≡ Budget steps =
+      same_refusal _ _ (sym it.answered ∙ is) in absurd (cc)
 
   not_taken : (next : EventValue) → NeedsMoreSteps old.event command → Answers old.event command (Ok next) → ⊥
   not_taken next needs (inl steps) = steps.1 needs
   not_taken next needs (inr budget) = let never = budget.0 in cc
 
-  due_searched : (why : Refusal) → NeedsMoreSteps old.event command → (why ≡ Memory) ⊎ IsDue old.event old.serial command (Err why) → (why ≡ Memory) ⊎ ((steps : ℕ) × (why ≡ Budget steps))
+  due_searched : (why : Refusal) → NeedsMoreSteps old.event command → (why ≡ Memory) ⊎ IsDue old.event old.serial command (Err why)
+      → (why ≡ Memory) ⊎ ((steps : ℕ) × (why ≡ Budget steps))
   due_searched why needs (inl memory) = inl memory
   due_searched why needs (inr (Ok next, answers, is)) = absurd (not_taken next needs answers)
   due_searched why needs (inr (Err w, inl steps, is)) = absurd (steps.1 needs)
-  due_searched why needs (inr (Err w, inr budget, is)) = let same : why ≡ w = same_refusal _ _ is in let last = budget.0 in inr (_, same ∙ same_step w _ last)
+  due_searched why needs (inr (Err w, inr budget, is)) = let same : why ≡ w = same_refusal _ _ is in let last =
+      budget.0 in inr (_, same ∙ same_step w _ last)
     where
       same_step : (w v : Refusal) → ◌≡◌ {A = Result EventValue Refusal} (Err w) (Err v) → w ≡ v
       same_step w v is = cc
 
   -- and it always says so, where memory lasts
-  pub turn_searched : (result : Reply) → Turn old command result new → IsFalse old.stopped → NeedsMoreSteps old.event command → (result ≡ Err Memory) ⊎ ((steps : ℕ) × (result ≡ Err (Budget steps)))
+  pub turn_searched : (result : Reply) → Turn old command result new → IsFalse old.stopped → NeedsMoreSteps old.event command
+      → (result ≡ Err Memory) ⊎ ((steps : ℕ) × (result ≡ Err (Budget steps)))
   turn_searched result (inl it) runs needs = absurd (not_taken _ needs it.taken)
   turn_searched result (inr (inl it)) runs needs = elim (due_searched it.why needs it.cause) [
     | inl memory ↦ inl (it.answered ∙ ap (λ (w : Refusal). Err w) memory)
@@ -190,15 +211,18 @@ keeps_all db (t ∷ ts) = (λ _. refl, keeps_all db ts)
 pub keeps_self : (db : Database) → KeepsOthers db db
 keeps_self db = record { schema = refl; rows = keeps_all db db.schema.tables }
 
-keeps_rows : (old mid new : Database) (tables : List Table) → AllByRecursion (λ t. IsOther t.tree → mid.trees t.tree ≡ old.trees t.tree) tables
-    → AllByRecursion (λ t. IsOther t.tree → new.trees t.tree ≡ mid.trees t.tree) tables → AllByRecursion (λ t. IsOther t.tree → new.trees t.tree ≡ old.trees t.tree) tables
+keeps_rows : (old mid new : Database) (tables : List Table)
+    → AllByRecursion (λ t. IsOther t.tree → mid.trees t.tree ≡ old.trees t.tree) tables
+    → AllByRecursion (λ t. IsOther t.tree → new.trees t.tree ≡ mid.trees t.tree) tables
+    → AllByRecursion (λ t. IsOther t.tree → new.trees t.tree ≡ old.trees t.tree) tables
 keeps_rows old mid new [] one two = tt
 keeps_rows old mid new (t ∷ ts) one two = (λ other. two.0 other ∙ one.0 other, keeps_rows old mid new ts one.1 two.1)
 
 pub keeps_then : (old mid new : Database) → KeepsOthers old mid → KeepsOthers mid new → KeepsOthers old new
 keeps_then old mid new one two = record {
   schema = two.schema ∙ one.schema;
-  rows = keeps_rows old mid new old.schema.tables one.rows (subst (λ s. AllByRecursion (λ t. IsOther t.tree → new.trees t.tree ≡ mid.trees t.tree) s.tables) one.schema two.rows);
+  rows = keeps_rows old mid new old.schema.tables one.rows
+      (subst (λ s. AllByRecursion (λ t. IsOther t.tree → new.trees t.tree ≡ mid.trees t.tree) s.tables) one.schema two.rows);
 }
 
 pub unchanged_keeps : (old new : State) → IsUnchanged old new → KeepsTables old new
@@ -213,7 +237,8 @@ on_error (Err e) P p = p
 
 module _ {S : Type 0} (g : Ghosts S) (old new : Desk S g) (result : Reply) where
   abbrev pub IsUnwritten : Type 0
-  IsUnwritten = IfErr result (λ why. ((new ≡ old) × (why ≡ Memory)) ⊎ ((standing new ≡ record (standing old) { stopped = true }) × IsFault why))
+  IsUnwritten = IfErr result (λ why. ((new ≡ old) × (why ≡ Memory))
+      ⊎ ((standing new ≡ record (standing old) { stopped = true }) × IsFault why))
 
   stops : standing new ≡ record (standing old) { stopped = true } → IsFalse (standing new).stopped → ⊥
   stops is runs = true≢false (sym (ap (λ (s : Standing). s.stopped) is) ∙ runs)
@@ -221,7 +246,9 @@ module _ {S : Type 0} (g : Ghosts S) (old new : Desk S g) (result : Reply) where
   pub same_unless : IsUnwritten → IfErr result (λ _. IsFalse (standing new).stopped → new ≡ old)
   same_unless refused = at result refused
     where
-      at : (r : Reply) → IfErr r (λ why. ((new ≡ old) × (why ≡ Memory)) ⊎ ((standing new ≡ record (standing old) { stopped = true }) × IsFault why)) → IfErr r (λ _. IsFalse (standing new).stopped → new ≡ old)
+      at : (r : Reply) → IfErr r (λ why. ((new ≡ old) × (why ≡ Memory))
+          ⊎ ((standing new ≡ record (standing old) { stopped = true }) × IsFault why))
+          → IfErr r (λ _. IsFalse (standing new).stopped → new ≡ old)
       at (Ok r) h = tt
       at (Err e) (inl own) = λ runs. own.0
       at (Err e) (inr stopped) = λ runs. absurd (stops stopped.0 runs)
@@ -233,9 +260,11 @@ module _ {S : Type 0} (g : Ghosts S) (old new : Desk S g) (result : Reply) where
       at (Ok r) h same = h
       at (Err e) h same = subst (ShowsOwn g) (sym (same runs)) shows
 
-  pub leaves_refused : LeavesJust (state g old) (point_of (standing old)) → IsUnwritten → IfErr result (λ _. IsFalse (standing new).stopped → LeavesJust (state g new) (point_of (standing old)))
+  pub leaves_refused : LeavesJust (state g old) (point_of (standing old)) → IsUnwritten
+      → IfErr result (λ _. IsFalse (standing new).stopped → LeavesJust (state g new) (point_of (standing old)))
   leaves_refused leaves refused = at result (same_unless refused)
     where
-      at : (r : Reply) → IfErr r (λ _. IsFalse (standing new).stopped → new ≡ old) → IfErr r (λ _. IsFalse (standing new).stopped → LeavesJust (state g new) (point_of (standing old)))
+      at : (r : Reply) → IfErr r (λ _. IsFalse (standing new).stopped → new ≡ old)
+          → IfErr r (λ _. IsFalse (standing new).stopped → LeavesJust (state g new) (point_of (standing old)))
       at (Ok r) h = tt
       at (Err e) same = λ runs. subst (λ (d : Desk S g). LeavesJust (state g d) (point_of (standing old))) (sym (same runs)) leaves

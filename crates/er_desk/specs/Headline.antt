@@ -12,7 +12,6 @@ use Rattle.sqlite.specs.Files.{HoldsDatabase}
 use Rattle.sqlite_wal.specs.Recovery.{Image}
 use Rattle.er_event.specs.declared.commands.Command.{Command}
 use Rattle.er_event.specs.Event.{EventValue}
-use Rattle.er_event.specs.Change.{created}
 use Rattle.er_event.specs.Round.{is_same_pairing, matches_of}
 use Rattle.er_event.specs.Sound.{IsSetUp}
 use Rattle.er_rank.specs.declared.rows.Row.{Row}

@@ -1,5 +1,7 @@
 -- An event with one more round is sound exactly where its checks hold.
-use Rattle.std.proofs.Common.{◌≡◌, ◌≢◌, ℕ, suc, ◌+◌, ◌-◌, ◌<◌, ◌||◌, not, Bool, true, false, inl, inr, List, [], ◌∷◌, ◌++◌, length, take, flat_map, All, AllPairs, IsTrue, IsFalse, refl, sym, ap, subst, ◌∙◌, true≢false, arith, length-append, append-nil}
+use Rattle.std.proofs.Common.{◌≡◌, ◌≢◌, ℕ, suc, ◌+◌, ◌-◌, ◌<◌, ◌||◌, not, Bool, true, false, inl, inr, List, [], ◌∷◌, ◌++◌, length, take}
+use Rattle.std.proofs.Common.{flat_map, All, AllPairs, IsTrue, IsFalse, refl, sym, ap, subst, ◌∙◌, true≢false, arith, length-append}
+use Rattle.std.proofs.Common.{append-nil}
 use Rattle.std.specs.List.{list_all, list_any, AllByRecursion}
 use Rattle.std.proofs.lemmas.Bool.Decides.{nat_tests}
 use Rattle.std.proofs.lemmas.List.Elements.{All-push, All-weaker, All-head, All-tail, All-from_recursion, recursion_from_All}
@@ -58,21 +60,25 @@ is_new stored m = not (list_any (λ (r : Round). list_any (λ n. is_same_pairing
 
 module _ (stored : List Round) (ms : List Match) where
   pub All-new : list_all (is_new stored) ms ≡ true → All (IsNew stored) ms
-  All-new new = All-weaker (λ m. IsTrue (is_new stored m)) (IsNew stored) (λ m h. sym (any_stored (λ n. is_same_pairing n m) stored) ∙ not_true _ h) ms (All-of (is_new stored) ms new)
+  All-new new = All-weaker (λ m. IsTrue (is_new stored m)) (IsNew stored)
+      (λ m h. sym (any_stored (λ n. is_same_pairing n m) stored) ∙ not_true _ h) ms (All-of (is_new stored) ms new)
 
   pub new-All : All (IsNew stored) ms → list_all (is_new stored) ms ≡ true
-  new-All h = of-All (is_new stored) ms (All-weaker (IsNew stored) (λ m. IsTrue (is_new stored m)) (λ m none. ap not (any_stored (λ n. is_same_pairing n m) stored ∙ none)) ms h)
+  new-All h = of-All (is_new stored) ms (All-weaker (IsNew stored) (λ m. IsTrue (is_new stored m))
+      (λ m none. ap not (any_stored (λ n. is_same_pairing n m) stored ∙ none)) ms h)
 
 -- this match differs from all of these
 none_same : (m : Match) (ns : List Match) → list_any (λ n. is_same_pairing n m) ns ≡ false → AllByRecursion (λ n. Differ n m) ns
 none_same m [] h = tt
-none_same m (n ∷ ns) h = let both = or_false (is_same_pairing n m) (list_any (λ k. is_same_pairing k m) ns) h in (both.0, none_same m ns both.1)
+none_same m (n ∷ ns) h = let both = or_false (is_same_pairing n m) (list_any (λ k. is_same_pairing k m) ns) h in
+    (both.0, none_same m ns both.1)
 
 same_none : (m : Match) (ns : List Match) → AllByRecursion (λ n. Differ n m) ns → list_any (λ n. is_same_pairing n m) ns ≡ false
 same_none m [] h = refl
 same_none m (n ∷ ns) h = let here : is_same_pairing n m ≡ false = h.0 in rw here (same_none m ns h.1)
 
-all_pair : (ns ms : List Match) → AllByRecursion (λ m. AllByRecursion (λ n. Differ n m) ns) ms → AllByRecursion (λ n. AllByRecursion (Differ n) ms) ns
+all_pair : (ns ms : List Match) → AllByRecursion (λ m. AllByRecursion (λ n. Differ n m) ns) ms
+    → AllByRecursion (λ n. AllByRecursion (Differ n) ms) ns
 all_pair [] ms h = tt
 all_pair (n ∷ ns) ms h = (first ms h, all_pair ns ms (rest ms h))
   where
@@ -80,11 +86,13 @@ all_pair (n ∷ ns) ms h = (first ms h, all_pair ns ms (rest ms h))
     first [] h = tt
     first (k ∷ ks) h = (h.0.0, first ks h.1)
 
-    rest : (ks : List Match) → AllByRecursion (λ m. AllByRecursion (λ n. Differ n m) (n ∷ ns)) ks → AllByRecursion (λ m. AllByRecursion (λ n. Differ n m) ns) ks
+    rest : (ks : List Match) → AllByRecursion (λ m. AllByRecursion (λ n. Differ n m) (n ∷ ns)) ks
+        → AllByRecursion (λ m. AllByRecursion (λ n. Differ n m) ns) ks
     rest [] h = tt
     rest (k ∷ ks) h = (h.0.1, rest ks h.1)
 
-pair_all : (ns ms : List Match) → AllByRecursion (λ n. AllByRecursion (Differ n) ms) ns → AllByRecursion (λ m. AllByRecursion (λ n. Differ n m) ns) ms
+pair_all : (ns ms : List Match) → AllByRecursion (λ n. AllByRecursion (Differ n) ms) ns
+    → AllByRecursion (λ m. AllByRecursion (λ n. Differ n m) ns) ms
 pair_all ns [] h = tt
 pair_all ns (m ∷ ms) h = (first ns h, pair_all ns ms (rest ns h))
   where
@@ -92,7 +100,8 @@ pair_all ns (m ∷ ms) h = (first ns h, pair_all ns ms (rest ns h))
     first [] h = tt
     first (k ∷ ks) h = (h.0.0, first ks h.1)
 
-    rest : (ks : List Match) → AllByRecursion (λ n. AllByRecursion (Differ n) (m ∷ ms)) ks → AllByRecursion (λ n. AllByRecursion (Differ n) ms) ks
+    rest : (ks : List Match) → AllByRecursion (λ n. AllByRecursion (Differ n) (m ∷ ms)) ks
+        → AllByRecursion (λ n. AllByRecursion (Differ n) ms) ks
     rest [] h = tt
     rest (k ∷ ks) h = (h.0.1, rest ks h.1)
 
@@ -109,7 +118,8 @@ module _ (stored : List Round) where
 -- ---- one round more
 
 matches-with : (stored : List Round) (ms : List Match) → matches_of (stored ++ record { matches = ms } ∷ []) ≡ matches_of stored ++ ms
-matches-with stored ms = flat_map-append (λ (r : Round). r.matches) stored (record { matches = ms } ∷ []) ∙ ap (λ l. matches_of stored ++ l) (append-nil ms)
+matches-with stored ms = flat_map-append (λ (r : Round). r.matches) stored (record { matches = ms } ∷ []) ∙ ap
+    (λ l. matches_of stored ++ l) (append-nil ms)
 
 take-before : (rs : List Round) (r : Round) → take (length (rs ++ r ∷ []) - 1) (rs ++ r ∷ []) ≡ rs
 take-before [] r = refl
@@ -127,14 +137,16 @@ module _ (known : List ℕ) (rs : List Round) (ms : List Match) where
   abbrev Plays : Round → Type 0
   Plays s = IsRound known s.matches
 
-  pub one_more : (limit most : ℕ) → AreRounds Swiss limit known rs → length rs < most → MayFollow known rs ms → AreRounds Swiss most known (rs ++ r ∷ [])
+  pub one_more : (limit most : ℕ) → AreRounds Swiss limit known rs → length rs < most → MayFollow known rs ms
+      → AreRounds Swiss most known (rs ++ r ∷ [])
   one_more limit most h room follows =
       let count : length (rs ++ r ∷ []) ≡ length rs + 1 = length-append rs (r ∷ []) in
       record {
         few = omega arith;
         enrolling = λ phase. absurd (let never : Swiss ≡ Enrolling = phase in cc);
         each = All-push Plays rs r h.each follows.round;
-        no_repeats = subst (AllPairs Differ) (sym (matches-with rs ms)) (from_rec Differ _ (rec_append Differ (matches_of rs) ms (to_rec Differ _ h.no_repeats)
+        no_repeats = subst (AllPairs Differ) (sym (matches-with rs ms))
+            (from_rec Differ _ (rec_append Differ (matches_of rs) ms (to_rec Differ _ h.no_repeats)
             (seated_differ ms (to_rec _ _ follows.round.seated_once)) (all_pair (matches_of rs) ms (all_new rs ms follows.new))));
         earlier_done = subst (All Counted) (sym (take-before rs r)) follows.done;
         done = λ over. absurd (not_over over);
@@ -148,7 +160,8 @@ module _ (known : List ℕ) (rs : List Round) (ms : List Match) where
   may_follow phase limit h = record {
     done = subst (All Counted) (take-before rs r) h.earlier_done;
     round = last rs h.each;
-    new = new_all rs ms (pair_all (matches_of rs) ms (rec_across Differ (matches_of rs) ms (to_rec Differ _ (subst (AllPairs Differ) (matches-with rs ms) h.no_repeats))));
+    new = new_all rs ms (pair_all (matches_of rs) ms
+        (rec_across Differ (matches_of rs) ms (to_rec Differ _ (subst (AllPairs Differ) (matches-with rs ms) h.no_repeats))));
   }
     where
       last : (ss : List Round) → All Plays (ss ++ r ∷ []) → Plays r
@@ -156,20 +169,24 @@ module _ (known : List ℕ) (rs : List Round) (ms : List Match) where
       last (t ∷ ss) all = last ss (All-tail Plays t (ss ++ r ∷ []) all)
 
 module _ (e : EventValue) (ms : List Match) where
-  pub IsSound-round : IsSoundButForSeeds e → e.phase ≡ Swiss → length e.stored < e.rounds → MayFollow (numbers e.players) e.stored ms → IsSoundButForSeeds (with_round e ms)
+  pub IsSound-round : IsSoundButForSeeds e → e.phase ≡ Swiss → length e.stored < e.rounds → MayFollow (numbers e.players) e.stored ms
+      → IsSoundButForSeeds (with_round e ms)
   IsSound-round h swiss room follows =
-      let rounds = one_more (numbers e.players) e.stored ms e.rounds e.rounds (subst (λ (p : Phase). AreRounds p e.rounds (numbers e.players) e.stored) swiss h.rounds) room follows in
+      let rounds = one_more (numbers e.players) e.stored ms e.rounds e.rounds
+      (subst (λ (p : Phase). AreRounds p e.rounds (numbers e.players) e.stored) swiss h.rounds) room follows in
       record {
         set_up = h.set_up;
         players = h.players;
-        rounds = subst (λ (p : Phase). AreRounds p e.rounds (numbers e.players) (e.stored ++ record { matches = ms } ∷ [])) (sym swiss) rounds;
+        rounds = subst (λ (p : Phase). AreRounds p e.rounds (numbers e.players) (e.stored ++ record { matches = ms } ∷ []))
+            (sym swiss) rounds;
         bracket = h.bracket;
       }
 
   module _ (h : IsSoundButForSeeds (with_round e ms)) where
     pub round-few : length e.stored < e.rounds
     round-few =
-        let count : length (e.stored ++ record { matches = ms } ∷ []) ≡ length e.stored + 1 = length-append e.stored (record { matches = ms } ∷ []) in
+        let count : length (e.stored ++ record { matches = ms } ∷ []) ≡ length e.stored + 1 =
+        length-append e.stored (record { matches = ms } ∷ []) in
         let few = h.rounds.few in
         omega arith
 

@@ -1,5 +1,6 @@
 -- When stages are a bracket.
-use Rattle.std.proofs.Common.{◌≡◌, ◌≢◌, ℕ, ◌/◌, ◌<◌, ◌&&◌, Bool, true, false, List, [], ◌∷◌, length, flat_map, All, AllPairs, Contains, Option, Some, None, IfSome, IsTrue, refl, sym, subst, ◌∙◌, true≢false}
+use Rattle.std.proofs.Common.{◌≡◌, ◌≢◌, ℕ, ◌/◌, ◌<◌, ◌&&◌, Bool, true, false, List, [], ◌∷◌, length, flat_map, All, AllPairs, Contains}
+use Rattle.std.proofs.Common.{Option, Some, None, IfSome, IsTrue, refl, sym, subst, ◌∙◌, true≢false}
 use Rattle.std.specs.List.{list_all, range_with_len, slice_get, AllByRecursion}
 use Rattle.std.proofs.lemmas.List.Elements.{All-from_recursion, recursion_from_All, All-weaker}
 use Rattle.std.proofs.lemmas.Option.{same_Some}
@@ -34,7 +35,8 @@ module _ (count : ℕ) where
 
   known-seats : (ms : List Match) → AllByRecursion Known (flat_map seats ms) → list_all are_known ms ≡ true
   known-seats [] h = refl
-  known-seats (m ∷ ms) h = let a = contains_known count m.a h.0 in let b = contains_known count m.b h.1.0 in rw (a, b) (known-seats ms h.1.1)
+  known-seats (m ∷ ms) h = let a = contains_known count m.a h.0 in let b =
+      contains_known count m.b h.1.0 in rw (a, b) (known-seats ms h.1.1)
 
   pub Known-of : (ms : List Match) → list_all are_known ms ≡ true → All Known (flat_map seats ms)
   Known-of ms h = All-from_recursion Known (flat_map seats ms) (seats-known ms h)
@@ -59,29 +61,47 @@ abbrev pub are_lawful : List Match → Bool
 are_lawful ms = list_all (λ (m : Match). is_lawful_slot_score m.score) ms
 
 pub Lawful-of : (ms : List Match) → are_lawful ms ≡ true → All Lawful ms
-Lawful-of ms h = All-weaker (λ (m : Match). IsTrue (is_lawful_slot_score m.score)) Lawful (λ m. lawful-score m.score) ms (All-of (λ (m : Match). is_lawful_slot_score m.score) ms h)
+Lawful-of ms h = All-weaker (λ (m : Match). IsTrue (is_lawful_slot_score m.score)) Lawful
+    (λ m. lawful-score m.score) ms (All-of (λ (m : Match). is_lawful_slot_score m.score) ms h)
 
 pub of-Lawful : (ms : List Match) → All Lawful ms → are_lawful ms ≡ true
-of-Lawful ms h = of-All (λ (m : Match). is_lawful_slot_score m.score) ms (All-weaker Lawful (λ (m : Match). IsTrue (is_lawful_slot_score m.score)) (λ m. score-lawful m.score) ms h)
+of-Lawful ms h = of-All (λ (m : Match). is_lawful_slot_score m.score) ms
+    (All-weaker Lawful (λ (m : Match). IsTrue (is_lawful_slot_score m.score)) (λ m. score-lawful m.score) ms h)
 
 pub AllLawful-of : (stages : List (List Match)) → list_all are_lawful stages ≡ true → All (λ (stage : List Match). All Lawful stage) stages
-AllLawful-of stages h = All-weaker (λ (stage : List Match). IsTrue (are_lawful stage)) (λ (stage : List Match). All Lawful stage) Lawful-of stages (All-of are_lawful stages h)
+AllLawful-of stages h = All-weaker (λ (stage : List Match). IsTrue (are_lawful stage))
+    (λ (stage : List Match). All Lawful stage) Lawful-of stages (All-of are_lawful stages h)
 
 pub of-AllLawful : (stages : List (List Match)) → All (λ (stage : List Match). All Lawful stage) stages → list_all are_lawful stages ≡ true
-of-AllLawful stages h = of-All are_lawful stages (All-weaker (λ (stage : List Match). All Lawful stage) (λ (stage : List Match). IsTrue (are_lawful stage)) of-Lawful stages h)
+of-AllLawful stages h = of-All are_lawful stages (All-weaker (λ (stage : List Match). All Lawful stage)
+    (λ (stage : List Match). IsTrue (are_lawful stage)) of-Lawful stages h)
 
 -- ---- the whole
 
 abbrev pub IsFirst : ℕ → ℕ → List Match → Type 0
-IsFirst count cut first = (length first ≡ cut / 2) × All (λ n. Contains (range_with_len 1 count) n) (flat_map seats first) × AllPairs (λ p q. p ≢ q) (flat_map seats first)
+IsFirst count cut first = (length first ≡ cut / 2) × All (λ n. Contains (range_with_len 1 count) n) (flat_map seats first) × AllPairs
+    (λ p q. p ≢ q) (flat_map seats first)
 
-pub is-bracket : (count cut : ℕ) (stages : List (List Match)) (first : List Match) → 0 < cut → slice_get stages 0 ≡ Some first → IsFirst count cut first → list_all are_lawful stages ≡ true → FollowOn stages → IsBracket (range_with_len 1 count) cut stages
+pub is-bracket : (count cut : ℕ) (stages : List (List Match)) (first : List Match) → 0 < cut → slice_get stages 0 ≡ Some first
+    → IsFirst count cut first → list_all are_lawful stages ≡ true → FollowOn stages → IsBracket (range_with_len 1 count) cut stages
 is-bracket count cut stages first some at is lawful follows =
-    record { cut_is_played = some; first = first; is_first = at; slots = is.0; known_players = is.1; seated_once = is.2; scores = AllLawful-of stages lawful; follows = follows }
+    record {
+      cut_is_played = some;
+      first = first;
+      is_first = at;
+      slots = is.0;
+      known_players = is.1;
+      seated_once = is.2;
+      scores = AllLawful-of stages lawful;
+      follows = follows;
+    }
 
-pub bracket-first : (count cut : ℕ) (stages : List (List Match)) (first : List Match) → slice_get stages 0 ≡ Some first → IsBracket (range_with_len 1 count) cut stages → IsFirst count cut first
-bracket-first count cut stages first at h = subst (IsFirst count cut) (same_Some h.first first (sym h.is_first ∙ at)) (h.slots, h.known_players, h.seated_once)
+pub bracket-first : (count cut : ℕ) (stages : List (List Match)) (first : List Match) → slice_get stages 0 ≡ Some first
+    → IsBracket (range_with_len 1 count) cut stages → IsFirst count cut first
+bracket-first count cut stages first at h = subst (IsFirst count cut) (same_Some h.first first (sym h.is_first ∙ at))
+    (h.slots, h.known_players, h.seated_once)
 
-pub bracket-same : (known seen : List ℕ) (cut read : ℕ) (stages given : List (List Match)) → known ≡ seen → cut ≡ read → stages ≡ given → IsBracket known cut stages → IsBracket seen read given
+pub bracket-same : (known seen : List ℕ) (cut read : ℕ) (stages given : List (List Match)) → known ≡ seen → cut ≡ read → stages ≡ given
+    → IsBracket known cut stages → IsBracket seen read given
 bracket-same known seen cut read stages given a b c h =
     subst (λ (ks : List ℕ). IsBracket ks read given) a (subst (λ (n : ℕ). IsBracket known n given) b (subst (IsBracket known cut) c h))

@@ -1,5 +1,7 @@
 -- A player who drops keeps number and name, so the event stays sound once it has started.
-use Rattle.std.proofs.Common.{◌≡◌, ◌≢◌, ℕ, zero, suc, ◌+◌, ◌-◌, ◌==◌, ◌<◌, ◌≤◌, Bool, true, false, cond, not, ◌&&◌, ◌⊎◌, inl, inr, List, [], ◌∷◌, length, map, get_or, IsTrue, IsFalse, All, AllPairs, Contains, Option, Some, None, IfSome, Bor, option_map, unwrap_or, find, drop, refl, sym, ap, ap₂, subst, ◌∙◌, true≢false, arith, not-suc-le-zero}
+use Rattle.std.proofs.Common.{◌≡◌, ◌≢◌, ℕ, zero, suc, ◌+◌, ◌-◌, ◌==◌, ◌<◌, ◌≤◌, Bool, true, false, cond, not, ◌&&◌, ◌⊎◌, inl, inr, List, []}
+use Rattle.std.proofs.Common.{◌∷◌, length, map, get_or, IsTrue, IsFalse, All, AllPairs, Contains, Option, Some, None, IfSome, Bor}
+use Rattle.std.proofs.Common.{option_map, unwrap_or, find, drop, refl, sym, ap, ap₂, subst, ◌∙◌, true≢false, arith, not-suc-le-zero}
 use Rattle.std.specs.List.{range_with_len, list_all, slice_get}
 use Rattle.std.specs.Slice.{IsItemAt}
 use Rattle.std.proofs.Math.ListN.{set, length-map}
@@ -33,13 +35,15 @@ names-dropped k [] = refl
 names-dropped k (p ∷ ps) = ap₂ ◌∷◌ (name-kept (p.no == k) p) (names-dropped k ps)
 
 -- where the players are numbered, the numbers are those from 1 to their count
-pub Contains-numbered : (ps : List Player) (k : ℕ) → numbers ps ≡ range_with_len 1 (length ps) → 1 ≤ k → k ≤ length ps → Contains (numbers ps) k
+pub Contains-numbered : (ps : List Player) (k : ℕ) → numbers ps ≡ range_with_len 1 (length ps) → 1 ≤ k → k ≤ length ps
+    → Contains (numbers ps) k
 Contains-numbered ps k numbered low high =
     let len = length-range_with_len 1 (length ps) in
     let at = get_or-range_with_len 1 (length ps) (k - 1) k (omega arith) in
     subst (λ (ns : List ℕ). Contains ns k) (sym numbered) (k - 1, omega arith, omega arith)
 
-pub numbered-within : (ps : List Player) (k : ℕ) → numbers ps ≡ range_with_len 1 (length ps) → Contains (numbers ps) k → (1 ≤ k) × (k ≤ length ps)
+pub numbered-within : (ps : List Player) (k : ℕ) → numbers ps ≡ range_with_len 1 (length ps) → Contains (numbers ps) k
+    → (1 ≤ k) × (k ≤ length ps)
 numbered-within ps k numbered has =
     let here : Contains (range_with_len 1 (length ps)) k = subst (λ (ns : List ℕ). Contains ns k) numbered has in
     let len = length-range_with_len 1 (length ps) in
@@ -48,7 +52,8 @@ numbered-within ps k numbered has =
     let is = here.2 in
     (omega arith, omega arith)
 
-players-dropped : (e : EventValue) (k : ℕ) → ArePlayers e.phase e.players → e.phase ≢ Enrolling → ArePlayers e.phase (map (dropped_at k) e.players)
+players-dropped : (e : EventValue) (k : ℕ) → ArePlayers e.phase e.players → e.phase ≢ Enrolling
+    → ArePlayers e.phase (map (dropped_at k) e.players)
 players-dropped e k h started =
     let len = length-map {A = Player} {B = Player} e.players (dropped_at k) in
     let Apart : List ℕ → List ℕ → Type 0 = λ a b. a ≢ b in
@@ -82,10 +87,12 @@ dropped-is true p e = refl
 dropped-is false p e = absurd (true≢false (sym e))
 
 -- a dropped player is one of them
-pub some-dropped : (k : ℕ) (ps : List Player) → Contains (numbers ps) k → All (λ (p : Player). IsFalse p.dropped) (map (dropped_at k) ps) → ⊥
+pub some-dropped : (k : ℕ) (ps : List Player) → Contains (numbers ps) k
+    → All (λ (p : Player). IsFalse p.dropped) (map (dropped_at k) ps) → ⊥
 some-dropped k [] (i, below, is) all = not-suc-le-zero below
 some-dropped k (p ∷ ps) (zero, below, is) all =
-    true≢false (sym (dropped-is (p.no == k) p (same_number p.no k is)) ∙ All-head (λ (q : Player). IsFalse q.dropped) (dropped_at k p) (map (dropped_at k) ps) all)
+    true≢false (sym (dropped-is (p.no == k) p (same_number p.no k is)) ∙ All-head (λ (q : Player). IsFalse q.dropped) (dropped_at k p)
+    (map (dropped_at k) ps) all)
 some-dropped k (p ∷ ps) (suc i, below, is) all =
     some-dropped k ps (i, omega arith, is) (All-tail (λ (q : Player). IsFalse q.dropped) (dropped_at k p) (map (dropped_at k) ps) all)
 
@@ -99,7 +106,8 @@ set-when : (b : Bool) (p : Player) → b ≡ true → cond b (record p { dropped
 set-when true p e = refl
 set-when false p e = absurd (true≢false (sym e))
 
-first_number : (p : Player) (ps : List Player) (a : ℕ) → numbers (p ∷ ps) ≡ range_with_len a (length (p ∷ ps)) → (p.no ≡ a) × (numbers ps ≡ range_with_len (a + 1) (length ps))
+first_number : (p : Player) (ps : List Player) (a : ℕ) → numbers (p ∷ ps) ≡ range_with_len a (length (p ∷ ps))
+    → (p.no ≡ a) × (numbers ps ≡ range_with_len (a + 1) (length ps))
 first_number p ps a e = (ap (λ (ns : List ℕ). get_or ns 0 0) e, ap (Rattle.std.specs.Prelude.drop 1) e)
 
 later_kept : (ps : List Player) (a k : ℕ) → k < a → numbers ps ≡ range_with_len a (length ps) → map (dropped_at k) ps ≡ ps
@@ -151,7 +159,8 @@ undropped-All (p ∷ ps) all =
     both false b x y = x
 
 -- an event whose rounds are not paired goes back to enrolling where nobody is dropped
-pub IsSound-enrolling : (e : EventValue) → IsSoundButForSeeds e → e.phase ≡ Swiss → e.stored ≡ [] → All (λ (p : Player). IsFalse p.dropped) e.players → IsSoundButForSeeds (with_phase e Enrolling)
+pub IsSound-enrolling : (e : EventValue) → IsSoundButForSeeds e → e.phase ≡ Swiss → e.stored ≡ []
+    → All (λ (p : Player). IsFalse p.dropped) e.players → IsSoundButForSeeds (with_phase e Enrolling)
 IsSound-enrolling e h swiss none undropped = record {
   set_up = h.set_up;
   players = record {
@@ -182,11 +191,13 @@ IsSound-enrolling e h swiss none undropped = record {
     no_playoff (inl phase) = cc
     no_playoff (inr phase) = cc
 
-found-step : (b : Bool) (q p : Player) (ps : List Player) (found : Option Player) → (found ≡ Some p → Contains (numbers ps) p.no) → cond b (Some q) found ≡ Some p → Contains (numbers (q ∷ ps)) p.no
+found-step : (b : Bool) (q p : Player) (ps : List Player) (found : Option Player) → (found ≡ Some p → Contains (numbers ps) p.no)
+    → cond b (Some q) found ≡ Some p → Contains (numbers (q ∷ ps)) p.no
 found-step true q p ps found rest is = let same : q.no ≡ p.no = ap (λ (o : Option Player). (unwrap_or o q).no) is in (0, omega arith, same)
 found-step false q p ps found rest is = let has = rest is in (suc has.0, omega (arith, has.1), has.2)
 
-find-step : (b : Bool) (k n : ℕ) (q : Player) (qs : List Player) → (q.no == n) ≡ b → q.no ≡ k → k ≤ n → (k + 1 ≤ n → find (λ (p : Player). p.no == n) qs ≡ slice_get qs (n - (k + 1)))
+find-step : (b : Bool) (k n : ℕ) (q : Player) (qs : List Player) → (q.no == n) ≡ b → q.no ≡ k → k ≤ n
+    → (k + 1 ≤ n → find (λ (p : Player). p.no == n) qs ≡ slice_get qs (n - (k + 1)))
     → cond b (Some q) (find (λ (p : Player). p.no == n) qs) ≡ slice_get (q ∷ qs) (n - k)
 find-step true k n q qs same is low later =
     let e : n - k ≡ 0 = grind (arith, nat_tests) in
@@ -197,7 +208,8 @@ find-step false k n q qs other is low later =
     later more ∙ sym (ap (slice_get (q ∷ qs)) e)
 
 -- where players are numbered from k, the one of a number stands at its place
-pub find-numbered : (k : ℕ) (ps : List Player) (n : ℕ) → numbers ps ≡ range_with_len k (length ps) → k ≤ n → find (λ (p : Player). p.no == n) ps ≡ slice_get ps (n - k)
+pub find-numbered : (k : ℕ) (ps : List Player) (n : ℕ) → numbers ps ≡ range_with_len k (length ps) → k ≤ n
+    → find (λ (p : Player). p.no == n) ps ≡ slice_get ps (n - k)
 find-numbered k [] n numbered low = sym (slice_get_past [] (n - k) (omega arith))
 find-numbered k (q ∷ qs) n numbered low =
     let first : q.no ≡ k = ap (λ ns. get_or ns 0 k) numbered in
@@ -205,16 +217,19 @@ find-numbered k (q ∷ qs) n numbered low =
     find-step (q.no == n) k n q qs refl first low (find-numbered (k + 1) qs n others)
 
 -- what `get` lends
-pub item-got : (ps : List Player) (i : ℕ) (r : Option (Bor Player)) → IsItemAt ps i r → option_map (λ (p : Bor Player). p.now) r ≡ slice_get ps i
+pub item-got : (ps : List Player) (i : ℕ) (r : Option (Bor Player)) → IsItemAt ps i r
+    → option_map (λ (p : Bor Player). p.now) r ≡ slice_get ps i
 item-got ps i None h = sym (slice_get_past ps i h.3)
 item-got ps i (Some p) h = sym (slice_get_read ps (length ps) i p.now refl h.3.0 h.1)
 
-none-step : (b : Bool) (k n : ℕ) (q : Player) (found : Option Player) → (q.no == n) ≡ b → q.no ≡ k → n < k → found ≡ None → cond b (Some q) found ≡ None
+none-step : (b : Bool) (k n : ℕ) (q : Player) (found : Option Player) → (q.no == n) ≡ b → q.no ≡ k → n < k → found ≡ None
+    → cond b (Some q) found ≡ None
 none-step true k n q found same is low none = let no : ⊥ = grind (arith, nat_tests) in absurd no
 none-step false k n q found other is low none = none
 
 -- and nobody has a lower number
-pub find-below : (k : ℕ) (ps : List Player) (n : ℕ) → numbers ps ≡ range_with_len k (length ps) → n < k → find (λ (p : Player). p.no == n) ps ≡ None
+pub find-below : (k : ℕ) (ps : List Player) (n : ℕ) → numbers ps ≡ range_with_len k (length ps) → n < k
+    → find (λ (p : Player). p.no == n) ps ≡ None
 find-below k [] n numbered low = refl
 find-below k (q ∷ qs) n numbered low =
     let first : q.no ≡ k = ap (λ ns. get_or ns 0 k) numbered in
@@ -227,18 +242,26 @@ found-listed k [] p is = absurd (none-some p is)
 found-listed k (q ∷ ps) p is = found-step (q.no == k) q p ps (find (λ (q : Player). q.no == k) ps) (found-listed k ps p) is
 
 -- who is found can drop, once the event has started
-pub found-drops : (e : EventValue) (k : ℕ) (found : Option (Bor Player)) → IsSoundButForSeeds e → option_map (λ (p : Bor Player). p.now) found ≡ find (λ (q : Player). q.no == k) e.players → IfSome found (λ p. e.phase ≢ Enrolling → Fits e (SetDropped p.now.no))
+pub found-drops : (e : EventValue) (k : ℕ) (found : Option (Bor Player)) → IsSoundButForSeeds e
+    → option_map (λ (p : Bor Player). p.now) found ≡ find (λ (q : Player). q.no == k) e.players
+    → IfSome found (λ p. e.phase ≢ Enrolling → Fits e (SetDropped p.now.no))
 found-drops e k None sound is = tt
-found-drops e k (Some p) sound is = λ started. record { named = found-listed k e.players p.now (sym is); sound = IsSound-dropped e p.now.no sound started }
+found-drops e k (Some p) sound is = λ started. record {
+  named = found-listed k e.players p.now (sym is);
+  sound = IsSound-dropped e p.now.no sound started;
+}
 
-is-step : (b : Bool) (k : ℕ) (q p : Player) (found : Option Player) → (b ≡ true → q.no ≡ k) → (found ≡ Some p → p.no ≡ k) → cond b (Some q) found ≡ Some p → p.no ≡ k
+is-step : (b : Bool) (k : ℕ) (q p : Player) (found : Option Player) → (b ≡ true → q.no ≡ k) → (found ≡ Some p → p.no ≡ k)
+    → cond b (Some q) found ≡ Some p → p.no ≡ k
 is-step true k q p found here rest is = sym (ap (λ (o : Option Player). (unwrap_or o q).no) is) ∙ here refl
 is-step false k q p found here rest is = rest is
 
 found-is : (k : ℕ) (ps : List Player) (p : Player) → find (λ (q : Player). q.no == k) ps ≡ Some p → p.no ≡ k
 found-is k [] p is = absurd (none-some p is)
-found-is k (q ∷ ps) p is = is-step (q.no == k) k q p (find (λ (q : Player). q.no == k) ps) (λ same. grind (arith, nat_tests)) (found-is k ps p) is
+found-is k (q ∷ ps) p is = is-step (q.no == k) k q p (find (λ (q : Player). q.no == k) ps)
+    (λ same. grind (arith, nat_tests)) (found-is k ps p) is
 
-pub found-has : (k : ℕ) (ps : List Player) (found : Option (Bor Player)) → option_map (λ (p : Bor Player). p.now) found ≡ find (λ (q : Player). q.no == k) ps → IfSome found (λ p. p.now.no ≡ k)
+pub found-has : (k : ℕ) (ps : List Player) (found : Option (Bor Player)) → option_map (λ (p : Bor Player). p.now) found ≡ find
+    (λ (q : Player). q.no == k) ps → IfSome found (λ p. p.now.no ≡ k)
 found-has k ps None is = tt
 found-has k ps (Some p) is = found-is k ps p.now (sym is)

@@ -1,5 +1,7 @@
 -- A stage that is read with a new score, and when it may be the last.
-use Rattle.std.proofs.Common.{◌≡◌, ◌↔◌, ℕ, zero, suc, ◌-◌, ◌<◌, ◌≤◌, ◌==◌, ◌||◌, Bool, true, false, cond, List, [], ◌∷◌, ◌++◌, length, take, drop, get_or, All, Option, Some, None, IsTrue, MatchOption, IsSome, is_some, option_map, Bor, refl, sym, ap, subst, ◌∙◌, true≢false, arith}
+use Rattle.std.proofs.Common.{◌≡◌, ◌↔◌, ℕ, zero, suc, ◌-◌, ◌<◌, ◌≤◌, ◌==◌, ◌||◌, Bool, true, false, cond, List, [], ◌∷◌, ◌++◌, length, take}
+use Rattle.std.proofs.Common.{drop, get_or, All, Option, Some, None, IsTrue, MatchOption, IsSome, is_some, option_map, Bor, refl, sym, ap}
+use Rattle.std.proofs.Common.{subst, ◌∙◌, true≢false, arith}
 use Rattle.std.specs.List.{slice_get, AllByRecursion}
 use Rattle.std.proofs.Math.ListN.{set}
 use Rattle.std.proofs.Math.Bool.{beq}
@@ -28,23 +30,30 @@ take-all : (xs ys : List Match) → take (length xs) (xs ++ ys) ≡ xs
 take-all [] ys = refl
 take-all (x ∷ xs) ys = ap (λ (l : List Match). x ∷ l) (take-all xs ys)
 
-set-take : (stage rest : List Match) (at : ℕ) (m : Match) → at < length stage → take (length stage) (set (stage ++ rest) at m) ≡ set stage at m
+set-take : (stage rest : List Match) (at : ℕ) (m : Match) → at < length stage
+    → take (length stage) (set (stage ++ rest) at m) ≡ set stage at m
 set-take [] rest at m within = absurd (omega arith)
 set-take (s ∷ stage) rest zero m within = ap (λ (l : List Match). m ∷ l) (take-all stage rest)
 set-take (s ∷ stage) rest (suc at) m within = ap (λ (l : List Match). s ∷ l) (set-take stage rest at m (omega arith))
 
-pub set-copy : (stage copied rest : List Match) (at : ℕ) (m : Match) → copied ≡ stage → at < length stage → take (length stage) (set (copied ++ rest) at m) ≡ set stage at m
-set-copy stage copied rest at m same within = subst (λ (c : List Match). take (length stage) (set (c ++ rest) at m) ≡ set stage at m) (sym same) (set-take stage rest at m within)
+pub set-copy : (stage copied rest : List Match) (at : ℕ) (m : Match) → copied ≡ stage → at < length stage
+    → take (length stage) (set (copied ++ rest) at m) ≡ set stage at m
+set-copy stage copied rest at m same within = subst (λ (c : List Match). take (length stage) (set (c ++ rest) at m) ≡ set stage at m)
+    (sym same) (set-take stage rest at m within)
 
 -- ---- how many slots a stage has
 
-few : (stages : List (List Match)) (s : List Match) → FollowOn (s ∷ stages) → length s ≤ 4 → AllByRecursion (λ (t : List Match). length t ≤ 4) (s ∷ stages)
+few : (stages : List (List Match)) (s : List Match) → FollowOn (s ∷ stages) → length s ≤ 4
+    → AllByRecursion (λ (t : List Match). length t ≤ 4) (s ∷ stages)
 few [] s f h = (h, tt)
 few (t ∷ more) s f h = let count = winners-length s t f.2 in (h, few more t f.3 (omega arith))
 
-few-slots : (stages : List (List Match)) (first : List Match) → slice_get stages 0 ≡ Some first → FollowOn stages → length first ≤ 4 → All (λ (t : List Match). length t ≤ 4) stages
+few-slots : (stages : List (List Match)) (first : List Match) → slice_get stages 0 ≡ Some first → FollowOn stages → length first ≤ 4
+    → All (λ (t : List Match). length t ≤ 4) stages
 few-slots [] first at f h = absurd (none-some first at)
-few-slots (s ∷ stages) first at f h = All-from_recursion (λ (t : List Match). length t ≤ 4) (s ∷ stages) (few stages s f (subst (λ (t : List Match). length t ≤ 4) (sym (same_Some s first at)) h))
+few-slots (s ∷ stages) first at f h = All-from_recursion
+    (λ (t : List Match). length t ≤ 4) (s ∷ stages)
+    (few stages s f (subst (λ (t : List Match). length t ≤ 4) (sym (same_Some s first at)) h))
 
 low-cut : (cut : ℕ) → (cut == 0 || cut == 2 || cut == 4 || cut == 8) ≡ true → cut ≤ 8
 low-cut cut h = grind (arith, nat_tests)
@@ -68,7 +77,8 @@ module _ (stage : List Match) (over : Bool) where
   }
 
   pub none-over : IsEnd stage None over → over ≡ is_over stage
-  none-over end = same-bools over (is_over stage) (λ yes. (over-counted stage).0 (end.decided.0 yes), λ is. end.decided.1 ((over-counted stage).1 is))
+  none-over end = same-bools over (is_over stage)
+      (λ yes. (over-counted stage).0 (end.decided.0 yes), λ is. end.decided.1 ((over-counted stage).1 is))
 
   module _ (next : List Match) where
     after-next : IsDecided (stage ∷ next ∷ []) ≡ IsDecided (next ∷ [])
@@ -124,19 +134,23 @@ module _ (e : EventValue) (stage slot : ℕ) (m : Match) (is : slot_at e stage s
   few-old =
       let over = over e (stage - 1) old old f.at (slots-refl old) h in
       let b = h.bracket.bracket over in
-      let all = recursion_from_All (λ (t : List Match). length t ≤ 4) e.bracket.stages (few-slots e.bracket.stages b.first b.is_first b.follows (let cut = low-cut e.cut h.set_up.cut in let slots = b.slots in omega arith)) in
+      let all = recursion_from_All (λ (t : List Match). length t ≤ 4) e.bracket.stages
+      (few-slots e.bracket.stages b.first b.is_first b.follows
+      (let cut = low-cut e.cut h.set_up.cut in let slots = b.slots in omega arith)) in
       all-at (λ (t : List Match). length t ≤ 4) (stage - 1) e.bracket.stages old f.at all
 
   pub behind-none : length e.bracket.stages ≤ stage → drop (suc (stage - 1)) e.bracket.stages ≡ []
   behind-none none = drop-none (suc (stage - 1)) e.bracket.stages (let next = next-place stage low-stage in omega arith)
 
-  pub behind-some : (l : List Match) → slice_get e.bracket.stages stage ≡ Some l → drop (suc (stage - 1)) e.bracket.stages ≡ l ∷ drop (suc stage) e.bracket.stages
+  pub behind-some : (l : List Match) → slice_get e.bracket.stages stage ≡ Some l
+      → drop (suc (stage - 1)) e.bracket.stages ≡ l ∷ drop (suc stage) e.bracket.stages
   behind-some l at = ap (λ (i : ℕ). drop i e.bracket.stages) (next-place stage low-stage) ∙ drop-some stage e.bracket.stages l at
 
   module _ (stages : List (List Match)) (list : stages ≡ e.bracket.stages) (i j : ℕ) (same : i ≡ stage) (place : j ≡ slot) where
     module _ (x : List Match) (there : x ≡ get_or stages (i - 1) x) where
       pub stage-is : x ≡ old
-      stage-is = there ∙ (ap (λ (n : ℕ). get_or stages (n - 1) x) same ∙ (ap (λ (ss : List (List Match)). get_or ss (stage - 1) x) list ∙ get_or_from_slice_get e.bracket.stages (stage - 1) old x f.at))
+      stage-is = there ∙ (ap (λ (n : ℕ). get_or stages (n - 1) x) same
+          ∙ (ap (λ (ss : List (List Match)). get_or ss (stage - 1) x) list ∙ get_or_from_slice_get e.bracket.stages (stage - 1) old x f.at))
 
       pub stage-few : length x ≤ 4
       stage-few = subst (λ (t : List Match). length t ≤ 4) (sym stage-is) few-old
@@ -146,7 +160,8 @@ module _ (e : EventValue) (stage slot : ℕ) (m : Match) (is : slot_at e stage s
 
       pub slot-set : (score : Games) (new : List Match) → new ≡ set x (j - 1) (scored score m) → new ≡ new_stage e stage slot score m is h
       slot-set score new written =
-          written ∙ (ap (λ (n : ℕ). set x (n - 1) (scored score m)) place ∙ (ap (λ (t : List Match). set t (slot - 1) (scored score m)) stage-is ∙ sym (new_stage-is e stage slot score m is h)))
+          written ∙ (ap (λ (n : ℕ). set x (n - 1) (scored score m)) place
+          ∙ (ap (λ (t : List Match). set t (slot - 1) (scored score m)) stage-is ∙ sym (new_stage-is e stage slot score m is h)))
 
 pub beq-same : (a b : Bool) → beq a b ≡ true → a ≡ b
 beq-same true true h = refl
@@ -158,9 +173,11 @@ pub same-beq : (a b : Bool) → a ≡ b → beq a b ≡ true
 same-beq true b h = subst (λ (x : Bool). beq true x ≡ true) h refl
 same-beq false b h = subst (λ (x : Bool). beq false x ≡ true) h refl
 
-pub later-read : (e : EventValue) (stage : ℕ) (stages : List (List Match)) → stages ≡ e.bracket.stages → (i : ℕ) → i ≡ stage → (l : List Match) → i < length stages → l ≡ get_or stages i l → slice_get e.bracket.stages stage ≡ Some l
+pub later-read : (e : EventValue) (stage : ℕ) (stages : List (List Match)) → stages ≡ e.bracket.stages → (i : ℕ) → i ≡ stage
+    → (l : List Match) → i < length stages → l ≡ get_or stages i l → slice_get e.bracket.stages stage ≡ Some l
 later-read e stage stages list i same l within is =
-    subst (λ (ss : List (List Match)). slice_get ss stage ≡ Some l) list (subst (λ (n : ℕ). slice_get stages n ≡ Some l) same (slice_get_read stages (length stages) i l refl within is))
+    subst (λ (ss : List (List Match)). slice_get ss stage ≡ Some l) list
+    (subst (λ (n : ℕ). slice_get stages n ≡ Some l) same (slice_get_read stages (length stages) i l refl within is))
 
 pub is-none : (o : Option (Bor (List Match))) → option_map (λ (n : Bor (List Match)). n.now) o ≡ None → is_some o ≡ true → ⊥
 is-none None none some = true≢false (sym some)
@@ -177,13 +194,15 @@ get-more i [] ys x at = absurd (none-some x at)
 get-more zero (y ∷ xs) ys x at = at
 get-more (suc i) (y ∷ xs) ys x at = get-more i xs ys x at
 
-slot-of : (stages : List (List Match)) (stage slot : ℕ) (ms : List Match) (m : Match) → 1 ≤ stage → 1 ≤ slot → slice_get stages (stage - 1) ≡ Some ms → slice_get ms (slot - 1) ≡ Some m → slot_in stages stage slot ≡ Some m
+slot-of : (stages : List (List Match)) (stage slot : ℕ) (ms : List Match) (m : Match) → 1 ≤ stage → 1 ≤ slot
+    → slice_get stages (stage - 1) ≡ Some ms → slice_get ms (slot - 1) ≡ Some m → slot_in stages stage slot ≡ Some m
 slot-of stages stage slot ms m a b at here =
     let x : (stage == 0) ≡ false = grind (arith, nat_tests) in
     let y : (slot == 0) ≡ false = grind (arith, nat_tests) in
     rw (x, y, at) here
 
-module _ (e : EventValue) (stage slot : ℕ) (m : Match) (is : slot_at e stage slot ≡ Some m) (more stages : List (List Match)) (list : stages ≡ e.bracket.stages ++ more) where
+module _ (e : EventValue) (stage slot : ℕ) (m : Match) (is : slot_at e stage slot ≡ Some m) (more stages : List (List Match))
+    (list : stages ≡ e.bracket.stages ++ more) where
   abbrev g : FoundSlot e stage slot m
   g = found-slot e stage slot m is
 
@@ -191,18 +210,24 @@ module _ (e : EventValue) (stage slot : ℕ) (m : Match) (is : slot_at e stage s
   read-more = get-more (stage - 1) e.bracket.stages more (stage_of e.bracket.stages stage) g.at
 
   pub slot-more : slot_in stages stage slot ≡ Some m
-  slot-more = subst (λ (ss : List (List Match)). slot_in ss stage slot ≡ Some m) (sym list) (slot-of (e.bracket.stages ++ more) stage slot (stage_of e.bracket.stages stage) m g.low.0 g.low.1 read-more g.here)
+  slot-more = subst (λ (ss : List (List Match)). slot_in ss stage slot ≡ Some m) (sym list)
+      (slot-of (e.bracket.stages ++ more) stage slot (stage_of e.bracket.stages stage) m g.low.0 g.low.1 read-more g.here)
 
-  pub scored-more : (score : Games) → set stages (stage - 1) (scored_slot (stage_of stages stage) slot score) ≡ set e.bracket.stages (stage - 1) (scored_slot (stage_of e.bracket.stages stage) slot score) ++ more
+  pub scored-more : (score : Games) → set stages (stage - 1) (scored_slot (stage_of stages stage) slot score) ≡ set e.bracket.stages
+      (stage - 1) (scored_slot (stage_of e.bracket.stages stage) slot score) ++ more
   scored-more score =
       let within = within-get e.bracket.stages (stage - 1) (stage_of e.bracket.stages stage) g.at in
-      let same : stage_of (e.bracket.stages ++ more) stage ≡ stage_of e.bracket.stages stage = get_or_from_slice_get (e.bracket.stages ++ more) (stage - 1) (stage_of e.bracket.stages stage) [] read-more in
+      let same : stage_of (e.bracket.stages ++ more) stage ≡ stage_of e.bracket.stages stage =
+      get_or_from_slice_get (e.bracket.stages ++ more) (stage - 1) (stage_of e.bracket.stages stage) [] read-more in
       ap (λ (ss : List (List Match)). set ss (stage - 1) (scored_slot (stage_of ss stage) slot score)) list
       ∙ (ap (λ (t : List Match). set (e.bracket.stages ++ more) (stage - 1) (scored_slot t slot score)) same
       ∙ set-append_left e.bracket.stages more (stage - 1) (scored_slot (stage_of e.bracket.stages stage) slot score) within)
 
-pub written-slot : (e : EventValue) (stage slot : ℕ) (score : Games) (next : Option (List Match)) (finished : Bool) (m : Match) → slot_at e stage slot ≡ Some m
-    → (stages made : List (List Match)) → stages ≡ e.bracket.stages ++ one_more next → made ≡ set stages (stage - 1) (scored_slot (stage_of stages stage) slot score)
+pub written-slot : (e : EventValue) (stage slot : ℕ) (score : Games) (next : Option (List Match)) (finished : Bool) (m : Match)
+    → slot_at e stage slot ≡ Some m
+    → (stages made : List (List Match)) → stages ≡ e.bracket.stages ++ one_more next
+    → made ≡ set stages (stage - 1) (scored_slot (stage_of stages stage) slot score)
     → (p : Phase) → p ≡ cond finished Finished e.phase → in_playoff e p made ≡ with_bracket_score e stage slot score next finished
 written-slot e stage slot score next finished m is stages made list written p phase =
-    ap (λ (q : Phase). in_playoff e q made) phase ∙ ap (λ (ss : List (List Match)). in_playoff e (cond finished Finished e.phase) ss) (written ∙ scored-more e stage slot m is (one_more next) stages list score)
+    ap (λ (q : Phase). in_playoff e q made) phase ∙ ap (λ (ss : List (List Match)). in_playoff e (cond finished Finished e.phase) ss)
+    (written ∙ scored-more e stage slot m is (one_more next) stages list score)

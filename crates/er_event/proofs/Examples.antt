@@ -13,7 +13,6 @@ use Rattle.er_event.specs.declared.matches.Match.{Match}
 use Rattle.er_event.specs.declared.rows.pairing.PairingRow.{PairingRow}
 use Rattle.er_event.specs.declared.rows.bracket.BracketRow.{BracketRow}
 use Rattle.er_event.specs.declared.scores.Games.{Games}
-use Rattle.er_event.specs.declared.totals.Totals.{Totals}
 use Rattle.er_event.specs.Bracket.{open_match}
 use Rattle.er_event.specs.Change.{with_player, with_dropped, with_score}
 use Rattle.er_event.specs.Event.{EventValue}
@@ -52,12 +51,14 @@ slots_of_a_stage = refl
 abbrev zoë : List ℕ
 zoë = 90 ∷ 111 ∷ 195 ∷ 171 ∷ []
 
-pub lawful_names : map is_lawful_name (codes "Ana" ∷ codes "A" ∷ codes "Lee, Jo" ∷ zoë ∷ replicate 60 97 ∷ []) ≡ true ∷ true ∷ true ∷ true ∷ true ∷ []
+pub lawful_names : map is_lawful_name (codes "Ana" ∷ codes "A" ∷ codes "Lee, Jo" ∷ zoë ∷ replicate 60 97 ∷ []) ≡ true ∷ true ∷ true ∷ true
+    ∷ true ∷ []
 unfolding is_utf8 chars lib.Utf8.encode
 lawful_names = refl
 
 -- too long, empty, with a space at an end, no UTF-8, with a control character
-pub unlawful_names : map is_lawful_name (replicate 61 97 ∷ [] ∷ codes "Ana " ∷ codes " Ana" ∷ (255 ∷ []) ∷ (65 ∷ 9 ∷ 66 ∷ []) ∷ (65 ∷ 127 ∷ []) ∷ []) ≡ false ∷ false ∷ false ∷ false ∷ false ∷ false ∷ false ∷ []
+pub unlawful_names : map is_lawful_name (replicate 61 97 ∷ [] ∷ codes "Ana " ∷ codes " Ana" ∷ (255 ∷ []) ∷ (65 ∷ 9 ∷ 66 ∷ [])
+    ∷ (65 ∷ 127 ∷ []) ∷ []) ≡ false ∷ false ∷ false ∷ false ∷ false ∷ false ∷ false ∷ []
 unfolding is_utf8 chars lib.Utf8.encode
 unlawful_names = refl
 
@@ -69,13 +70,15 @@ games x y d = record { x = x; y = y; d = d }
 pub lawful_in_a_round : map is_swiss_score (games 0 0 0 ∷ games 0 0 3 ∷ games 2 1 3 ∷ games 1 2 0 ∷ []) ≡ true ∷ true ∷ true ∷ true ∷ []
 lawful_in_a_round = refl
 
-pub unlawful_in_a_round : map is_swiss_score (games 2 2 0 ∷ games 3 0 0 ∷ games 0 3 0 ∷ games 0 0 4 ∷ []) ≡ false ∷ false ∷ false ∷ false ∷ []
+pub unlawful_in_a_round : map is_swiss_score (games 2 2 0 ∷ games 3 0 0 ∷ games 0 3 0 ∷ games 0 0 4 ∷ []) ≡ false ∷ false ∷ false
+    ∷ false ∷ []
 unlawful_in_a_round = refl
 
 pub lawful_in_the_playoff : map is_playoff_score (games 3 2 0 ∷ games 0 1 3 ∷ []) ≡ true ∷ true ∷ []
 lawful_in_the_playoff = refl
 
-pub unlawful_in_the_playoff : map is_playoff_score (games 1 1 0 ∷ games 4 0 0 ∷ games 0 4 0 ∷ games 1 0 4 ∷ []) ≡ false ∷ false ∷ false ∷ false ∷ []
+pub unlawful_in_the_playoff : map is_playoff_score (games 1 1 0 ∷ games 4 0 0 ∷ games 0 4 0 ∷ games 1 0 4 ∷ []) ≡ false ∷ false ∷ false
+    ∷ false ∷ []
 unlawful_in_the_playoff = refl
 
 -- ---- an event of three players, whose first round is paired
@@ -106,7 +109,15 @@ first_round = open_match 2 1 ∷ played 3 0 2 0 0 ∷ []
 abbrev paired : EventValue
 paired = event_of three (first_round ∷ []) []
 
-pub row_of_the_event : event_row 1 paired 5 ≡ record { id = pos 1; version = pos 1; serial = pos 5; name = codes "Friday"; rounds = pos 3; cut = pos 0; phase = pos 1 }
+pub row_of_the_event : event_row 1 paired 5 ≡ record {
+  id = pos 1;
+  version = pos 1;
+  serial = pos 5;
+  name = codes "Friday";
+  rounds = pos 3;
+  cut = pos 0;
+  phase = pos 1;
+}
 row_of_the_event = refl
 
 pub rows_of_players : player_rows paired ≡
@@ -120,7 +131,17 @@ abbrev row_of_two : PairingRow
 row_of_two = record { round = pos 1; tab = pos 1; lo = pos 1; hi = pos 2; swapped = pos 1; done = pos 0; x = pos 0; y = pos 0; d = pos 0 }
 
 abbrev row_of_the_bye : PairingRow
-row_of_the_bye = record { round = pos 1; tab = pos 0; lo = pos 0; hi = pos 3; swapped = pos 1; done = pos 1; x = pos 2; y = pos 0; d = pos 0 }
+row_of_the_bye = record {
+  round = pos 1;
+  tab = pos 0;
+  lo = pos 0;
+  hi = pos 3;
+  swapped = pos 1;
+  done = pos 1;
+  x = pos 2;
+  y = pos 0;
+  d = pos 0;
+}
 
 pub rows_of_a_round : pairing_rows paired ≡ row_of_two ∷ row_of_the_bye ∷ []
 rows_of_a_round = refl
@@ -129,11 +150,30 @@ pub rows_by_key : keyed_pairing_rows paired ≡ row_of_the_bye ∷ row_of_two �
 rows_by_key = refl
 
 -- the first-named player has the lower number, and won
-pub rows_of_a_played_round : pairing_rows (event_of three ([] ∷ (played 1 3 2 1 0 ∷ []) ∷ []) []) ≡ record { round = pos 2; tab = pos 1; lo = pos 1; hi = pos 3; swapped = pos 0; done = pos 1; x = pos 2; y = pos 1; d = pos 0 } ∷ []
+pub rows_of_a_played_round : pairing_rows (event_of three ([] ∷ (played 1 3 2 1 0 ∷ []) ∷ []) []) ≡ record {
+  round = pos 2;
+  tab = pos 1;
+  lo = pos 1;
+  hi = pos 3;
+  swapped = pos 0;
+  done = pos 1;
+  x = pos 2;
+  y = pos 1;
+  d = pos 0;
+} ∷ []
 rows_of_a_played_round = refl
 
 abbrev slot : ℕ → ℕ → ℕ → ℕ → ℕ → Games → BracketRow
-slot stage number a b done score = record { stage = pos stage; slot = pos number; a = pos a; b = pos b; done = pos done; x = pos score.x; y = pos score.y; d = pos score.d }
+slot stage number a b done score = record {
+  stage = pos stage;
+  slot = pos number;
+  a = pos a;
+  b = pos b;
+  done = pos done;
+  x = pos score.x;
+  y = pos score.y;
+  d = pos score.d;
+}
 
 pub rows_of_a_playoff : bracket_rows (event_of three [] ((played 5 3 2 0 0 ∷ played 6 1 1 2 0 ∷ []) ∷ (open_match 5 1 ∷ []) ∷ [])) ≡
     slot 1 1 5 3 1 (games 2 0 0)
@@ -150,15 +190,28 @@ match_of_a_table = refl
 pub match_of_the_bye : match_at paired 1 0 ≡ Some (played 3 0 2 0 0)
 match_of_the_bye = refl
 
-pub no_such_match : match_at paired 1 2 ∷ match_at paired 1 3 ∷ match_at paired 0 1 ∷ match_at paired 2 1 ∷ [] ≡ None ∷ None ∷ None ∷ None ∷ []
+pub no_such_match : match_at paired 1 2 ∷ match_at paired 1 3 ∷ match_at paired 0 1 ∷ match_at paired 2 1 ∷ [] ≡ None ∷ None ∷ None
+    ∷ None ∷ []
 no_such_match = refl
 
 -- ---- slips
 
-pub slip_of_a_table : slip_of paired 1 1 ≡ Some (record { round = 1; table = 1; first = (2, codes "Bo"); second = Some (1, codes "Ana"); score = None })
+pub slip_of_a_table : slip_of paired 1 1 ≡ Some (record {
+  round = 1;
+  table = 1;
+  first = (2, codes "Bo");
+  second = Some (1, codes "Ana");
+  score = None;
+})
 slip_of_a_table = refl
 
-pub slip_of_the_bye : slip_of paired 1 0 ≡ Some (record { round = 1; table = 0; first = (3, codes "Cy"); second = None; score = Some (games 2 0 0) })
+pub slip_of_the_bye : slip_of paired 1 0 ≡ Some (record {
+  round = 1;
+  table = 0;
+  first = (3, codes "Cy");
+  second = None;
+  score = Some (games 2 0 0);
+})
 slip_of_the_bye = refl
 
 pub slip_of_nothing : slip_of paired 1 2 ∷ slip_of paired 2 1 ∷ slip_of paired 0 1 ∷ [] ≡ None ∷ None ∷ None ∷ []
@@ -170,7 +223,8 @@ pub with_the_score : with_score paired 1 1 (games 2 0 0) ≡ event_of three ((pl
 with_the_score = refl
 
 -- the score of a round that is over is set anew, and the round after it stays
-pub with_another_score : with_score (event_of three ((played 2 1 2 0 0 ∷ played 3 0 2 0 0 ∷ []) ∷ (open_match 2 3 ∷ played 1 0 2 0 0 ∷ []) ∷ []) []) 1 1 (games 0 2 1)
+pub with_another_score : with_score (event_of three
+    ((played 2 1 2 0 0 ∷ played 3 0 2 0 0 ∷ []) ∷ (open_match 2 3 ∷ played 1 0 2 0 0 ∷ []) ∷ []) []) 1 1 (games 0 2 1)
     ≡ event_of three ((played 2 1 0 2 1 ∷ played 3 0 2 0 0 ∷ []) ∷ (open_match 2 3 ∷ played 1 0 2 0 0 ∷ []) ∷ []) []
 with_another_score = refl
 
@@ -185,7 +239,8 @@ pub one_more_player : with_player paired (codes "Di") ≡ event_of (three ++ pla
 one_more_player = refl
 
 -- a dropped player stays listed
-pub one_player_dropped : with_dropped paired 3 ≡ event_of (player 1 (codes "Ana") false ∷ player 2 (codes "Bo") true ∷ player 3 (codes "Cy") true ∷ []) (first_round ∷ []) []
+pub one_player_dropped : with_dropped paired 3 ≡ event_of
+    (player 1 (codes "Ana") false ∷ player 2 (codes "Bo") true ∷ player 3 (codes "Cy") true ∷ []) (first_round ∷ []) []
 one_player_dropped = refl
 
 -- ---- totals
@@ -197,7 +252,12 @@ pub two_matches : totals_of (line 2 2 1 0 ∷ line 3 1 1 1 ∷ []) ≡ record { 
 two_matches = refl
 
 -- a round that was missed counts, and earns nothing; no games at all are a draw
-pub missed_round : totals_of (record { round = 1; player = 1; opponent = 0; games = None } ∷ []) ≡ record { points = 0; rounds = 1; game_points = 0; games = 0 }
+pub missed_round : totals_of (record { round = 1; player = 1; opponent = 0; games = None } ∷ []) ≡ record {
+  points = 0;
+  rounds = 1;
+  game_points = 0;
+  games = 0;
+}
 missed_round = refl
 
 pub no_games : totals_of (line 2 0 0 0 ∷ []) ≡ record { points = 1; rounds = 1; game_points = 0; games = 0 }

@@ -1,5 +1,6 @@
 -- When bytes are a lawful name, by the tests of its parts.
-use Rattle.std.proofs.Common.{◌≡◌, ℕ, ◌++◌, take, drop, replicate, ap, subst, ◌∙◌, ◌-◌, ◌==◌, ◌≤◌, ◌<◌, true, false, ◌||◌, List, length, slice_index_or, IsTrue, IsOk, Result, Ok, Err, MatchResult, refl, sym, true≢false, arith}
+use Rattle.std.proofs.Common.{◌≡◌, ℕ, ◌++◌, take, drop, replicate, ap, subst, ◌∙◌, ◌-◌, ◌==◌, ◌≤◌, ◌<◌, true, false, ◌||◌, List, length}
+use Rattle.std.proofs.Common.{slice_index_or, IsTrue, IsOk, Result, Ok, Err, MatchResult, refl, sym, true≢false, arith}
 use Rattle.std.specs.List.{list_all}
 use Rattle.std.specs.Str.{IsUtf8}
 use Rattle.std.proofs.lemmas.Str.{is_utf8-from_IsUtf8, IsUtf8-from_is_utf8}
@@ -18,15 +19,19 @@ pub is_lawful_name-utf8 : (bs : List ℕ) → IsTrue (is_lawful_name bs) → IsU
 is_lawful_name-utf8 bs h = IsUtf8-from_is_utf8 bs (grind (arith, nat_tests))
 
 -- a call that tells whether bytes are text
-pub is_ok-when : {A E : Type 0} (P : A → Type 0) (Q : E → Type 0) (U : Type 0) (r : Result A E) → MatchResult r (λ s. P s × U) (λ e. (U → ⊥) × Q e) → (IsOk r → U) × (U → IsOk r)
+pub is_ok-when : {A E : Type 0} (P : A → Type 0) (Q : E → Type 0) (U : Type 0) (r : Result A E)
+    → MatchResult r (λ s. P s × U) (λ e. (U → ⊥) × Q e) → (IsOk r → U) × (U → IsOk r)
 is_ok-when P Q U (Ok s) h = (λ _. h.1, λ _. refl)
 is_ok-when P Q U (Err e) h = (λ ok. absurd (true≢false (sym ok)), λ u. absurd (h.0 u))
 
 -- zeros in whose first places a lawful name was put are the name with zeros behind it
-pub IsStored-name : (name copied : List ℕ) → copied ≡ name → IsTrue (is_lawful_name name) → let bytes = copied ++ drop (length name) (replicate 60 0) in
-    (bytes ≡ padded (take (length name) bytes)) × (length (take (length name) bytes) ≡ length name) × IsTrue (is_lawful_name (take (length name) bytes))
+pub IsStored-name : (name copied : List ℕ) → copied ≡ name → IsTrue (is_lawful_name name)
+    → let bytes = copied ++ drop (length name) (replicate 60 0) in
+    (bytes ≡ padded (take (length name) bytes)) × (length (take (length name) bytes) ≡ length name)
+    × IsTrue (is_lawful_name (take (length name) bytes))
 IsStored-name name copied same lawful =
     let zeros = drop (length name) (replicate 60 0) in
-    let first : take (length name) (copied ++ zeros) ≡ name = ap (λ bs. take (length name) (bs ++ zeros)) same ∙ take-append_seam name zeros in
+    let first : take (length name) (copied ++ zeros) ≡ name = ap (λ bs. take (length name) (bs ++ zeros)) same
+    ∙ take-append_seam name zeros in
     let behind : copied ++ zeros ≡ padded name = ap (λ bs. bs ++ zeros) same ∙ ap (λ zs. name ++ zs) (drop-replicate (length name) 60 0) in
     (behind ∙ ap padded (sym first), ap length first, subst (λ bs. IsTrue (is_lawful_name bs)) (sym first) lawful)

@@ -1,5 +1,7 @@
 -- What the matches of one player can come to at most.
-use Rattle.std.proofs.Common.{◌≡◌, ◌≢◌, ◌⊎◌, inl, inr, ℕ, suc, ◌+◌, ◌≤◌, ◌==◌, nat_lt, Bool, true, false, cond, if◌then◌else◌, List, [], ◌∷◌, ◌++◌, length, get_or, flat_map, All, IfSome, IsTrue, Option, Some, None, refl, sym, ap, subst, ◌∙◌, arith}
+use Rattle.std.proofs.Common.{◌≡◌, ◌≢◌, ◌⊎◌, inl, inr, ℕ, suc, ◌+◌, ◌≤◌, ◌==◌, nat_lt, Bool, true, false, cond, if◌then◌else◌, List, []}
+use Rattle.std.proofs.Common.{◌∷◌, ◌++◌, length, get_or, flat_map, All, IfSome, IsTrue, Option, Some, None, refl, sym, ap, subst, ◌∙◌}
+use Rattle.std.proofs.Common.{arith}
 use Rattle.std.proofs.lemmas.Bool.{cases_eq}
 use Rattle.std.proofs.lemmas.Bool.Decides.{nat_tests}
 use Rattle.er_event.specs.declared.matches.Match.{Match}
@@ -45,7 +47,12 @@ line-over : (round player opponent : ℕ) (g : Games) → AreFew g
     → AreOver 1 (totals_of (record { round = round; player = player; opponent = opponent; games = Some g } ∷ []))
 line-over round player opponent g (won, lost, drawn) =
     let points = points-few g in
-    record { points = omega (arith, points); rounds_are = omega arith; game_points = omega (arith, won, drawn); games = omega (arith, won, lost, drawn) }
+    record {
+      points = omega (arith, points);
+      rounds_are = omega arith;
+      game_points = omega (arith, won, drawn);
+      games = omega (arith, won, lost, drawn);
+    }
 
 -- the lines of one of the two
 own-second : (player round a b : ℕ) (s : Games) → AreFew s → AreOver 1 (totals_of (own player (as_second round a b s)))
@@ -63,42 +70,55 @@ own-second player round a b s few = by_bye (b == 0)
     by_bye false = by_player (b == player)
 
 -- a match gives a player one line at most
-score-over : (player round a b : ℕ) (o : Option Games) → IfSome o AreFew → a ≢ b → AreOver 1 (totals_of (own player (lines_of_score round a b o)))
+score-over : (player round a b : ℕ) (o : Option Games) → IfSome o AreFew → a ≢ b
+    → AreOver 1 (totals_of (own player (lines_of_score round a b o)))
 score-over player round a b None few apart = none-over 1
 score-over player round a b (Some s) few apart = by_first (a == player) refl
   where
     line : Line
     line = record { round = round; player = a; opponent = b; games = Some s }
 
-    by_first : (own_line : Bool) → (a == player) ≡ own_line → AreOver 1 (totals_of (cond own_line (line ∷ own player (as_second round a b s)) (own player (as_second round a b s))))
+    by_first : (own_line : Bool) → (a == player) ≡ own_line
+        → AreOver 1 (totals_of (cond own_line (line ∷ own player (as_second round a b s)) (own player (as_second round a b s))))
     by_first false other = own-second player round a b s few
     by_first true same =
         let other : b ≢ player = λ is. apart (grind (arith, nat_tests)) in
         let none : own player (as_second round a b s) ≡ [] = absent-second player round a b s other in
         rw none (line-over round a b s few)
 
-pub round-over : (player round : ℕ) (ms : List Match) → IsSeatedOnce ms → All HasFew ms → AreOver 1 (totals_of (own player (flat_map (lines_of_match round) ms)))
+pub round-over : (player round : ℕ) (ms : List Match) → IsSeatedOnce ms → All HasFew ms
+    → AreOver 1 (totals_of (own player (flat_map (lines_of_match round) ms)))
 round-over player round [] once few = none-over 1
 round-over player round (m ∷ rest) once few =
-    let more = round-over player round rest (λ i j d before within. once (suc (suc i)) (suc (suc j)) d (omega arith) (omega arith)) (λ k d below. few (suc k) d (omega arith)) in
+    let more = round-over player round rest (λ i j d before within. once (suc (suc i)) (suc (suc j)) d (omega arith) (omega arith))
+    (λ k d below. few (suc k) d (omega arith)) in
     elim (cases_eq m.a player) [
       | inl first ↦ here (inl (sym first))
-      | inr not_first ↦ elim (cases_eq m.b player) [ inl second ↦ here (inr (sym second)) | inr not_second ↦ later not_first not_second more ]
+      | inr not_first ↦ elim (cases_eq m.b player) [
+        | inl second ↦ here (inr (sym second))
+        | inr not_second ↦ later not_first not_second
+            more
+      ]
     ]
   where
     apart : m.a ≢ m.b
     apart = apart_at (m ∷ rest) once 0 m (omega arith) refl
 
     here : (player ≡ m.a) ⊎ (player ≡ m.b) → AreOver 1 (totals_of (own player (flat_map (lines_of_match round) (m ∷ rest))))
-    here sits = subst (λ (ls : List Line). AreOver 1 (totals_of ls)) (sym (one_match (m ∷ rest) once 0 m player (omega arith) refl sits round)) (score-over player round m.a m.b m.score (few 0 m (omega arith)) apart)
+    here sits = subst (λ (ls : List Line). AreOver 1 (totals_of ls))
+        (sym (one_match (m ∷ rest) once 0 m player (omega arith) refl sits round))
+        (score-over player round m.a m.b m.score (few 0 m (omega arith)) apart)
 
-    later : m.a ≢ player → m.b ≢ player → AreOver 1 (totals_of (own player (flat_map (lines_of_match round) rest))) → AreOver 1 (totals_of (own player (flat_map (lines_of_match round) (m ∷ rest))))
+    later : m.a ≢ player → m.b ≢ player → AreOver 1 (totals_of (own player (flat_map (lines_of_match round) rest)))
+        → AreOver 1 (totals_of (own player (flat_map (lines_of_match round) (m ∷ rest))))
     later first second more =
         let none = absent player round m first second in
         subst (λ (ls : List Line). AreOver 1 (totals_of ls))
-        (sym (own-append player (lines_of_match round m) (flat_map (lines_of_match round) rest) ∙ ap (λ (ls : List Line). ls ++ own player (flat_map (lines_of_match round) rest)) none)) more
+        (sym (own-append player (lines_of_match round m) (flat_map (lines_of_match round) rest) ∙ ap
+        (λ (ls : List Line). ls ++ own player (flat_map (lines_of_match round) rest)) none)) more
 
-counted-over : (player round : ℕ) (r : Round) → IsSeatedOnce r.matches → All HasFew r.matches → AreOver 1 (totals_of (own player (counted_lines round r)))
+counted-over : (player round : ℕ) (r : Round) → IsSeatedOnce r.matches → All HasFew r.matches
+    → AreOver 1 (totals_of (own player (counted_lines round r)))
 counted-over player round r once few = by_counted (is_counted r.matches)
   where
     by_counted : (counted : Bool) → AreOver 1 (totals_of (own player (if counted then flat_map (lines_of_match round) r.matches else [])))
@@ -114,21 +134,30 @@ plus-over n t u one more =
       games = omega (arith, one.games, more.games);
     }
 
-rounds-over : (player n : ℕ) (rounds : List Round) → All (λ (r : Round). IsSeatedOnce r.matches × All HasFew r.matches) rounds → AreOver (length rounds) (totals_of (own player (lines_from n rounds)))
+rounds-over : (player n : ℕ) (rounds : List Round) → All (λ (r : Round). IsSeatedOnce r.matches × All HasFew r.matches) rounds
+    → AreOver (length rounds) (totals_of (own player (lines_from n rounds)))
 rounds-over player n [] all = none-over 0
 rounds-over player n (r ∷ later) all =
     let here = all 0 r (omega arith) in
     let more = rounds-over player (n + 1) later (λ k d below. all (suc k) d (omega arith)) in
     subst (AreOver (suc (length later)))
-    (sym (ap totals_of (own-append player (counted_lines n r) (lines_from (n + 1) later)) ∙ totals_of-append (own player (counted_lines n r)) (own player (lines_from (n + 1) later))))
-    (plus-over (length later) (totals_of (own player (counted_lines n r))) (totals_of (own player (lines_from (n + 1) later))) (counted-over player n r here.0 here.1) more)
+    (sym (ap totals_of (own-append player (counted_lines n r) (lines_from (n + 1) later))
+    ∙ totals_of-append (own player (counted_lines n r)) (own player (lines_from (n + 1) later))))
+    (plus-over (length later) (totals_of (own player (counted_lines n r))) (totals_of (own player (lines_from (n + 1) later)))
+    (counted-over player n r here.0 here.1) more)
 
 pub totals-over : (e : EventValue) → IsSoundButForSeeds e → (player : ℕ) → AreOver (length e.stored) (totals e player)
-totals-over e sound player = rounds-over player 1 e.stored (λ k d below. let round = sound.rounds.each k d below in (round.seated_once, round-few _ _ round))
+totals-over e sound player = rounds-over player 1 e.stored
+    (λ k d below. let round = sound.rounds.each k d below in (round.seated_once, round-few _ _ round))
 
 -- so they fit in a row
 pub totals-readable : (e : EventValue) → IsSoundButForSeeds e → (player : ℕ) → AreReadable (totals e player)
 totals-readable e sound player =
     let over = totals-over e sound player in
     let few : length e.stored ≤ 9 = omega (arith, sound.rounds.few, sound.set_up.rounds) in
-    record { points = omega (arith, over.points, few); rounds = omega (arith, over.rounds_are, few); game_points = omega (arith, over.game_points, few); games = omega (arith, over.games, few) }
+    record {
+      points = omega (arith, over.points, few);
+      rounds = omega (arith, over.rounds_are, few);
+      game_points = omega (arith, over.game_points, few);
+      games = omega (arith, over.games, few);
+    }

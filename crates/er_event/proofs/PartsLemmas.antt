@@ -1,5 +1,6 @@
 -- Rows, and the event that they are of.
-use Rattle.std.proofs.Common.{◌≡◌, ◌≢◌, ◌≤◌, ◌<◌, ◌+◌, ◌==◌, ℕ, ℤ, pos, Bool, true, false, suc, drop, ap₂, List, [], ◌∷◌, ◌++◌, length, map, take, get_or, All, AllPairs, IsTrue, Result, Err, refl, sym, ap, subst, ◌∙◌, true≢false, not-suc-le-zero, arith, length-take}
+use Rattle.std.proofs.Common.{◌≡◌, ◌≢◌, ◌≤◌, ◌<◌, ◌+◌, ◌==◌, ℕ, ℤ, pos, Bool, true, false, suc, drop, ap₂, List, [], ◌∷◌, ◌++◌, length, map}
+use Rattle.std.proofs.Common.{take, get_or, All, AllPairs, IsTrue, refl, sym, ap, subst, ◌∙◌, not-suc-le-zero, arith, length-take}
 use Rattle.std.specs.List.{range_with_len}
 use Rattle.std.specs.Str.{bytes_eq}
 use Rattle.std.proofs.Math.ListN.{get_or-map, length-map}
@@ -27,9 +28,6 @@ use Rattle.er_event.specs.Change.{has_name}
 use Rattle.er_event.specs.Parts.{IsEventRow}
 use Rattle.er_event.specs.inside.Reading.{IsSetUpAs, IsLawfulPlayer, Suits}
 use Rattle.er_event.specs.declared.rows.event.Setup.{Setup}
-use Rattle.er_event.specs.declared.events.parts.PartsFault.{PartsFault}
-use Rattle.er_event.specs.declared.events.parts.PartsFault.TheVariants.{Damaged}
-use Rattle.er_event.specs.declared.refusals.Place.{Place}
 
 abbrev row_with : ℤ → ℤ → ℤ → List ℕ → ℤ → ℤ → ℤ → EventRow
 row_with id version serial name rounds cut phase =
@@ -54,13 +52,16 @@ set_up_as s e h so = record {
   cut = subst (λ (n : ℕ). IsTrue (is_lawful_cut n)) (sym so.cut) h.cut;
 }
 
-pub read_is : (row : EventRow) (s : Setup) (serial : ℕ) → row.id ≡ pos 1 → row.version ≡ pos 1 → row.serial ≡ pos serial → row.name ≡ s.name → row.rounds ≡ pos s.rounds → row.cut ≡ pos s.cut
-    → row.phase ≡ pos (phase_code s.phase) → serial ≤ MAX_SERIAL → IsSetUp s.name s.rounds s.cut → (e : EventValue) → IsSetUpAs s e → IsEventRow (row ∷ []) e
+pub read_is : (row : EventRow) (s : Setup) (serial : ℕ) → row.id ≡ pos 1 → row.version ≡ pos 1 → row.serial ≡ pos serial → row.name ≡ s.name
+    → row.rounds ≡ pos s.rounds → row.cut ≡ pos s.cut
+    → row.phase ≡ pos (phase_code s.phase) → serial ≤ MAX_SERIAL → IsSetUp s.name s.rounds s.cut → (e : EventValue) → IsSetUpAs s e
+    → IsEventRow (row ∷ []) e
 read_is row s serial id version counted name rounds cut phase low set_up e so = record {
   serial = serial;
   low = low;
   set_up = set_up_as s e set_up so;
-  row = ap (λ r. r ∷ []) (row_same row (pos 1) (pos 1) (pos serial) e.name (pos e.rounds) (pos e.cut) (pos (phase_code e.phase)) id version counted (name ∙ sym so.name) (rounds ∙ ap pos (sym so.rounds))
+  row = ap (λ r. r ∷ []) (row_same row (pos 1) (pos 1) (pos serial) e.name (pos e.rounds) (pos e.cut) (pos (phase_code e.phase)) id version
+      counted (name ∙ sym so.name) (rounds ∙ ap pos (sym so.rounds))
       (cut ∙ ap pos (sym so.cut)) (phase ∙ ap (λ (p : Phase). pos (phase_code p)) (sym so.phase)));
 }
 
@@ -73,7 +74,8 @@ abbrev nobody : Player
 nobody = record { no = 0; name = []; dropped = false }
 
 -- the players that a list of rows has stand at its places
-pub row_at : (rows : List PlayerRow) (players : List Player) (i : ℕ) (row : PlayerRow) → i < length rows → row ≡ get_or rows i row → All IsLawfulPlayer players → rows ≡ map player_row players
+pub row_at : (rows : List PlayerRow) (players : List Player) (i : ℕ) (row : PlayerRow) → i < length rows → row ≡ get_or rows i row
+    → All IsLawfulPlayer players → rows ≡ map player_row players
     → ((p : Player) → IsLawfulPlayer p → row ≢ player_row p) → ⊥
 row_at rows players i row below is lawful are never =
     let count : length rows ≡ length players = ap length are ∙ length-map {A = Player} {B = PlayerRow} players player_row in
@@ -84,36 +86,45 @@ row_at rows players i row below is lawful are never =
 
 -- ---- numbers in their order
 
-pub number_at : (ps : List Player) (i : ℕ) (p : Player) → i < length ps → p ≡ get_or ps i p → numbers ps ≡ range_with_len 1 (length ps) → p.no ≡ i + 1
+pub number_at : (ps : List Player) (i : ℕ) (p : Player) → i < length ps → p ≡ get_or ps i p → numbers ps ≡ range_with_len 1 (length ps)
+    → p.no ≡ i + 1
 number_at ps i p below is numbered =
     let at = get_or-range_with_len 1 (length ps) i p.no below in
     let here : get_or (numbers ps) i p.no ≡ p.no = get_or-map (λ (q : Player). q.no) ps i p ∙ ap (λ (q : Player). q.no) (sym is) in
-    let same : get_or (numbers ps) i p.no ≡ get_or (range_with_len 1 (length ps)) i p.no = ap (λ (ns : List ℕ). get_or ns i p.no) numbered in
+    let same : get_or (numbers ps) i p.no ≡ get_or (range_with_len 1 (length ps)) i p.no =
+    ap (λ (ns : List ℕ). get_or ns i p.no) numbered in
     omega arith
 
-pub numbers-more : (ps : List Player) (i : ℕ) (p : Player) → i < length ps → p ≡ get_or ps i p → p.no ≡ i + 1 → numbers (take i ps) ≡ range_with_len 1 i → numbers (take (i + 1) ps) ≡ range_with_len 1 (i + 1)
+pub numbers-more : (ps : List Player) (i : ℕ) (p : Player) → i < length ps → p ≡ get_or ps i p → p.no ≡ i + 1
+    → numbers (take i ps) ≡ range_with_len 1 i → numbers (take (i + 1) ps) ≡ range_with_len 1 (i + 1)
 numbers-more ps i p below is next before =
     let more : take (i + 1) ps ≡ take i ps ++ p ∷ [] = take_more ps i p below ∙ ap (λ (q : Player). take i ps ++ q ∷ []) (sym is) in
     let number : p.no ≡ 1 + i = omega arith in
-    ap numbers more ∙ (map-append (λ (q : Player). q.no) (take i ps) (p ∷ []) ∙ (ap (λ ns. ns ++ p.no ∷ []) before ∙ (ap (λ k. range_with_len 1 i ++ k ∷ []) number ∙ sym (range-push 1 i))))
+    ap numbers more ∙ (map-append (λ (q : Player). q.no) (take i ps) (p ∷ [])
+    ∙ (ap (λ ns. ns ++ p.no ∷ []) before ∙ (ap (λ k. range_with_len 1 i ++ k ∷ []) number ∙ sym (range-push 1 i))))
 
 -- ---- names apart
 
-pub names-more : (ps : List Player) (i : ℕ) (p : Player) → i < length ps → p ≡ get_or ps i p → has_name (take i ps) p.name ≡ false → AllPairs (λ a b. a ≢ b) (names (take i ps)) → AllPairs (λ a b. a ≢ b) (names (take (i + 1) ps))
+pub names-more : (ps : List Player) (i : ℕ) (p : Player) → i < length ps → p ≡ get_or ps i p → has_name (take i ps) p.name ≡ false
+    → AllPairs (λ a b. a ≢ b) (names (take i ps)) → AllPairs (λ a b. a ≢ b) (names (take (i + 1) ps))
 names-more ps i p below is new before =
     let Apart : List ℕ → List ℕ → Type 0 = λ a b. a ≢ b in
     let more : take (i + 1) ps ≡ take i ps ++ p ∷ [] = take_more ps i p below ∙ ap (λ (q : Player). take i ps ++ q ∷ []) (sym is) in
-    let listed : names (take (i + 1) ps) ≡ names (take i ps) ++ p.name ∷ [] = ap names more ∙ map-append (λ (q : Player). q.name) (take i ps) (p ∷ []) in
-    subst (λ (ns : List (List ℕ)). AllPairs Apart ns) (sym listed) (all_pairs_push Apart (names (take i ps)) p.name before (λ k d under. has_name-none (take i ps) p.name new k d under))
+    let listed : names (take (i + 1) ps) ≡ names (take i ps) ++ p.name ∷ [] =
+    ap names more ∙ map-append (λ (q : Player). q.name) (take i ps) (p ∷ []) in
+    subst (λ (ns : List (List ℕ)). AllPairs Apart ns) (sym listed) (all_pairs_push Apart (names (take i ps)) p.name before
+    (λ k d under. has_name-none (take i ps) p.name new k d under))
 
-pub names-new : (ps : List Player) (i : ℕ) (p : Player) → i < length ps → p ≡ get_or ps i p → AllPairs (λ a b. a ≢ b) (names ps) → has_name (take i ps) p.name ≡ true → ⊥
+pub names-new : (ps : List Player) (i : ℕ) (p : Player) → i < length ps → p ≡ get_or ps i p → AllPairs (λ a b. a ≢ b) (names ps)
+    → has_name (take i ps) p.name ≡ true → ⊥
 names-new ps i p below is apart found =
     let any = Any-from_list_any (λ (q : Player). bytes_eq q.name p.name) (take i ps) found in
     let q = any.1 in
     let len = length-take i ps in
     let under : any.0 < i = omega arith in
     let there : get_or ps any.0 q ≡ q = sym (get_or-take i ps any.0 q under) ∙ any.3 in
-    let at_q : get_or (names ps) any.0 q.name ≡ q.name = get_or-map (λ (r : Player). r.name) ps any.0 q ∙ ap (λ (r : Player). r.name) there in
+    let at_q : get_or (names ps) any.0 q.name ≡ q.name = get_or-map (λ (r : Player). r.name) ps any.0 q ∙ ap
+    (λ (r : Player). r.name) there in
     let at_p : get_or (names ps) i p.name ≡ p.name = get_or-map (λ (r : Player). r.name) ps i p ∙ ap (λ (r : Player). r.name) (sym is) in
     let count = length-map {A = Player} {B = List ℕ} ps (λ r. r.name) in
     let same : q.name ≡ p.name = (bytes_eq-Decides q.name p.name).0 any.4 in
@@ -123,7 +134,8 @@ names-new ps i p below is apart found =
 -- ---- the players of an event, and of its rows
 
 -- what is left to ask of players who are numbered and have names of their own
-pub plays : (phase : Phase) (players : List Player) → length players ≤ MAX_PLAYERS → numbers players ≡ range_with_len 1 (length players) → AllPairs (λ a b. a ≢ b) (names players)
+pub plays : (phase : Phase) (players : List Player) → length players ≤ MAX_PLAYERS → numbers players ≡ range_with_len 1 (length players)
+    → AllPairs (λ a b. a ≢ b) (names players)
     → All (λ (p : Player). IsTrue (is_lawful_name p.name)) players → Suits phase players → ArePlayers phase players
 plays phase players few numbered apart lawful suits = record {
   few = few;
@@ -151,7 +163,8 @@ player_same a b number name dropped =
 
 player_row-same : (a b : Player) → player_row a ≡ player_row b → a ≡ b
 player_row-same a b e =
-    player_same a b (pos_same a.no b.no (ap (λ (r : PlayerRow). r.no) e)) (ap (λ (r : PlayerRow). r.name) e) (flag-same a.dropped b.dropped (ap (λ (r : PlayerRow). r.dropped) e))
+    player_same a b (pos_same a.no b.no (ap (λ (r : PlayerRow). r.no) e)) (ap (λ (r : PlayerRow). r.name) e)
+    (flag-same a.dropped b.dropped (ap (λ (r : PlayerRow). r.dropped) e))
 
 -- the rows tell the players
 pub players-same : (xs ys : List Player) → map player_row xs ≡ map player_row ys → xs ≡ ys
@@ -201,7 +214,8 @@ row_name rows e f one other =
 pub row_phase : (rows : List EventRow) (e f : EventValue) → IsEventRow rows e → IsEventRow rows f → e.phase ≡ f.phase
 row_phase rows e f one other =
     let same : event_row 1 e one.serial ∷ [] ≡ event_row 1 f other.serial ∷ [] = sym one.row ∙ other.row in
-    phase-same e.phase f.phase (pos_same (phase_code e.phase) (phase_code f.phase) (ap (λ (rs : List EventRow). (get_or rs 0 (event_row 1 e one.serial)).phase) same))
+    phase-same e.phase f.phase (pos_same (phase_code e.phase) (phase_code f.phase)
+    (ap (λ (rs : List EventRow). (get_or rs 0 (event_row 1 e one.serial)).phase) same))
 
 pub lawful_players : (phase : Phase) (players : List Player) → ArePlayers phase players → All IsLawfulPlayer players
 lawful_players phase players h k d below =
@@ -211,7 +225,11 @@ lawful_players phase players h k d below =
     let few = h.few in
     let count = length-map {A = Player} {B = List ℕ} players (λ q. q.name) in
     let lawful = h.lawful k d.name (omega arith) in
-    record { low = omega arith; high = omega arith; name = subst (λ n. IsTrue (is_lawful_name n)) (get_or-map (λ (q : Player). q.name) players k d) lawful }
+    record {
+      low = omega arith;
+      high = omega arith;
+      name = subst (λ n. IsTrue (is_lawful_name n)) (get_or-map (λ (q : Player). q.name) players k d) lawful;
+    }
 
 pub none-when : {A : Type 0} (xs ys : List A) → xs ≡ ys → (length xs == 0) ≡ true → ys ≡ []
 none-when [] ys same none = sym same

@@ -1,5 +1,7 @@
 -- An event with one more player is sound exactly where there is room and the name is new.
-use Rattle.std.proofs.Common.{◌≡◌, ◌≢◌, ℕ, ◌+◌, ◌<◌, Bool, true, false, List, [], ◌∷◌, ◌++◌, length, get_or, IsTrue, IsFalse, All, AllPairs, Contains, refl, sym, ap, ◌∙◌, subst, true≢false, zero, suc, ◌||◌, not, flat_map, not-suc-le-zero, arith, length-append}
+use Rattle.std.proofs.Common.{◌≡◌, ◌≢◌, ℕ, ◌+◌, ◌<◌, Bool, true, false, List, [], ◌∷◌, ◌++◌, length, get_or, IsTrue, IsFalse, All, AllPairs}
+use Rattle.std.proofs.Common.{Contains, refl, sym, ap, ◌∙◌, subst, true≢false, zero, suc, ◌||◌, not, flat_map, not-suc-le-zero, arith}
+use Rattle.std.proofs.Common.{length-append}
 use Rattle.std.specs.List.{range_with_len}
 use Rattle.std.specs.Str.{bytes_eq}
 use Rattle.std.proofs.lemmas.List.{map-append}
@@ -20,21 +22,26 @@ use Rattle.er_event.specs.Change.{has_name, new_player, with_player}
 IsRound-known : (known more : List ℕ) (matches : List Match) → IsRound known matches → IsRound (known ++ more) matches
 IsRound-known known more matches h = record {
   some = h.some;
-  first_known = All-weaker (λ (m : Match). Contains known m.a) (λ (m : Match). Contains (known ++ more) m.a) (λ m c. Contains-append_left known more m.a c) matches h.first_known;
-  second_known = All-weaker (λ (m : Match). IsFalse (is_bye m) → Contains known m.b) (λ (m : Match). IsFalse (is_bye m) → Contains (known ++ more) m.b) (λ m c seated. Contains-append_left known more m.b (c seated)) matches h.second_known;
+  first_known = All-weaker (λ (m : Match). Contains known m.a) (λ (m : Match). Contains (known ++ more) m.a)
+      (λ m c. Contains-append_left known more m.a c) matches h.first_known;
+  second_known = All-weaker (λ (m : Match). IsFalse (is_bye m) → Contains known m.b)
+      (λ (m : Match). IsFalse (is_bye m) → Contains (known ++ more) m.b)
+      (λ m c seated. Contains-append_left known more m.b (c seated)) matches h.second_known;
   seated_once = h.seated_once;
   byes_won = h.byes_won;
   scores = h.scores;
   bye_last = h.bye_last;
 }
 
-IsBracket-known : (known more : List ℕ) (cut : ℕ) (stages : List (List Match)) → IsBracket known cut stages → IsBracket (known ++ more) cut stages
+IsBracket-known : (known more : List ℕ) (cut : ℕ) (stages : List (List Match)) → IsBracket known cut stages
+    → IsBracket (known ++ more) cut stages
 IsBracket-known known more cut stages h = record {
   cut_is_played = h.cut_is_played;
   first = h.first;
   is_first = h.is_first;
   slots = h.slots;
-  known_players = All-weaker (Contains known) (Contains (known ++ more)) (λ n c. Contains-append_left known more n c) (flat_map seats h.first) h.known_players;
+  known_players = All-weaker (Contains known) (Contains (known ++ more))
+      (λ n c. Contains-append_left known more n c) (flat_map seats h.first) h.known_players;
   seated_once = h.seated_once;
   scores = h.scores;
   follows = h.follows;
@@ -61,7 +68,8 @@ range-push a (suc n) =
     ap (range_with_len a) more ∙ (ap (λ xs. a ∷ xs) (range-push (a + 1) n) ∙ ap (λ k. (a ∷ range_with_len (a + 1) n) ++ k ∷ []) last)
 
 -- nobody has the name that no player has
-pub has_name-none : (players : List Player) (name : List ℕ) → has_name players name ≡ false → (k : ℕ) (d : List ℕ) → k < length (names players) → get_or (names players) k d ≢ name
+pub has_name-none : (players : List Player) (name : List ℕ) → has_name players name ≡ false → (k : ℕ) (d : List ℕ)
+    → k < length (names players) → get_or (names players) k d ≢ name
 has_name-none [] name none k d below same = absurd (not-suc-le-zero below)
 has_name-none (p ∷ ps) name none zero d below same =
     true≢false (sym ((bytes_eq-Decides p.name name).1 same) ∙ (or_false (bytes_eq p.name name) (has_name ps name) none).0)
@@ -77,15 +85,19 @@ length-names [] new = refl
 length-names (p ∷ ps) new = ap suc (length-names ps new)
 
 -- where all names differ, the last player's is new
-has_name-new : (players : List Player) (new : Player) → AllPairs (λ p q. p ≢ q) (names (players ++ new ∷ [])) → has_name players new.name ≡ false
+has_name-new : (players : List Player) (new : Player) → AllPairs (λ p q. p ≢ q) (names (players ++ new ∷ []))
+    → has_name players new.name ≡ false
 has_name-new [] new distinct = refl
 has_name-new (p ∷ ps) new distinct =
     let count = length-names ps new in
-    let other = not_true (bytes_eq p.name new.name) (λ same. distinct 0 (suc (length ps)) [] (omega arith) (omega arith) ((bytes_eq-Decides p.name new.name).0 same ∙ sym (last_name ps new []))) in
+    let other = not_true (bytes_eq p.name new.name)
+    (λ same. distinct 0 (suc (length ps)) [] (omega arith) (omega arith)
+    ((bytes_eq-Decides p.name new.name).0 same ∙ sym (last_name ps new []))) in
     let others = has_name-new ps new (λ i j d before within. distinct (suc i) (suc j) d (omega arith) (omega arith)) in
     cc
 
-players-with : (e : EventValue) (name : List ℕ) → ArePlayers e.phase e.players → IsTrue (is_lawful_name name) → length e.players < 512 → has_name e.players name ≡ false
+players-with : (e : EventValue) (name : List ℕ) → ArePlayers e.phase e.players → IsTrue (is_lawful_name name) → length e.players < 512
+    → has_name e.players name ≡ false
     → ArePlayers e.phase (e.players ++ new_player e.players name ∷ [])
 players-with e name h lawful room new =
     let p = new_player e.players name in
@@ -99,36 +111,49 @@ players-with e name h lawful room new =
           ∙ (ap (λ ns. ns ++ p.no ∷ []) h.numbered
           ∙ (ap (λ k. range_with_len 1 (length e.players) ++ k ∷ []) (sym next)
           ∙ (sym (range-push 1 (length e.players)) ∙ ap (range_with_len 1) (sym count))));
-      lawful = subst (λ (ns : List (List ℕ)). All (λ n. IsTrue (is_lawful_name n)) ns) (sym listed) (All-push (λ n. IsTrue (is_lawful_name n)) (names e.players) name h.lawful lawful);
-      distinct = subst (λ (ns : List (List ℕ)). AllPairs Apart ns) (sym listed) (all_pairs_push Apart (names e.players) name h.distinct (λ k d below. has_name-none e.players name new k d below));
+      lawful = subst (λ (ns : List (List ℕ)). All (λ n. IsTrue (is_lawful_name n)) ns) (sym listed)
+          (All-push (λ n. IsTrue (is_lawful_name n)) (names e.players) name h.lawful lawful);
+      distinct = subst (λ (ns : List (List ℕ)). AllPairs Apart ns) (sym listed) (all_pairs_push Apart (names e.players) name h.distinct
+          (λ k d below. has_name-none e.players name new k d below));
       enrolling = λ phase. All-push (λ (q : Player). IsFalse q.dropped) e.players p (h.enrolling phase) refl;
       started = λ phase. let enough = h.started phase in omega arith;
     }
 
-rounds-known : (phase : Phase) (limit : ℕ) (known more : List ℕ) (rounds : List Round) → AreRounds phase limit known rounds → AreRounds phase limit (known ++ more) rounds
+rounds-known : (phase : Phase) (limit : ℕ) (known more : List ℕ) (rounds : List Round) → AreRounds phase limit known rounds
+    → AreRounds phase limit (known ++ more) rounds
 rounds-known phase limit known more rounds h = record {
   few = h.few;
   enrolling = h.enrolling;
-  each = All-weaker (λ (r : Round). IsRound known r.matches) (λ (r : Round). IsRound (known ++ more) r.matches) (λ r. IsRound-known known more r.matches) rounds h.each;
+  each = All-weaker (λ (r : Round). IsRound known r.matches) (λ (r : Round). IsRound (known ++ more) r.matches)
+      (λ r. IsRound-known known more r.matches) rounds h.each;
   no_repeats = h.no_repeats;
   earlier_done = h.earlier_done;
   done = h.done;
 }
 
-stages-known : (phase : Phase) (cut : ℕ) (known more : List ℕ) (stages : List (List Match)) → AreStages phase cut known stages → AreStages phase cut (known ++ more) stages
+stages-known : (phase : Phase) (cut : ℕ) (known more : List ℕ) (stages : List (List Match)) → AreStages phase cut known stages
+    → AreStages phase cut (known ++ more) stages
 stages-known phase cut known more stages h =
-    record { none = h.none; bracket = λ over. IsBracket-known known more cut stages (h.bracket over); decided = h.decided; undecided = h.undecided }
+    record {
+      none = h.none;
+      bracket = λ over. IsBracket-known known more cut stages (h.bracket over);
+      decided = h.decided;
+      undecided = h.undecided;
+    }
 
 -- the event with one more player is sound
-pub IsSound-with : (e : EventValue) (name : List ℕ) → IsSoundButForSeeds e → IsTrue (is_lawful_name name) → length e.players < 512 → IsTrue (not (has_name e.players name)) → IsSoundButForSeeds (with_player e name)
+pub IsSound-with : (e : EventValue) (name : List ℕ) → IsSoundButForSeeds e → IsTrue (is_lawful_name name) → length e.players < 512
+    → IsTrue (not (has_name e.players name)) → IsSoundButForSeeds (with_player e name)
 IsSound-with e name h lawful room new =
     let p = new_player e.players name in
     let listed : numbers (e.players ++ p ∷ []) ≡ numbers e.players ++ p.no ∷ [] = map-append (λ (q : Player). q.no) e.players (p ∷ []) in
     record {
       set_up = h.set_up;
       players = players-with e name h.players lawful room (not_true-from _ new);
-      rounds = subst (λ (known : List ℕ). AreRounds e.phase e.rounds known e.stored) (sym listed) (rounds-known e.phase e.rounds (numbers e.players) (p.no ∷ []) e.stored h.rounds);
-      bracket = subst (λ (known : List ℕ). AreStages e.phase e.cut known e.bracket.stages) (sym listed) (stages-known e.phase e.cut (numbers e.players) (p.no ∷ []) e.bracket.stages h.bracket);
+      rounds = subst (λ (known : List ℕ). AreRounds e.phase e.rounds known e.stored) (sym listed)
+          (rounds-known e.phase e.rounds (numbers e.players) (p.no ∷ []) e.stored h.rounds);
+      bracket = subst (λ (known : List ℕ). AreStages e.phase e.cut known e.bracket.stages) (sym listed)
+          (stages-known e.phase e.cut (numbers e.players) (p.no ∷ []) e.bracket.stages h.bracket);
     }
 
 -- and the name was new, where that is so

@@ -1,5 +1,6 @@
 -- An event whose playoff begins, or has one more score, is sound exactly where its checks hold.
-use Rattle.std.proofs.Common.{◌≡◌, ◌⊎◌, inl, inr, ℕ, zero, suc, ◌<◌, ◌≤◌, ◌==◌, ◌&&◌, Bool, true, false, not, List, [], ◌∷◌, ◌++◌, length, drop, All, Option, Some, None, IsTrue, IfSome, is_some, refl, sym, ap, subst, ◌∙◌, true≢false, arith}
+use Rattle.std.proofs.Common.{◌≡◌, ◌⊎◌, inl, inr, ℕ, zero, suc, ◌<◌, ◌≤◌, ◌==◌, ◌&&◌, Bool, true, false, not, List, [], ◌∷◌, ◌++◌, length}
+use Rattle.std.proofs.Common.{drop, All, Option, Some, None, IsTrue, IfSome, is_some, refl, sym, ap, subst, ◌∙◌, true≢false, arith}
 use Rattle.std.specs.List.{slice_get, AllByRecursion}
 use Rattle.std.proofs.Math.ListN.{set}
 use Rattle.std.proofs.lemmas.List.Elements.{All-from_recursion, recursion_from_All, All-weaker}
@@ -30,24 +31,29 @@ same-trans (k ∷ ks) (m ∷ ms) [] a b = absurd b
 same-trans (k ∷ ks) (m ∷ ms) (n ∷ ns) a b = ((a.0.0 ∙ b.0.0, a.0.1 ∙ b.0.1), same-trans ks ms ns a.1 b.1)
 
 module _ (new : List Match) (more : List (List Match)) where
-  pub follow-new : (k : ℕ) (stages : List (List Match)) (old : List Match) → slice_get stages k ≡ Some old → SameSlots new old → FollowOn stages → FollowOn (new ∷ (drop (suc k) stages ++ more)) → FollowOn (set stages k new ++ more)
+  pub follow-new : (k : ℕ) (stages : List (List Match)) (old : List Match) → slice_get stages k ≡ Some old → SameSlots new old
+      → FollowOn stages → FollowOn (new ∷ (drop (suc k) stages ++ more)) → FollowOn (set stages k new ++ more)
   follow-new k [] old at same f h = absurd (none-some old at)
   follow-new zero (s ∷ stages) old at same f h = h
   follow-new (suc k) (s ∷ []) old at same f h = absurd (none-some old at)
-  follow-new (suc zero) (s ∷ t ∷ stages) old at same f h = (f.0, f.1, same-trans new t (next_stage s) (subst (SameSlots new) (sym (same_Some t old at)) same) f.2, h)
+  follow-new (suc zero) (s ∷ t ∷ stages) old at same f h =
+      (f.0, f.1, same-trans new t (next_stage s) (subst (SameSlots new) (sym (same_Some t old at)) same) f.2, h)
   follow-new (suc (suc k)) (s ∷ t ∷ stages) old at same f h = (f.0, f.1, f.2, follow-new (suc k) (t ∷ stages) old at same f.3 h)
 
-  pub drop-new : (k : ℕ) (stages : List (List Match)) (old : List Match) → slice_get stages k ≡ Some old → drop k (set stages k new ++ more) ≡ new ∷ (drop (suc k) stages ++ more)
+  pub drop-new : (k : ℕ) (stages : List (List Match)) (old : List Match) → slice_get stages k ≡ Some old
+      → drop k (set stages k new ++ more) ≡ new ∷ (drop (suc k) stages ++ more)
   drop-new k [] old at = absurd (none-some old at)
   drop-new zero (s ∷ stages) old at = refl
   drop-new (suc k) (s ∷ stages) old at = drop-new k stages old at
 
-  pub length-new : (k : ℕ) (stages : List (List Match)) (old : List Match) → slice_get stages k ≡ Some old → k < length (set stages k new ++ more)
+  pub length-new : (k : ℕ) (stages : List (List Match)) (old : List Match) → slice_get stages k ≡ Some old
+      → k < length (set stages k new ++ more)
   length-new k [] old at = absurd (none-some old at)
   length-new zero (s ∷ stages) old at = omega arith
   length-new (suc k) (s ∷ stages) old at = let rest = length-new k stages old at in omega arith
 
-  pub all-new : (P : List Match → Type 0) (k : ℕ) (stages : List (List Match)) → P new → AllByRecursion P more → AllByRecursion P stages → AllByRecursion P (set stages k new ++ more)
+  pub all-new : (P : List Match → Type 0) (k : ℕ) (stages : List (List Match)) → P new → AllByRecursion P more → AllByRecursion P stages
+      → AllByRecursion P (set stages k new ++ more)
   all-new P k [] here behind h = behind
   all-new P zero (s ∷ stages) here behind h = (here, append stages h.1)
     where
@@ -56,7 +62,8 @@ module _ (new : List Match) (more : List (List Match)) where
       append (t ∷ ss) a = (a.0, append ss a.1)
   all-new P (suc k) (s ∷ stages) here behind h = (h.0, all-new P k stages here behind h.1)
 
-  pub all-old : (P : List Match → Type 0) (k : ℕ) (stages : List (List Match)) (old : List Match) → slice_get stages k ≡ Some old → AllByRecursion P (set stages k new ++ more) → P new × AllByRecursion P more
+  pub all-old : (P : List Match → Type 0) (k : ℕ) (stages : List (List Match)) (old : List Match) → slice_get stages k ≡ Some old
+      → AllByRecursion P (set stages k new ++ more) → P new × AllByRecursion P more
   all-old P k [] old at h = absurd (none-some old at)
   all-old P zero (s ∷ stages) old at h = (h.0, behind stages h.1)
     where
@@ -65,10 +72,12 @@ module _ (new : List Match) (more : List (List Match)) where
       behind (t ∷ ss) a = behind ss a.1
   all-old P (suc k) (s ∷ stages) old at h = all-old P k stages old at h.1
 
-  pub first-new : (k : ℕ) (stages : List (List Match)) (old first : List Match) → slice_get stages k ≡ Some old → SameSlots new old → slice_get stages 0 ≡ Some first
+  pub first-new : (k : ℕ) (stages : List (List Match)) (old first : List Match) → slice_get stages k ≡ Some old → SameSlots new old
+      → slice_get stages 0 ≡ Some first
       → (f : List Match) × (slice_get (set stages k new ++ more) 0 ≡ Some f) × SameSlots f first
   first-new k [] old first at same is = absurd (none-some first is)
-  first-new zero (s ∷ stages) old first at same is = (new, refl, subst (SameSlots new) (sym (same_Some s old at) ∙ same_Some s first is) same)
+  first-new zero (s ∷ stages) old first at same is =
+      (new, refl, subst (SameSlots new) (sym (same_Some s old at) ∙ same_Some s first is) same)
   first-new (suc k) (s ∷ stages) old first at same is = (s, refl, subst (SameSlots s) (same_Some s first is) (slots-refl s))
 
 pub follow-drop : (k : ℕ) (stages : List (List Match)) → FollowOn stages → FollowOn (drop k stages)
@@ -82,7 +91,8 @@ last-drop (suc k) [] within = absurd (omega arith)
 last-drop (suc k) (s ∷ []) within = absurd (omega arith)
 last-drop (suc k) (s ∷ t ∷ more) within = last-after s t more ∙ last-drop k (t ∷ more) (omega arith)
 
-pub drop-here : (k : ℕ) (stages : List (List Match)) (old : List Match) → slice_get stages k ≡ Some old → drop k stages ≡ old ∷ drop (suc k) stages
+pub drop-here : (k : ℕ) (stages : List (List Match)) (old : List Match) → slice_get stages k ≡ Some old
+    → drop k stages ≡ old ∷ drop (suc k) stages
 drop-here k [] old at = absurd (none-some old at)
 drop-here zero (s ∷ stages) old at = ap (λ (t : List Match). t ∷ stages) (same_Some s old at)
 drop-here (suc k) (s ∷ stages) old at = drop-here k stages old at
@@ -105,19 +115,40 @@ module _ (e : EventValue) (p : Phase) (stages : List (List Match)) where
   abbrev pub in_playoff : EventValue
   in_playoff = record e { phase = p; bracket = record { stages = stages } }
 
-  pub sound-playoff : IsSoundButForSeeds e → IsPlayoff p → AllRoundsDone e → IsBracket (numbers e.players) e.cut stages → (p ≡ Finished → IsDecided stages) → (p ≡ Playoff → IsDecided stages → ⊥) → IsSoundButForSeeds in_playoff
+  pub sound-playoff : IsSoundButForSeeds e → IsPlayoff p → AllRoundsDone e → IsBracket (numbers e.players) e.cut stages
+      → (p ≡ Finished → IsDecided stages) → (p ≡ Playoff → IsDecided stages → ⊥) → IsSoundButForSeeds in_playoff
   sound-playoff h over done bracket decided undecided = record {
     set_up = h.set_up;
-    players = record { few = h.players.few; numbered = h.players.numbered; lawful = h.players.lawful; distinct = h.players.distinct; enrolling = λ is. absurd (not-enrolling p over is); started = λ _. h.players.started begun };
-    rounds = record { few = h.rounds.few; enrolling = λ is. absurd (not-enrolling p over is); each = h.rounds.each; no_repeats = h.rounds.no_repeats; earlier_done = h.rounds.earlier_done; done = λ _. done };
-    bracket = record { none = λ before. absurd (not-before p over before); bracket = λ _. bracket; decided = decided; undecided = undecided };
+    players = record {
+      few = h.players.few;
+      numbered = h.players.numbered;
+      lawful = h.players.lawful;
+      distinct = h.players.distinct;
+      enrolling = λ is. absurd (not-enrolling p over is);
+      started = λ _. h.players.started begun;
+    };
+    rounds = record {
+      few = h.rounds.few;
+      enrolling = λ is. absurd (not-enrolling p over is);
+      each = h.rounds.each;
+      no_repeats = h.rounds.no_repeats;
+      earlier_done = h.rounds.earlier_done;
+      done = λ _. done;
+    };
+    bracket = record {
+      none = λ before. absurd (not-before p over before);
+      bracket = λ _. bracket;
+      decided = decided;
+      undecided = undecided;
+    };
   }
     where
       begun : e.phase ≡ Enrolling → ⊥
       begun is = let none = none-length e.stored (h.rounds.enrolling is) in let all = done.0 in let some = h.set_up.rounds.0 in omega arith
 
 -- stages that follow on one another end, so that no stage comes behind them
-pub follow-never : (l : List Match) (later : List (List Match)) (ns : List Match) → FollowOn (l ∷ later) → FollowOn (l ∷ (later ++ ns ∷ [])) → ⊥
+pub follow-never : (l : List Match) (later : List (List Match)) (ns : List Match) → FollowOn (l ∷ later)
+    → FollowOn (l ∷ (later ++ ns ∷ [])) → ⊥
 follow-never l [] ns f h = let one = f h.0 in let two = h.1 in omega arith
 follow-never l (t ∷ later) ns f h = follow-never t later ns f.3 h.3
 
@@ -142,9 +173,11 @@ module _ (e : EventValue) (ms : List Match) (h : IsSoundButForSeeds e) where
     alone : e.bracket.stages ++ ms ∷ [] ≡ ms ∷ []
     alone = ap (λ (ss : List (List Match)). ss ++ ms ∷ []) none
 
-    pub sound-opening : AllRoundsDone e → IsBracket (numbers e.players) e.cut (ms ∷ []) → (IsDecided (ms ∷ []) → ⊥) → IsSoundButForSeeds (with_bracket e ms)
+    pub sound-opening : AllRoundsDone e → IsBracket (numbers e.players) e.cut (ms ∷ []) → (IsDecided (ms ∷ []) → ⊥)
+        → IsSoundButForSeeds (with_bracket e ms)
     sound-opening done bracket undecided =
-        subst (λ (ss : List (List Match)). IsSoundButForSeeds (in_playoff e Playoff ss)) (sym alone) (sound-playoff e Playoff (ms ∷ []) h (inl refl) done bracket (λ is. absurd (let never = is in cc)) (λ _. undecided))
+        subst (λ (ss : List (List Match)). IsSoundButForSeeds (in_playoff e Playoff ss)) (sym alone)
+        (sound-playoff e Playoff (ms ∷ []) h (inl refl) done bracket (λ is. absurd (let never = is in cc)) (λ _. undecided))
 
     pub opening-bracket : IsSoundButForSeeds (with_bracket e ms) → IsBracket (numbers e.players) e.cut (ms ∷ [])
     opening-bracket s = subst (IsBracket (numbers e.players) e.cut) alone (s.bracket.bracket (inl refl))
@@ -163,7 +196,8 @@ module _ (e : EventValue) (ms : List Match) (h : IsSoundButForSeeds e) where
       by [] is = ap length is
       by (l ∷ later) is =
           let over = started e h (λ none. (let never = sym none ∙ is in cc)) in
-          absurd (follow-never l later ms (subst FollowOn is (h.bracket.bracket over).follows) (subst (λ (ts : List (List Match)). FollowOn (ts ++ ms ∷ [])) is (s.bracket.bracket (inl refl)).follows))
+          absurd (follow-never l later ms (subst FollowOn is (h.bracket.bracket over).follows)
+          (subst (λ (ts : List (List Match)). FollowOn (ts ++ ms ∷ [])) is (s.bracket.bracket (inl refl)).follows))
 
 pub no-stage : (stages : List (List Match)) → length stages ≡ 0 → stages ≡ []
 no-stage [] is = refl
@@ -205,7 +239,16 @@ opening-fits e ms h o =
     record {
       named = tt;
       sound = sound-opening e ms h (h.bracket.none (inr o.swiss)) o.done
-          (record { cut_is_played = o.cut; first = ms; is_first = refl; slots = o.slots; known_players = o.known; seated_once = o.seated_once; scores = All-from_recursion (λ (stage : List Match). All Lawful stage) (ms ∷ []) (lawful, tt); follows = λ counted. absurd (free counted) })
+          (record {
+            cut_is_played = o.cut;
+            first = ms;
+            is_first = refl;
+            slots = o.slots;
+            known_players = o.known;
+            seated_once = o.seated_once;
+            scores = All-from_recursion (λ (stage : List Match). All Lawful stage) (ms ∷ []) (lawful, tt);
+            follows = λ counted. absurd (free counted);
+          })
           (λ dec. free (and-first (is_counted ms) (length ms == 1) ((over-counted ms).0 dec)));
     }
   where

@@ -1,5 +1,6 @@
 -- The first rounds of an event's are an event's too.
-use Rattle.std.proofs.Common.{◌≡◌, ℕ, zero, suc, ◌+◌, ◌-◌, ◌<◌, ◌≤◌, inl, inr, List, [], ◌∷◌, ◌++◌, length, take, drop, get_or, All, IsTrue, IsFalse, refl, sym, ap, subst, ◌∙◌, arith, not-suc-le-zero}
+use Rattle.std.proofs.Common.{◌≡◌, ℕ, zero, suc, ◌+◌, ◌-◌, ◌<◌, ◌≤◌, inl, inr, List, [], ◌∷◌, ◌++◌, length, take, drop, get_or, All, IsTrue}
+use Rattle.std.proofs.Common.{IsFalse, refl, sym, ap, subst, ◌∙◌, arith, not-suc-le-zero}
 use Rattle.std.proofs.lemmas.List.{take-append-drop, take_more, length-take}
 use Rattle.std.proofs.lemmas.List.Elements.{All-nil, All-take}
 use Rattle.std.proofs.lemmas.List.Concat.{flat_map-append}
@@ -40,35 +41,55 @@ module _ (phase : Phase) (limit : ℕ) (known : List ℕ) (rounds : List Round) 
   pub first_rounds : (i : ℕ) → i ≤ length rounds → AreRounds Swiss i known (take i rounds)
   first_rounds i within =
       let len = length-take i rounds in
-      let split : matches_of rounds ≡ matches_of (take i rounds) ++ matches_of (drop i rounds) = ap matches_of (sym (take-append-drop i rounds)) ∙ flat_map-append (λ (r : Round). r.matches) (take i rounds) (drop i rounds) in
-      let before : take (length (take i rounds) - 1) (take i rounds) ≡ take (length (take i rounds) - 1) (take (length rounds - 1) rounds) = take_twice (length (take i rounds) - 1) i rounds (omega arith) ∙ sym (take_twice (length (take i rounds) - 1) (length rounds - 1) rounds (omega arith)) in
+      let split : matches_of rounds ≡ matches_of (take i rounds) ++ matches_of (drop i rounds) =
+      ap matches_of (sym (take-append-drop i rounds)) ∙ flat_map-append (λ (r : Round). r.matches) (take i rounds) (drop i rounds) in
+      let before : take (length (take i rounds) - 1) (take i rounds) ≡ take (length (take i rounds) - 1) (take (length rounds - 1) rounds) =
+      take_twice (length (take i rounds) - 1) i rounds (omega arith)
+      ∙ sym (take_twice (length (take i rounds) - 1) (length rounds - 1) rounds (omega arith)) in
       record {
         few = omega arith;
         enrolling = λ is. absurd (let never : Swiss ≡ Enrolling = is in cc);
         each = All-take (λ (r : Round). IsRound known r.matches) i rounds h.each;
-        no_repeats = from_rec Differ (matches_of (take i rounds)) (rec_left Differ (matches_of (take i rounds)) (matches_of (drop i rounds)) (subst (Rec Differ) split (to_rec Differ (matches_of rounds) h.no_repeats)));
-        earlier_done = subst (All (λ (r : Round). IsTrue (is_counted r.matches))) (sym before) (All-take (λ (r : Round). IsTrue (is_counted r.matches)) (length (take i rounds) - 1) (take (length rounds - 1) rounds) h.earlier_done);
+        no_repeats = from_rec Differ (matches_of (take i rounds))
+            (rec_left Differ (matches_of (take i rounds)) (matches_of (drop i rounds))
+            (subst (Rec Differ) split (to_rec Differ (matches_of rounds) h.no_repeats)));
+        earlier_done = subst (All (λ (r : Round). IsTrue (is_counted r.matches))) (sym before)
+            (All-take (λ (r : Round). IsTrue (is_counted r.matches)) (length (take i rounds) - 1) (take (length rounds - 1) rounds)
+            h.earlier_done);
         done = λ over. absurd (not_over over);
       }
 
   -- so the next round may follow
   pub next_follows : (i : ℕ) (r : Round) → i < length rounds → r ≡ get_or rounds i r → MayFollow known (take i rounds) r.matches
   next_follows i r below is =
-      let more : take (i + 1) rounds ≡ take i rounds ++ r ∷ [] = take_more rounds i r below ∙ ap (λ (q : Round). take i rounds ++ q ∷ []) (sym is) in
-      may_follow known (take i rounds) r.matches Swiss (i + 1) (subst (AreRounds Swiss (i + 1) known) more (first_rounds (i + 1) (omega arith)))
+      let more : take (i + 1) rounds ≡ take i rounds ++ r ∷ [] =
+      take_more rounds i r below ∙ ap (λ (q : Round). take i rounds ++ q ∷ []) (sym is) in
+      may_follow known (take i rounds) r.matches Swiss (i + 1)
+      (subst (AreRounds Swiss (i + 1) known) more (first_rounds (i + 1) (omega arith)))
 
   -- in whatever phase
   pub as_swiss : AreRounds Swiss (length rounds) known rounds
-  as_swiss = record { few = omega arith; enrolling = λ is. absurd (let never : Swiss ≡ Enrolling = is in cc); each = h.each; no_repeats = h.no_repeats; earlier_done = h.earlier_done; done = λ over. absurd (not_over over) }
+  as_swiss = record {
+    few = omega arith;
+    enrolling = λ is. absurd (let never : Swiss ≡ Enrolling = is in cc);
+    each = h.each;
+    no_repeats = h.no_repeats;
+    earlier_done = h.earlier_done;
+    done = λ over. absurd (not_over over);
+  }
 
-pub of_swiss : (phase : Phase) (limit : ℕ) (known : List ℕ) (rounds : List Round) → AreRounds Swiss (length rounds) known rounds → length rounds ≤ limit
+pub of_swiss : (phase : Phase) (limit : ℕ) (known : List ℕ) (rounds : List Round) → AreRounds Swiss (length rounds) known rounds
+    → length rounds ≤ limit
     → (phase ≡ Enrolling → rounds ≡ []) → (IsPlayoff phase → AreDone limit rounds) → AreRounds phase limit known rounds
-of_swiss phase limit known rounds h few enrolling done = record { few = few; enrolling = enrolling; each = h.each; no_repeats = h.no_repeats; earlier_done = h.earlier_done; done = done }
+of_swiss phase limit known rounds h few enrolling done =
+    record { few = few; enrolling = enrolling; each = h.each; no_repeats = h.no_repeats; earlier_done = h.earlier_done; done = done }
 
 -- and one round more may be the rounds up to there
-pub next_rounds : (known : List ℕ) (rounds : List Round) (i : ℕ) (r : Round) → i < length rounds → r ≡ get_or rounds i r → AreRounds Swiss i known (take i rounds) → MayFollow known (take i rounds) r.matches
+pub next_rounds : (known : List ℕ) (rounds : List Round) (i : ℕ) (r : Round) → i < length rounds → r ≡ get_or rounds i r
+    → AreRounds Swiss i known (take i rounds) → MayFollow known (take i rounds) r.matches
     → AreRounds Swiss (i + 1) known (take (i + 1) rounds)
 next_rounds known rounds i r below is before follows =
     let len = length-take i rounds in
-    let more : take (i + 1) rounds ≡ take i rounds ++ r ∷ [] = take_more rounds i r below ∙ ap (λ (q : Round). take i rounds ++ q ∷ []) (sym is) in
+    let more : take (i + 1) rounds ≡ take i rounds ++ r ∷ [] =
+    take_more rounds i r below ∙ ap (λ (q : Round). take i rounds ++ q ∷ []) (sym is) in
     subst (AreRounds Swiss (i + 1) known) (sym more) (one_more known (take i rounds) r.matches i (i + 1) before (omega arith) follows)

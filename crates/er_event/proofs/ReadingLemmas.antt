@@ -165,7 +165,8 @@ module _ (parts : Parts) (s : Setup) (set : (e : EventValue) â†’ IsSetUpAs s e â
         pub is_of : IsOf parts whole
         is_of =
             let event = row_there players rounds stages in
-            let are = parts_same parts _ (player_rows whole) (keyed_pairing_rows whole) (bracket_rows whole) event.row listed paired drawn in
+            let are = parts_same parts _ (player_rows whole) (keyed_pairing_rows whole) (bracket_rows whole) event.row listed paired drawn
+            in
             record { serial = event.serial; low = event.low; are = are }
 
         pub is_sound : IsSoundButForSeeds whole

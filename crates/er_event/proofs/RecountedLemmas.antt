@@ -1,5 +1,6 @@
 -- Whoever sits at none of the matches that count anew keeps the totals.
-use Rattle.std.proofs.Common.{◌≡◌, ◌≢◌, ℕ, zero, suc, ◌+◌, ◌-◌, ◌<◌, ◌&&◌, Bool, true, false, if◌then◌else◌, List, [], ◌∷◌, ◌++◌, length, get_or, flat_map, Contains, IsFalse, refl, sym, ap, ap₂, subst, ◌∙◌, arith, append-nil}
+use Rattle.std.proofs.Common.{◌≡◌, ◌≢◌, ℕ, zero, suc, ◌+◌, ◌-◌, ◌<◌, ◌&&◌, Bool, true, false, if◌then◌else◌, List, [], ◌∷◌, ◌++◌, length}
+use Rattle.std.proofs.Common.{get_or, flat_map, Contains, IsFalse, refl, sym, ap, ap₂, subst, ◌∙◌, arith, append-nil}
 use Rattle.std.proofs.Math.ListN.{set}
 use Rattle.std.proofs.Math.Seq.{get_or-append_seam}
 use Rattle.std.proofs.lemmas.List.{get_or_default, length-append}
@@ -35,13 +36,15 @@ counted_by : (player n : ℕ) (counts : Bool) (ms : List Match) → IsAbsent pla
 counted_by player n true ms away = absent_lines player n ms away
 counted_by player n false ms away = refl
 
-pub added-same : (e : EventValue) (ms : List Match) (player : ℕ) → IsAbsent player (if is_counted ms then ms else []) → totals (with_round e ms) player ≡ totals e player
+pub added-same : (e : EventValue) (ms : List Match) (player : ℕ) → IsAbsent player (if is_counted ms then ms else [])
+    → totals (with_round e ms) player ≡ totals e player
 added-same e ms player away =
     let r : Round = record { matches = ms } in
     let n = 1 + length e.stored in
     ap totals_of (ap (own player) (lines_from-push 1 e.stored r)
     ∙ (own-append player (lines e) (counted_lines n r)
-    ∙ (ap (λ (ls : List Line). own player (lines e) ++ ls) (counted_by player n (is_counted ms) ms away) ∙ append-nil (own player (lines e)))))
+    ∙ (ap (λ (ls : List Line). own player (lines e) ++ ls) (counted_by player n (is_counted ms) ms away)
+    ∙ append-nil (own player (lines e)))))
 
 -- ---- a score
 
@@ -53,7 +56,8 @@ own-set : (player n k : ℕ) (ms : List Match) (new d : Match) → IsAway player
 own-set player n k [] new d away before = refl
 own-set player n zero (m ∷ ms) new d away before =
     own-append player (lines_of_match n new) (flat_map (lines_of_match n) ms)
-    ∙ (ap (λ (ls : List Line). ls ++ own player (flat_map (lines_of_match n) ms)) (absent player n new away.0 away.1 ∙ sym (absent player n m (before (omega arith)).0 (before (omega arith)).1))
+    ∙ (ap (λ (ls : List Line). ls ++ own player (flat_map (lines_of_match n) ms))
+    (absent player n new away.0 away.1 ∙ sym (absent player n m (before (omega arith)).0 (before (omega arith)).1))
     ∙ sym (own-append player (lines_of_match n m) (flat_map (lines_of_match n) ms)))
 own-set player n (suc k) (m ∷ ms) new d away before =
     own-append player (lines_of_match n m) (flat_map (lines_of_match n) (set ms k new))
@@ -66,10 +70,12 @@ counted-set k [] s m is = refl
 counted-set zero (n ∷ ms) s m is = (and_true _ _ is).1
 counted-set (suc k) (n ∷ ms) s m is = let both = and_true _ _ is in ap₂ ◌&&◌ both.0 (counted-set k ms s m both.1)
 
-absent-scored : (player k : ℕ) (ms : List Match) (s : Games) (d : Match) → IsAbsent player ms → IsAbsent player (set ms k (scored s (get_or ms k d)))
+absent-scored : (player k : ℕ) (ms : List Match) (s : Games) (d : Match) → IsAbsent player ms
+    → IsAbsent player (set ms k (scored s (get_or ms k d)))
 absent-scored player k [] s d away = away
 absent-scored player zero (m ∷ ms) s d away =
-    All-cons (λ (n : Match). (n.a ≢ player) × (n.b ≢ player)) (scored s m) ms (away 0 m (omega arith)) (λ k d' below. away (suc k) d' (omega arith))
+    All-cons (λ (n : Match). (n.a ≢ player) × (n.b ≢ player)) (scored s m) ms (away 0 m (omega arith))
+    (λ k d' below. away (suc k) d' (omega arith))
 absent-scored player (suc k) (m ∷ ms) s d away =
     All-cons (λ (n : Match). (n.a ≢ player) × (n.b ≢ player)) m (set ms k (scored s (get_or ms k d))) (away 0 m (omega arith))
     (absent-scored player k ms s d (λ j d' below. away (suc j) d' (omega arith)))
@@ -89,7 +95,8 @@ scored-lines player n t ms s away = by_tests (is_counted ms) refl (is_counted (s
 
     by_tests : (before : Bool) → is_counted ms ≡ before → (now : Bool) → is_counted (scored_slot ms t s) ≡ now
         → IsAbsent player (if before then get_or ms (t - 1) (open_match 0 0) ∷ [] else if now then ms else [])
-        → own player (if now then flat_map (lines_of_match n) (scored_slot ms t s) else []) ≡ own player (if before then flat_map (lines_of_match n) ms else [])
+        → own player (if now then flat_map (lines_of_match n) (scored_slot ms t s) else []) ≡ own player
+        (if before then flat_map (lines_of_match n) ms else [])
     by_tests true is true now away =
         let here = away 0 (open_match 0 0) (omega arith) in
         own-set player n (t - 1) ms (scored s (get_or ms (t - 1) (open_match 0 0))) (open_match 0 0) here (λ below. here)
@@ -112,12 +119,14 @@ scored-rounds player n (suc k) (r ∷ rounds) new same =
     ∙ (ap (λ (ls : List Line). own player (counted_lines n r) ++ ls) (scored-rounds player (n + 1) k rounds new same)
     ∙ sym (own-append player (counted_lines n r) (lines_from (n + 1) rounds)))
 
-pub scored-same : (e : EventValue) (k t : ℕ) (s : Games) (player : ℕ) → Fits e (SetScore k t s) → IsAbsent player (recounted e (SetScore k t s))
+pub scored-same : (e : EventValue) (k t : ℕ) (s : Games) (player : ℕ) → Fits e (SetScore k t s)
+    → IsAbsent player (recounted e (SetScore k t s))
     → totals (with_score e k t s) player ≡ totals e player
 scored-same e k t s player fits away =
     let ms = (get_or e.stored (k - 1) (record { matches = [] })).matches in
     ap (λ (rs : List Round). totals_of (own player (lines_from 1 rs))) (sym (as-scored e k t s fits))
-    ∙ ap totals_of (scored-rounds player 1 (k - 1) e.stored (record { matches = scored_slot ms t s }) (λ j. scored-lines player j t ms s away))
+    ∙ ap totals_of (scored-rounds player 1 (k - 1) e.stored (record { matches = scored_slot ms t s })
+    (λ j. scored-lines player j t ms s away))
 
 -- ---- the players of the matches
 
@@ -131,13 +140,15 @@ added-known e ms fits = by_test (is_counted ms)
     last =
         let r : Round = record { matches = ms } in
         let here = get_or-append_seam e.stored r [] r in
-        subst (λ (q : Round). IsRound (numbers e.players) q.matches) here (fits.sound.rounds.each (length e.stored) r (omega (arith, length-append e.stored (r ∷ []))))
+        subst (λ (q : Round). IsRound (numbers e.players) q.matches) here
+        (fits.sound.rounds.each (length e.stored) r (omega (arith, length-append e.stored (r ∷ []))))
 
     by_test : (counts : Bool) → AreOf e (if counts then ms else [])
     by_test true = round-of e ms last
     by_test false = All-nil _
 
-pub scored-known : (e : EventValue) (k t : ℕ) (s : Games) → IsSoundButForSeeds e → Fits e (SetScore k t s) → AreOf e (recounted e (SetScore k t s))
+pub scored-known : (e : EventValue) (k t : ℕ) (s : Games) → IsSoundButForSeeds e → Fits e (SetScore k t s)
+    → AreOf e (recounted e (SetScore k t s))
 scored-known e k t s sound fits = by_tests (is_counted ms) (is_counted (scored_slot ms t s))
   where
     ms : List Match
@@ -146,10 +157,15 @@ scored-known e k t s sound fits = by_tests (is_counted ms) (is_counted (scored_s
     round : IsRound (numbers e.players) (get_or e.stored (k - 1) (record { matches = [] })).matches
     round = sound.rounds.each (k - 1) (record { matches = [] }) (round-within e k t s fits)
 
-    by_tests : (before now : Bool) → AreOf e (if before then get_or (get_or e.stored (k - 1) (record { matches = [] })).matches (t - 1) (open_match 0 0) ∷ [] else if now then (get_or e.stored (k - 1) (record { matches = [] })).matches else [])
+    by_tests : (before now : Bool) → AreOf e (if before then get_or (get_or e.stored (k - 1) (record { matches = [] })).matches (t - 1)
+        (open_match 0 0) ∷ [] else if now then (get_or e.stored (k - 1) (record { matches = [] })).matches else [])
     by_tests true now =
-        let within = table-within e k t s fits (get_or e.stored (k - 1) (record { matches = [] })) (get_or_default e.stored (k - 1) (record { matches = [] }) (get_or e.stored (k - 1) (record { matches = [] })) (round-within e k t s fits)) in
-        All-cons (λ (m : Match). Contains (numbers e.players) m.a × (IsFalse (is_bye m) → Contains (numbers e.players) m.b)) (get_or (get_or e.stored (k - 1) (record { matches = [] })).matches (t - 1) (open_match 0 0)) []
-        (round-of e (get_or e.stored (k - 1) (record { matches = [] })).matches round (t - 1) (open_match 0 0) (omega (arith, within.0, within.1))) (All-nil _)
+        let within = table-within e k t s fits (get_or e.stored (k - 1) (record { matches = [] }))
+        (get_or_default e.stored (k - 1) (record { matches = [] }) (get_or e.stored (k - 1) (record { matches = [] }))
+        (round-within e k t s fits)) in
+        All-cons (λ (m : Match). Contains (numbers e.players) m.a × (IsFalse (is_bye m) → Contains (numbers e.players) m.b))
+        (get_or (get_or e.stored (k - 1) (record { matches = [] })).matches (t - 1) (open_match 0 0)) []
+        (round-of e (get_or e.stored (k - 1) (record { matches = [] })).matches round (t - 1) (open_match 0 0)
+        (omega (arith, within.0, within.1))) (All-nil _)
     by_tests false true = round-of e (get_or e.stored (k - 1) (record { matches = [] })).matches round
     by_tests false false = All-nil _

@@ -37,24 +37,28 @@ module _ (e : EventValue) (k t : ℕ) (s : Games) (fits : Fits e (SetScore k t s
       subst (λ (q : Round). (1 ≤ t) × (t ≤ length q.matches)) same (low, omega (arith, within, low))
 
   -- the round's matches are written alike
-  as-written : (ms : List Match) → slice_get ms (t - 1) ≡ Some fits.named.0 → map (score_table t s) (numbered_from 1 ms) ≡ set ms (t - 1) (scored s fits.named.0)
+  as-written : (ms : List Match) → slice_get ms (t - 1) ≡ Some fits.named.0
+      → map (score_table t s) (numbered_from 1 ms) ≡ set ms (t - 1) (scored s fits.named.0)
       → scored_slot ms t s ≡ map (score_table t s) (numbered_from 1 ms)
   as-written ms there written =
       ap (λ (m : Match). set ms (t - 1) (scored s m)) (get_or_from_slice_get ms (t - 1) fits.named.0 (open_match 0 0) there) ∙ sym written
 
   pub as-scored : rescored e.stored (k - 1) t s ≡ (with_score e k t s).stored
   as-scored =
-      let here : get_or e.stored (k - 1) (record { matches = [] }) ≡ it.round = get_or_from_slice_get e.stored (k - 1) it.round (record { matches = [] }) it.stored in
+      let here : get_or e.stored (k - 1) (record { matches = [] }) ≡ it.round =
+      get_or_from_slice_get e.stored (k - 1) it.round (record { matches = [] }) it.stored in
       let alike : scored_slot it.round.matches t s ≡ map (score_table t s) (numbered_from 1 it.round.matches)
       = as-written it.round.matches place.1 (score-place s t it.round.matches fits.named.0 it.here fits.named.2) in
       ap (λ (ms : List Match). (let r : Round = record { matches = ms } in set e.stored (k - 1) r))
       (subst (λ (q : Round). scored_slot q.matches t s ≡ map (score_table t s) (numbered_from 1 q.matches)) (sym here) alike)
 
   pub seated-after : All (λ (r : Round). IsSeatedOnce r.matches) (rescored e.stored (k - 1) t s)
-  seated-after = subst (λ (rs : List Round). All (λ (r : Round). IsSeatedOnce r.matches) rs) (sym as-scored) (λ i d below. (fits.sound.rounds.each i d below).seated_once)
+  seated-after = subst (λ (rs : List Round). All (λ (r : Round). IsSeatedOnce r.matches) rs) (sym as-scored)
+      (λ i d below. (fits.sound.rounds.each i d below).seated_once)
 
   pub table-within : (r : Round) → r ≡ get_or e.stored (k - 1) r → (1 ≤ t) × (t ≤ length r.matches)
-  table-within r is = subst (λ (q : Round). (1 ≤ t) × (t ≤ length q.matches)) (sym (is ∙ get_or_from_slice_get e.stored (k - 1) it.round r it.stored)) (has-table it.round it.stored)
+  table-within r is = subst (λ (q : Round). (1 ≤ t) × (t ≤ length q.matches))
+      (sym (is ∙ get_or_from_slice_get e.stored (k - 1) it.round r it.stored)) (has-table it.round it.stored)
 
   -- the round is there
   pub round-within : k - 1 < length e.stored

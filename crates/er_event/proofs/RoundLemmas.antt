@@ -1,5 +1,7 @@
 -- When matches are a round.
-use Rattle.std.proofs.Common.{◌≡◌, ◌≢◌, ℕ, ◌-◌, ◌==◌, ◌≤◌, ◌&&◌, ◌||◌, nat_le, not, Bool, true, false, List, [], ◌∷◌, length, take, flat_map, All, AllPairs, Contains, Option, Some, None, IfSome, IsTrue, IsFalse, refl, sym, ap, subst, true≢false, arith}
+use Rattle.std.proofs.Common.{◌≡◌, ◌≢◌, ℕ, ◌-◌, ◌==◌, ◌≤◌, ◌&&◌, ◌||◌, nat_le, not, Bool, true, false, List, [], ◌∷◌, length, take}
+use Rattle.std.proofs.Common.{flat_map, All, AllPairs, Contains, Option, Some, None, IfSome, IsTrue, IsFalse, refl, sym, ap, subst}
+use Rattle.std.proofs.Common.{true≢false, arith}
 use Rattle.std.specs.List.{list_all, range_with_len}
 use Rattle.std.proofs.lemmas.Bool.Decides.{nat_tests}
 use Rattle.std.proofs.lemmas.List.Elements.{All-cons, All-nil, All-head, All-tail, All-weaker}
@@ -21,7 +23,8 @@ All-of p (x ∷ xs) e = let both = and_true (p x) (list_all p xs) e in All-cons 
 
 pub of-All : {X : Type 0} (p : X → Bool) (xs : List X) → All (λ x. IsTrue (p x)) xs → list_all p xs ≡ true
 of-All p [] h = refl
-of-All p (x ∷ xs) h = let here : p x ≡ true = All-head (λ y. IsTrue (p y)) x xs h in rw here (of-All p xs (All-tail (λ y. IsTrue (p y)) x xs h))
+of-All p (x ∷ xs) h = let here : p x ≡ true = All-head
+    (λ y. IsTrue (p y)) x xs h in rw here (of-All p xs (All-tail (λ y. IsTrue (p y)) x xs h))
 
 and_true : (a b : Bool) → (a && b) ≡ true → (a ≡ true) × (b ≡ true)
 and_true true b h = (refl, h)
@@ -73,7 +76,8 @@ score_swiss bye None is = tt
 score_swiss false (Some s) is = is
 score_swiss true (Some s) is = subst (λ t. IsTrue (is_swiss_score t)) (sym (bye_is s is)) refl
 
-lawful_score : (bye : Bool) (score : Option Games) → (bye ≡ true → score ≡ Some bye_score) → IfSome score (λ s. IsTrue (is_swiss_score s)) → is_lawful_score bye score ≡ true
+lawful_score : (bye : Bool) (score : Option Games) → (bye ≡ true → score ≡ Some bye_score) → IfSome score (λ s. IsTrue (is_swiss_score s))
+    → is_lawful_score bye score ≡ true
 lawful_score false None won swiss = refl
 lawful_score false (Some s) won swiss = swiss
 lawful_score true score won swiss = ap (is_lawful_score true) (won refl)
@@ -107,7 +111,8 @@ module _ (count : ℕ) where
   is_lawful : (m : Match) → Lawful m → is_lawful_match count m ≡ true
   is_lawful m h =
       both_true (is_known count m.a && (is_bye m || is_known count m.b)) (is_lawful_score (is_bye m) m.score)
-      (both_true (is_known count m.a) (is_bye m || is_known count m.b) (contains_known count m.a h.first) (known_or (is_bye m) (is_known count m.b) (λ seated. contains_known count m.b (h.second seated))))
+      (both_true (is_known count m.a) (is_bye m || is_known count m.b) (contains_known count m.a h.first)
+      (known_or (is_bye m) (is_known count m.b) (λ seated. contains_known count m.b (h.second seated))))
       (lawful_score (is_bye m) m.score h.won h.swiss)
 
   -- ---- a round
@@ -119,11 +124,13 @@ module _ (count : ℕ) where
   false_not false e = refl
   false_not true e = absurd (true≢false (sym e))
 
-  pub is_round : (ms : List Match) → (length ms == 0) ≡ false → list_all (is_lawful_match count) ms ≡ true → AllPairs (λ p q. p ≢ q) (flat_map seats ms)
+  pub is_round : (ms : List Match) → (length ms == 0) ≡ false → list_all (is_lawful_match count) ms ≡ true
+      → AllPairs (λ p q. p ≢ q) (flat_map seats ms)
       → list_all (λ m. not (is_bye m)) (take (length ms - 1) ms) ≡ true → IsRound (range_with_len 1 count) ms
   is_round ms some all apart last =
       let known = range_with_len 1 count in
-      let each : All Lawful ms = All-weaker (λ m. IsTrue (is_lawful_match count m)) Lawful lawful ms (All-of (is_lawful_match count) ms all) in
+      let each : All Lawful ms = All-weaker (λ m. IsTrue (is_lawful_match count m)) Lawful lawful ms (All-of (is_lawful_match count) ms all)
+      in
       record {
         some = grind (arith, nat_tests);
         first_known = All-weaker Lawful (λ (m : Match). Contains known m.a) (λ m h. h.first) ms each;
@@ -131,20 +138,34 @@ module _ (count : ℕ) where
         seated_once = apart;
         byes_won = All-weaker Lawful (λ (m : Match). IsTrue (is_bye m) → m.score ≡ Some bye_score) (λ m h. h.won) ms each;
         scores = All-weaker Lawful (λ (m : Match). IfSome m.score (λ s. IsTrue (is_swiss_score s))) (λ m h. h.swiss) ms each;
-        bye_last = All-weaker (λ (m : Match). IsTrue (not (is_bye m))) (λ (m : Match). IsFalse (is_bye m)) (λ m e. false_not (is_bye m) e) (take (length ms - 1) ms) (All-of (λ m. not (is_bye m)) (take (length ms - 1) ms) last);
+        bye_last = All-weaker (λ (m : Match). IsTrue (not (is_bye m))) (λ (m : Match). IsFalse (is_bye m))
+            (λ m e. false_not (is_bye m) e) (take (length ms - 1) ms) (All-of (λ m. not (is_bye m)) (take (length ms - 1) ms) last);
       }
 
-  each_lawful : (ms : List Match) → All (λ (m : Match). Contains (range_with_len 1 count) m.a) ms → All (λ (m : Match). IsFalse (is_bye m) → Contains (range_with_len 1 count) m.b) ms
-      → All (λ (m : Match). IsTrue (is_bye m) → m.score ≡ Some bye_score) ms → All (λ (m : Match). IfSome m.score (λ s. IsTrue (is_swiss_score s))) ms → list_all (is_lawful_match count) ms ≡ true
+  each_lawful : (ms : List Match) → All (λ (m : Match). Contains (range_with_len 1 count) m.a) ms
+      → All (λ (m : Match). IsFalse (is_bye m) → Contains (range_with_len 1 count) m.b) ms
+      → All (λ (m : Match). IsTrue (is_bye m) → m.score ≡ Some bye_score) ms
+      → All (λ (m : Match). IfSome m.score (λ s. IsTrue (is_swiss_score s))) ms → list_all (is_lawful_match count) ms ≡ true
   each_lawful [] a b c d = refl
   each_lawful (m ∷ ms) a b c d =
-      let here : Lawful m = record { first = All-head (λ (m : Match). Contains (range_with_len 1 count) m.a) m ms a; second = All-head (λ (m : Match). IsFalse (is_bye m) → Contains (range_with_len 1 count) m.b) m ms b; won = All-head (λ (m : Match). IsTrue (is_bye m) → m.score ≡ Some bye_score) m ms c; swiss = All-head (λ (m : Match). IfSome m.score (λ s. IsTrue (is_swiss_score s))) m ms d } in
+      let here : Lawful m = record {
+        first = All-head (λ (m : Match). Contains (range_with_len 1 count) m.a) m ms a;
+        second = All-head (λ (m : Match). IsFalse (is_bye m) → Contains (range_with_len 1 count) m.b) m ms b;
+        won =
+            All-head (λ (m : Match). IsTrue (is_bye m) → m.score ≡ Some bye_score) m ms c;
+        swiss =
+            All-head (λ (m : Match). IfSome m.score (λ s. IsTrue (is_swiss_score s))) m ms d;
+      } in
       both_true (is_lawful_match count m) (list_all (is_lawful_match count) ms) (is_lawful m here)
-      (each_lawful ms (All-tail (λ (m : Match). Contains (range_with_len 1 count) m.a) m ms a) (All-tail (λ (m : Match). IsFalse (is_bye m) → Contains (range_with_len 1 count) m.b) m ms b)
-      (All-tail (λ (m : Match). IsTrue (is_bye m) → m.score ≡ Some bye_score) m ms c) (All-tail (λ (m : Match). IfSome m.score (λ s. IsTrue (is_swiss_score s))) m ms d))
+      (each_lawful ms (All-tail (λ (m : Match). Contains (range_with_len 1 count) m.a) m ms a)
+      (All-tail (λ (m : Match). IsFalse (is_bye m) → Contains (range_with_len 1 count) m.b) m ms b)
+      (All-tail (λ (m : Match). IsTrue (is_bye m) → m.score ≡ Some bye_score) m ms c)
+      (All-tail (λ (m : Match). IfSome m.score (λ s. IsTrue (is_swiss_score s))) m ms d))
 
   pub round_lawful : (ms : List Match) → IsRound (range_with_len 1 count) ms → list_all (is_lawful_match count) ms ≡ true
   round_lawful ms h = each_lawful ms h.first_known h.second_known h.byes_won h.scores
 
   pub round_last : (ms : List Match) → IsRound (range_with_len 1 count) ms → list_all (λ m. not (is_bye m)) (take (length ms - 1) ms) ≡ true
-  round_last ms h = of-All (λ m. not (is_bye m)) (take (length ms - 1) ms) (All-weaker (λ (m : Match). IsFalse (is_bye m)) (λ (m : Match). IsTrue (not (is_bye m))) (λ m e. not_false (is_bye m) e) (take (length ms - 1) ms) h.bye_last)
+  round_last ms h = of-All (λ m. not (is_bye m)) (take (length ms - 1) ms)
+      (All-weaker (λ (m : Match). IsFalse (is_bye m)) (λ (m : Match). IsTrue (not (is_bye m)))
+      (λ m e. not_false (is_bye m) e) (take (length ms - 1) ms) h.bye_last)

@@ -1,5 +1,6 @@
 -- The rows of rounds in turn.
-use Rattle.std.proofs.Common.{◌≡◌, ℕ, suc, ◌+◌, ◌-◌, ◌<◌, ◌≤◌, List, [], ◌∷◌, ◌++◌, length, take, drop, All, refl, sym, ap, ap₂, subst, ◌∙◌, arith, append_assoc, append-nil, length-append}
+use Rattle.std.proofs.Common.{◌≡◌, ℕ, suc, ◌+◌, ◌-◌, ◌<◌, ◌≤◌, List, [], ◌∷◌, ◌++◌, length, take, drop, All, refl, sym, ap, ap₂, subst, ◌∙◌}
+use Rattle.std.proofs.Common.{arith, append_assoc, append-nil, length-append}
 use Rattle.std.proofs.Math.Seq.{take-add, drop-append_seam, drop-drop}
 use Rattle.std.proofs.lemmas.List.{take_all, length-drop}
 use Rattle.std.proofs.lemmas.List.Elements.{All-head, All-tail}
@@ -13,7 +14,8 @@ use Rattle.er_event.proofs.PairingLemmas.{keyed_cons}
 abbrev pub Shown : Round → Type 0
 Shown r = FitRows r.matches
 
-pub keyed-push : (n : ℕ) (rs : List Round) (r : Round) → keyed_rows_from n (rs ++ r ∷ []) ≡ keyed_rows_from n rs ++ keyed_round_rows (n + length rs) r.matches
+pub keyed-push : (n : ℕ) (rs : List Round) (r : Round)
+    → keyed_rows_from n (rs ++ r ∷ []) ≡ keyed_rows_from n rs ++ keyed_round_rows (n + length rs) r.matches
 keyed-push n [] r = let e : n ≡ n + 0 = omega arith in append-nil (keyed_round_rows n r.matches) ∙ ap (λ k. keyed_round_rows k r.matches) e
 keyed-push n (s ∷ rs) r =
     let e : (n + 1) + length rs ≡ n + length (s ∷ rs) = omega arith in
@@ -40,8 +42,10 @@ module _ (rows : List PairingRow) (read : ℕ) (items : List Round) (k : ℕ) (k
     pub split : rs ≡ (items ++ round ∷ []) ++ later
     pub rows_are : left ≡ keyed_round_rows (k + 1) round.matches ++ keyed_rows_from (k + 1 + 1) later
 
-  pub next_shown : (rs rest : List Round) → read < length rows → All Shown rs → rs ≡ items ++ rest → drop read rows ≡ keyed_rows_from (length items + 1) rest → Next rs
-  next_shown rs [] more all split are = absurd (let len = length-drop read rows in let none : length (drop read rows) ≡ 0 = ap length are in omega arith)
+  pub next_shown : (rs rest : List Round) → read < length rows → All Shown rs → rs ≡ items ++ rest
+      → drop read rows ≡ keyed_rows_from (length items + 1) rest → Next rs
+  next_shown rs [] more all split are = absurd (let len = length-drop read rows in let none : length (drop read rows) ≡ 0 = ap length are
+      in omega arith)
   next_shown rs (r ∷ later) more all split are =
       let shown = rest_of items (r ∷ later) (subst (All Shown) split all) in
       record {
@@ -57,22 +61,30 @@ module _ (rows : List PairingRow) (read : ℕ) (items : List Round) (k : ℕ) (k
       → take (read + count) rows ≡ keyed_rows_from 1 (items ++ record { matches = ms } ∷ [])
   value_more ms count before here =
       let at : k + 1 ≡ 1 + length items = omega arith in
-      take-add read count rows ∙ (ap₂ ◌++◌ before (ap (take count) (sym rest_from) ∙ (here ∙ ap (λ n. keyed_round_rows n ms) at)) ∙ sym (keyed-push 1 items (record { matches = ms })))
+      take-add read count rows ∙ (ap₂ ◌++◌ before (ap (take count) (sym rest_from) ∙ (here ∙ ap (λ n. keyed_round_rows n ms) at))
+      ∙ sym (keyed-push 1 items (record { matches = ms })))
 
-  pub drop_more : (ms : List Match) (count : ℕ) (later : List Round) → left ≡ keyed_round_rows (k + 1) ms ++ keyed_rows_from (k + 1 + 1) later → count ≡ length (keyed_round_rows (k + 1) ms)
+  pub drop_more : (ms : List Match) (count : ℕ) (later : List Round)
+      → left ≡ keyed_round_rows (k + 1) ms ++ keyed_rows_from (k + 1 + 1) later → count ≡ length (keyed_round_rows (k + 1) ms)
       → drop (read + count) rows ≡ keyed_rows_from (length (items ++ record { matches = ms } ∷ []) + 1) later
   drop_more ms count later are is =
       let grown : length (items ++ record { matches = ms } ∷ []) ≡ length items + 1 = length-append items (record { matches = ms } ∷ []) in
       let at : k + 1 + 1 ≡ length (items ++ record { matches = ms } ∷ []) + 1 = omega arith in
       let dropped : drop (read + count) rows ≡ drop count (drop read rows) = sym (drop-drop count read rows) in
-      dropped ∙ (ap₂ drop is (sym rest_from ∙ are) ∙ (drop-append_seam (keyed_round_rows (k + 1) ms) (keyed_rows_from (k + 1 + 1) later) ∙ ap (λ n. keyed_rows_from n later) at))
+      dropped ∙ (ap₂ drop is (sym rest_from ∙ are)
+      ∙ (drop-append_seam (keyed_round_rows (k + 1) ms) (keyed_rows_from (k + 1 + 1) later) ∙ ap (λ n. keyed_rows_from n later) at))
 
-pub no_rows : (rows : List PairingRow) (read n : ℕ) (rest : List Round) → All Shown rest → length rows ≤ read → drop read rows ≡ keyed_rows_from n rest → rest ≡ []
+pub no_rows : (rows : List PairingRow) (read n : ℕ) (rest : List Round) → All Shown rest → length rows ≤ read
+    → drop read rows ≡ keyed_rows_from n rest → rest ≡ []
 no_rows rows read n [] all short are = refl
-no_rows rows read n (r ∷ rest) all short are = absurd (some_rows_none n r rest (All-head Shown r rest all) (let len = length-drop read rows in let same : length (drop read rows) ≡ length (keyed_rows_from n (r ∷ rest)) = ap length are in omega arith))
+no_rows rows read n (r ∷ rest) all short are = absurd
+    (some_rows_none n r rest (All-head Shown r rest all)
+    (let len = length-drop read rows in let same : length (drop read rows) ≡ length (keyed_rows_from n (r ∷ rest)) = ap length are in omega
+    arith))
   where
     some_rows_none : (n : ℕ) (r : Round) (rest : List Round) → FitRows r.matches → length (keyed_rows_from n (r ∷ rest)) ≡ 0 → ⊥
     some_rows_none n r rest shown none =
         let first = keyed_cons n r.matches shown in
-        let count : length (keyed_rows_from n (r ∷ rest)) ≡ suc (length (first.1 ++ keyed_rows_from (n + 1) rest)) = ap (λ l. length (l ++ keyed_rows_from (n + 1) rest)) first.2 in
+        let count : length (keyed_rows_from n (r ∷ rest)) ≡ suc (length (first.1 ++ keyed_rows_from (n + 1) rest)) =
+        ap (λ l. length (l ++ keyed_rows_from (n + 1) rest)) first.2 in
         omega arith

@@ -1,5 +1,7 @@
 -- An event with one score set anew is sound exactly where the score is lawful.
-use Rattle.std.proofs.Common.{◌≡◌, ◌≢◌, ℕ, zero, suc, ◌-◌, ◌==◌, ◌<◌, ◌≤◌, Bool, true, false, cond, List, [], ◌∷◌, ◌++◌, length, take, map, flat_map, get_or, All, AllPairs, Contains, IsTrue, IsFalse, Option, Some, None, IfSome, Bor, option_map, is_some, refl, sym, ap, ap₂, subst, ◌∙◌, true≢false, arith}
+use Rattle.std.proofs.Common.{◌≡◌, ◌≢◌, ℕ, zero, suc, ◌-◌, ◌==◌, ◌<◌, ◌≤◌, Bool, true, false, cond, List, [], ◌∷◌, ◌++◌, length, take, map}
+use Rattle.std.proofs.Common.{flat_map, get_or, All, AllPairs, Contains, IsTrue, IsFalse, Option, Some, None, IfSome, Bor, option_map}
+use Rattle.std.proofs.Common.{is_some, refl, sym, ap, ap₂, subst, ◌∙◌, true≢false, arith}
 use Rattle.std.specs.List.{slice_get, AllByRecursion}
 use Rattle.std.specs.Option.{option_and_then}
 use Rattle.std.proofs.Math.ListN.{set}
@@ -74,7 +76,8 @@ slots-after : (more ms ns : List Match) → SameSlots ms ns → SameSlots (more 
 slots-after [] ms ns h = h
 slots-after (m ∷ more) ms ns h = ((refl, refl), slots-after more ms ns h)
 
-slots-rounds : (r : Round) (j : ℕ) (rs : List Round) → SameSlots (get_or rs j r).matches r.matches → SameSlots (matches_of rs) (matches_of (set rs j r))
+slots-rounds : (r : Round) (j : ℕ) (rs : List Round) → SameSlots (get_or rs j r).matches r.matches
+    → SameSlots (matches_of rs) (matches_of (set rs j r))
 slots-rounds r j [] h = tt
 slots-rounds r zero (s ∷ rs) h = slots-append s.matches r.matches (matches_of rs) h
 slots-rounds r (suc j) (s ∷ rs) h = slots-after s.matches (matches_of rs) (matches_of (set rs j r)) (slots-rounds r j rs h)
@@ -88,7 +91,8 @@ slots-seats (m ∷ ms) (n ∷ ns) h = ap₂ ◌∷◌ h.0.0 (ap₂ ◌∷◌ h.0
 same-pairing : (m n k l : Match) → m.a ≡ n.a → m.b ≡ n.b → k.a ≡ l.a → k.b ≡ l.b → is_same_pairing m k ≡ is_same_pairing n l
 same-pairing m n k l a b c d = rw (a, b, c, d) refl
 
-slots-differ : (m n : Match) → m.a ≡ n.a → m.b ≡ n.b → (ms ns : List Match) → SameSlots ms ns → AllByRecursion (Differ m) ms → AllByRecursion (Differ n) ns
+slots-differ : (m n : Match) → m.a ≡ n.a → m.b ≡ n.b → (ms ns : List Match) → SameSlots ms ns → AllByRecursion (Differ m) ms
+    → AllByRecursion (Differ n) ns
 slots-differ m n a b [] [] h d = tt
 slots-differ m n a b [] (l ∷ ns) h d = absurd h
 slots-differ m n a b (k ∷ ms) [] h d = absurd h
@@ -120,13 +124,16 @@ module _ (s : Games) (m : Match) (i : ℕ) (ms : List Match) (there : get_or ms 
         first_known = kept (λ (k : Match). Contains known k.a) (λ p. p) h.first_known;
         second_known = kept (λ (k : Match). IsFalse (is_bye k) → Contains known k.b) (λ p. p) h.second_known;
         seated_once = subst (λ (ps : List ℕ). AllPairs (λ p q. (p ≡ q) → ⊥) ps) (slots-seats ms new slots-new) h.seated_once;
-        byes_won = kept (λ (k : Match). IsTrue (is_bye k) → k.score ≡ Some bye_score) (λ _ bye. absurd (true≢false (sym bye ∙ seat))) h.byes_won;
+        byes_won = kept (λ (k : Match). IsTrue (is_bye k) → k.score ≡ Some bye_score)
+            (λ _ bye. absurd (true≢false (sym bye ∙ seat))) h.byes_won;
         scores = kept (λ (k : Match). IfSome k.score (λ t. IsTrue (is_swiss_score t))) (λ _. swiss) h.scores;
-        bye_last = subst (λ (n : ℕ). All (λ (k : Match). IsFalse (is_bye k)) (take (n - 1) new)) (sym count) (First-set (λ (k : Match). IsFalse (is_bye k)) (scored s m) (length ms - 1) i ms (λ _. seat) h.bye_last);
+        bye_last = subst (λ (n : ℕ). All (λ (k : Match). IsFalse (is_bye k)) (take (n - 1) new)) (sym count)
+            (First-set (λ (k : Match). IsFalse (is_bye k)) (scored s m) (length ms - 1) i ms (λ _. seat) h.bye_last);
       }
 
   counted-scored : is_counted ms ≡ true → is_counted new ≡ true
-  counted-scored all = of-All (λ (k : Match). is_some k.score) new (kept (λ (k : Match). IsTrue (is_some k.score)) (λ _. refl) (All-of (λ (k : Match). is_some k.score) ms all))
+  counted-scored all = of-All (λ (k : Match). is_some k.score) new
+      (kept (λ (k : Match). IsTrue (is_some k.score)) (λ _. refl) (All-of (λ (k : Match). is_some k.score) ms all))
 
   module _ (e : EventValue) (j : ℕ) (round : (get_or e.stored j (record { matches = new })).matches ≡ ms) where
     abbrev r : Round
@@ -144,15 +151,21 @@ module _ (s : Games) (m : Match) (i : ℕ) (ms : List Match) (there : get_or ms 
     counted-here : Counted (get_or e.stored j r) → Counted r
     counted-here h = counted-scored (ap is_counted (sym round) ∙ h)
 
-    rounds-scored : is_swiss_score s ≡ true → AreRounds e.phase e.rounds (numbers e.players) e.stored → AreRounds e.phase e.rounds (numbers e.players) rounds
+    rounds-scored : is_swiss_score s ≡ true → AreRounds e.phase e.rounds (numbers e.players) e.stored
+        → AreRounds e.phase e.rounds (numbers e.players) rounds
     rounds-scored swiss h =
         let count = count-rounds in
         record {
           few = let few = h.few in omega arith;
           enrolling = λ phase. ap (λ (rs : List Round). set rs j r) (h.enrolling phase);
-          each = All-set (λ (q : Round). IsRound (numbers e.players) q.matches) r j e.stored (λ is. round-scored (numbers e.players) swiss (subst (IsRound (numbers e.players)) round is)) h.each;
-          no_repeats = from_rec Differ (matches_of rounds) (slots-rec (matches_of e.stored) (matches_of rounds) (slots-rounds r j e.stored (subst (λ (ks : List Match). SameSlots ks new) (sym round) slots-new)) (to_rec Differ (matches_of e.stored) h.no_repeats));
-          earlier_done = subst (λ (n : ℕ). All Counted (take (n - 1) rounds)) (sym count) (First-set Counted r (length e.stored - 1) j e.stored counted-here h.earlier_done);
+          each = All-set (λ (q : Round). IsRound (numbers e.players) q.matches) r j e.stored
+              (λ is. round-scored (numbers e.players) swiss (subst (IsRound (numbers e.players)) round is)) h.each;
+          no_repeats = from_rec Differ (matches_of rounds)
+              (slots-rec (matches_of e.stored) (matches_of rounds)
+              (slots-rounds r j e.stored (subst (λ (ks : List Match). SameSlots ks new) (sym round) slots-new))
+              (to_rec Differ (matches_of e.stored) h.no_repeats));
+          earlier_done = subst (λ (n : ℕ). All Counted (take (n - 1) rounds)) (sym count)
+              (First-set Counted r (length e.stored - 1) j e.stored counted-here h.earlier_done);
           done = λ over. (let all = h.done over in (count ∙ all.0, All-set Counted r j e.stored counted-here all.1));
         }
 
@@ -162,7 +175,8 @@ module _ (s : Games) (m : Match) (i : ℕ) (ms : List Match) (there : get_or ms 
     -- a sound event has no other score
     scored-swiss : i < length ms → j < length e.stored → IsSoundButForSeeds (record e { stored = rounds }) → is_swiss_score s ≡ true
     scored-swiss table within h =
-        let here : IsRound (numbers e.players) new = set-All (λ (q : Round). IsRound (numbers e.players) q.matches) r j e.stored within h.rounds.each in
+        let here : IsRound (numbers e.players) new =
+        set-All (λ (q : Round). IsRound (numbers e.players) q.matches) r j e.stored within h.rounds.each in
         set-All (λ (k : Match). IfSome k.score (λ t. IsTrue (is_swiss_score t))) (scored s m) i ms table here.scores
 
 -- ---- the match of a table of a round
@@ -178,14 +192,16 @@ pub record Found (e : EventValue) (k t : ℕ) (m : Match) : Type 0 where
   pub stored : slice_get e.stored (k - 1) ≡ Some round
   pub here : match_in round.matches t ≡ Some m
 
-found-round : (e : EventValue) (k t : ℕ) (m : Match) (o : Option Round) → slice_get e.stored (k - 1) ≡ o → option_and_then (λ (q : Round). match_in q.matches t) o ≡ Some m → Found e k t m
+found-round : (e : EventValue) (k t : ℕ) (m : Match) (o : Option Round) → slice_get e.stored (k - 1) ≡ o
+    → option_and_then (λ (q : Round). match_in q.matches t) o ≡ Some m → Found e k t m
 found-round e k t m None at h = absurd (none-some m h)
 found-round e k t m (Some q) at h = record { round = q; stored = at; here = h }
 
 pub found : (e : EventValue) (k t : ℕ) (m : Match) → match_at e k t ≡ Some m → Found e k t m
 found e k t m is = by_zero (k == 0) is
   where
-    by_zero : (b : Bool) → cond b None (option_and_then (λ (q : Round). match_in q.matches t) (slice_get e.stored (k - 1))) ≡ Some m → Found e k t m
+    by_zero : (b : Bool) → cond b None (option_and_then (λ (q : Round). match_in q.matches t) (slice_get e.stored (k - 1))) ≡ Some m
+        → Found e k t m
     by_zero true h = absurd (none-some m h)
     by_zero false h = found-round e k t m (slice_get e.stored (k - 1)) refl h
 
@@ -209,7 +225,8 @@ module _ (e : EventValue) (k t : ℕ) (s : Games) (m : Match) (is : match_at e k
   With ks = record e { stored = set e.stored (k - 1) (record { matches = ks }) }
 
   pub scored-is : with_score e k t s ≡ With (set ms (t - 1) (scored s m))
-  scored-is = ap With (ap (λ (q : Round). map (score_table t s) (numbered_from 1 q.matches)) (round-is (record { matches = [] })) ∙ score-place s t ms m f.here seat)
+  scored-is = ap With (ap (λ (q : Round). map (score_table t s) (numbered_from 1 q.matches)) (round-is (record { matches = [] }))
+      ∙ score-place s t ms m f.here seat)
 
   abbrev d : Round
   d = record { matches = set ms (t - 1) (scored s m) }
@@ -217,7 +234,8 @@ module _ (e : EventValue) (k t : ℕ) (s : Games) (m : Match) (is : match_at e k
   pub Fits-score : is_swiss_score s ≡ true → IsSoundButForSeeds e → Fits e (SetScore k t s)
   Fits-score swiss h = record {
     named = (m, is, seat);
-    sound = subst IsSoundButForSeeds (sym scored-is) (IsSound-scored s m (t - 1) ms (table-is (scored s m)) seat e (k - 1) (ap (λ (q : Round). q.matches) (round-is d)) swiss h);
+    sound = subst IsSoundButForSeeds (sym scored-is)
+        (IsSound-scored s m (t - 1) ms (table-is (scored s m)) seat e (k - 1) (ap (λ (q : Round). q.matches) (round-is d)) swiss h);
   }
 
   pub swiss-score : IsSoundButForSeeds (with_score e k t s) → is_swiss_score s ≡ true
@@ -227,14 +245,16 @@ module _ (e : EventValue) (k t : ℕ) (s : Games) (m : Match) (is : match_at e k
 
 -- ---- the match that is read
 
-pub read-match : (e : EventValue) (k t i : ℕ) (q : Round) → k ≢ 0 → i ≡ k → i - 1 < length e.stored → q ≡ get_or e.stored (i - 1) q → match_at e k t ≡ match_in q.matches t
+pub read-match : (e : EventValue) (k t i : ℕ) (q : Round) → k ≢ 0 → i ≡ k → i - 1 < length e.stored → q ≡ get_or e.stored (i - 1) q
+    → match_at e k t ≡ match_in q.matches t
 read-match e k t i q some same within is =
     let at : slice_get e.stored (i - 1) ≡ Some q = slice_get_read e.stored (length e.stored) (i - 1) q refl within is in
     let there : slice_get e.stored (k - 1) ≡ Some q = ap (λ n. slice_get e.stored (n - 1)) (sym same) ∙ at in
     let not_zero : (k == 0) ≡ false = grind (arith, nat_tests) in
     rw (not_zero, there) refl
 
-pub read-fits : (e : EventValue) (k t : ℕ) (found : Option (Bor Match)) → IsSoundButForSeeds e → match_at e k t ≡ option_map (λ (m : Bor Match). m.now) found
+pub read-fits : (e : EventValue) (k t : ℕ) (found : Option (Bor Match)) → IsSoundButForSeeds e
+    → match_at e k t ≡ option_map (λ (m : Bor Match). m.now) found
     → IfSome found (λ m. IsFalse (is_bye m.now) → (s : Games) → IsTrue (is_swiss_score s) → Fits e (SetScore k t s))
 read-fits e k t None sound is = tt
 read-fits e k t (Some m) sound is = λ seat s swiss. Fits-score e k t s m.now is seat swiss sound
@@ -253,15 +273,20 @@ module _ (e : EventValue) (k t : ℕ) (s : Games) (fits : Fits e (SetScore k t s
     listed-is = listed ∙ (ap (λ n. get_or e.stored (n - 1) q) same ∙ round-is e k t s fits.named.0 fits.named.1 fits.named.2 q)
 
     listed-there : slice_get q.matches (j - 1) ≡ Some fits.named.0
-    listed-there = ap (λ (r : Round). slice_get r.matches (j - 1)) listed-is ∙ (ap (λ n. slice_get (found e k t fits.named.0 fits.named.1).round.matches (n - 1)) table ∙ table-read e k t s fits.named.0 fits.named.1 fits.named.2)
+    listed-there = ap (λ (r : Round). slice_get r.matches (j - 1)) listed-is
+        ∙ (ap (λ n. slice_get (found e k t fits.named.0 fits.named.1).round.matches (n - 1)) table
+        ∙ table-read e k t s fits.named.0 fits.named.1 fits.named.2)
 
     pub listed-within : j - 1 < length q.matches
     listed-within = within-get q.matches (j - 1) fits.named.0 listed-there
 
-    pub written : (new : List Match) → ((m : Match) → slice_get q.matches (j - 1) ≡ Some m → new ≡ set q.matches (j - 1) (scored s m)) → (let w : EventValue = record e { stored = set e.stored (i - 1) (record { matches = new }) } in w) ≡ with_score e k t s
+    pub written : (new : List Match) → ((m : Match) → slice_get q.matches (j - 1) ≡ Some m → new ≡ set q.matches (j - 1) (scored s m))
+        → (let w : EventValue = record e { stored = set e.stored (i - 1) (record { matches = new }) } in w) ≡ with_score e k t s
     written new set_there =
         let m = fits.named.0 in
         let made : new ≡ set (found e k t fits.named.0 fits.named.1).round.matches (t - 1) (scored s m) =
-        set_there m listed-there ∙ (ap (λ (r : Round). set r.matches (j - 1) (scored s m)) listed-is ∙ ap (λ n. set (found e k t fits.named.0 fits.named.1).round.matches (n - 1) (scored s m)) table) in
+        set_there m listed-there ∙ (ap (λ (r : Round). set r.matches (j - 1) (scored s m)) listed-is ∙ ap
+        (λ n. set (found e k t fits.named.0 fits.named.1).round.matches (n - 1) (scored s m)) table) in
         let put : List Match → ℕ → EventValue = λ ms n. record e { stored = set e.stored (n - 1) (record { matches = ms }) } in
-        ap (λ ms. put ms i) made ∙ (ap (λ n. put (set (found e k t fits.named.0 fits.named.1).round.matches (t - 1) (scored s m)) n) same ∙ sym (scored-is e k t s m fits.named.1 fits.named.2))
+        ap (λ ms. put ms i) made ∙ (ap (λ n. put (set (found e k t fits.named.0 fits.named.1).round.matches (t - 1) (scored s m)) n) same
+        ∙ sym (scored-is e k t s m fits.named.1 fits.named.2))

@@ -1,5 +1,6 @@
 -- Who sits where in a round.
-use Rattle.std.proofs.Common.{◌≡◌, ◌≢◌, ℕ, ◌+◌, ◌<◌, Bool, true, false, ◌||◌, List, [], ◌∷◌, ◌++◌, length, get_or, take, drop, AllPairs, flat_map, refl, sym, ap, subst, ◌∙◌, true≢false, arith, append-nil}
+use Rattle.std.proofs.Common.{◌≡◌, ◌≢◌, ℕ, ◌+◌, ◌<◌, Bool, true, false, ◌||◌, List, [], ◌∷◌, ◌++◌, length, get_or, take, drop, AllPairs}
+use Rattle.std.proofs.Common.{flat_map, refl, sym, ap, subst, ◌∙◌, true≢false, arith, append-nil}
 use Rattle.std.specs.List.{list_any}
 use Rattle.std.proofs.lemmas.List.{take_more, take-append-drop}
 use Rattle.std.proofs.lemmas.List.Concat.{flat_map-append}
@@ -16,7 +17,12 @@ abbrev all_seats : List Match → List ℕ
 all_seats matches = flat_map seats matches
 
 shares-none : (m n : Match) → shares_seat m n ≡ false → (m.a ≢ n.a) × (m.a ≢ n.b) × (m.b ≢ n.a) × (m.b ≢ n.b)
-shares-none m n none = (λ e. grind (arith, nat_tests), λ e. grind (arith, nat_tests), λ e. grind (arith, nat_tests), λ e. grind (arith, nat_tests))
+shares-none m n none = (
+  λ e. grind (arith, nat_tests),
+  λ e. grind (arith, nat_tests),
+  λ e. grind (arith, nat_tests),
+  λ e. grind (arith, nat_tests),
+)
 
 shares-some : (m n : Match) → shares_seat m n ≡ true → m.a ≢ n.a → m.a ≢ n.b → m.b ≢ n.a → m.b ≢ n.b → ⊥
 shares-some m n some a b c d = grind (arith, nat_tests)
@@ -27,7 +33,8 @@ or_false false true h = absurd (true≢false h)
 or_false true b h = absurd (true≢false h)
 
 -- two more who sit
-seated_more : (ms : List Match) (m : Match) → Rec Apart (all_seats ms) → list_any (λ n. shares_seat n m) ms ≡ false → m.a ≢ m.b → Rec Apart (all_seats ms ++ seats m)
+seated_more : (ms : List Match) (m : Match) → Rec Apart (all_seats ms) → list_any (λ n. shares_seat n m) ms ≡ false → m.a ≢ m.b
+    → Rec Apart (all_seats ms ++ seats m)
 seated_more [] m h free apart = ((apart, tt), (tt, tt))
 seated_more (n ∷ ms) m h free apart =
     let both = or_false (shares_seat n m) (list_any (λ k. shares_seat k m) ms) free in
@@ -41,7 +48,8 @@ seat_taken [] m h = refl
 seat_taken (n ∷ ms) m h =
     let first = all_right (Apart n.a) (all_seats ms) (seats m) h.0.1 in
     let second = all_right (Apart n.b) (all_seats ms) (seats m) h.1.0 in
-    let none : shares_seat n m ≡ false = not_shared (shares_seat n m) (λ some. shares-some n m some first.0 first.1.0 second.0 second.1.0) in
+    let none : shares_seat n m ≡ false = not_shared (shares_seat n m)
+    (λ some. shares-some n m some first.0 first.1.0 second.0 second.1.0) in
     rw none (seat_taken ms m h.1.1)
   where
     not_shared : (b : Bool) → (b ≡ true → ⊥) → b ≡ false
@@ -58,13 +66,16 @@ module _ (ms : List Match) (i : ℕ) (m d : Match) (within : i < length ms) (her
       ap all_seats (take_more ms i d within) ∙ (flat_map-append seats (take i ms) (get_or ms i d ∷ [])
       ∙ (ap (λ (n : Match). all_seats (take i ms) ++ (seats n ++ [])) here ∙ ap (λ s. all_seats (take i ms) ++ s) (append-nil (seats m))))
 
-  pub seats-more : AllPairs Apart (all_seats (take i ms)) → list_any (λ n. shares_seat n m) (take i ms) ≡ false → m.a ≢ m.b → AllPairs Apart (all_seats (take (i + 1) ms))
-  seats-more h free apart = subst (AllPairs Apart) (sym seats-next) (from_rec Apart _ (seated_more (take i ms) m (to_rec Apart _ h) free apart))
+  pub seats-more : AllPairs Apart (all_seats (take i ms)) → list_any (λ n. shares_seat n m) (take i ms) ≡ false → m.a ≢ m.b
+      → AllPairs Apart (all_seats (take (i + 1) ms))
+  seats-more h free apart = subst (AllPairs Apart) (sym seats-next)
+      (from_rec Apart _ (seated_more (take i ms) m (to_rec Apart _ h) free apart))
 
   -- of the whole round, up to this match
   pub seats-here : AllPairs Apart (all_seats ms) → Rec Apart (all_seats (take i ms) ++ seats m)
   seats-here h =
-      let split : all_seats ms ≡ all_seats (take (i + 1) ms) ++ all_seats (drop (i + 1) ms) = ap all_seats (sym (take-append-drop (i + 1) ms)) ∙ flat_map-append seats (take (i + 1) ms) (drop (i + 1) ms) in
+      let split : all_seats ms ≡ all_seats (take (i + 1) ms) ++ all_seats (drop (i + 1) ms) =
+      ap all_seats (sym (take-append-drop (i + 1) ms)) ∙ flat_map-append seats (take (i + 1) ms) (drop (i + 1) ms) in
       subst (Rec Apart) seats-next (rec_left Apart _ _ (subst (Rec Apart) split (to_rec Apart _ h)))
 
   pub seats-free : AllPairs Apart (all_seats ms) → list_any (λ n. shares_seat n m) (take i ms) ≡ false

@@ -1,5 +1,7 @@
 -- The slots of a next stage, and which stages follow on one another.
-use Rattle.std.proofs.Common.{◌≡◌, ◌↔◌, ℕ, zero, suc, ◌+◌, ◌*◌, ◌-◌, ◌/◌, ◌<◌, ◌≤◌, ◌==◌, ◌&&◌, Bool, true, false, List, [], ◌∷◌, length, drop, get_or, Option, Some, None, IsTrue, IsSome, is_some, MatchOption, refl, sym, ap, ap₂, subst, ◌∙◌, true≢false, arith}
+use Rattle.std.proofs.Common.{◌≡◌, ◌↔◌, ℕ, zero, suc, ◌+◌, ◌*◌, ◌-◌, ◌/◌, ◌<◌, ◌≤◌, ◌==◌, ◌&&◌, Bool, true, false, List, [], ◌∷◌, length}
+use Rattle.std.proofs.Common.{drop, get_or, Option, Some, None, IsTrue, IsSome, is_some, MatchOption, refl, sym, ap, ap₂, subst, ◌∙◌}
+use Rattle.std.proofs.Common.{true≢false, arith}
 use Rattle.std.specs.List.{slice_get}
 use Rattle.std.proofs.lemmas.List.{drop_more, length-drop}
 use Rattle.std.proofs.lemmas.Bool.Decides.{nat_tests}
@@ -29,7 +31,8 @@ abbrev pub Winners : List Match → List Match → ℕ → Type 0
 Winners ms ns i = SameSlots (drop i ns) (next_stage (drop (2 * i) ms))
 
 module _ (ms ns : List Match) (half : length ns ≡ length ms / 2) (i : ℕ) where
-  module _ (n x y d : Match) (within : i < length ns) (there : n ≡ get_or ns i n) (first : x ≡ get_or ms (2 * i) x) (second : y ≡ get_or ms (2 * i + 1) y) where
+  module _ (n x y d : Match) (within : i < length ns) (there : n ≡ get_or ns i n) (first : x ≡ get_or ms (2 * i) x)
+      (second : y ≡ get_or ms (2 * i + 1) y) where
     ns-here : drop i ns ≡ n ∷ drop (i + 1) ns
     ns-here = drop_more ns i n within ∙ ap (λ (k : Match). k ∷ drop (i + 1) ns) (sym there)
 
@@ -37,7 +40,8 @@ module _ (ms ns : List Match) (half : length ns ≡ length ms / 2) (i : ℕ) whe
     ms-here =
         let more : 2 * i + 1 + 1 ≡ 2 * (i + 1) = omega arith in
         drop_more ms (2 * i) x (omega arith) ∙ (ap (λ (k : Match). k ∷ drop (2 * i + 1) ms) (sym first)
-        ∙ ap (λ (ks : List Match). x ∷ ks) (drop_more ms (2 * i + 1) y (omega arith) ∙ (ap (λ (k : Match). k ∷ drop (2 * i + 1 + 1) ms) (sym second) ∙ ap (λ (j : ℕ). y ∷ drop j ms) more)))
+        ∙ ap (λ (ks : List Match). x ∷ ks) (drop_more ms (2 * i + 1) y (omega arith)
+        ∙ (ap (λ (k : Match). k ∷ drop (2 * i + 1 + 1) ms) (sym second) ∙ ap (λ (j : ℕ). y ∷ drop j ms) more)))
 
     winners-here : Winners ms ns i ≡ (((n.a ≡ winner x) × (n.b ≡ winner y)) × Winners ms ns (i + 1))
     winners-here = ap₂ (λ (ks ls : List Match). SameSlots ks (next_stage ls)) ns-here ms-here
@@ -46,7 +50,8 @@ module _ (ms ns : List Match) (half : length ns ≡ length ms / 2) (i : ℕ) whe
     winners-more a b = (λ h. (subst (λ (T : Type 0). T) winners-here h).1, λ h. subst (λ (T : Type 0). T) (sym winners-here) ((a, b), h))
 
   pub winners-end : length ns ≤ i → Winners ms ns i
-  winners-end end = none (drop i ns) (drop (2 * i) ms) (let count = length-drop i ns in omega arith) (let count = length-drop (2 * i) ms in omega arith)
+  winners-end end = none (drop i ns) (drop (2 * i) ms) (let count = length-drop i ns in omega arith)
+      (let count = length-drop (2 * i) ms in omega arith)
     where
       none : (ks ls : List Match) → length ks ≡ 0 → length ls < 2 → SameSlots ks (next_stage ls)
       none [] [] a b = tt
@@ -66,9 +71,11 @@ follow-split s [] = (λ h. (h, tt), λ h. h.0)
 follow-split s (next ∷ more) = (λ h. ((h.0, h.1, h.2), h.3), λ h. (h.0.0, h.0.1, h.0.2, h.1))
 
 -- what a check of one stage says, at the stages that it read
-pub stands : (a s : List Match) (o p : Option (List Match)) (r t : Bool) → o ≡ p → a ≡ s → t ≡ r → (IsTrue r ↔ Stands a p) → IsTrue t ↔ Stands s o
+pub stands : (a s : List Match) (o p : Option (List Match)) (r t : Bool) → o ≡ p → a ≡ s → t ≡ r → (IsTrue r ↔ Stands a p)
+    → IsTrue t ↔ Stands s o
 stands a s o p r t same read is h =
-    subst (λ (b : Bool). IsTrue b ↔ Stands s o) (sym is) (subst (λ (q : Option (List Match)). IsTrue r ↔ Stands s q) (sym same) (subst (λ (ms : List Match). IsTrue r ↔ Stands ms p) read h))
+    subst (λ (b : Bool). IsTrue b ↔ Stands s o) (sym is)
+    (subst (λ (q : Option (List Match)). IsTrue r ↔ Stands s q) (sym same) (subst (λ (ms : List Match). IsTrue r ↔ Stands ms p) read h))
 
 get-first : (stages : List (List Match)) (i : ℕ) → slice_get (drop i stages) 0 ≡ slice_get stages i
 get-first [] zero = refl
@@ -76,11 +83,14 @@ get-first [] (suc i) = refl
 get-first (s ∷ stages) zero = refl
 get-first (s ∷ stages) (suc i) = get-first stages i
 
-pub follow-here : (stages : List (List Match)) (i : ℕ) (s : List Match) → i < length stages → s ≡ get_or stages i s → FollowOn (drop i stages) ↔ (Stands s (slice_get stages (i + 1)) × FollowOn (drop (i + 1) stages))
+pub follow-here : (stages : List (List Match)) (i : ℕ) (s : List Match) → i < length stages → s ≡ get_or stages i s
+    → FollowOn (drop i stages) ↔ (Stands s (slice_get stages (i + 1)) × FollowOn (drop (i + 1) stages))
 follow-here stages i s within is =
-    let here : drop i stages ≡ s ∷ drop (i + 1) stages = drop_more stages i s within ∙ ap (λ (t : List Match). t ∷ drop (i + 1) stages) (sym is) in
+    let here : drop i stages ≡ s ∷ drop (i + 1) stages = drop_more stages i s within ∙ ap
+    (λ (t : List Match). t ∷ drop (i + 1) stages) (sym is) in
     subst (λ (ss : List (List Match)). FollowOn ss ↔ (Stands s (slice_get stages (i + 1)) × FollowOn (drop (i + 1) stages))) (sym here)
-    (subst (λ (o : Option (List Match)). FollowOn (s ∷ drop (i + 1) stages) ↔ (Stands s o × FollowOn (drop (i + 1) stages))) (get-first stages (i + 1)) (follow-split s (drop (i + 1) stages)))
+    (subst (λ (o : Option (List Match)). FollowOn (s ∷ drop (i + 1) stages) ↔ (Stands s o × FollowOn (drop (i + 1) stages)))
+    (get-first stages (i + 1)) (follow-split s (drop (i + 1) stages)))
 
 -- ---- the last stage
 
@@ -98,23 +108,30 @@ over-counted (m ∷ []) = one m.score
     one : (o : Option Games) → IsSome o ↔ ((is_some o && true) && true ≡ true)
     one None = (λ h. absurd (true≢false (sym h)), λ h. absurd (true≢false (sym h)))
     one (Some s) = (λ _. refl, λ _. refl)
-over-counted (m ∷ n ∷ more) = (λ h. absurd h, λ h. absurd (not-one (length more) (and-second (is_counted (m ∷ n ∷ more)) (suc (suc (length more)) == 1) h)))
+over-counted (m ∷ n ∷ more) = (
+  λ h. absurd h,
+  λ h.
+      absurd (not-one (length more) (and-second (is_counted (m ∷ n ∷ more)) (suc (suc (length more)) == 1) h)),
+)
 
 pub last-after : (stage next : List Match) (more : List (List Match)) → last_match (stage ∷ next ∷ more) ≡ last_match (next ∷ more)
 last-after [] next more = refl
 last-after (m ∷ []) next more = refl
 last-after (m ∷ n ∷ later) next more = refl
 
-last-at : (stages : List (List Match)) (i : ℕ) (last : List Match) → i + 1 ≡ length stages → last ≡ get_or stages i last → last_match stages ≡ last_match (last ∷ [])
+last-at : (stages : List (List Match)) (i : ℕ) (last : List Match) → i + 1 ≡ length stages → last ≡ get_or stages i last
+    → last_match stages ≡ last_match (last ∷ [])
 last-at [] i last end is = absurd (omega arith)
 last-at (s ∷ []) zero last end is = ap (λ (t : List Match). last_match (t ∷ [])) (sym is)
 last-at (s ∷ []) (suc i) last end is = absurd (omega arith)
 last-at (s ∷ t ∷ more) zero last end is = absurd (omega arith)
 last-at (s ∷ t ∷ more) (suc i) last end is = last-after s t more ∙ last-at (t ∷ more) i last (omega arith) is
 
-pub decided-last : (stages : List (List Match)) (last : List Match) → 1 ≤ length stages → last ≡ get_or stages (length stages - 1) last → IsDecided stages ↔ (is_over last ≡ true)
+pub decided-last : (stages : List (List Match)) (last : List Match) → 1 ≤ length stages → last ≡ get_or stages (length stages - 1) last
+    → IsDecided stages ↔ (is_over last ≡ true)
 decided-last stages last some is =
-    subst (λ (o : Option Match). MatchOption o ⊥ (λ (m : Match). IsSome m.score) ↔ (is_over last ≡ true)) (sym (last-at stages (length stages - 1) last (omega arith) is)) (over-counted last)
+    subst (λ (o : Option Match). MatchOption o ⊥ (λ (m : Match). IsSome m.score) ↔ (is_over last ≡ true))
+    (sym (last-at stages (length stages - 1) last (omega arith) is)) (over-counted last)
 
 pub decided-none : (stages : List (List Match)) → length stages ≡ 0 → IsDecided stages → ⊥
 decided-none [] e h = h

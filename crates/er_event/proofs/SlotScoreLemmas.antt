@@ -1,5 +1,7 @@
 -- An event whose playoff has one more score is sound exactly where the changed stage fits what stands behind it.
-use Rattle.std.proofs.Common.{◌≡◌, ◌↔◌, inl, inr, ℕ, zero, suc, ◌-◌, ◌<◌, ◌≤◌, ◌==◌, ◌||◌, ◌&&◌, nat_lt, Bool, true, false, cond, List, [], ◌∷◌, ◌++◌, length, drop, get_or, All, AllPairs, Contains, Option, Some, None, IsTrue, IfSome, is_some, MatchOption, IsSome, option_map, Bor, refl, sym, ap, subst, ◌∙◌, true≢false, arith, append-nil}
+use Rattle.std.proofs.Common.{◌≡◌, ◌↔◌, inl, inr, ℕ, zero, suc, ◌-◌, ◌<◌, ◌≤◌, ◌==◌, ◌||◌, ◌&&◌, nat_lt, Bool, true, false, cond, List, []}
+use Rattle.std.proofs.Common.{◌∷◌, ◌++◌, length, drop, get_or, All, AllPairs, Contains, Option, Some, None, IsTrue, IfSome, is_some}
+use Rattle.std.proofs.Common.{MatchOption, IsSome, option_map, Bor, refl, sym, ap, subst, ◌∙◌, true≢false, arith, append-nil}
 use Rattle.std.specs.List.{slice_get, AllByRecursion}
 use Rattle.std.specs.Option.{option_and_then}
 use Rattle.std.proofs.Math.ListN.{set}
@@ -21,14 +23,16 @@ use Rattle.er_event.proofs.ScoreLemmas.{All-set, set-All, slots-refl, slots-set,
 use Rattle.er_event.proofs.RoundLemmas.{All-of}
 use Rattle.er_event.proofs.SlotLemmas.{Stands, follow-split, over-counted, last-after, length-same}
 use Rattle.er_event.proofs.BracketLemmas.{Lawful}
-use Rattle.er_event.proofs.PlayoffLemmas.{follow-new, drop-new, length-new, all-new, all-old, first-new, follow-drop, last-drop, drop-here, follow-never, in_playoff, sound-playoff, started}
+use Rattle.er_event.proofs.PlayoffLemmas.{follow-new, drop-new, length-new, all-new, all-old, first-new, follow-drop, last-drop, drop-here}
+use Rattle.er_event.proofs.PlayoffLemmas.{follow-never, in_playoff, sound-playoff, started}
 
 abbrev AllLawful : List Match → Type 0
 AllLawful ms = All Lawful ms
 
 -- ---- one stage anew, and more behind the last
 
-module _ (e : EventValue) (k : ℕ) (old new : List Match) (at : slice_get e.bracket.stages k ≡ Some old) (same : SameSlots new old) (h : IsSoundButForSeeds e) where
+module _ (e : EventValue) (k : ℕ) (old new : List Match) (at : slice_get e.bracket.stages k ≡ Some old) (same : SameSlots new old)
+    (h : IsSoundButForSeeds e) where
   abbrev later : List (List Match)
   later = drop (suc k) e.bracket.stages
 
@@ -50,7 +54,8 @@ module _ (e : EventValue) (k : ℕ) (old new : List Match) (at : slice_get e.bra
     stages = set e.bracket.stages k new ++ more
 
     last-new : last_match stages ≡ last_match (new ∷ (later ++ more))
-    last-new = last-drop k stages (length-new new more k e.bracket.stages old at) ∙ ap last_match (drop-new new more k e.bracket.stages old at)
+    last-new = last-drop k stages (length-new new more k e.bracket.stages old at)
+        ∙ ap last_match (drop-new new more k e.bracket.stages old at)
 
     decided-new : IsDecided stages ≡ IsDecided (new ∷ (later ++ more))
     decided-new = ap (λ (o : Option Match). MatchOption o ⊥ (λ (m : Match). IsSome m.score)) last-new
@@ -75,7 +80,9 @@ module _ (e : EventValue) (k : ℕ) (old new : List Match) (at : slice_get e.bra
           slots = length-same first.0 b.first first.2 ∙ b.slots;
           known_players = subst (All (λ (n : ℕ). Contains (numbers e.players) n)) sit b.known_players;
           seated_once = subst (λ (ps : List ℕ). AllPairs (λ p q. (p ≡ q) → ⊥) ps) sit b.seated_once;
-          scores = All-from_recursion AllLawful stages (all-new new more AllLawful k e.bracket.stages n.lawful (recursion_from_All AllLawful more n.behind) (recursion_from_All AllLawful e.bracket.stages b.scores));
+          scores = All-from_recursion AllLawful stages
+              (all-new new more AllLawful k e.bracket.stages n.lawful (recursion_from_All AllLawful more n.behind)
+              (recursion_from_All AllLawful e.bracket.stages b.scores));
           follows = follow-new new more k e.bracket.stages old at same b.follows n.follows;
         })
         ended.0 (λ playing over. absurd (let never = sym playing ∙ ended.1 over in cc))
@@ -108,16 +115,22 @@ not-zero n h = grind (arith, nat_tests)
 pub found-slot : (e : EventValue) (stage slot : ℕ) (m : Match) → slot_at e stage slot ≡ Some m → FoundSlot e stage slot m
 found-slot e stage slot m is = by-zero (stage == 0) (slot == 0) refl refl is
   where
-    by-stage : (o : Option (List Match)) → slice_get e.bracket.stages (stage - 1) ≡ o → option_and_then (λ (ms : List Match). slice_get ms (slot - 1)) o ≡ Some m → (slice_get e.bracket.stages (stage - 1) ≡ Some (stage_of e.bracket.stages stage)) × (slice_get (stage_of e.bracket.stages stage) (slot - 1) ≡ Some m)
+    by-stage : (o : Option (List Match)) → slice_get e.bracket.stages (stage - 1) ≡ o
+        → option_and_then (λ (ms : List Match). slice_get ms (slot - 1)) o ≡ Some m
+        → (slice_get e.bracket.stages (stage - 1) ≡ Some (stage_of e.bracket.stages stage))
+        × (slice_get (stage_of e.bracket.stages stage) (slot - 1) ≡ Some m)
     by-stage None at h = absurd (none-some m h)
     by-stage (Some ms) at h =
         let read = get_or_from_slice_get e.bracket.stages (stage - 1) ms [] at in
         (at ∙ ap Some (sym read), ap (λ (ks : List Match). slice_get ks (slot - 1)) read ∙ h)
 
-    by-zero : (a b : Bool) → (stage == 0) ≡ a → (slot == 0) ≡ b → cond (a || b) None (option_and_then (λ (ms : List Match). slice_get ms (slot - 1)) (slice_get e.bracket.stages (stage - 1))) ≡ Some m → FoundSlot e stage slot m
+    by-zero : (a b : Bool) → (stage == 0) ≡ a → (slot == 0) ≡ b
+        → cond (a || b) None (option_and_then (λ (ms : List Match). slice_get ms (slot - 1)) (slice_get e.bracket.stages (stage - 1)))
+        ≡ Some m → FoundSlot e stage slot m
     by-zero true b x y h = absurd (none-some m h)
     by-zero false true x y h = absurd (none-some m h)
-    by-zero false false x y h = let both = by-stage (slice_get e.bracket.stages (stage - 1)) refl h in record { low = (not-zero stage x, not-zero slot y); at = both.0; here = both.1 }
+    by-zero false false x y h = let both = by-stage (slice_get e.bracket.stages (stage - 1)) refl h
+        in record { low = (not-zero stage x, not-zero slot y); at = both.0; here = both.1 }
 
 same-sym : (ms ns : List Match) → SameSlots ms ns → SameSlots ns ms
 same-sym [] [] h = tt
@@ -161,13 +174,16 @@ module _ (e : EventValue) (stage slot : ℕ) (score : Games) (m : Match) (is : s
   over-before = over e (stage - 1) old_stage new_stage f.at same-stage h
 
   lawful-old : AllLawful old_stage
-  lawful-old = all-at AllLawful (stage - 1) e.bracket.stages old_stage f.at (recursion_from_All AllLawful e.bracket.stages (h.bracket.bracket over-before).scores)
+  lawful-old = all-at AllLawful (stage - 1) e.bracket.stages old_stage f.at
+      (recursion_from_All AllLawful e.bracket.stages (h.bracket.bracket over-before).scores)
 
   lawful-new : is_playoff_score score ≡ true → AllLawful new_stage
-  lawful-new playoff = All-set Lawful (scored score (get_or old_stage (slot - 1) (open_match 0 0))) (slot - 1) old_stage (λ _. playoff) lawful-old
+  lawful-new playoff = All-set Lawful (scored score (get_or old_stage (slot - 1) (open_match 0 0))) (slot - 1) old_stage
+      (λ _. playoff) lawful-old
 
   new-lawful : AllLawful new_stage → is_playoff_score score ≡ true
-  new-lawful all = set-All Lawful (scored score (get_or old_stage (slot - 1) (open_match 0 0))) (slot - 1) old_stage (within-get old_stage (slot - 1) m f.here) all
+  new-lawful all = set-All Lawful (scored score (get_or old_stage (slot - 1) (open_match 0 0))) (slot - 1) old_stage
+      (within-get old_stage (slot - 1) m f.here) all
 
   module _ (next : Option (List Match)) (finished : Bool) where
     abbrev p : Phase
@@ -177,10 +193,15 @@ module _ (e : EventValue) (stage slot : ℕ) (score : Games) (m : Match) (is : s
     New = IsNew e (stage - 1) old_stage new_stage f.at same-stage h (one_more next) p (after-phase finished e.phase over-before)
 
     Fits-new : New → Fits e (SetBracketScore stage slot score next finished)
-    Fits-new n = record { named = (m, is); sound = sound-new e (stage - 1) old_stage new_stage f.at same-stage h (one_more next) p (after-phase finished e.phase over-before) n }
+    Fits-new n = record {
+      named = (m, is);
+      sound = sound-new e (stage - 1) old_stage new_stage f.at same-stage h (one_more next) p
+          (after-phase finished e.phase over-before) n;
+    }
 
     new-Fits : Fits e (SetBracketScore stage slot score next finished) → New
-    new-Fits fits = new-sound e (stage - 1) old_stage new_stage f.at same-stage h (one_more next) p (after-phase finished e.phase over-before) fits.sound
+    new-Fits fits = new-sound e (stage - 1) old_stage new_stage f.at same-stage h (one_more next) p
+        (after-phase finished e.phase over-before) fits.sound
 
     pub fits-playoff : Fits e (SetBracketScore stage slot score next finished) → is_playoff_score score ≡ true
     fits-playoff fits = new-lawful (new-Fits fits).lawful
@@ -190,14 +211,16 @@ module _ (e : EventValue) (stage slot : ℕ) (score : Games) (m : Match) (is : s
 
     -- where it is the last stage
     module _ (last : behind ≡ []) (now_over : Bool) (ended : IsTrue now_over ↔ (p ≡ Finished)) where
-      pub Fits-last : is_playoff_score score ≡ true → IsEnd new_stage next now_over → Fits e (SetBracketScore stage slot score next finished)
+      pub Fits-last : is_playoff_score score ≡ true → IsEnd new_stage next now_over
+          → Fits e (SetBracketScore stage slot score next finished)
       Fits-last playoff end =
           let tail : behind ++ one_more next ≡ one_more next = ap (λ (ss : List (List Match)). ss ++ one_more next) last in
           Fits-new (record {
             lawful = lawful-new playoff;
             behind = end.scores;
             follows = subst (λ (ss : List (List Match)). FollowOn (new_stage ∷ ss)) (sym tail) end.follows;
-            decided = subst (λ (ss : List (List Match)). (p ≡ Finished) ↔ IsDecided (new_stage ∷ ss)) (sym tail) (λ fin. end.decided.0 (ended.1 fin), λ dec. ended.0 (end.decided.1 dec));
+            decided = subst (λ (ss : List (List Match)). (p ≡ Finished) ↔ IsDecided (new_stage ∷ ss)) (sym tail)
+                (λ fin. end.decided.0 (ended.1 fin), λ dec. ended.0 (end.decided.1 dec));
           })
 
       pub last-Fits : Fits e (SetBracketScore stage slot score next finished) → IsEnd new_stage next now_over
@@ -215,18 +238,21 @@ module _ (e : EventValue) (stage slot : ℕ) (score : Games) (m : Match) (is : s
 
 module _ (old new l : List Match) (rest : List (List Match)) (f : FollowOn (old ∷ l ∷ rest)) where
   follows-later : Stands new (Some l) → FollowOn (new ∷ ((l ∷ rest) ++ []))
-  follows-later stands = subst (λ (ss : List (List Match)). FollowOn (new ∷ ss)) (sym (append-nil (l ∷ rest))) ((follow-split new (l ∷ rest)).1 (stands, f.3))
+  follows-later stands = subst (λ (ss : List (List Match)). FollowOn (new ∷ ss)) (sym (append-nil (l ∷ rest)))
+      ((follow-split new (l ∷ rest)).1 (stands, f.3))
 
   later-follows : FollowOn (new ∷ ((l ∷ rest) ++ [])) → Stands new (Some l)
   later-follows h = ((follow-split new ((l ∷ rest) ++ [])).0 h).0
 
   last-later : last_match (new ∷ ((l ∷ rest) ++ [])) ≡ last_match (old ∷ l ∷ rest)
-  last-later = ap (λ (ss : List (List Match)). last_match (new ∷ ss)) (append-nil (l ∷ rest)) ∙ (last-after new l rest ∙ sym (last-after old l rest))
+  last-later = ap (λ (ss : List (List Match)). last_match (new ∷ ss)) (append-nil (l ∷ rest))
+      ∙ (last-after new l rest ∙ sym (last-after old l rest))
 
   none-behind : (ns : List Match) → FollowOn (new ∷ ((l ∷ rest) ++ ns ∷ [])) → ⊥
   none-behind ns h = follow-never l rest ns f.3 ((follow-split new ((l ∷ rest) ++ ns ∷ [])).0 h).1
 
-module _ (e : EventValue) (stage slot : ℕ) (score : Games) (m : Match) (is : slot_at e stage slot ≡ Some m) (h : IsSoundButForSeeds e) (l : List Match) (rest : List (List Match)) (there : drop (suc (stage - 1)) e.bracket.stages ≡ l ∷ rest) where
+module _ (e : EventValue) (stage slot : ℕ) (score : Games) (m : Match) (is : slot_at e stage slot ≡ Some m) (h : IsSoundButForSeeds e)
+    (l : List Match) (rest : List (List Match)) (there : drop (suc (stage - 1)) e.bracket.stages ≡ l ∷ rest) where
   abbrev old : List Match
   old = old_stage e stage slot score m is h
 
@@ -243,31 +269,41 @@ module _ (e : EventValue) (stage slot : ℕ) (score : Games) (m : Match) (is : s
   last-there = decided-old e (stage - 1) old old at (slots-refl old) h ∙ ap (λ (ss : List (List Match)). last_match (old ∷ ss)) there
 
   decided-there : IsDecided (new ∷ ((l ∷ rest) ++ [])) ≡ IsDecided e.bracket.stages
-  decided-there = ap (λ (o : Option Match). MatchOption o ⊥ (λ (m : Match). IsSome m.score)) (last-later old new l rest follow-there ∙ sym last-there)
+  decided-there = ap (λ (o : Option Match). MatchOption o ⊥ (λ (m : Match). IsSome m.score))
+      (last-later old new l rest follow-there ∙ sym last-there)
 
   module _ (finished : Bool) where
     abbrev q : Phase
     q = cond finished Finished e.phase
 
-    pub Fits-later : is_playoff_score score ≡ true → Stands new (Some l) → ((q ≡ Finished) ↔ IsDecided e.bracket.stages) → Fits e (SetBracketScore stage slot score None finished)
+    pub Fits-later : is_playoff_score score ≡ true → Stands new (Some l) → ((q ≡ Finished) ↔ IsDecided e.bracket.stages)
+        → Fits e (SetBracketScore stage slot score None finished)
     Fits-later playoff stands decided = Fits-new e stage slot score m is h None finished (record {
       lawful = lawful-new e stage slot score m is h playoff;
       behind = All-from_recursion AllLawful [] tt;
-      follows = subst (λ (ss : List (List Match)). FollowOn (new ∷ (ss ++ []))) (sym there) (follows-later old new l rest follow-there stands);
-      decided = subst (λ (ss : List (List Match)). (q ≡ Finished) ↔ IsDecided (new ∷ (ss ++ []))) (sym there) (subst (λ (T : Type 0). (q ≡ Finished) ↔ T) (sym decided-there) decided);
+      follows = subst (λ (ss : List (List Match)). FollowOn (new ∷ (ss ++ []))) (sym there)
+          (follows-later old new l rest follow-there stands);
+      decided = subst (λ (ss : List (List Match)). (q ≡ Finished) ↔ IsDecided (new ∷ (ss ++ []))) (sym there)
+          (subst (λ (T : Type 0). (q ≡ Finished) ↔ T) (sym decided-there) decided);
     })
 
     pub later-none : (next : Option (List Match)) → Fits e (SetBracketScore stage slot score next finished) → next ≡ None
     later-none None fits = refl
     later-none (Some ns) fits =
-        absurd (none-behind old new l rest follow-there ns (subst (λ (ss : List (List Match)). FollowOn (new ∷ (ss ++ ns ∷ []))) there (new-Fits e stage slot score m is h (Some ns) finished fits).follows))
+        absurd (none-behind old new l rest follow-there ns
+        (subst (λ (ss : List (List Match)). FollowOn (new ∷ (ss ++ ns ∷ []))) there
+        (new-Fits e stage slot score m is h (Some ns) finished fits).follows))
 
     module _ (fits : Fits e (SetBracketScore stage slot score None finished)) where
       pub later-stands : Stands new (Some l)
-      later-stands = later-follows old new l rest follow-there (subst (λ (ss : List (List Match)). FollowOn (new ∷ (ss ++ []))) there (new-Fits e stage slot score m is h None finished fits).follows)
+      later-stands = later-follows old new l rest follow-there
+          (subst (λ (ss : List (List Match)). FollowOn (new ∷ (ss ++ []))) there
+          (new-Fits e stage slot score m is h None finished fits).follows)
 
       pub later-decided : (q ≡ Finished) ↔ IsDecided e.bracket.stages
-      later-decided = subst (λ (T : Type 0). (q ≡ Finished) ↔ T) decided-there (subst (λ (ss : List (List Match)). (q ≡ Finished) ↔ IsDecided (new ∷ (ss ++ []))) there (new-Fits e stage slot score m is h None finished fits).decided)
+      later-decided = subst (λ (T : Type 0). (q ≡ Finished) ↔ T) decided-there
+          (subst (λ (ss : List (List Match)). (q ≡ Finished) ↔ IsDecided (new ∷ (ss ++ []))) there
+          (new-Fits e stage slot score m is h None finished fits).decided)
 
 -- ---- an open match takes its score
 
@@ -287,11 +323,15 @@ next-open (m ∷ n ∷ more) long h = true≢false (sym h)
 
 -- a stage whose last score came in ends the bracket, or the winners go on
 module _ (new : List Match) (some : 0 < length new) where
-  ends : (c t o : Bool) → is_counted new ≡ c → nat_lt 1 (length new) ≡ t → (length new == 1) ≡ o → IsEnd new (cond (c && t) (Some (next_stage new)) None) (c && o)
+  ends : (c t o : Bool) → is_counted new ≡ c → nat_lt 1 (length new) ≡ t → (length new == 1) ≡ o
+      → IsEnd new (cond (c && t) (Some (next_stage new)) None) (c && o)
   ends false t o counted long one = record {
     follows = λ is. absurd (true≢false (sym is ∙ counted));
     scores = All-from_recursion AllLawful [] tt;
-    decided = (λ never. absurd (true≢false (sym never)), λ dec. absurd (true≢false (sym (and-first (is_counted new) (length new == 1) ((over-counted new).0 dec)) ∙ counted)));
+    decided = (
+      λ never. absurd (true≢false (sym never)),
+      λ dec. absurd (true≢false (sym (and-first (is_counted new) (length new == 1) ((over-counted new).0 dec)) ∙ counted)),
+    );
   }
   ends true true o counted long one =
       let two : 1 < length new = grind (arith, nat_tests) in record {
@@ -299,7 +339,9 @@ module _ (new : List Match) (some : 0 < length new) where
         scores = All-from_recursion AllLawful (next_stage new ∷ []) (All-from_recursion Lawful (next_stage new) (next-lawful new), tt);
         decided = (
           λ yes. absurd (let is : (length new == 1) ≡ true = one ∙ yes in grind (arith, nat_tests)),
-          λ dec. absurd (next-open new two (and-first (is_counted (next_stage new)) (length (next_stage new) == 1) ((over-counted (next_stage new)).0 (subst (λ (x : Option Match). MatchOption x ⊥ (λ (m : Match). IsSome m.score)) (last-after new (next_stage new) []) dec)))),
+          λ dec. absurd (next-open new two (and-first (is_counted (next_stage new)) (length (next_stage new) == 1)
+              ((over-counted (next_stage new)).0 (subst (λ (x : Option Match). MatchOption x ⊥ (λ (m : Match). IsSome m.score))
+              (last-after new (next_stage new) []) dec)))),
         );
       }
   ends true false o counted long one =
@@ -314,7 +356,8 @@ module _ (new : List Match) (some : 0 < length new) where
   pub ends-with : IsEnd new (following new) (is_over new)
   ends-with = ends (is_counted new) (nat_lt 1 (length new)) (length new == 1) refl refl refl
 
-module _ (e : EventValue) (stage slot : ℕ) (score : Games) (m : Match) (is : slot_at e stage slot ≡ Some m) (h : IsSoundButForSeeds e) (free : m.score ≡ None) where
+module _ (e : EventValue) (stage slot : ℕ) (score : Games) (m : Match) (is : slot_at e stage slot ≡ Some m) (h : IsSoundButForSeeds e)
+    (free : m.score ≡ None) where
   abbrev was : List Match
   was = old_stage e stage slot score m is h
 
@@ -324,7 +367,8 @@ module _ (e : EventValue) (stage slot : ℕ) (score : Games) (m : Match) (is : s
   was-open : is_counted was ≡ true → ⊥
   was-open counted =
       let all = recursion_from_All (λ (k : Match). IsTrue (is_some k.score)) was (All-of (λ (k : Match). is_some k.score) was counted) in
-      let here : is_some m.score ≡ true = all-at (λ (k : Match). IsTrue (is_some k.score)) (slot - 1) was m (found-slot e stage slot m is).here all in
+      let here : is_some m.score ≡ true = all-at (λ (k : Match). IsTrue (is_some k.score)) (slot - 1) was m
+      (found-slot e stage slot m is).here all in
       true≢false (sym here ∙ ap is_some free)
 
   abbrev rest_of : List (List Match)
@@ -335,7 +379,8 @@ module _ (e : EventValue) (stage slot : ℕ) (score : Games) (m : Match) (is : s
 
   is-last : (ss : List (List Match)) → rest_of ≡ ss → rest_of ≡ []
   is-last [] eq = eq
-  is-last (l ∷ rest) eq = absurd (was-open (subst (λ (ss : List (List Match)). FollowOn (was ∷ ss)) eq (follow-old e (stage - 1) was was there (slots-refl was) h)).0)
+  is-last (l ∷ rest) eq = absurd (was-open (subst (λ (ss : List (List Match)). FollowOn (was ∷ ss)) eq
+      (follow-old e (stage - 1) was was there (slots-refl was) h)).0)
 
   last : rest_of ≡ []
   last = is-last rest_of refl
@@ -343,7 +388,8 @@ module _ (e : EventValue) (stage slot : ℕ) (score : Games) (m : Match) (is : s
   not-finished : e.phase ≡ Finished → ⊥
   not-finished fin =
       let same = decided-old e (stage - 1) was was there (slots-refl was) h ∙ ap (λ (ss : List (List Match)). last_match (was ∷ ss)) last in
-      let dec : IsDecided (was ∷ []) = subst (λ (o : Option Match). MatchOption o ⊥ (λ (k : Match). IsSome k.score)) same (h.bracket.decided fin) in
+      let dec : IsDecided (was ∷ []) = subst (λ (o : Option Match). MatchOption o ⊥ (λ (k : Match). IsSome k.score)) same
+      (h.bracket.decided fin) in
       was-open (and-first (is_counted was) (length was == 1) ((over-counted was).0 dec))
 
   ended : (b : Bool) → IsTrue b ↔ (cond b Finished e.phase ≡ Finished)
@@ -355,9 +401,13 @@ module _ (e : EventValue) (stage slot : ℕ) (score : Games) (m : Match) (is : s
       let f = found-slot e stage slot m is in
       let within = within-get was (slot - 1) m f.here in
       let count = length-same now was (same-stage e stage slot score m is h) in
-      Fits-last e stage slot score m is h (following now) (is_over now) last (is_over now) (ended (is_over now)) playoff (ends-with now (omega arith))
+      Fits-last e stage slot score m is h (following now) (is_over now) last (is_over now) (ended (is_over now)) playoff
+      (ends-with now (omega arith))
 
-pub open-fits : (e : EventValue) (stage slot : ℕ) (found : Option (Bor Match)) → IsSoundButForSeeds e → option_map (λ (m : Bor Match). m.now) found ≡ slot_at e stage slot
-    → IfSome found (λ m. m.now.score ≡ None → (score : Games) → IsTrue (is_playoff_score score) → Fits e (SetBracketScore stage slot score (following (scored_slot (stage_of e.bracket.stages stage) slot score)) (is_over (scored_slot (stage_of e.bracket.stages stage) slot score))))
+pub open-fits : (e : EventValue) (stage slot : ℕ) (found : Option (Bor Match)) → IsSoundButForSeeds e
+    → option_map (λ (m : Bor Match). m.now) found ≡ slot_at e stage slot
+    → IfSome found (λ m. m.now.score ≡ None → (score : Games) → IsTrue (is_playoff_score score)
+    → Fits e (SetBracketScore stage slot score (following (scored_slot (stage_of e.bracket.stages stage) slot score))
+    (is_over (scored_slot (stage_of e.bracket.stages stage) slot score))))
 open-fits e stage slot None sound is = tt
 open-fits e stage slot (Some m) sound is = λ free score playoff. Fits-open e stage slot score m.now (sym is) sound free playoff

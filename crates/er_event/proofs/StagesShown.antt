@@ -1,5 +1,6 @@
 -- The stages of a sound event can be shown by rows, and are few.
-use Rattle.std.proofs.Common.{◌≡◌, ℕ, ◌+◌, ◌*◌, ◌/◌, ◌<◌, ◌≤◌, nat_lt, cond, Bool, true, false, List, [], ◌∷◌, length, flat_map, All, Contains, IsTrue, IfSome, Option, Some, None, refl, sym, ap, subst, ◌∙◌, arith}
+use Rattle.std.proofs.Common.{◌≡◌, ℕ, ◌+◌, ◌*◌, ◌/◌, ◌<◌, ◌≤◌, nat_lt, cond, Bool, true, false, List, [], ◌∷◌, length, flat_map, All}
+use Rattle.std.proofs.Common.{Contains, IsTrue, IfSome, Option, Some, None, refl, sym, ap, subst, ◌∙◌, arith}
 use Rattle.std.specs.List.{range_with_len}
 use Rattle.std.proofs.lemmas.Bool.Decides.{nat_tests}
 use Rattle.std.proofs.lemmas.Option.{none-some, same_Some}
@@ -64,15 +65,23 @@ all_shown (m ∷ ms) narrow scored =
     All-cons FitsSlotRow m ms (record { first = here.0; second = here.1; score = All-head IsScored m ms scored })
     (all_shown ms (All-tail IsNarrow m ms narrow) (All-tail IsScored m ms scored))
 
-follow_shown : (s : List Match) (more : List (List Match)) → 0 < length s → All IsNarrow s → FollowOn (s ∷ more) → All (λ (ms : List Match). All IsScored ms) (s ∷ more) → All FitStageRows (s ∷ more)
+follow_shown : (s : List Match) (more : List (List Match)) → 0 < length s → All IsNarrow s → FollowOn (s ∷ more)
+    → All (λ (ms : List Match). All IsScored ms) (s ∷ more) → All FitStageRows (s ∷ more)
 follow_shown s [] some narrow follows scores =
-    All-cons FitStageRows s [] (record { some = some; each = all_shown s narrow (All-head (λ (ms : List Match). All IsScored ms) s [] scores) }) (All-nil FitStageRows)
+    All-cons FitStageRows s [] (record {
+      some = some;
+      each = all_shown s narrow (All-head (λ (ms : List Match). All IsScored ms) s [] scores);
+    }) (All-nil FitStageRows)
 follow_shown s (next ∷ more) some narrow follows scores =
     let long = follows.1 in
     let count = same_length next (next_stage s) follows.2 in
     let halved = half s in
-    All-cons FitStageRows s (next ∷ more) (record { some = some; each = all_shown s narrow (All-head (λ (ms : List Match). All IsScored ms) s (next ∷ more) scores) })
-    (follow_shown next more (omega arith) (same_narrow next (next_stage s) follows.2 (next_narrow s narrow)) follows.3 (All-tail (λ (ms : List Match). All IsScored ms) s (next ∷ more) scores))
+    All-cons FitStageRows s (next ∷ more) (record {
+      some = some;
+      each = all_shown s narrow (All-head (λ (ms : List Match). All IsScored ms) s (next ∷ more) scores);
+    })
+    (follow_shown next more (omega arith) (same_narrow next (next_stage s) follows.2 (next_narrow s narrow)) follows.3
+    (All-tail (λ (ms : List Match). All IsScored ms) s (next ∷ more) scores))
 
 follow_few : (s : List Match) (more : List (List Match)) → length s ≤ 4 → FollowOn (s ∷ more) → length (s ∷ more) ≤ 3
 follow_few s [] few follows = omega arith
@@ -102,12 +111,14 @@ module _ (n cut : ℕ) (few : n ≤ 512) (limit : IsTrue (is_lawful_cut cut)) wh
   even : 0 < cut → 2 ≤ cut
   even some = grind (arith, nat_tests)
 
-  pub stages_shown : (stages : List (List Match)) → IsBracket (range_with_len 1 n) cut stages → All FitStageRows stages × (length stages ≤ 3)
+  pub stages_shown : (stages : List (List Match)) → IsBracket (range_with_len 1 n) cut stages
+      → All FitStageRows stages × (length stages ≤ 3)
   stages_shown [] h = absurd (none-some h.first h.is_first)
   stages_shown (s ∷ more) h =
       let same : s ≡ h.first = same_Some s h.first h.is_first in
       let count : length s ≡ cut / 2 = ap length same ∙ h.slots in
       let low = even h.cut_is_played in
       let high = at_most_8 in
-      let narrow = all_seats n few s (subst (λ (ms : List Match). All (λ no. Contains (range_with_len 1 n) no) (flat_map seats ms)) (sym same) h.known_players) in
+      let narrow = all_seats n few s (subst (λ (ms : List Match). All (λ no. Contains (range_with_len 1 n) no) (flat_map seats ms))
+      (sym same) h.known_players) in
       (follow_shown s more (omega arith) narrow h.follows h.scores, follow_few s more (omega arith) h.follows)

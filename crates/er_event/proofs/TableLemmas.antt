@@ -1,5 +1,6 @@
 -- The match of a table stands at the table's place, or is the bye at table 0.
-use Rattle.std.proofs.Common.{◌≡◌, ◌≢◌, ℕ, zero, suc, ◌+◌, ◌-◌, ◌==◌, ◌<◌, ◌≤◌, Bool, true, false, cond, List, [], ◌∷◌, length, map, get_or, Option, Some, None, option_map, unwrap_or, find, refl, sym, ap, ap₂, subst, ◌∙◌, true≢false, arith}
+use Rattle.std.proofs.Common.{◌≡◌, ◌≢◌, ℕ, zero, suc, ◌+◌, ◌-◌, ◌==◌, ◌<◌, ◌≤◌, Bool, true, false, cond, List, [], ◌∷◌, length, map, get_or}
+use Rattle.std.proofs.Common.{Option, Some, None, option_map, unwrap_or, find, refl, sym, ap, ap₂, subst, ◌∙◌, true≢false, arith}
 use Rattle.std.specs.List.{slice_get}
 use Rattle.std.proofs.Math.ListN.{set}
 use Rattle.std.proofs.lemmas.Bool.Decides.{nat_tests}
@@ -25,10 +26,12 @@ at-here : (n : ℕ) → (n == n) ≡ true
 at-here n = grind (arith, nat_tests)
 
 module _ (n t : ℕ) (m : Match) where
-  skipped : (b : Bool) (more : Option (ℕ × Match)) → b ≡ false → option_map (λ (found : ℕ × Match). found.1) (cond b (Some (n, m)) more) ≡ option_map (λ (found : ℕ × Match). found.1) more
+  skipped : (b : Bool) (more : Option (ℕ × Match)) → b ≡ false
+      → option_map (λ (found : ℕ × Match). found.1) (cond b (Some (n, m)) more) ≡ option_map (λ (found : ℕ × Match). found.1) more
   skipped b more not = rw not refl
 
-  taken : (b : Bool) (more : Option (ℕ × Match)) → b ≡ true → option_map (λ (found : ℕ × Match). found.1) (cond b (Some (n, m)) more) ≡ Some m
+  taken : (b : Bool) (more : Option (ℕ × Match)) → b ≡ true
+      → option_map (λ (found : ℕ × Match). found.1) (cond b (Some (n, m)) more) ≡ Some m
   taken b more is = rw is refl
 
 -- no table of these has a lower number, other than 0
@@ -38,8 +41,11 @@ none-below n t (m ∷ ms) some below =
     skipped n t m (is_at t (n, m)) (find (is_at t) (numbered_from (n + 1) ms)) (not-at (is_bye m) n t (λ _. omega arith) (λ _. omega arith))
     ∙ none-below (n + 1) t ms some (omega arith)
 
-here : (n : ℕ) (m : Match) (ms : List Match) (b : Bool) → b ≡ is_bye m → 1 ≤ n → option_map (λ (found : ℕ × Match). found.1) (cond (cond b 0 n == n) (Some (n, m)) (find (is_at n) (numbered_from (n + 1) ms))) ≡ cond b None (Some m)
-here n m ms true is low = skipped n n m (0 == n) (find (is_at n) (numbered_from (n + 1) ms)) (grind (arith, nat_tests)) ∙ none-below (n + 1) n ms low (omega arith)
+here : (n : ℕ) (m : Match) (ms : List Match) (b : Bool) → b ≡ is_bye m → 1 ≤ n
+    → option_map (λ (found : ℕ × Match). found.1) (cond (cond b 0 n == n) (Some (n, m)) (find (is_at n) (numbered_from (n + 1) ms)))
+    ≡ cond b None (Some m)
+here n m ms true is low = skipped n n m (0 == n) (find (is_at n) (numbered_from (n + 1) ms)) (grind (arith, nat_tests))
+    ∙ none-below (n + 1) n ms low (omega arith)
 here n m ms false is low = taken n n m (n == n) (find (is_at n) (numbered_from (n + 1) ms)) (at-here n)
 
 found_at : (n i t : ℕ) (ms : List Match) → 1 ≤ n → t ≡ n + i → found_in n t ms ≡ seated (slice_get ms i)
@@ -52,13 +58,16 @@ found_at n (suc i) t (m ∷ ms) low is =
 pub match_in-place : (ms : List Match) (t : ℕ) → 1 ≤ t → match_in ms t ≡ seated (slice_get ms (t - 1))
 match_in-place ms t low = found_at 1 (t - 1) t ms (omega arith) (omega arith)
 
-step_bye : (n : ℕ) (m : Match) (more : Option (ℕ × Match)) (later : Option Match) (b : Bool) → 1 ≤ n → option_map (λ (found : ℕ × Match). found.1) more ≡ later → option_map (λ (found : ℕ × Match). found.1) (cond (cond b 0 n == 0) (Some (n, m)) more) ≡ cond b (Some m) later
+step_bye : (n : ℕ) (m : Match) (more : Option (ℕ × Match)) (later : Option Match) (b : Bool) → 1 ≤ n
+    → option_map (λ (found : ℕ × Match). found.1) more ≡ later
+    → option_map (λ (found : ℕ × Match). found.1) (cond (cond b 0 n == 0) (Some (n, m)) more) ≡ cond b (Some m) later
 step_bye n m more later true low same = refl
 step_bye n m more later false low same = skipped n 0 m (n == 0) more (grind (arith, nat_tests)) ∙ same
 
 found_bye : (n : ℕ) (ms : List Match) → 1 ≤ n → found_in n 0 ms ≡ find (λ (m : Match). m.b == 0) ms
 found_bye n [] low = refl
-found_bye n (m ∷ ms) low = step_bye n m (find (is_at 0) (numbered_from (n + 1) ms)) (find (λ (k : Match). k.b == 0) ms) (is_bye m) low (found_bye (n + 1) ms (omega arith))
+found_bye n (m ∷ ms) low = step_bye n m (find (is_at 0) (numbered_from (n + 1) ms)) (find (λ (k : Match). k.b == 0) ms) (is_bye m) low
+    (found_bye (n + 1) ms (omega arith))
 
 pub match_in-bye : (ms : List Match) → match_in ms 0 ≡ find (λ (m : Match). m.b == 0) ms
 match_in-bye ms = found_bye 1 ms (omega arith)
@@ -77,7 +86,8 @@ found-bye : (ms : List Match) (m : Match) → find (λ (k : Match). k.b == 0) ms
 found-bye [] m is = absurd (none-some m is)
 found-bye (n ∷ ms) m is = by_bye (n.b == 0) refl (found-bye ms m) is
   where
-    by_bye : (b : Bool) → (n.b == 0) ≡ b → (find (λ (k : Match). k.b == 0) ms ≡ Some m → is_bye m ≡ true) → cond b (Some n) (find (λ (k : Match). k.b == 0) ms) ≡ Some m → is_bye m ≡ true
+    by_bye : (b : Bool) → (n.b == 0) ≡ b → (find (λ (k : Match). k.b == 0) ms ≡ Some m → is_bye m ≡ true)
+        → cond b (Some n) (find (λ (k : Match). k.b == 0) ms) ≡ Some m → is_bye m ≡ true
     by_bye true bye later e = ap (λ (o : Option Match). is_bye (unwrap_or o n)) (sym e) ∙ bye
     by_bye false bye later e = later e
 
@@ -97,22 +107,26 @@ module _ (t : ℕ) (s : Games) where
 
   untouched : (n : ℕ) (ms : List Match) → 1 ≤ t → t < n → map (score_table t s) (numbered_from n ms) ≡ ms
   untouched n [] some below = refl
-  untouched n (m ∷ ms) some below = ap₂ ◌∷◌ (kept m (is_at t (n, m)) (not-at (is_bye m) n t (λ _. omega arith) (λ _. omega arith))) (untouched (n + 1) ms some (omega arith))
+  untouched n (m ∷ ms) some below = ap₂ ◌∷◌ (kept m (is_at t (n, m)) (not-at (is_bye m) n t (λ _. omega arith) (λ _. omega arith)))
+      (untouched (n + 1) ms some (omega arith))
 
 is_at-own : (n : ℕ) (m : Match) → is_bye m ≡ false → is_at n (n, m) ≡ true
 is_at-own n m seat = rw seat (at-here n)
 
-score-from : (s : Games) (n i t : ℕ) (ms : List Match) (m : Match) → 1 ≤ n → t ≡ n + i → slice_get ms i ≡ Some m → is_bye m ≡ false → map (score_table t s) (numbered_from n ms) ≡ set ms i (scored s m)
+score-from : (s : Games) (n i t : ℕ) (ms : List Match) (m : Match) → 1 ≤ n → t ≡ n + i → slice_get ms i ≡ Some m → is_bye m ≡ false
+    → map (score_table t s) (numbered_from n ms) ≡ set ms i (scored s m)
 score-from s n i t [] m low at is seat = absurd (none-some m is)
 score-from s n zero t (k ∷ ms) m low at is seat =
     let same : k ≡ m = ap (λ (o : Option Match). unwrap_or o k) is in
     let here : n ≡ t = omega arith in
-    ap₂ ◌∷◌ (changed t s k (is_at t (n, k)) (subst (λ j. is_at j (n, k) ≡ true) here (is_at-own n k (ap is_bye same ∙ seat))) ∙ ap (scored s) same) (untouched t s (n + 1) ms (omega arith) (omega arith))
+    ap₂ ◌∷◌ (changed t s k (is_at t (n, k)) (subst (λ j. is_at j (n, k) ≡ true) here (is_at-own n k (ap is_bye same ∙ seat)))
+    ∙ ap (scored s) same) (untouched t s (n + 1) ms (omega arith) (omega arith))
 score-from s n (suc i) t (k ∷ ms) m low at is seat =
     ap₂ ◌∷◌ (kept t s k (is_at t (n, k)) (not-at (is_bye k) n t (λ _. omega arith) (λ _. omega arith)))
     (score-from s (n + 1) i t ms m (omega arith) (omega arith) is seat)
 
-pub score-place : (s : Games) (t : ℕ) (ms : List Match) (m : Match) → match_in ms t ≡ Some m → is_bye m ≡ false → map (score_table t s) (numbered_from 1 ms) ≡ set ms (t - 1) (scored s m)
+pub score-place : (s : Games) (t : ℕ) (ms : List Match) (m : Match) → match_in ms t ≡ Some m → is_bye m ≡ false
+    → map (score_table t s) (numbered_from 1 ms) ≡ set ms (t - 1) (scored s m)
 score-place s t ms m is seat =
     let at = at-place ms t m is seat in
     let low = at.0 in

@@ -57,7 +57,8 @@ unfolding slip_games serde_json_on_literals is_utf8 chars encode_utf8 digits
 games_of_a_repeated_key = refl
 
 -- a key too few, a key too many, a fraction, a number too large, another key, no object
-pub no_games : map slip_games (codes "{\"a\":2}" ∷ codes "{\"a\":2,\"b\":1,\"d\":0,\"e\":0}" ∷ codes "{\"a\":2.0,\"b\":1,\"d\":0}" ∷ codes "{\"a\":256,\"b\":1,\"d\":0}" ∷ codes "{\"A\":2,\"b\":1,\"d\":0}" ∷ codes "[2,1,0]" ∷ [])
+pub no_games : map slip_games (codes "{\"a\":2}" ∷ codes "{\"a\":2,\"b\":1,\"d\":0,\"e\":0}" ∷ codes "{\"a\":2.0,\"b\":1,\"d\":0}"
+    ∷ codes "{\"a\":256,\"b\":1,\"d\":0}" ∷ codes "{\"A\":2,\"b\":1,\"d\":0}" ∷ codes "[2,1,0]" ∷ [])
     ≡ None ∷ None ∷ None ∷ None ∷ None ∷ None ∷ []
 unfolding slip_games serde_json_on_literals is_utf8 chars encode_utf8 digits
 no_games = refl
@@ -68,7 +69,8 @@ abbrev player : ℕ → List ℕ → Bool → Player
 player number name dropped = record { no = number; name = name; dropped = dropped }
 
 -- a comma in a name calls for quotes
-pub table_of_players : rows_text (players_heading ∷ map player_fields (player 1 (codes "Ana") false ∷ player 2 (codes "Bo") true ∷ player 3 (codes "Lee, Jo") false ∷ []))
+pub table_of_players : rows_text (players_heading ∷ map player_fields
+    (player 1 (codes "Ana") false ∷ player 2 (codes "Bo") true ∷ player 3 (codes "Lee, Jo") false ∷ []))
     ≡ codes "no,name,dropped\n1,Ana,0\n2,Bo,1\n3,\"Lee, Jo\",0\n"
 unfolding rows_text fields_text escaped is_blank digits
 table_of_players = refl
@@ -80,14 +82,16 @@ abbrev round_of : List Match → Round
 round_of matches = record { matches = matches }
 
 -- an open match has empty fields, and a bye has table 0 and no opponent
-pub table_of_results : rows_text (results_heading ∷ rounds_table 1 (round_of (played 4 2 (Some (games 2 0 0)) ∷ played 3 0 (Some (games 2 0 0)) ∷ []) ∷ round_of (played 1 4 None ∷ []) ∷ []))
+pub table_of_results : rows_text (results_heading ∷ rounds_table 1
+    (round_of (played 4 2 (Some (games 2 0 0)) ∷ played 3 0 (Some (games 2 0 0)) ∷ []) ∷ round_of (played 1 4 None ∷ []) ∷ []))
     ≡ codes "round,table,a,b,x,y,d\n1,1,4,2,2,0,0\n1,0,3,0,2,0,0\n2,1,1,4,,,\n"
 unfolding rows_text fields_text escaped is_blank digits
 table_of_results = refl
 
 -- ---- tables that are read: the records of a text, and then what they are
 
-pub names_as_records : HasRecords (codes "name\nAna\nBo\nAna\n") ((codes "name" ∷ []) ∷ (codes "Ana" ∷ []) ∷ (codes "Bo" ∷ []) ∷ (codes "Ana" ∷ []) ∷ [])
+pub names_as_records : HasRecords (codes "name\nAna\nBo\nAna\n")
+    ((codes "name" ∷ []) ∷ (codes "Ana" ∷ []) ∷ (codes "Bo" ∷ []) ∷ (codes "Ana" ∷ []) ∷ [])
 unfolding next_record Reached strip_bom digits
 names_as_records = (st.StartRecord, [], (_, refl, refl, (_, refl, refl, (_, refl, refl, (_, refl, refl, (refl, refl))))), refl)
 
@@ -100,11 +104,13 @@ abbrev line : ℕ → List ℕ → Bool → PlayerLine
 line number name dropped = record { no = number; name = name; dropped = dropped }
 
 -- a name may stand twice
-pub names_read : players_of ((codes "name" ∷ []) ∷ (codes "Ana" ∷ []) ∷ (codes "Bo" ∷ []) ∷ (codes "Ana" ∷ []) ∷ []) ≡ Ok (line 1 (codes "Ana") false ∷ line 2 (codes "Bo") false ∷ line 3 (codes "Ana") false ∷ [])
+pub names_read : players_of ((codes "name" ∷ []) ∷ (codes "Ana" ∷ []) ∷ (codes "Bo" ∷ []) ∷ (codes "Ana" ∷ []) ∷ []) ≡ Ok
+    (line 1 (codes "Ana") false ∷ line 2 (codes "Bo") false ∷ line 3 (codes "Ana") false ∷ [])
 unfolding is_utf8 chars encode_utf8 digits
 names_read = refl
 
-pub players_read : players_of (players_heading ∷ (codes "1" ∷ codes "Ana" ∷ codes "0" ∷ []) ∷ (codes "2" ∷ codes "Bo" ∷ codes "1" ∷ []) ∷ []) ≡ Ok (line 1 (codes "Ana") false ∷ line 2 (codes "Bo") true ∷ [])
+pub players_read : players_of (players_heading ∷ (codes "1" ∷ codes "Ana" ∷ codes "0" ∷ []) ∷ (codes "2" ∷ codes "Bo" ∷ codes "1" ∷ [])
+    ∷ []) ≡ Ok (line 1 (codes "Ana") false ∷ line 2 (codes "Bo") true ∷ [])
 unfolding is_utf8 chars encode_utf8 digits
 players_read = refl
 
@@ -124,23 +130,37 @@ unfolding is_utf8 chars encode_utf8 digits
 second_and_third_bad = refl
 
 -- 1 to 6 digits and no sign
-pub numbers_read : map number_of (codes "0" ∷ codes "000512" ∷ codes "999999" ∷ [] ∷ codes "1000000" ∷ codes "0000001" ∷ codes "+1" ∷ codes " 1" ∷ []) ≡ Some 0 ∷ Some 512 ∷ Some 999999 ∷ None ∷ None ∷ None ∷ None ∷ None ∷ []
+pub numbers_read : map number_of (codes "0" ∷ codes "000512" ∷ codes "999999" ∷ [] ∷ codes "1000000" ∷ codes "0000001" ∷ codes "+1"
+    ∷ codes " 1" ∷ []) ≡ Some 0 ∷ Some 512 ∷ Some 999999 ∷ None ∷ None ∷ None ∷ None ∷ None ∷ []
 numbers_read = refl
 
 -- a row of results, in its fields
 abbrev row : List ℕ → List ℕ → List ℕ → List ℕ → List ℕ → List ℕ → List ℕ → List (List ℕ)
 row round table a b x y d = round ∷ table ∷ a ∷ b ∷ x ∷ y ∷ d ∷ []
 
-pub results_read : results_of (results_heading ∷ row (codes "1") (codes "1") (codes "4") (codes "2") (codes "2") (codes "0") (codes "0") ∷ row (codes "1") (codes "0") (codes "3") (codes "0") (codes "2") (codes "0") (codes "0") ∷ row (codes "9") (codes "512") (codes "512") (codes "512") [] [] [] ∷ [])
-    ≡ Ok (record { round = 1; table = 1; a = 4; b = 2; score = Some (games 2 0 0) } ∷ record { round = 1; table = 0; a = 3; b = 0; score = Some (games 2 0 0) } ∷ record { round = 9; table = 512; a = 512; b = 512; score = None } ∷ [])
+pub results_read : results_of (results_heading ∷ row (codes "1") (codes "1") (codes "4") (codes "2") (codes "2") (codes "0")
+    (codes "0") ∷ row (codes "1") (codes "0") (codes "3") (codes "0") (codes "2") (codes "0") (codes "0") ∷ row (codes "9") (codes "512")
+    (codes "512") (codes "512") [] [] [] ∷ [])
+    ≡ Ok (record { round = 1; table = 1; a = 4; b = 2; score = Some (games 2 0 0) } ∷ record {
+      round = 1;
+      table = 0;
+      a = 3;
+      b = 0;
+      score = Some (games 2 0 0);
+    } ∷ record { round = 9; table = 512; a = 512; b = 512; score = None } ∷ [])
 results_read = refl
 
 pub heading_of_players : results_of (players_heading ∷ []) ≡ Err BadHeading
 heading_of_players = refl
 
 -- no lawful score, a part of one, a tenth round, round 0, table 513, player 0, and player 513 as either
-pub no_results : map (λ fields. results_of (results_heading ∷ fields ∷ [])) (row (codes "1") (codes "1") (codes "4") (codes "2") (codes "2") (codes "2") (codes "0") ∷ row (codes "1") (codes "1") (codes "4") (codes "2") (codes "2") (codes "2") []
-    ∷ row (codes "10") (codes "1") (codes "4") (codes "2") [] [] [] ∷ row (codes "0") (codes "1") (codes "4") (codes "2") [] [] [] ∷ row (codes "1") (codes "513") (codes "4") (codes "2") [] [] []
-    ∷ row (codes "1") (codes "1") (codes "0") (codes "2") [] [] [] ∷ row (codes "1") (codes "1") (codes "513") (codes "2") [] [] [] ∷ row (codes "1") (codes "1") (codes "4") (codes "513") [] [] [] ∷ (codes "1" ∷ []) ∷ [])
-    ≡ Err (BadRow 1) ∷ Err (BadRow 1) ∷ Err (BadRow 1) ∷ Err (BadRow 1) ∷ Err (BadRow 1) ∷ Err (BadRow 1) ∷ Err (BadRow 1) ∷ Err (BadRow 1) ∷ Err (BadRow 1) ∷ []
+pub no_results : map (λ fields. results_of (results_heading ∷ fields ∷ []))
+    (row (codes "1") (codes "1") (codes "4") (codes "2") (codes "2") (codes "2") (codes "0") ∷ row (codes "1") (codes "1") (codes "4")
+    (codes "2") (codes "2") (codes "2") []
+    ∷ row (codes "10") (codes "1") (codes "4") (codes "2") [] [] [] ∷ row (codes "0") (codes "1") (codes "4") (codes "2") [] [] [] ∷ row
+    (codes "1") (codes "513") (codes "4") (codes "2") [] [] []
+    ∷ row (codes "1") (codes "1") (codes "0") (codes "2") [] [] [] ∷ row (codes "1") (codes "1") (codes "513") (codes "2") [] [] [] ∷ row
+    (codes "1") (codes "1") (codes "4") (codes "513") [] [] [] ∷ (codes "1" ∷ []) ∷ [])
+    ≡ Err (BadRow 1) ∷ Err (BadRow 1) ∷ Err (BadRow 1) ∷ Err (BadRow 1) ∷ Err (BadRow 1) ∷ Err (BadRow 1) ∷ Err (BadRow 1) ∷ Err
+    (BadRow 1) ∷ Err (BadRow 1) ∷ []
 no_results = refl

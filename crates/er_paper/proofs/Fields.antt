@@ -1,5 +1,6 @@
 -- The fields of a record, and the number that digits are.
-use Rattle.std.proofs.Common.{◌≡◌, ◌≢◌, ℕ, zero, suc, ◌^◌, ◌<◌, ◌≤◌, Bool, true, false, ◌&&◌, if◌then◌else◌, Bor, List, [], ◌∷◌, length, drop, Option, Some, None, Result, Ok, Err, refl, sym, ap, ◌∙◌, arith, rules}
+use Rattle.std.proofs.Common.{◌≡◌, ◌≢◌, ℕ, zero, suc, ◌^◌, ◌<◌, ◌≤◌, Bool, true, false, ◌&&◌, if◌then◌else◌, Bor, List, [], ◌∷◌, length}
+use Rattle.std.proofs.Common.{drop, Option, Some, None, Result, Ok, Err, refl, sym, ap, ◌∙◌, arith, rules}
 use Rattle.std.specs.Fmt.{decimal}
 use Rattle.std.specs.Option.{option_map, option_and_then}
 use Rattle.std.specs.Str.{bytes_eq}
@@ -38,19 +39,25 @@ one_field [] a n e = absurd (omega arith)
 one_field (f ∷ []) a n e = at_field (f ∷ []) 0 a e
 one_field (f ∷ g ∷ fs) a n e = absurd (omega arith)
 
-pub three_fields : (fields : List (List ℕ)) (a b d : List ℕ) → length fields ≡ 3 → field_at fields 0 ≡ Some a → field_at fields 1 ≡ Some b → field_at fields 2 ≡ Some d → fields ≡ a ∷ b ∷ d ∷ []
+pub three_fields : (fields : List (List ℕ)) (a b d : List ℕ) → length fields ≡ 3 → field_at fields 0 ≡ Some a → field_at fields 1 ≡ Some b
+    → field_at fields 2 ≡ Some d → fields ≡ a ∷ b ∷ d ∷ []
 three_fields [] a b d n ea eb ed = absurd (omega arith)
 three_fields (f ∷ []) a b d n ea eb ed = absurd (omega arith)
 three_fields (f ∷ g ∷ []) a b d n ea eb ed = absurd (omega arith)
 three_fields (f ∷ g ∷ h ∷ []) a b d n ea eb ed =
-    at_field (f ∷ g ∷ h ∷ []) 0 a ea ∙ ap (λ t. a ∷ t) (at_field (f ∷ g ∷ h ∷ []) 1 b eb ∙ ap (λ t. b ∷ t) (at_field (f ∷ g ∷ h ∷ []) 2 d ed))
+    at_field (f ∷ g ∷ h ∷ []) 0 a ea ∙ ap (λ t. a ∷ t)
+    (at_field (f ∷ g ∷ h ∷ []) 1 b eb ∙ ap (λ t. b ∷ t) (at_field (f ∷ g ∷ h ∷ []) 2 d ed))
 three_fields (f ∷ g ∷ h ∷ i ∷ fs) a b d n ea eb ed = absurd (omega arith)
 
-pub seven_fields : (fields : List (List ℕ)) (a b d e f g h : List ℕ) → length fields ≡ 7 → field_at fields 0 ≡ Some a → field_at fields 1 ≡ Some b → field_at fields 2 ≡ Some d → field_at fields 3 ≡ Some e
+pub seven_fields : (fields : List (List ℕ)) (a b d e f g h : List ℕ) → length fields ≡ 7 → field_at fields 0 ≡ Some a
+    → field_at fields 1 ≡ Some b → field_at fields 2 ≡ Some d → field_at fields 3 ≡ Some e
     → field_at fields 4 ≡ Some f → field_at fields 5 ≡ Some g → field_at fields 6 ≡ Some h → fields ≡ a ∷ b ∷ d ∷ e ∷ f ∷ g ∷ h ∷ []
 seven_fields fields a b d e f g h n ea eb ed ee ef eg eh =
-    at_field fields 0 a ea ∙ ap (λ t. a ∷ t) (at_field fields 1 b eb ∙ ap (λ t. b ∷ t) (at_field fields 2 d ed ∙ ap (λ t. d ∷ t) (at_field fields 3 e ee
-    ∙ ap (λ t. e ∷ t) (at_field fields 4 f ef ∙ ap (λ t. f ∷ t) (at_field fields 5 g eg ∙ ap (λ t. g ∷ t) (at_field fields 6 h eh ∙ ap (λ t. h ∷ t) (none_left fields 7 (omega (arith, n)))))))))
+    at_field fields 0 a ea ∙ ap (λ t. a ∷ t) (at_field fields 1 b eb ∙ ap
+    (λ t. b ∷ t) (at_field fields 2 d ed ∙ ap (λ t. d ∷ t) (at_field fields 3 e ee
+    ∙ ap (λ t. e ∷ t) (at_field fields 4 f ef ∙ ap
+    (λ t. f ∷ t) (at_field fields 5 g eg ∙ ap
+    (λ t. g ∷ t) (at_field fields 6 h eh ∙ ap (λ t. h ∷ t) (none_left fields 7 (omega (arith, n)))))))))
 
 -- a field that is there is found
 there : (fields : List (List ℕ)) (i : ℕ) → i < length fields → field_at fields i ≡ None → ⊥
@@ -59,7 +66,8 @@ there [] i below e = omega arith
 there (f ∷ fs) zero below e = absurd (cc)
 there (f ∷ fs) (suc i) below e = there fs i (omega arith) e
 
-pub missing : (fields : List (List ℕ)) (i : ℕ) (o : Option (Bor (List ℕ))) → i < length fields → option_map (λ (s : Bor (List ℕ)). s.now) o ≡ field_at fields i → o ≡ None → ⊥
+pub missing : (fields : List (List ℕ)) (i : ℕ) (o : Option (Bor (List ℕ))) → i < length fields
+    → option_map (λ (s : Bor (List ℕ)). s.now) o ≡ field_at fields i → o ≡ None → ⊥
 missing fields i None below e none = there fields i below (sym e)
 missing fields i (Some s) below e none = absurd (cc)
 
@@ -95,7 +103,8 @@ module _ (word : List ℕ) (all : list_all is_ascii_digit word ≡ true) (short 
   -- what `parse` gives of a few digits
   pub number_of-parsed : {E : Type 0} (r : Result ℕ E) → ParsesUnsigned 32 10 word r → result_ok r ≡ number_of word
   number_of-parsed {E} (Ok n) parsed =
-      let read : ((0 < length word) × (digits_value 10 word < 2 ^ 32)) × (n ≡ digits_value 10 word) = parse_digits numerals {E = E} 32 word (Ok n) parsed all in
+      let read : ((0 < length word) × (digits_value 10 word < 2 ^ 32)) × (n ≡ digits_value 10 word) =
+      parse_digits numerals {E = E} 32 word (Ok n) parsed all in
       ap Some read.1 ∙ sym (read-yes read.0.0)
   number_of-parsed {E} (Err e) parsed =
       let unread : ¬ ((0 < length word) × (digits_value 10 word < 2 ^ 32)) = parse_digits numerals {E = E} 32 word (Err e) parsed all in
@@ -111,4 +120,5 @@ number_of-decimal n small =
 pub within-decimal : (low high n : ℕ) → n < 10 ^ 6 → low ≤ n → n ≤ high → number_within low high (decimal n) ≡ Some n
 within-decimal low high n small above below =
     let here : is_within low high n ≡ true = grind (arith, nat_tests) in
-    ap (λ (o : Option ℕ). option_and_then (λ k. if is_within low high k then Some k else None) o) (number_of-decimal n small) ∙ ap (λ (b : Bool). if b then Some n else None) here
+    ap (λ (o : Option ℕ). option_and_then (λ k. if is_within low high k then Some k else None) o) (number_of-decimal n small) ∙ ap
+    (λ (b : Bool). if b then Some n else None) here

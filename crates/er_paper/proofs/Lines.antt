@@ -1,8 +1,8 @@
 -- Rows that are read in turn.
-use Rattle.std.proofs.Common.{◌≡◌, ℕ, zero, suc, ◌+◌, ◌<◌, ◌≤◌, List, [], ◌∷◌, ◌++◌, length, map, drop, get_or, Option, Some, None, Result, Ok, Err, refl, sym, ap, ap₂, ◌∙◌, arith, append_assoc, append-nil, drop-cons}
+use Rattle.std.proofs.Common.{◌≡◌, ℕ, zero, suc, ◌+◌, ◌<◌, ◌≤◌, List, [], ◌∷◌, ◌++◌, length, map, drop, get_or, Option, Some, Result, Ok}
+use Rattle.std.proofs.Common.{Err, refl, sym, ap, ap₂, ◌∙◌, arith, append_assoc, drop-cons}
 use Rattle.csv.specs.Records.{Row, fields_of}
 use Rattle.er_paper.specs.declared.imports.CsvFault.{CsvFault}
-use Rattle.er_paper.specs.declared.imports.CsvFault.TheVariants.{BadRow}
 use Rattle.er_paper.specs.Reading.{lines_from, with_line}
 
 -- lines that were read, and then what the later rows are read as
@@ -10,7 +10,8 @@ abbrev pub after_lines : {L : Type 0} → List L → Result (List L) CsvFault �
 after_lines lines (Ok later) = Ok (lines ++ later)
 after_lines lines (Err fault) = Err fault
 
-after_one : {L : Type 0} (lines : List L) (place : ℕ) (line : L) (r : Result (List L) CsvFault) → after_lines lines (with_line place (Some line) r) ≡ after_lines (lines ++ line ∷ []) r
+after_one : {L : Type 0} (lines : List L) (place : ℕ) (line : L) (r : Result (List L) CsvFault)
+    → after_lines lines (with_line place (Some line) r) ≡ after_lines (lines ++ line ∷ []) r
 after_one lines place line (Ok later) = ap Ok (sym (append_assoc lines (line ∷ []) later))
 after_one lines place line (Err fault) = refl
 
@@ -25,11 +26,15 @@ module _ {L : Type 0} (line : ℕ → List (List ℕ) → Option L) (rows : List
   abbrev pub Reached : List L → ℕ → Type 0
   Reached lines at = lines_from line 1 (map fields_of rows) ≡ after_lines lines (lines_from line (1 + at) (map fields_of (drop at rows)))
 
-  module _ (lines : List L) (at : ℕ) (row : Row) (below : at < length rows) (is : row ≡ get_or rows at row) (so_far : Reached lines at) where
-    here : lines_from line 1 (map fields_of rows) ≡ after_lines lines (with_line (1 + at) (line (1 + at) (fields_of row)) (lines_from line (1 + at + 1) (map fields_of (drop (suc at) rows))))
-    here = so_far ∙ ap (λ (rs : List Row). after_lines lines (lines_from line (1 + at) (map fields_of rs))) (drop-cons rows at row below ∙ ap (λ r. r ∷ drop (suc at) rows) (sym is))
+  module _ (lines : List L) (at : ℕ) (row : Row) (below : at < length rows) (is : row ≡ get_or rows at row)
+      (so_far : Reached lines at) where
+    here : lines_from line 1 (map fields_of rows) ≡ after_lines lines
+        (with_line (1 + at) (line (1 + at) (fields_of row)) (lines_from line (1 + at + 1) (map fields_of (drop (suc at) rows))))
+    here = so_far ∙ ap (λ (rs : List Row). after_lines lines (lines_from line (1 + at) (map fields_of rs)))
+        (drop-cons rows at row below ∙ ap (λ r. r ∷ drop (suc at) rows) (sym is))
 
-    pub reached-more : (next : L) (place : ℕ) → line (1 + at) (fields_of row) ≡ Some next → place ≡ at + 1 → Reached (lines ++ next ∷ []) place
+    pub reached-more : (next : L) (place : ℕ) → line (1 + at) (fields_of row) ≡ Some next → place ≡ at + 1
+        → Reached (lines ++ next ∷ []) place
     reached-more next place e p =
         let number : 1 + at + 1 ≡ 1 + place = omega arith in
         let later : suc at ≡ place = omega arith in

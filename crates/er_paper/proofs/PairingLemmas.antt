@@ -12,7 +12,8 @@ numbered_from-push n (first ∷ ms) m =
     ap (λ rest. (n, first) ∷ rest) (numbered_from-push (n + 1) ms m ∙ ap (λ k. numbered_from (n + 1) ms ++ (k, m) ∷ []) next)
 
 -- one more match
-pub lines-more : (line : ℕ × Match → List ℕ) (ms : List Match) (i : ℕ) (m : Match) → i < length ms → m ≡ get_or ms i m → flat_map line (numbered_from 1 (take (i + 1) ms)) ≡ flat_map line (numbered_from 1 (take i ms)) ++ line (1 + i, m)
+pub lines-more : (line : ℕ × Match → List ℕ) (ms : List Match) (i : ℕ) (m : Match) → i < length ms → m ≡ get_or ms i m
+    → flat_map line (numbered_from 1 (take (i + 1) ms)) ≡ flat_map line (numbered_from 1 (take i ms)) ++ line (1 + i, m)
 lines-more line ms i m below is =
     let count : length (take i ms) ≡ i = length-take-le i ms (omega arith) in
     ap (λ front. flat_map line (numbered_from 1 front)) (take_more ms i m below ∙ ap (λ x. take i ms ++ x ∷ []) (sym is))

@@ -1,5 +1,7 @@
 -- What is written of an event is read as what it was made of.
-use Rattle.std.proofs.Common.{◌≡◌, ◌≢◌, ℕ, suc, ◌+◌, ◌^◌, ◌<◌, ◌≤◌, ◌==◌, eqb, Bool, true, false, ◌||◌, if◌then◌else◌, IsTrue, IsFalse, IfSome, List, [], ◌∷◌, ◌++◌, map, flat_map, length, All, AllPairs, Contains, Option, Some, None, Result, Ok, refl, sym, ap, ap₂, subst, ◌∙◌, arith}
+use Rattle.std.proofs.Common.{◌≡◌, ◌≢◌, ℕ, suc, ◌+◌, ◌^◌, ◌<◌, ◌≤◌, ◌==◌, eqb, Bool, true, false, ◌||◌, if◌then◌else◌, IsTrue, IsFalse}
+use Rattle.std.proofs.Common.{IfSome, List, [], ◌∷◌, ◌++◌, map, flat_map, length, All, AllPairs, Contains, Option, Some, None, Result, Ok}
+use Rattle.std.proofs.Common.{refl, sym, ap, ap₂, subst, ◌∙◌, arith}
 use Rattle.std.specs.List.{AllByRecursion, list_any, range_with_len}
 use Rattle.std.specs.Fmt.{decimal}
 use Rattle.std.proofs.lemmas.Bool.Decides.{nat_tests, Decides-eqb}
@@ -26,20 +28,24 @@ use Rattle.er_paper.specs.declared.imports.CsvFault.{CsvFault}
 use Rattle.er_paper.specs.declared.imports.PlayerLine.{PlayerLine}
 use Rattle.er_paper.specs.declared.imports.ResultLine.{ResultLine}
 use Rattle.er_paper.specs.Csv.{HasRecords}
-use Rattle.er_paper.specs.Tables.{players_heading, flag_field, player_fields, players_table, results_heading, score_fields, result_fields, round_table, rounds_table, results_table}
+use Rattle.er_paper.specs.Tables.{players_heading, flag_field, player_fields, players_table, results_heading, score_fields, result_fields}
+use Rattle.er_paper.specs.Tables.{round_table, rounds_table, results_table}
 use Rattle.er_paper.specs.Reading.{number_within, lines_from, with_line, full_line, players_of, score_of, result_of, results_of}
-use Rattle.er_paper.specs.ReadBack.{line_of_player, line_of_match, lines_of_round, lines_of_rounds, exported_players, exported_results, PlayersReadBack, ResultsReadBack}
+use Rattle.er_paper.specs.ReadBack.{line_of_player, line_of_match, lines_of_round, lines_of_rounds, exported_players, exported_results}
+use Rattle.er_paper.specs.ReadBack.{PlayersReadBack, ResultsReadBack}
 use Rattle.er_paper.proofs.Fields.{within-decimal}
 use Rattle.er_paper.proofs.Rows.{back, one_list}
 
 -- ---- the records of what was written
 
-records_at : (rows : List (List (List ℕ))) → strip_bom (rows_text rows) ≡ rows_text rows → map read_back rows ≡ rows → HasRecords (rows_text rows) rows
+records_at : (rows : List (List (List ℕ))) → strip_bom (rows_text rows) ≡ rows_text rows → map read_back rows ≡ rows
+    → HasRecords (rows_text rows) rows
 records_at rows plain same =
     subst (λ (bytes : List ℕ). AreRecords default_config st.StartRecord bytes rows) (sym plain)
     (subst (λ (rs : List (List (List ℕ))). AreRecords default_config st.StartRecord (rows_text rows) rs) same (back rows))
 
-records_once : (rows found : List (List (List ℕ))) → strip_bom (rows_text rows) ≡ rows_text rows → map read_back rows ≡ rows → HasRecords (rows_text rows) found → found ≡ rows
+records_once : (rows found : List (List (List ℕ))) → strip_bom (rows_text rows) ≡ rows_text rows → map read_back rows ≡ rows
+    → HasRecords (rows_text rows) found → found ≡ rows
 records_once rows found plain same has =
     one_list default_config st.StartRecord (rows_text rows) found rows
     (subst (λ (bytes : List ℕ). AreRecords default_config st.StartRecord bytes found) plain has)
@@ -64,16 +70,24 @@ flag_same true = refl
 flag_same false = refl
 
 player_back : (p : Player) → p.no ≤ 512 → is_lawful_name p.name ≡ true → full_line p.no (player_fields p) ≡ Some (line_of_player p)
-player_back p few lawful = rw (within-decimal p.no p.no p.no (omega arith) (omega arith) (omega arith), flag_back p.dropped, lawful, flag_same p.dropped) grind (arith, nat_tests)
+player_back p few lawful = rw (
+  within-decimal p.no p.no p.no (omega arith) (omega arith) (omega arith),
+  flag_back p.dropped,
+  lawful,
+  flag_same p.dropped,
+) grind (arith, nat_tests)
 
-players_back : (ps : List Player) (k : ℕ) → numbers ps ≡ range_with_len k (length ps) → k + length ps ≤ 513 → AllByRecursion (λ name. is_lawful_name name ≡ true) (names ps)
+players_back : (ps : List Player) (k : ℕ) → numbers ps ≡ range_with_len k (length ps) → k + length ps ≤ 513
+    → AllByRecursion (λ name. is_lawful_name name ≡ true) (names ps)
     → lines_from full_line k (map player_fields ps) ≡ Ok (map line_of_player ps)
 players_back [] k numbered few lawful = refl
 players_back (p ∷ ps) k numbered few lawful =
     let here : p.no ≡ k = cc in
     let later : numbers ps ≡ range_with_len (k + 1) (length ps) = cc in
-    let read : full_line k (player_fields p) ≡ Some (line_of_player p) = subst (λ (place : ℕ). full_line place (player_fields p) ≡ Some (line_of_player p)) here (player_back p (omega arith) lawful.0) in
-    ap₂ (λ (o : Option PlayerLine) (r : Result (List PlayerLine) CsvFault). with_line k o r) read (players_back ps (k + 1) later (omega arith) lawful.1)
+    let read : full_line k (player_fields p) ≡ Some (line_of_player p) =
+    subst (λ (place : ℕ). full_line place (player_fields p) ≡ Some (line_of_player p)) here (player_back p (omega arith) lawful.0) in
+    ap₂ (λ (o : Option PlayerLine) (r : Result (List PlayerLine) CsvFault). with_line k o r) read
+    (players_back ps (k + 1) later (omega arith) lawful.1)
 
 players_as : (event : EventValue) → IsSoundButForSeeds event → players_of (players_table event) ≡ Ok (exported_players event)
 players_as event sound =
@@ -95,7 +109,8 @@ no_mark_either : (rows : List (List (List ℕ))) → strip_bom (rows_text (resul
 unfolding strip_bom rows_text fields_text escaped is_blank
 no_mark_either rows = refl
 
-matches_same : (round : ℕ) (numbered : List (ℕ × Match)) → map read_back (map (result_fields round) numbered) ≡ map (result_fields round) numbered
+matches_same : (round : ℕ) (numbered : List (ℕ × Match))
+    → map read_back (map (result_fields round) numbered) ≡ map (result_fields round) numbered
 matches_same round [] = refl
 matches_same round (n ∷ ns) = ap (λ rows. result_fields round n ∷ rows) (matches_same round ns)
 
@@ -113,7 +128,13 @@ score_back s lawful =
     let x : s.x ≤ 2 = grind (arith, nat_tests) in
     let y : s.y ≤ 2 = grind (arith, nat_tests) in
     let d : s.d ≤ 3 = grind (arith, nat_tests) in
-    rw (nonempty s.x (omega arith), within-decimal 0 255 s.x (omega arith) (omega arith) (omega arith), within-decimal 0 255 s.y (omega arith) (omega arith) (omega arith), within-decimal 0 255 s.d (omega arith) (omega arith) (omega arith), lawful) refl
+    rw (
+      nonempty s.x (omega arith),
+      within-decimal 0 255 s.x (omega arith) (omega arith) (omega arith),
+      within-decimal 0 255 s.y (omega arith) (omega arith) (omega arith),
+      within-decimal 0 255 s.d (omega arith) (omega arith) (omega arith),
+      lawful,
+    ) refl
 
 -- a match whose numbers and score a row may have
 record IsListed (m : Match) : Type 0 where
@@ -121,12 +142,25 @@ record IsListed (m : Match) : Type 0 where
   pub second : m.b ≤ 512
   pub lawful : IfSome m.score (λ s. IsTrue (is_swiss_score s))
 
-row_back : (round table a b : ℕ) (score : Option Games) → (1 ≤ round) × (round ≤ 9) → table ≤ 512 → (1 ≤ a) × (a ≤ 512) → b ≤ 512 → IfSome score (λ s. IsTrue (is_swiss_score s))
-    → result_of (decimal round ∷ decimal table ∷ decimal a ∷ decimal b ∷ score_fields score) ≡ Some (record { round = round; table = table; a = a; b = b; score = score })
+row_back : (round table a b : ℕ) (score : Option Games) → (1 ≤ round) × (round ≤ 9) → table ≤ 512 → (1 ≤ a) × (a ≤ 512) → b ≤ 512
+    → IfSome score (λ s. IsTrue (is_swiss_score s))
+    → result_of (decimal round ∷ decimal table ∷ decimal a ∷ decimal b ∷ score_fields score) ≡ Some
+    (record { round = round; table = table; a = a; b = b; score = score })
 row_back round table a b None r t first second lawful =
-    rw (within-decimal 1 9 round (omega arith) r.0 r.1, within-decimal 0 512 table (omega arith) (omega arith) t, within-decimal 1 512 a (omega arith) first.0 first.1, within-decimal 0 512 b (omega arith) (omega arith) second) refl
+    rw (
+      within-decimal 1 9 round (omega arith) r.0 r.1,
+      within-decimal 0 512 table (omega arith) (omega arith) t,
+      within-decimal 1 512 a (omega arith) first.0 first.1,
+      within-decimal 0 512 b (omega arith) (omega arith) second,
+    ) refl
 row_back round table a b (Some s) r t first second lawful =
-    rw (within-decimal 1 9 round (omega arith) r.0 r.1, within-decimal 0 512 table (omega arith) (omega arith) t, within-decimal 1 512 a (omega arith) first.0 first.1, within-decimal 0 512 b (omega arith) (omega arith) second, score_back s lawful) refl
+    rw (
+      within-decimal 1 9 round (omega arith) r.0 r.1,
+      within-decimal 0 512 table (omega arith) (omega arith) t,
+      within-decimal 1 512 a (omega arith) first.0 first.1,
+      within-decimal 0 512 b (omega arith) (omega arith) second,
+      score_back s lawful,
+    ) refl
 
 table_low : (n : ℕ) (bye : Bool) → n ≤ 512 → (if bye then 0 else n) ≤ 512
 table_low n true low = omega arith
@@ -136,22 +170,27 @@ matches_back : (ms : List Match) (round n : ℕ) → (1 ≤ round) × (round ≤
     → map result_of (map (result_fields round) (numbered_from n ms)) ≡ map Some (map (line_of_match round) (numbered_from n ms))
 matches_back [] round n r few listed = refl
 matches_back (m ∷ ms) round n r few listed =
-    let here = row_back round (table_of (n, m)) m.a m.b m.score r (table_low n (is_bye m) (omega arith)) listed.0.first listed.0.second listed.0.lawful in
+    let here = row_back round (table_of (n, m)) m.a m.b m.score r (table_low n (is_bye m) (omega arith)) listed.0.first listed.0.second
+    listed.0.lawful in
     ap₂ (λ (o : Option ResultLine) (os : List (Option ResultLine)). o ∷ os) here (matches_back ms round (n + 1) r (omega arith) listed.1)
 
 -- a round whose matches a table may have
 abbrev IsListedRound : Round → Type 0
 IsListedRound r = (length r.matches ≤ 512) × AllByRecursion IsListed r.matches
 
-rounds_back : (rounds : List Round) (k : ℕ) → 1 ≤ k → k + length rounds ≤ 10 → AllByRecursion IsListedRound rounds → map result_of (rounds_table k rounds) ≡ map Some (lines_of_rounds k rounds)
+rounds_back : (rounds : List Round) (k : ℕ) → 1 ≤ k → k + length rounds ≤ 10 → AllByRecursion IsListedRound rounds
+    → map result_of (rounds_table k rounds) ≡ map Some (lines_of_rounds k rounds)
 rounds_back [] k low few listed = refl
 rounds_back (r ∷ later) k low few listed =
     map-append result_of (round_table k r.matches) (rounds_table (k + 1) later)
-    ∙ ap₂ (λ (front rest : List (Option ResultLine)). front ++ rest) (matches_back r.matches k 1 (low, omega arith) (let short = listed.0.0 in omega arith) listed.0.1) (rounds_back later (k + 1) (omega arith) (omega arith) listed.1)
+    ∙ ap₂ (λ (front rest : List (Option ResultLine)). front ++ rest)
+    (matches_back r.matches k 1 (low, omega arith) (let short = listed.0.0 in omega arith) listed.0.1)
+    (rounds_back later (k + 1) (omega arith) (omega arith) listed.1)
     ∙ sym (map-append Some (lines_of_round k r.matches) (lines_of_rounds (k + 1) later))
 
 -- rows that are lines, each by itself
-in_turn : {L : Type 0} (line : List (List ℕ) → Option L) (rows : List (List (List ℕ))) (lines : List L) (n : ℕ) → map line rows ≡ map Some lines → lines_from (λ place. line) n rows ≡ Ok lines
+in_turn : {L : Type 0} (line : List (List ℕ) → Option L) (rows : List (List (List ℕ))) (lines : List L) (n : ℕ)
+    → map line rows ≡ map Some lines → lines_from (λ place. line) n rows ≡ Ok lines
 in_turn line [] [] n e = refl
 in_turn line [] (l ∷ ls) n e = absurd (cc)
 in_turn line (row ∷ rows) [] n e = absurd (cc)
@@ -173,7 +212,8 @@ second_low players b true is few known = grind (arith, nat_tests)
 second_low players b false is few known = (known_low players b few (known refl)).1
 
 module _ (players : ℕ) (few : players ≤ 512) where
-  all_listed : (ms : List Match) → All (λ (m : Match). Contains (range_with_len 1 players) m.a) ms → All (λ (m : Match). IsFalse (is_bye m) → Contains (range_with_len 1 players) m.b) ms
+  all_listed : (ms : List Match) → All (λ (m : Match). Contains (range_with_len 1 players) m.a) ms
+      → All (λ (m : Match). IsFalse (is_bye m) → Contains (range_with_len 1 players) m.b) ms
       → All (λ (m : Match). IfSome m.score (λ s. IsTrue (is_swiss_score s))) ms → AllByRecursion IsListed ms
   all_listed [] first second lawful = tt
   all_listed (m ∷ ms) first second lawful = (
@@ -182,7 +222,8 @@ module _ (players : ℕ) (few : players ≤ 512) where
       second = second_low players m.b (is_bye m) refl few (second 0 m (omega arith));
       lawful = lawful 0 m (omega arith);
     },
-    all_listed ms (λ k d below. first (suc k) d (omega arith)) (λ k d below. second (suc k) d (omega arith)) (λ k d below. lawful (suc k) d (omega arith)),
+    all_listed ms (λ k d below. first (suc k) d (omega arith)) (λ k d below. second (suc k) d (omega arith))
+        (λ k d below. lawful (suc k) d (omega arith)),
   )
 
 seats_count : (ms : List Match) → length (flat_map seats ms) ≡ length ms + length ms
@@ -203,7 +244,8 @@ seats_low (m ∷ ms) listed q has =
 few_matches : (ms : List Match) → AllByRecursion IsListed ms → AllPairs (λ p q. p ≢ q) (flat_map seats ms) → length ms ≤ 512
 few_matches ms listed apart =
     let count = seats_count ms in
-    let most = length-le_from_distinct_below (flat_map seats ms) 513 (IsDistinct-from_AllPairs Decides-eqb (flat_map seats ms) apart) (seats_low ms listed) in
+    let most = length-le_from_distinct_below (flat_map seats ms) 513 (IsDistinct-from_AllPairs Decides-eqb (flat_map seats ms) apart)
+    (seats_low ms listed) in
     omega arith
 
 round_listed : (players : ℕ) (r : Round) → players ≤ 512 → IsRound (range_with_len 1 players) r.matches → IsListedRound r
@@ -211,14 +253,17 @@ round_listed players r few sound =
     let listed = all_listed players few r.matches sound.first_known sound.second_known sound.scores in
     (few_matches r.matches listed sound.seated_once, listed)
 
-all_rounds_listed : (players : ℕ) (rounds : List Round) → players ≤ 512 → AllByRecursion (λ (r : Round). IsRound (range_with_len 1 players) r.matches) rounds → AllByRecursion IsListedRound rounds
+all_rounds_listed : (players : ℕ) (rounds : List Round) → players ≤ 512
+    → AllByRecursion (λ (r : Round). IsRound (range_with_len 1 players) r.matches) rounds → AllByRecursion IsListedRound rounds
 all_rounds_listed players [] few sound = tt
 all_rounds_listed players (r ∷ later) few sound = (round_listed players r few sound.0, all_rounds_listed players later few sound.1)
 
 results_as : (event : EventValue) → IsSoundButForSeeds event → results_of (results_table event) ≡ Ok (exported_results event)
 results_as event sound =
-    let each = subst (λ (known : List ℕ). All (λ (r : Round). IsRound known r.matches) event.stored) sound.players.numbered sound.rounds.each in
-    let listed = all_rounds_listed (length event.players) event.stored sound.players.few (recursion_from_All (λ (r : Round). IsRound (range_with_len 1 (length event.players)) r.matches) event.stored each) in
+    let each = subst (λ (known : List ℕ). All (λ (r : Round). IsRound known r.matches) event.stored) sound.players.numbered
+    sound.rounds.each in
+    let listed = all_rounds_listed (length event.players) event.stored sound.players.few
+    (recursion_from_All (λ (r : Round). IsRound (range_with_len 1 (length event.players)) r.matches) event.stored each) in
     let few : 1 + length event.stored ≤ 10 = let fits = sound.rounds.few in let limit = sound.set_up.rounds.1 in omega arith in
     in_turn result_of (rounds_table 1 event.stored) (exported_results event) 1 (rounds_back event.stored 1 (omega arith) few listed)
 

@@ -1,5 +1,6 @@
 -- Many records as one text, and the one list of records of a text.
-use Rattle.std.proofs.Common.{◌≡◌, ℕ, suc, ◌+◌, ◌<◌, List, [], ◌∷◌, ◌++◌, map, flat_map, take, length, get_or, refl, sym, ap, ap₂, subst, ◌∙◌, arith, append_assoc, append-nil, Some, None}
+use Rattle.std.proofs.Common.{◌≡◌, ℕ, suc, ◌+◌, ◌<◌, List, [], ◌∷◌, ◌++◌, map, flat_map, take, length, get_or, refl, sym, ap, ap₂, subst}
+use Rattle.std.proofs.Common.{◌∙◌, arith, append_assoc, append-nil, Some, None}
 use Rattle.std.proofs.lemmas.List.{map_more, take_more, length-take-le}
 use Rattle.csv.specs.Machine.{Read, next_record}
 use Rattle.csv.specs.Reading.{AreRecords, Reached, default_config}
@@ -13,15 +14,18 @@ use Rattle.er_event.specs.declared.matches.Match.{Match}
 use Rattle.er_event.specs.declared.rounds.Round.{Round}
 use Rattle.er_paper.specs.Tables.{players_heading, player_fields, result_fields, round_table, rounds_table}
 
-pub rows-push : (rows : List (List (List ℕ))) (row : List (List ℕ)) → rows_text (rows ++ row ∷ []) ≡ rows_text rows ++ row_text default_writer row
+pub rows-push : (rows : List (List (List ℕ))) (row : List (List ℕ))
+    → rows_text (rows ++ row ∷ []) ≡ rows_text rows ++ row_text default_writer row
 unfolding rows_text
 rows-push [] row = append-nil (row_text default_writer row)
 rows-push (r ∷ rows) row =
-    ap (λ t. row_text default_writer r ++ t) (rows-push rows row) ∙ sym (append_assoc (row_text default_writer r) (rows_text rows) (row_text default_writer row))
+    ap (λ t. row_text default_writer r ++ t) (rows-push rows row)
+    ∙ sym (append_assoc (row_text default_writer r) (rows_text rows) (row_text default_writer row))
 
 -- one more line
 pub lines_more : (lines : List Player) (i : ℕ) (d : Player) (old new : List ℕ) → i < length lines
-    → old ≡ rows_text (players_heading ∷ map player_fields (take i lines)) → new ≡ old ++ row_text default_writer (player_fields (get_or lines i d))
+    → old ≡ rows_text (players_heading ∷ map player_fields (take i lines))
+    → new ≡ old ++ row_text default_writer (player_fields (get_or lines i d))
     → new ≡ rows_text (players_heading ∷ map player_fields (take (i + 1) lines))
 lines_more lines i d old new lt before step =
     step ∙ ap (λ t. t ++ row_text default_writer (player_fields (get_or lines i d))) before
@@ -37,7 +41,8 @@ back (row ∷ rows) =
     (later.0, later.1, ((read_back row, st.StartRecord, rows_text rows), read-write row (rows_text rows), refl, later.2), later.3)
 
 -- a text has one list of records
-step : (cfg : Config) (s : State) (xs : List ℕ) (p q : Read) → next_record cfg s [] [] xs ≡ Some p → next_record cfg s [] [] xs ≡ Some q → p ≡ q
+step : (cfg : Config) (s : State) (xs : List ℕ) (p q : Read) → next_record cfg s [] [] xs ≡ Some p → next_record cfg s [] [] xs ≡ Some q
+    → p ≡ q
 step cfg s xs p q a b = let e : Some p ≡ Some q = sym a ∙ b in cc
 
 apart : (p : Read) → Some p ≡ None → ⊥
@@ -70,18 +75,22 @@ pub rows-append : (rows more : List (List (List ℕ))) → rows_text (rows ++ mo
 unfolding rows_text
 rows-append [] more = refl
 rows-append (r ∷ rows) more =
-    ap (λ t. row_text default_writer r ++ t) (rows-append rows more) ∙ sym (append_assoc (row_text default_writer r) (rows_text rows) (rows_text more))
+    ap (λ t. row_text default_writer r ++ t) (rows-append rows more)
+    ∙ sym (append_assoc (row_text default_writer r) (rows_text rows) (rows_text more))
 
 -- the text of a match's row
 abbrev pub result_row : ℕ → ℕ × Match → List ℕ
 result_row round numbered = row_text default_writer (result_fields round numbered)
 
-pub rows-of-round : (round : ℕ) (numbered : List (ℕ × Match)) → rows_text (map (result_fields round) numbered) ≡ flat_map (result_row round) numbered
+pub rows-of-round : (round : ℕ) (numbered : List (ℕ × Match))
+    → rows_text (map (result_fields round) numbered) ≡ flat_map (result_row round) numbered
 unfolding rows_text
 rows-of-round round [] = refl
 rows-of-round round (n ∷ ns) = ap (λ t. result_row round n ++ t) (rows-of-round round ns)
 
-rounds-push : (n : ℕ) (rounds : List Round) (r : Round) → rows_text (rounds_table n (rounds ++ r ∷ [])) ≡ rows_text (rounds_table n rounds) ++ rows_text (round_table (n + length rounds) r.matches)
+rounds-push : (n : ℕ) (rounds : List Round) (r : Round)
+    → rows_text (rounds_table n (rounds ++ r ∷ [])) ≡ rows_text (rounds_table n rounds) ++ rows_text
+    (round_table (n + length rounds) r.matches)
 unfolding rows_text
 rounds-push n [] r = let same : n ≡ n + 0 = omega arith in
     ap rows_text (append-nil (round_table n r.matches)) ∙ ap (λ (k : ℕ). rows_text (round_table k r.matches)) same
@@ -95,11 +104,14 @@ rounds-push n (first ∷ later) r =
     ∙ ap (λ t. t ++ last (n + suc (length later))) (sym (rows-append front (rounds_table (n + 1) later)))
 
 -- one more round
-pub rounds-more : (rounds : List Round) (i : ℕ) (r : Round) → i < length rounds → r ≡ get_or rounds i r → rows_text (rounds_table 1 (take (i + 1) rounds)) ≡ rows_text (rounds_table 1 (take i rounds)) ++ rows_text (round_table (1 + i) r.matches)
+pub rounds-more : (rounds : List Round) (i : ℕ) (r : Round) → i < length rounds → r ≡ get_or rounds i r
+    → rows_text (rounds_table 1 (take (i + 1) rounds)) ≡ rows_text (rounds_table 1 (take i rounds)) ++ rows_text
+    (round_table (1 + i) r.matches)
 rounds-more rounds i r below is =
     let count : length (take i rounds) ≡ i = length-take-le i rounds (omega arith) in
     ap (λ rs. rows_text (rounds_table 1 rs)) (take_more rounds i r below ∙ ap (λ x. take i rounds ++ x ∷ []) (sym is))
-    ∙ (rounds-push 1 (take i rounds) r ∙ ap (λ (k : ℕ). rows_text (rounds_table 1 (take i rounds)) ++ rows_text (round_table (1 + k) r.matches)) count)
+    ∙ (rounds-push 1 (take i rounds) r ∙ ap (λ (k : ℕ). rows_text (rounds_table 1 (take i rounds)) ++ rows_text
+    (round_table (1 + k) r.matches)) count)
 
 -- no rows, and then some
 pub no-rows : (text : List ℕ) → text ≡ text ++ rows_text []
@@ -107,6 +119,7 @@ unfolding rows_text
 no-rows text = sym (append-nil text)
 
 -- a heading before rows
-pub rows-under : (heading : List (List ℕ)) (rows : List (List (List ℕ))) → ([] ++ row_text default_writer heading) ++ rows_text rows ≡ rows_text (heading ∷ rows)
+pub rows-under : (heading : List (List ℕ)) (rows : List (List (List ℕ)))
+    → ([] ++ row_text default_writer heading) ++ rows_text rows ≡ rows_text (heading ∷ rows)
 unfolding rows_text
 rows-under heading rows = refl

@@ -26,11 +26,13 @@ match_win points rounds = percentage points (3 * rounds)
 abbrev game_win : ℕ → ℕ → Fraction
 game_win points games = percentage points (3 * games)
 
-pub printed_match_wins : map hundredths (match_win 16 8 ∷ match_win 7 8 ∷ match_win 10 7 ∷ match_win 9 5 ∷ match_win 0 0 ∷ []) ≡ 6667 ∷ 3300 ∷ 4762 ∷ 6000 ∷ 3300 ∷ []
+pub printed_match_wins : map hundredths (match_win 16 8 ∷ match_win 7 8 ∷ match_win 10 7 ∷ match_win 9 5 ∷ match_win 0 0 ∷ [])
+    ≡ 6667 ∷ 3300 ∷ 4762 ∷ 6000 ∷ 3300 ∷ []
 unfolding percentage hundredths fraction_cmp
 printed_match_wins = refl
 
-pub printed_game_wins : map hundredths (game_win 21 10 ∷ game_win 9 11 ∷ game_win 3 3 ∷ game_win 0 0 ∷ game_win 162 54 ∷ game_win 63 32 ∷ []) ≡ 7000 ∷ 3300 ∷ 3333 ∷ 3300 ∷ 10000 ∷ 6563 ∷ []
+pub printed_game_wins : map hundredths (game_win 21 10 ∷ game_win 9 11 ∷ game_win 3 3 ∷ game_win 0 0 ∷ game_win 162 54 ∷ game_win 63 32
+    ∷ []) ≡ 7000 ∷ 3300 ∷ 3333 ∷ 3300 ∷ 10000 ∷ 6563 ∷ []
 unfolding percentage hundredths fraction_cmp
 printed_game_wins = refl
 

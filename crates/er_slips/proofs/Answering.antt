@@ -1,5 +1,6 @@
 -- What the desk answers, and how serving an input ends.
-use Rattle.std.proofs.Common.{◌≡◌, ◌⊎◌, inl, inr, ℕ, ◌==◌, false, true≢false, arith, List, [], ◌∷◌, Option, Some, None, Result, Ok, Err, IsTrue, IsFalse, IfOk, IfErr, OnOk, IfSome, MatchResult, Vec, Global, is_ok, refl, sym, ap, subst, ◌∙◌}
+use Rattle.std.proofs.Common.{◌≡◌, ◌⊎◌, inl, inr, ℕ, ◌==◌, false, true≢false, arith, List, [], ◌∷◌, Option, Some, None, Result, Ok, Err}
+use Rattle.std.proofs.Common.{IsTrue, IsFalse, IfOk, IfErr, OnOk, IfSome, MatchResult, Vec, Global, is_ok, refl, sym, ap, subst, ◌∙◌}
 use Rattle.std.specs.Io.KnownBytes.{Keeps}
 use Rattle.std.specs.List.{AllByRecursion}
 use Rattle.std.proofs.lemmas.Bool.Decides.{nat_tests}
@@ -32,7 +33,7 @@ use Rattle.er_slips.specs.declared.serve.Served.{Served}
 use Rattle.er_slips.specs.declared.serve.Served.TheVariants.{Answered, ReadFault, WriteFault}
 use Rattle.er_slips.specs.Request.{Asks, TellsAsked}
 use Rattle.er_slips.specs.Answer.{AnswerValue, answer_value, fault_answer, refusal_answer, slip_answer, text_answer, status_of}
-use Rattle.er_slips.specs.Whole.{ShowsStandings, ShowsPairings, row_answer, reply_answer, IsAnswered, submitted, IsAnswerUnless503}
+use Rattle.er_slips.specs.Whole.{ShowsPairings, row_answer, reply_answer, IsAnswered, submitted, IsAnswerUnless503}
 use Rattle.er_store.specs.Fault.{IsReadFault}
 use Rattle.er_store.specs.Slip.{FindsSlip}
 use Rattle.er_slips.specs.Serving.{IsRowsAnswer, IsSlipAnswer, AnswersRequest, IsServed, IsUnserved, Writes, EndsServing, IsWritten}
@@ -42,33 +43,41 @@ pub reopening : (desk : Standing) (Shows : EventValue → AnswerValue → Type 0
 reopening desk Shows answer why stopped is = inr (stopped.0, is ∙ ap refusal_answer stopped.1)
 
 -- an answer that was made, or want of memory
-pub made-is : (made : Result Answer AllocError) (answer due : AnswerValue) → IfOk made (λ a. answer_value a ≡ due) → MatchResult made (λ a. answer ≡ answer_value a) (λ _. answer ≡ refusal_answer Memory)
+pub made-is : (made : Result Answer AllocError) (answer due : AnswerValue) → IfOk made (λ a. answer_value a ≡ due)
+    → MatchResult made (λ a. answer ≡ answer_value a) (λ _. answer ≡ refusal_answer Memory)
     → (answer ≡ due) ⊎ (answer ≡ refusal_answer Memory)
 made-is (Ok a) answer due of is = inl (is ∙ of)
 made-is (Err e) answer due of is = inr is
 
-pub slip-made : (read : Result SlipRow Refusal) (row : SlipRow) (made : Result Answer AllocError) (answer : AnswerValue) → read ≡ Ok row → IfOk made (λ a. answer_value a ≡ slip_answer (slip_text row))
+pub slip-made : (read : Result SlipRow Refusal) (row : SlipRow) (made : Result Answer AllocError) (answer : AnswerValue) → read ≡ Ok row
+    → IfOk made (λ a. answer_value a ≡ slip_answer (slip_text row))
     → MatchResult made (λ a. answer ≡ answer_value a) (λ _. answer ≡ refusal_answer Memory) → IsSlipAnswer read answer
 slip-made read row made answer of is same = rw of (made-is made answer (slip_answer (slip_text row)) is same)
 
 -- of the desk's own event
-pub rows-made : (e event : EventValue) (rows : List Row) (made : Result Answer AllocError) (answer : AnswerValue) → e ≡ event → IfOk made (λ a. answer_value a ≡ text_answer (rows_text e rows))
-    → MatchResult made (λ a. answer ≡ answer_value a) (λ _. answer ≡ refusal_answer Memory) → (answer ≡ text_answer (rows_text event rows)) ⊎ (answer ≡ refusal_answer Memory)
+pub rows-made : (e event : EventValue) (rows : List Row) (made : Result Answer AllocError) (answer : AnswerValue) → e ≡ event
+    → IfOk made (λ a. answer_value a ≡ text_answer (rows_text e rows))
+    → MatchResult made (λ a. answer ≡ answer_value a) (λ _. answer ≡ refusal_answer Memory)
+    → (answer ≡ text_answer (rows_text event rows)) ⊎ (answer ≡ refusal_answer Memory)
 rows-made e event rows made answer same of is =
-    subst (λ (f : EventValue). (answer ≡ text_answer (rows_text f rows)) ⊎ (answer ≡ refusal_answer Memory)) same (made-is made answer (text_answer (rows_text e rows)) of is)
+    subst (λ (f : EventValue). (answer ≡ text_answer (rows_text f rows)) ⊎ (answer ≡ refusal_answer Memory)) same
+    (made-is made answer (text_answer (rows_text e rows)) of is)
 
 -- rows that were read leave the desk at its event
 pub rows-answered : (rows : Vec Row Global) (old new : Standing) (answer : AnswerValue) → ReadsRows old (Ok rows) new
-    → (IsFalse new.stopped → (answer ≡ text_answer (rows_text new.event rows.items)) ⊎ (answer ≡ refusal_answer Memory)) → IsRowsAnswer old.event (Ok rows) answer
+    → (IsFalse new.stopped → (answer ≡ text_answer (rows_text new.event rows.items)) ⊎ (answer ≡ refusal_answer Memory))
+    → IsRowsAnswer old.event (Ok rows) answer
 rows-answered rows old new answer (inl (running, same, e)) due =
-    subst (λ (s : Standing). IsFalse s.stopped → (answer ≡ text_answer (rows_text s.event rows.items)) ⊎ (answer ≡ refusal_answer Memory)) same due running
+    subst (λ (s : Standing). IsFalse s.stopped → (answer ≡ text_answer (rows_text s.event rows.items)) ⊎ (answer ≡ refusal_answer Memory))
+    same due running
 rows-answered rows old new answer (inr (inl (running, same, why, fault, e))) due = absurd (true≢false (ap is_ok e))
 rows-answered rows old new answer (inr (inr (stopped, same, e))) due = absurd (true≢false (ap is_ok e))
 
 -- ---- how serving ends
 
 module _ (Stood : Type 0) (input : Option (List ℕ)) (old new : Standing) (before after : Option (List ℕ)) (answer : AnswerValue) where
-  ends : (served : Served) → Writes before after served answer → IsServed Stood input old answer new ⊎ IsUnserved old answer new → EndsServing Stood input old new before after served
+  ends : (served : Served) → Writes before after served answer → IsServed Stood input old answer new ⊎ IsUnserved old answer new
+      → EndsServing Stood input old new before after served
   ends (Answered status) wrote due = (answer, wrote, due)
   ends (WriteFault sent) wrote due = (answer, wrote, due)
   ends ReadFault wrote due = absurd wrote
@@ -77,17 +86,25 @@ module _ (Stood : Type 0) (input : Option (List ℕ)) (old new : Standing) (befo
   asks None asked told = tt
   asks (Some xs) asked told = told
 
-  asks-fault : (i : Option (List ℕ)) (fault : Fault) → IfSome i (λ xs. TellsAsked xs (Err (Refused fault))) → IfSome i (λ xs. Asks xs (Err fault))
+  asks-fault : (i : Option (List ℕ)) (fault : Fault) → IfSome i (λ xs. TellsAsked xs (Err (Refused fault)))
+      → IfSome i (λ xs. Asks xs (Err fault))
   asks-fault None fault told = tt
   asks-fault (Some xs) fault told = told
 
-  pub ends-asked : (served : Served) (asked : Asked) → IfSome input (λ xs. TellsAsked xs (Ok asked)) → AnswersRequest Stood old (Ok asked) answer new
+  pub ends-asked : (served : Served) (asked : Asked) → IfSome input (λ xs. TellsAsked xs (Ok asked))
+      → AnswersRequest Stood old (Ok asked) answer new
       → Writes before after served answer → EndsServing Stood input old new before after served
   ends-asked served asked told answers wrote = ends served wrote (inl (Ok asked, asks input asked told, answers))
 
-  pub ends-refused : (served : Served) (why : Unasked) (fault : Fault) → why ≡ Refused fault → IfSome input (λ xs. TellsAsked xs (Err why)) → answer ≡ fault_answer fault → new ≡ old
+  pub ends-refused : (served : Served) (why : Unasked) (fault : Fault) → why ≡ Refused fault → IfSome input (λ xs. TellsAsked xs (Err why))
+      → answer ≡ fault_answer fault → new ≡ old
       → Writes before after served answer → EndsServing Stood input old new before after served
-  ends-refused served why fault of told is same wrote = ends served wrote (inl (Err fault, asks-fault input fault (subst (λ u. IfSome input (λ xs. TellsAsked xs (Err u))) of told), (is, same)))
+  ends-refused served why fault of told is same wrote =
+      ends served wrote (inl (
+        Err fault,
+        asks-fault input fault (subst (λ u. IfSome input (λ xs. TellsAsked xs (Err u))) of told),
+        (is, same),
+      ))
 
 pub keeps : (known : Option (List ℕ)) → Keeps known known
 keeps None = tt
@@ -97,14 +114,17 @@ pub written-unread : (Runs Stood : Type 0) (input before : Option (List ℕ)) �
 written-unread Runs Stood None before = tt
 written-unread Runs Stood (Some xs) before = λ runs stood. keeps before
 
-pub ends-unserved : (Stood : Type 0) (input : Option (List ℕ)) (old : Standing) (before after : Option (List ℕ)) (answer : AnswerValue) (served : Served)
+pub ends-unserved : (Stood : Type 0) (input : Option (List ℕ)) (old : Standing) (before after : Option (List ℕ)) (answer : AnswerValue)
+    (served : Served)
     → answer ≡ refusal_answer Memory → Writes before after served answer → EndsServing Stood input old old before after served
-ends-unserved Stood input old before after answer served is wrote = ends Stood input old old before after answer served wrote (inr (is, refl))
+ends-unserved Stood input old before after answer served is wrote =
+    ends Stood input old old before after answer served wrote (inr (is, refl))
 
 -- ---- the answer of a desk that runs, over tables that stand
 
 module _ (old new : Standing) (input : List ℕ) (answer : AnswerValue) (runs : IsFalse old.stopped) where
-  exact : (asked : Result Asked Fault) → Asks input asked → IsAnswered old.event old.serial asked answer → IsAnswerUnless503 old.event old.serial input answer
+  exact : (asked : Result Asked Fault) → Asks input asked → IsAnswered old.event old.serial asked answer
+      → IsAnswerUnless503 old.event old.serial input answer
   exact asked is answered = inl (submitted asked, record { asked = asked; asks = is; answered = answered; command = refl })
 
   hindered : (why : Refusal) → status_of why ≡ 503 → answer ≡ refusal_answer why → IsAnswerUnless503 old.event old.serial input answer
@@ -114,7 +134,8 @@ module _ (old new : Standing) (input : List ℕ) (answer : AnswerValue) (runs : 
   runs-on stopped = absurd (true≢false (sym stopped ∙ runs))
 
   shown-by : (asked : Result Asked Fault) (Shows : EventValue → AnswerValue → Type 0) → Asks input asked
-      → (Shows old.event answer → IsAnswered old.event old.serial asked answer) → ShowsEvent refusal_answer old Shows answer → IsAnswerUnless503 old.event old.serial input answer
+      → (Shows old.event answer → IsAnswered old.event old.serial asked answer) → ShowsEvent refusal_answer old Shows answer
+      → IsAnswerUnless503 old.event old.serial input answer
   shown-by asked Shows is to (inl (running, inl shows)) = exact asked is (to shows)
   shown-by asked Shows is to (inl (running, inr memory)) = hindered Memory refl memory
   shown-by asked Shows is to (inr (stopped, e)) = runs-on stopped
@@ -124,7 +145,8 @@ module _ (old new : Standing) (input : List ℕ) (answer : AnswerValue) (runs : 
   fault-status why (inl (inr e)) = rw e refl
   fault-status why (inr e) = rw e refl
 
-  slip-by : (round table : ℕ) (read : Result SlipRow Refusal) → Asks input (Ok (Slip round table)) → ReadsSlip old read new → FindsSlip old.event round table read
+  slip-by : (round table : ℕ) (read : Result SlipRow Refusal) → Asks input (Ok (Slip round table)) → ReadsSlip old read new
+      → FindsSlip old.event round table read
       → IsSlipAnswer read answer → IsAnswerUnless503 old.event old.serial input answer
   slip-by round table (Ok row) is reads found (inl e) = exact (Ok (Slip round table)) is (e ∙ ap row_answer (sym found))
   slip-by round table (Ok row) is reads found (inr memory) = hindered Memory refl memory
@@ -137,18 +159,25 @@ module _ (old new : Standing) (input : List ℕ) (answer : AnswerValue) (runs : 
       hindered other (fault-status other fault) (e ∙ ap refusal_answer which)
   slip-by round table (Err why) is (inr (inr (stopped, same, f))) found e = runs-on stopped
 
-  rows-by : (read : Result (Vec Row Global) Refusal) → Asks input (Ok Standings) → ReadsRows old read new → IfOk read (λ rows. AreTheStandings old.event rows.items)
+  rows-by : (read : Result (Vec Row Global) Refusal) → Asks input (Ok Standings) → ReadsRows old read new
+      → IfOk read (λ rows. AreTheStandings old.event rows.items)
       → IsRowsAnswer old.event read answer → IsAnswerUnless503 old.event old.serial input answer
-  rows-by (Ok rows) is reads are (inl e) = exact (Ok Standings) is (rows_text old.event rows.items, record { rows = rows.items; standings = are.0; lines = refl }, e)
+  rows-by (Ok rows) is reads are (inl e) = exact (Ok Standings) is (
+    rows_text old.event rows.items,
+    record { rows = rows.items; standings = are.0; lines = refl },
+    e,
+  )
   rows-by (Ok rows) is reads are (inr memory) = hindered Memory refl memory
   rows-by (Err why) is (inl (running, same, inl ok)) are e = absurd (true≢false (sym ok))
-  rows-by (Err why) is (inl (running, same, inr memory)) are e = hindered Memory refl (let which : why ≡ Memory = cc in e ∙ ap refusal_answer which)
+  rows-by (Err why) is (inl (running, same, inr memory)) are e =
+      hindered Memory refl (let which : why ≡ Memory = cc in e ∙ ap refusal_answer which)
   rows-by (Err why) is (inr (inl (running, same, other, fault, f))) are e =
       let which : why ≡ other = cc in
       hindered other (fault-status other fault) (e ∙ ap refusal_answer which)
   rows-by (Err why) is (inr (inr (stopped, same, f))) are e = runs-on stopped
 
-  reply-by : (round table : ℕ) (score : Games) (reply : Reply) → Asks input (Ok (Report round table score)) → Turn old (Hand round table score) reply new
+  reply-by : (round table : ℕ) (score : Games) (reply : Reply) → Asks input (Ok (Report round table score))
+      → Turn old (Hand round table score) reply new
       → answer ≡ reply_answer reply → IsAnswerUnless503 old.event old.serial input answer
   reply-by round table score reply is (inl it) e = exact (Ok (Report round table score)) is (reply, (Ok new.event, it.taken, due), e)
     where
@@ -159,29 +188,36 @@ module _ (old new : Standing) (input : List ℕ) (answer : AnswerValue) (runs : 
       due = rw below (it.answered ∙ ap (λ (n : ℕ). Ok (receipt n)) it.serial_is)
   reply-by round table score reply is (inr (inl it)) e = by it.cause
     where
-      by : (it.why ≡ Memory) ⊎ IsDue old.event old.serial (Hand round table score) (Err it.why) → IsAnswerUnless503 old.event old.serial input answer
+      by : (it.why ≡ Memory) ⊎ IsDue old.event old.serial (Hand round table score) (Err it.why)
+          → IsAnswerUnless503 old.event old.serial input answer
       by (inl memory) = hindered Memory refl (e ∙ ap reply_answer it.answered ∙ ap refusal_answer memory)
       by (inr due) = exact (Ok (Report round table score)) is (Err it.why, due, e ∙ ap reply_answer it.answered)
-  reply-by round table score reply is (inr (inr (inl it))) e = hindered it.why (fault-status it.why (inl it.fault)) (e ∙ ap reply_answer it.answered)
+  reply-by round table score reply is (inr (inr (inl it))) e =
+      hindered it.why (fault-status it.why (inl it.fault)) (e ∙ ap reply_answer it.answered)
   reply-by round table score reply is (inr (inr (inr it))) e = runs-on it.was_stopped
 
-  answered-by : (Stood : Type 0) → Stood → (asked : Result Asked Fault) → Asks input asked → AnswersRequest Stood old asked answer new → IsAnswerUnless503 old.event old.serial input answer
+  answered-by : (Stood : Type 0) → Stood → (asked : Result Asked Fault) → Asks input asked → AnswersRequest Stood old asked answer new
+      → IsAnswerUnless503 old.event old.serial input answer
   answered-by Stood stood (Err fault) is answers = exact (Err fault) is answers.0
   answered-by Stood stood (Ok Standings) is (read, reads, found, e) = rows-by read is reads (found stood) e
   answered-by Stood stood (Ok (Pairings round)) is answers = shown-by (Ok (Pairings round)) (ShowsPairings round) is (λ s. s) answers.0
   answered-by Stood stood (Ok (Slip round table)) is (read, reads, found, e) = slip-by round table read is reads (found stood) e
   answered-by Stood stood (Ok (Report round table score)) is (reply, turn, e) = reply-by round table score reply is turn e
 
-  due-by : (Stood : Type 0) → Stood → IsServed Stood (Some input) old answer new ⊎ IsUnserved old answer new → IsAnswerUnless503 old.event old.serial input answer
+  due-by : (Stood : Type 0) → Stood → IsServed Stood (Some input) old answer new ⊎ IsUnserved old answer new
+      → IsAnswerUnless503 old.event old.serial input answer
   due-by Stood stood (inl (asked, is, answers)) = answered-by Stood stood asked is answers
   due-by Stood stood (inr unserved) = hindered Memory refl unserved.0
 
-pub written : (Stood : Type 0) (input : Option (List ℕ)) (old new : Standing) (before after : Option (List ℕ)) (served : Served) → EndsServing Stood input old new before after served
+pub written : (Stood : Type 0) (input : Option (List ℕ)) (old new : Standing) (before after : Option (List ℕ)) (served : Served)
+    → EndsServing Stood input old new before after served
     → IfSome input (λ xs. IsFalse old.stopped → Stood → IsWritten old xs before after served)
 written Stood None old new before after served e = tt
 written Stood (Some xs) old new before after ReadFault e = λ runs stood. e.0
-written Stood (Some xs) old new before after (Answered status) (answer, wrote, due) = λ runs stood. (answer, wrote, due-by old new xs answer runs Stood stood due)
-written Stood (Some xs) old new before after (WriteFault sent) (answer, wrote, due) = λ runs stood. (answer, wrote, due-by old new xs answer runs Stood stood due)
+written Stood (Some xs) old new before after (Answered status) (answer, wrote, due) =
+    λ runs stood. (answer, wrote, due-by old new xs answer runs Stood stood due)
+written Stood (Some xs) old new before after (WriteFault sent) (answer, wrote, due) =
+    λ runs stood. (answer, wrote, due-by old new xs answer runs Stood stood due)
 
 -- ---- tables that stay
 
@@ -196,14 +232,20 @@ keeps_self db = record { schema = refl; rows = keeps_all db db.schema.tables }
 
 module _ {S : Type 0} (g : Ghosts S) (old new : Desk S g) where
   -- after a reply, while the desk runs
-  pub replied-leaves : (reply : Reply) → (ShowsOwn g old → OnOk reply (LeavesJust (state g new) (point_of (standing new)))) → IfErr reply (λ _. IsFalse (standing new).stopped → new ≡ old)
-      → ShowsOwn g old → LeavesJust (state g old) (point_of (standing old)) → IsFalse (standing new).stopped → LeavesJust (state g new) (point_of (standing new))
+  pub replied-leaves : (reply : Reply) → (ShowsOwn g old → OnOk reply (LeavesJust (state g new) (point_of (standing new))))
+      → IfErr reply (λ _. IsFalse (standing new).stopped → new ≡ old)
+      → ShowsOwn g old → LeavesJust (state g old) (point_of (standing old)) → IsFalse (standing new).stopped
+      → LeavesJust (state g new) (point_of (standing new))
   replied-leaves (Ok receipt) acknowledged same shows before runs = acknowledged shows
-  replied-leaves (Err why) acknowledged same shows before runs = subst (λ (d : Desk S g). LeavesJust (state g d) (point_of (standing d))) (sym (same runs)) before
+  replied-leaves (Err why) acknowledged same shows before runs =
+      subst (λ (d : Desk S g). LeavesJust (state g d) (point_of (standing d))) (sym (same runs)) before
 
   -- after reading, the desk stands where it stood
   pub read-leaves : {A : Type 0} (passing : Refusal) (read : Result A Refusal) → Reads passing (standing old) read (standing new)
       → LeavesJust (state g new) (point_of (standing old)) → LeavesJust (state g new) (point_of (standing new))
-  read-leaves passing read (inl (running, same, e)) leaves = subst (λ (s : Standing). LeavesJust (state g new) (point_of s)) (sym same) leaves
-  read-leaves passing read (inr (inl (running, same, why, fault, e))) leaves = subst (λ (s : Standing). LeavesJust (state g new) (point_of s)) (sym same) leaves
-  read-leaves passing read (inr (inr (stopped, same, e))) leaves = subst (λ (s : Standing). LeavesJust (state g new) (point_of s)) (sym same) leaves
+  read-leaves passing read (inl (running, same, e)) leaves =
+      subst (λ (s : Standing). LeavesJust (state g new) (point_of s)) (sym same) leaves
+  read-leaves passing read (inr (inl (running, same, why, fault, e))) leaves =
+      subst (λ (s : Standing). LeavesJust (state g new) (point_of s)) (sym same) leaves
+  read-leaves passing read (inr (inr (stopped, same, e))) leaves =
+      subst (λ (s : Standing). LeavesJust (state g new) (point_of s)) (sym same) leaves

@@ -1,5 +1,7 @@
 -- What a head asks for, read from its spans, and the body behind it.
-use Rattle.std.proofs.Common.{◌≡◌, ℕ, ◌+◌, ◌-◌, ◌<◌, ◌≤◌, ◌==◌, Bool, true, false, List, [], ◌∷◌, ◌++◌, length, take, drop, map, get_or, All, slice_range, Option, Some, None, Result, Ok, Err, IfSome, refl, sym, ap, subst, ◌∙◌, arith, length-append, length-drop, append-nil}
+use Rattle.std.proofs.Common.{◌≡◌, ℕ, ◌+◌, ◌-◌, ◌<◌, ◌≤◌, ◌==◌, Bool, true, false, List, [], ◌∷◌, ◌++◌, length, take, drop, get_or, All}
+use Rattle.std.proofs.Common.{slice_range, Option, Some, None, Result, Ok, Err, IfSome, refl, sym, ap, subst, ◌∙◌, arith, length-append}
+use Rattle.std.proofs.Common.{length-drop, append-nil}
 use Rattle.std.proofs.lemmas.List.{drop-append-le, drop-take, take-take, take-append-le, length-take-le, length-take}
 use Rattle.er_paper.specs.Slip.{slip_games}
 use Rattle.er_slips.specs.declared.request.head.Head.{Head}
@@ -9,7 +11,7 @@ use Rattle.std.specs.Io.KnownBytes.{Consumes, IsAtEnd}
 use Rattle.std.proofs.lemmas.Bool.Decides.{nat_tests}
 use Rattle.std.proofs.lemmas.Str.{IsUtf8-take}
 use Rattle.httparse.specs.Grammar.{RequestHead, ReadsRequest}
-use Rattle.httparse.specs.Spans.{span_bytes, header_bytes, name_and_value, IsHeaderWithin, IsRequestAt}
+use Rattle.httparse.specs.Spans.{span_bytes, IsHeaderWithin, IsRequestAt}
 use Rattle.httparse.specs.declared.spans.HeaderSpan.{HeaderSpan}
 use Rattle.httparse.specs.declared.spans.RequestSpans.{RequestSpans}
 use Rattle.httparse.proofs.GrammarLemmas.{ReadsRequest-append}
@@ -22,31 +24,36 @@ use Rattle.er_slips.specs.declared.request.asked.Unasked.TheVariants as unasked
 use Rattle.er_slips.specs.declared.request.asked.Fault.TheVariants.{BadRequest}
 use Rattle.er_slips.specs.declared.request.head.TheConstants.{MAX_HEAD}
 use Rattle.er_slips.specs.Head.{ShowsHead, IfFound}
-use Rattle.er_slips.specs.Request.{path_of, route_of, next_on, next_of, asked_with, asked_of, reported, Asks, headed, IsDueUnlessMemory, TellsAsked}
+use Rattle.er_slips.specs.Request.{path_of, next_of, asked_with, asked_of, reported, Asks, headed, IsDueUnlessMemory, TellsAsked}
 
 -- ---- the path is text
 
 -- how long the path is, and the byte behind it
-path-cut : (t : List ℕ) → (path_of t ≡ take (length (path_of t)) t) × (length (path_of t) ≤ length t) × (length (path_of t) < length t → get_or t (length (path_of t)) 0 ≡ 63)
+path-cut : (t : List ℕ) → (path_of t ≡ take (length (path_of t)) t) × (length (path_of t) ≤ length t)
+    × (length (path_of t) < length t → get_or t (length (path_of t)) 0 ≡ 63)
 path-cut [] = (refl, omega arith, λ l. absurd (omega arith))
 path-cut (b ∷ t) = by (b == 63) refl (path-cut t)
   where
-    by : (v : Bool) → (b == 63) ≡ v → (path_of t ≡ take (length (path_of t)) t) × (length (path_of t) ≤ length t) × (length (path_of t) < length t → get_or t (length (path_of t)) 0 ≡ 63)
-        → (path_of (b ∷ t) ≡ take (length (path_of (b ∷ t))) (b ∷ t)) × (length (path_of (b ∷ t)) ≤ length (b ∷ t)) × (length (path_of (b ∷ t)) < length (b ∷ t) → get_or (b ∷ t) (length (path_of (b ∷ t))) 0 ≡ 63)
+    by : (v : Bool) → (b == 63) ≡ v → (path_of t ≡ take (length (path_of t)) t) × (length (path_of t) ≤ length t)
+        × (length (path_of t) < length t → get_or t (length (path_of t)) 0 ≡ 63)
+        → (path_of (b ∷ t) ≡ take (length (path_of (b ∷ t))) (b ∷ t)) × (length (path_of (b ∷ t)) ≤ length (b ∷ t))
+        × (length (path_of (b ∷ t)) < length (b ∷ t) → get_or (b ∷ t) (length (path_of (b ∷ t))) 0 ≡ 63)
     by true e later = let is : b ≡ 63 = grind (arith, nat_tests) in rw e (refl, omega arith, λ l. is)
     by false e later = rw e (ap (λ r. b ∷ r) later.0, omega (arith, later.1), λ l. later.2 (omega (arith, l)))
 
 pub path-text : (t : List ℕ) → IsUtf8 t → IsUtf8 (path_of t)
 path-text t is = by (path-cut t)
   where
-    by : (path_of t ≡ take (length (path_of t)) t) × (length (path_of t) ≤ length t) × (length (path_of t) < length t → get_or t (length (path_of t)) 0 ≡ 63) → IsUtf8 (path_of t)
+    by : (path_of t ≡ take (length (path_of t)) t) × (length (path_of t) ≤ length t)
+        × (length (path_of t) < length t → get_or t (length (path_of t)) 0 ≡ 63) → IsUtf8 (path_of t)
     by cut =
         let edge : IsCharBoundary t (length (path_of t)) = (omega (arith, cut.1), λ l large. absurd (omega (arith, cut.2 l, large))) in
         subst IsUtf8 (sym cut.0) (IsUtf8-take t (length (path_of t)) is edge)
 
 -- ---- the head
 
-module _ (bytes : List ℕ) (headers : List HeaderSpan) (spans : RequestSpans) (head : RequestHead) (at : IsRequestAt bytes headers spans head) where
+module _ (bytes : List ℕ) (headers : List HeaderSpan) (spans : RequestSpans) (head : RequestHead)
+    (at : IsRequestAt bytes headers spans head) where
   pub path-is-text : IsUtf8 (path_of (span_bytes bytes spans.path))
   path-is-text = subst (λ t. IsUtf8 (path_of t)) (sym at.path) (path-text head.target at.reads.0.target_text)
 
@@ -58,7 +65,8 @@ wide n m hs le all = λ k d below. let h = all k d below in ((h.0.0, omega (arit
 module _ (input after : Option (List ℕ)) (bytes : List ℕ) (headers : List HeaderSpan) (spans : RequestSpans)
     (came : Consumes input after bytes) (few : length bytes ≤ MAX_HEAD) (shows : ShowsHead bytes headers spans) where
   -- what a whole input asks for, by what its head says
-  pub asks-by : (result : Result Asked Fault) → ((xs : List ℕ) → input ≡ Some xs → result ≡ asked_of shows.head (drop spans.len xs)) → IfSome input (λ xs. Asks xs result)
+  pub asks-by : (result : Result Asked Fault) → ((xs : List ℕ) → input ≡ Some xs → result ≡ asked_of shows.head (drop spans.len xs))
+      → IfSome input (λ xs. Asks xs result)
   asks-by result is = by input after refl came
     where
       by : (i a : Option (List ℕ)) → i ≡ input → Consumes i a bytes → IfSome i (λ xs. Asks xs result)
@@ -67,7 +75,8 @@ module _ (input after : Option (List ℕ)) (bytes : List ℕ) (headers : List He
       by (Some xs) (Some ys) e c =
           let size : spans.len ≤ length bytes = shows.within.section.len_fits in
           let rest : drop spans.len xs ≡ drop spans.len bytes ++ ys = ap (drop spans.len) c ∙ drop-append-le spans.len bytes ys size in
-          let reads : ReadsRequest xs shows.head (drop spans.len xs) = rw (rest, c) (ReadsRequest-append bytes shows.head (drop spans.len bytes) ys shows.at.reads) in
+          let reads : ReadsRequest xs shows.head (drop spans.len xs) =
+          rw (rest, c) (ReadsRequest-append bytes shows.head (drop spans.len bytes) ys shows.at.reads) in
           headed shows.head (drop spans.len xs) (reads, omega (arith, shows.at.len, size, few), shows.few) (is xs (sym e))
 
   pub asks-get : (asked : Asked) → next_of shows.head ≡ Ok (Get asked) → IfSome input (λ xs. Asks xs (Ok asked))
@@ -76,10 +85,13 @@ module _ (input after : Option (List ℕ)) (bytes : List ℕ) (headers : List He
   pub asks-fault : (fault : Fault) → next_of shows.head ≡ Err fault → IfSome input (λ xs. Asks xs (Err fault))
   asks-fault fault e = asks-by (Err fault) (λ xs is. ap (λ n. asked_with n (drop spans.len xs)) (sym e))
 
-  pub asks-next : (r : Result Next Unasked) (u : Unasked) → IsDueUnlessMemory (next_of shows.head) r → r ≡ Err u → IfSome input (λ xs. TellsAsked xs (Err u))
+  pub asks-next : (r : Result Next Unasked) (u : Unasked) → IsDueUnlessMemory (next_of shows.head) r → r ≡ Err u
+      → IfSome input (λ xs. TellsAsked xs (Err u))
   asks-next (Ok n) u t e = absurd (cc)
-  asks-next (Err (unasked.Refused fault)) u t e = let is : unasked.Refused fault ≡ u = cc in subst (λ v. IfSome input (λ xs. TellsAsked xs (Err v))) is (asks-fault fault t)
-  asks-next (Err unasked.Memory) u t e = let is : unasked.Memory ≡ u = cc in subst (λ v. IfSome input (λ xs. TellsAsked xs (Err v))) is (free input)
+  asks-next (Err (unasked.Refused fault)) u t e = let is : unasked.Refused fault ≡ u =
+      cc in subst (λ v. IfSome input (λ xs. TellsAsked xs (Err v))) is (asks-fault fault t)
+  asks-next (Err unasked.Memory) u t e = let is : unasked.Memory ≡ u =
+      cc in subst (λ v. IfSome input (λ xs. TellsAsked xs (Err v))) is (free input)
     where
       free : (i : Option (List ℕ)) → IfSome i (λ xs. Unit {0})
       free None = tt
@@ -88,7 +100,8 @@ module _ (input after : Option (List ℕ)) (bytes : List ℕ) (headers : List He
 
   -- ---- with a body
 
-  tells-asked : (xs : List ℕ) (due : Result Asked Fault) (r : Result Asked Unasked) → IsDueUnlessMemory due r → Asks xs due → TellsAsked xs r
+  tells-asked : (xs : List ℕ) (due : Result Asked Fault) (r : Result Asked Unasked) → IsDueUnlessMemory due r → Asks xs due
+      → TellsAsked xs r
   tells-asked xs due (Ok asked) t is = subst (Asks xs) t is
   tells-asked xs due (Err (unasked.Refused fault)) t is = subst (Asks xs) t is
   tells-asked xs due (Err unasked.Memory) t is = tt
@@ -98,11 +111,13 @@ module _ (input after : Option (List ℕ)) (bytes : List ℕ) (headers : List He
   if-some None P Q f p = tt
   if-some (Some xs) P Q f p = f xs p
 
-  behind : (xs : List ℕ) (a : Option (List ℕ)) (front : List ℕ) → Consumes (Some xs) a front → (ys : List ℕ) × (xs ≡ front ++ ys) × (IsAtEnd a → ys ≡ [])
+  behind : (xs : List ℕ) (a : Option (List ℕ)) (front : List ℕ) → Consumes (Some xs) a front
+      → (ys : List ℕ) × (xs ≡ front ++ ys) × (IsAtEnd a → ys ≡ [])
   behind xs None front c = absurd c
   behind xs (Some ys) front c = (ys, c, λ e. e)
 
-  long-enough : (round table n : ℕ) (rest : List ℕ) → n ≤ length rest → asked_with (Ok (Body round table n)) rest ≡ reported round table (slip_games (take n rest))
+  long-enough : (round table n : ℕ) (rest : List ℕ) → n ≤ length rest
+      → asked_with (Ok (Body round table n)) rest ≡ reported round table (slip_games (take n rest))
   long-enough round table n rest le = grind (arith, nat_tests)
 
   too-short : (round table n : ℕ) (rest : List ℕ) → length rest < n → asked_with (Ok (Body round table n)) rest ≡ Err BadRequest
@@ -113,33 +128,42 @@ module _ (input after : Option (List ℕ)) (bytes : List ℕ) (headers : List He
     size : length (take count buf) ≡ count
     size = length-take-le count buf fits
 
-    pub asks-body : (end : ℕ) → spans.len + n ≡ end → end ≤ count → (r : Result Asked Unasked) → IsDueUnlessMemory (reported round table (slip_games (slice_range buf spans.len end))) r → IfSome input (λ xs. TellsAsked xs r)
+    pub asks-body : (end : ℕ) → spans.len + n ≡ end → end ≤ count → (r : Result Asked Unasked)
+        → IsDueUnlessMemory (reported round table (slip_games (slice_range buf spans.len end))) r → IfSome input (λ xs. TellsAsked xs r)
     asks-body end sum enough r t =
         let due = reported round table (slip_games (slice_range buf spans.len end)) in
         if-some input (λ xs. Asks xs due) (λ xs. TellsAsked xs r) (λ xs is. tells-asked xs due r t is) (asks-by due (λ xs is.
         let more = behind xs later (take count buf) (subst (λ i. Consumes i later (take count buf)) is came-on) in
         let left : end - spans.len ≡ n = omega arith in
-        let rest : drop spans.len xs ≡ drop spans.len (take count buf) ++ more.0 = ap (drop spans.len) more.1 ∙ drop-append-le spans.len (take count buf) more.0 (omega (arith, size)) in
+        let rest : drop spans.len xs ≡ drop spans.len (take count buf) ++ more.0 =
+        ap (drop spans.len) more.1 ∙ drop-append-le spans.len (take count buf) more.0 (omega (arith, size)) in
         let long : n ≤ length (drop spans.len (take count buf)) = omega (arith, size, length-drop spans.len (take count buf)) in
-        let whole : n ≤ length (drop spans.len xs) = rw rest (omega (arith, long, length-append (drop spans.len (take count buf)) more.0)) in
+        let whole : n ≤ length (drop spans.len xs) =
+        rw rest (omega (arith, long, length-append (drop spans.len (take count buf)) more.0)) in
         let part : take n (drop spans.len (take count buf)) ≡ take n (drop spans.len buf) =
-        sym (drop-take spans.len n (take count buf)) ∙ ap (drop spans.len) (take-take (spans.len + n) count buf (omega arith)) ∙ drop-take spans.len n buf in
+        sym (drop-take spans.len n (take count buf)) ∙ ap (drop spans.len) (take-take (spans.len + n) count buf (omega arith))
+        ∙ drop-take spans.len n buf in
         let body : slice_range buf spans.len end ≡ take n (drop spans.len xs) =
-        ap (λ k. take k (drop spans.len buf)) left ∙ sym part ∙ sym (take-append-le n (drop spans.len (take count buf)) more.0 long) ∙ ap (take n) (sym rest) in
-        ap (λ b. reported round table (slip_games b)) body ∙ sym (long-enough round table n (drop spans.len xs) whole) ∙ ap (λ (k : Result Next Fault). asked_with k (drop spans.len xs)) (sym is-next)))
+        ap (λ k. take k (drop spans.len buf)) left ∙ sym part ∙ sym (take-append-le n (drop spans.len (take count buf)) more.0 long)
+        ∙ ap (take n) (sym rest) in
+        ap (λ b. reported round table (slip_games b)) body ∙ sym (long-enough round table n (drop spans.len xs) whole) ∙ ap
+        (λ (k : Result Next Fault). asked_with k (drop spans.len xs)) (sym is-next)))
 
     pub asks-short : spans.len ≤ count → count < spans.len + n → IsAtEnd later → IfSome input (λ xs. Asks xs (Err BadRequest))
     asks-short past few-came ended = asks-by (Err BadRequest) (λ xs is.
         let more = behind xs later (take count buf) (subst (λ i. Consumes i later (take count buf)) is came-on) in
         let all : xs ≡ take count buf = more.1 ∙ ap (λ ys. take count buf ++ ys) (more.2 ended) ∙ append-nil (take count buf) in
         let short : length (drop spans.len xs) < n = rw all (omega (arith, size, length-drop spans.len (take count buf))) in
-        sym (too-short round table n (drop spans.len xs) short) ∙ ap (λ (k : Result Next Fault). asked_with k (drop spans.len xs)) (sym is-next))
+        sym (too-short round table n (drop spans.len xs) short) ∙ ap (λ (k : Result Next Fault). asked_with k (drop spans.len xs))
+        (sym is-next))
 
 pub few-bytes : (n : ℕ) (xs : List ℕ) → n ≤ MAX_HEAD → length (take n xs) ≤ MAX_HEAD
 few-bytes n xs le = omega (arith, length-take n xs)
 
-pub head-fits : (bytes : List ℕ) (headers : List HeaderSpan) (spans : RequestSpans) (n : ℕ) (xs : List ℕ) → bytes ≡ take n xs → ShowsHead bytes headers spans → spans.len ≤ n
-head-fits bytes headers spans n xs e shows = let size = ap (λ (t : List ℕ). length t) e in omega (arith, shows.within.section.len_fits, size, length-take n xs)
+pub head-fits : (bytes : List ℕ) (headers : List HeaderSpan) (spans : RequestSpans) (n : ℕ) (xs : List ℕ) → bytes ≡ take n xs
+    → ShowsHead bytes headers spans → spans.len ≤ n
+head-fits bytes headers spans n xs e shows = let size =
+    ap (λ (t : List ℕ). length t) e in omega (arith, shows.within.section.len_fits, size, length-take n xs)
 
 pub shows-of : (h : Head) (spans : RequestSpans) (P : RequestSpans → Type 0) → h ≡ Found spans → IfFound h P → P spans
 shows-of h spans P e p = subst (λ k. IfFound k P) e p

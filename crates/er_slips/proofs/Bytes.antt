@@ -1,6 +1,7 @@
 -- The bytes that were read, against the whole input.
 use Rattle.std.proofs.KnownBytes.{Consumes-trans}
-use Rattle.std.proofs.Common.{◌≡◌, ℕ, ◌+◌, ◌-◌, ◌≤◌, List, ◌++◌, take, drop, length, take-take, sym, ap, subst, ◌∙◌, arith, Option, Some, None, IfSome, slice_range, length-drop}
+use Rattle.std.proofs.Common.{◌≡◌, ℕ, ◌+◌, ◌-◌, ◌≤◌, List, ◌++◌, take, drop, length, take-take, sym, ap, subst, ◌∙◌, arith, Option, Some}
+use Rattle.std.proofs.Common.{None, IfSome, slice_range, length-drop}
 use Rattle.std.proofs.lemmas.List.{take_all}
 use Rattle.std.specs.Io.KnownBytes.{Consumes}
 use Rattle.std.proofs.Math.Seq.{take-add, take-append_seam, take-append-add}
@@ -28,7 +29,8 @@ full (Some xs) (Some ys) bytes e none len = λ h rest is.
     none h (take (length bytes - length (print_request h)) rest)
     (is.0.0, cut bytes ys (print_request h) rest (sym e ∙ is.0.1) (omega (arith, is.1)))
 
-pub sent_more : (bytes : List ℕ) (sent n : ℕ) → take sent bytes ++ take n (take (length bytes - sent) (drop sent bytes)) ≡ take (sent + n) bytes
+pub sent_more : (bytes : List ℕ) (sent n : ℕ) → take sent bytes ++ take n (take (length bytes - sent) (drop sent bytes)) ≡ take
+    (sent + n) bytes
 sent_more bytes sent n =
     let short : length (drop sent bytes) ≤ length bytes - sent = omega (arith, length-drop sent bytes) in
     ap (λ t. take sent bytes ++ take n t) (take_all (length bytes - sent) (drop sent bytes) short) ∙ sym (take-add sent n bytes)
@@ -37,5 +39,7 @@ sent_more bytes sent n =
 pub shorter : (old new : List ℕ) (m n : ℕ) → m ≤ n → take n new ≡ take n old → take m new ≡ take m old
 shorter old new m n le same = sym (take-take m n new le) ∙ ap (take m) same ∙ take-take m n old le
 
-pub came_more : (start a b : Option (List ℕ)) (old new : List ℕ) (f n : ℕ) → take f new ≡ take f old → Consumes start a (take f old) → Consumes a b (slice_range new f (f + n)) → Consumes start b (take (f + n) new)
-came_more start a b old new f n kept before came = subst (λ bs. Consumes start b bs) (grown old new f n kept) (Consumes-trans start a b _ _ before came)
+pub came_more : (start a b : Option (List ℕ)) (old new : List ℕ) (f n : ℕ) → take f new ≡ take f old → Consumes start a (take f old)
+    → Consumes a b (slice_range new f (f + n)) → Consumes start b (take (f + n) new)
+came_more start a b old new f n kept before came =
+    subst (λ bs. Consumes start b bs) (grown old new f n kept) (Consumes-trans start a b _ _ before came)

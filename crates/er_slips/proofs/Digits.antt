@@ -36,7 +36,8 @@ module _ (word : List ℕ) (all : list_all is_ascii_digit word ≡ true) where
     -- what `parse` gives of at most three digits
     pub number_of-parsed : {E : Type 0} (r : Result ℕ E) → ParsesUnsigned 16 10 word r → result_ok r ≡ number_of word
     number_of-parsed {E} (Ok n) parsed =
-        let read : ((0 < length word) × (digits_value 10 word < 2 ^ 16)) × (n ≡ digits_value 10 word) = parse_digits numerals {E = E} 16 word (Ok n) parsed all in
+        let read : ((0 < length word) × (digits_value 10 word < 2 ^ 16)) × (n ≡ digits_value 10 word) =
+        parse_digits numerals {E = E} 16 word (Ok n) parsed all in
         ap Some read.1 ∙ sym (read-yes read.0.0)
     number_of-parsed {E} (Err e) parsed =
         let unread : ¬ ((0 < length word) × (digits_value 10 word < 2 ^ 16)) = parse_digits numerals {E = E} 16 word (Err e) parsed all in
@@ -50,9 +51,11 @@ module _ (word : List ℕ) (all : list_all is_ascii_digit word ≡ true) where
     length-large large = grind (arith, nat_tests)
 
     -- what `parse` gives of any number of digits
-    pub length_of-read : {E : Type 0} (r : Result ℕ E) → ParsesUnsigned 64 10 word r → (n : ℕ) → r ≡ Ok n → n ≤ MAX_BODY → length_of word ≡ Ok n
+    pub length_of-read : {E : Type 0} (r : Result ℕ E) → ParsesUnsigned 64 10 word r → (n : ℕ) → r ≡ Ok n → n ≤ MAX_BODY
+        → length_of word ≡ Ok n
     length_of-read {E} (Ok m) parsed n e small =
-        let read : ((0 < length word) × (digits_value 10 word < 2 ^ 64)) × (m ≡ digits_value 10 word) = parse_digits numerals {E = E} 64 word (Ok m) parsed all in
+        let read : ((0 < length word) × (digits_value 10 word < 2 ^ 64)) × (m ≡ digits_value 10 word) =
+        parse_digits numerals {E = E} 64 word (Ok m) parsed all in
         let same : m ≡ n = cc in
         length-yes (omega (arith, read.1, same)) ∙ ap Ok (sym read.1 ∙ same)
     length_of-read {E} (Err f) parsed n e small = absurd (apart f n e)
@@ -60,9 +63,11 @@ module _ (word : List ℕ) (all : list_all is_ascii_digit word ≡ true) where
         apart : (f : E) (n : ℕ) → Err f ≡ Ok n → ⊥
         apart f n e = absurd (cc)
 
-    pub length_of-large : {E : Type 0} (r : Result ℕ E) → ParsesUnsigned 64 10 word r → ((n : ℕ) → r ≡ Ok n → MAX_BODY < n) → length_of word ≡ Err TooLarge
+    pub length_of-large : {E : Type 0} (r : Result ℕ E) → ParsesUnsigned 64 10 word r → ((n : ℕ) → r ≡ Ok n → MAX_BODY < n)
+        → length_of word ≡ Err TooLarge
     length_of-large {E} (Ok m) parsed large =
-        let read : ((0 < length word) × (digits_value 10 word < 2 ^ 64)) × (m ≡ digits_value 10 word) = parse_digits numerals {E = E} 64 word (Ok m) parsed all in
+        let read : ((0 < length word) × (digits_value 10 word < 2 ^ 64)) × (m ≡ digits_value 10 word) =
+        parse_digits numerals {E = E} 64 word (Ok m) parsed all in
         length-large (omega (arith, read.1, large m refl))
     length_of-large {E} (Err f) parsed large =
         let unread : ¬ ((0 < length word) × (digits_value 10 word < 2 ^ 64)) = parse_digits numerals {E = E} 64 word (Err f) parsed all in

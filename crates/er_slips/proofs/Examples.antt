@@ -9,7 +9,8 @@ use Rattle.er_event.specs.declared.players.Player.{Player}
 use Rattle.er_event.specs.declared.scores.Games.{Games}
 use Rattle.er_event.specs.declared.commands.Command.{Command}
 use Rattle.er_event.specs.declared.commands.Command.TheVariants.{Result as Hand}
-use Rattle.er_event.specs.declared.refusals.Refusal.TheVariants.{AlreadyReported, BadScore, NotSwiss, NoSuchMatch, IsBye, SerialFull, Memory, Store, NeedsReopen}
+use Rattle.er_event.specs.declared.refusals.Refusal.TheVariants.{AlreadyReported, BadScore, NotSwiss, NoSuchMatch, IsBye, SerialFull}
+use Rattle.er_event.specs.declared.refusals.Refusal.TheVariants.{Memory, Store, NeedsReopen}
 use Rattle.er_event.specs.declared.refusals.Cause.TheVariants.{Refused}
 use Rattle.er_event.specs.Change.{with_score}
 use Rattle.er_event.specs.Event.{EventValue}
@@ -46,36 +47,44 @@ pub accepted : receipt_answer 7 ≡ answer 200 (codes "HTTP/1.1 200 OK\r\nConten
 unfolding digits
 accepted = refl
 
-pub not_allowed : fault_answer (NotAllowed false) ≡ answer 405 (codes "HTTP/1.1 405 Method Not Allowed\r\nAllow: GET\r\nContent-Type: application/json\r\nContent-Length: 30\r\nConnection: close\r\n\r\n{\"error\":\"method not allowed\"}")
+pub not_allowed : fault_answer (NotAllowed false) ≡ answer 405
+    (codes "HTTP/1.1 405 Method Not Allowed\r\nAllow: GET\r\nContent-Type: application/json\r\nContent-Length: 30\r\nConnection: close\r\n\r\n{\"error\":\"method not allowed\"}")
 unfolding digits
 not_allowed = refl
 
-pub not_allowed_on_a_table : fault_answer (NotAllowed true) ≡ answer 405 (codes "HTTP/1.1 405 Method Not Allowed\r\nAllow: GET, POST\r\nContent-Type: application/json\r\nContent-Length: 30\r\nConnection: close\r\n\r\n{\"error\":\"method not allowed\"}")
+pub not_allowed_on_a_table : fault_answer (NotAllowed true) ≡ answer 405
+    (codes "HTTP/1.1 405 Method Not Allowed\r\nAllow: GET, POST\r\nContent-Type: application/json\r\nContent-Length: 30\r\nConnection: close\r\n\r\n{\"error\":\"method not allowed\"}")
 unfolding digits
 not_allowed_on_a_table = refl
 
-pub bad_request : fault_answer BadRequest ≡ answer 400 (codes "HTTP/1.1 400 Bad Request\r\nContent-Type: application/json\r\nContent-Length: 23\r\nConnection: close\r\n\r\n{\"error\":\"bad request\"}")
+pub bad_request : fault_answer BadRequest ≡ answer 400
+    (codes "HTTP/1.1 400 Bad Request\r\nContent-Type: application/json\r\nContent-Length: 23\r\nConnection: close\r\n\r\n{\"error\":\"bad request\"}")
 unfolding digits
 bad_request = refl
 
-pub not_found : fault_answer NotFound ≡ answer 404 (codes "HTTP/1.1 404 Not Found\r\nContent-Type: application/json\r\nContent-Length: 21\r\nConnection: close\r\n\r\n{\"error\":\"not found\"}")
+pub not_found : fault_answer NotFound ≡ answer 404
+    (codes "HTTP/1.1 404 Not Found\r\nContent-Type: application/json\r\nContent-Length: 21\r\nConnection: close\r\n\r\n{\"error\":\"not found\"}")
 unfolding digits
 not_found = refl
 
-pub too_large : fault_answer TooLarge ≡ answer 413 (codes "HTTP/1.1 413 Content Too Large\r\nContent-Type: application/json\r\nContent-Length: 26\r\nConnection: close\r\n\r\n{\"error\":\"body too large\"}")
+pub too_large : fault_answer TooLarge ≡ answer 413
+    (codes "HTTP/1.1 413 Content Too Large\r\nContent-Type: application/json\r\nContent-Length: 26\r\nConnection: close\r\n\r\n{\"error\":\"body too large\"}")
 unfolding digits
 too_large = refl
 
 -- with the score that stands, in 67 bytes
-pub reported_again : refusal_answer (AlreadyReported (record { x = 2; y = 1; d = 0 })) ≡ answer 409 (codes "HTTP/1.1 409 Conflict\r\nContent-Type: application/json\r\nContent-Length: 67\r\nConnection: close\r\n\r\n{\"name\":\"AlreadyReported\",\"refused\":14,\"score\":{\"a\":2,\"b\":1,\"d\":0}}")
+pub reported_again : refusal_answer (AlreadyReported (record { x = 2; y = 1; d = 0 })) ≡ answer 409
+    (codes "HTTP/1.1 409 Conflict\r\nContent-Type: application/json\r\nContent-Length: 67\r\nConnection: close\r\n\r\n{\"name\":\"AlreadyReported\",\"refused\":14,\"score\":{\"a\":2,\"b\":1,\"d\":0}}")
 unfolding digits
 reported_again = refl
 
-pub no_memory : refusal_answer Memory ≡ answer 503 (codes "HTTP/1.1 503 Service Unavailable\r\nContent-Type: application/json\r\nContent-Length: 30\r\nConnection: close\r\n\r\n{\"name\":\"Memory\",\"refused\":24}")
+pub no_memory : refusal_answer Memory ≡ answer 503
+    (codes "HTTP/1.1 503 Service Unavailable\r\nContent-Type: application/json\r\nContent-Length: 30\r\nConnection: close\r\n\r\n{\"name\":\"Memory\",\"refused\":24}")
 unfolding digits
 no_memory = refl
 
-pub statuses : map status_of (NotSwiss ∷ NoSuchMatch ∷ BadScore ∷ IsBye ∷ SerialFull ∷ Memory ∷ Store Refused ∷ NeedsReopen ∷ []) ≡ 409 ∷ 404 ∷ 409 ∷ 409 ∷ 409 ∷ 503 ∷ 503 ∷ 503 ∷ []
+pub statuses : map status_of (NotSwiss ∷ NoSuchMatch ∷ BadScore ∷ IsBye ∷ SerialFull ∷ Memory ∷ Store Refused ∷ NeedsReopen ∷ [])
+    ≡ 409 ∷ 404 ∷ 409 ∷ 409 ∷ 409 ∷ 503 ∷ 503 ∷ 503 ∷ []
 statuses = refl
 
 pub a_slip : slip_answer (codes "{\"first\":{\"name\":\"Di\",\"no\":4},\"round\":1,\"score\":null,\"second\":{\"name\":\"Bo\",\"no\":2},\"table\":1}")
@@ -83,7 +92,8 @@ pub a_slip : slip_answer (codes "{\"first\":{\"name\":\"Di\",\"no\":4},\"round\"
 unfolding digits
 a_slip = refl
 
-pub a_text : text_answer (codes "ab") ≡ answer 200 (codes "HTTP/1.1 200 OK\r\nContent-Type: text/plain; charset=utf-8\r\nContent-Length: 2\r\nConnection: close\r\n\r\nab")
+pub a_text : text_answer (codes "ab") ≡ answer 200
+    (codes "HTTP/1.1 200 OK\r\nContent-Type: text/plain; charset=utf-8\r\nContent-Length: 2\r\nConnection: close\r\n\r\nab")
 unfolding digits
 a_text = refl
 
@@ -93,21 +103,32 @@ a_text = refl
 pub of_standings : route_of (path_of (codes "/standings?x=/")) ≡ Some route.Standings
 of_standings = refl
 
-pub of_rounds : map route_of (codes "/rounds/0" ∷ codes "/rounds/000" ∷ codes "/rounds/255" ∷ []) ≡ Some (route.Round 0) ∷ Some (route.Round 0) ∷ Some (route.Round 255) ∷ []
+pub of_rounds : map route_of (codes "/rounds/0" ∷ codes "/rounds/000" ∷ codes "/rounds/255" ∷ []) ≡ Some (route.Round 0) ∷ Some
+    (route.Round 0) ∷ Some (route.Round 255) ∷ []
 of_rounds = refl
 
-pub of_tables : map route_of (codes "/rounds/1/tables/999" ∷ codes "/rounds/001/tables/0" ∷ []) ≡ Some (route.Table 1 999) ∷ Some (route.Table 1 0) ∷ []
+pub of_tables : map route_of (codes "/rounds/1/tables/999" ∷ codes "/rounds/001/tables/0" ∷ []) ≡ Some (route.Table 1 999) ∷ Some
+    (route.Table 1 0) ∷ []
 of_tables = refl
 
 -- another path, a round above 255, four digits, a slash at the end, nothing or a sign for a number, an encoded digit
-pub no_routes : map route_of (codes "/nope" ∷ codes "/rounds/256" ∷ codes "/rounds/0001" ∷ codes "/rounds/1/" ∷ codes "/rounds/1/tables/" ∷ codes "/rounds/+1" ∷ codes "/rounds/%31" ∷ [])
+pub no_routes : map route_of (codes "/nope" ∷ codes "/rounds/256" ∷ codes "/rounds/0001" ∷ codes "/rounds/1/" ∷ codes "/rounds/1/tables/"
+    ∷ codes "/rounds/+1" ∷ codes "/rounds/%31" ∷ [])
     ≡ None ∷ None ∷ None ∷ None ∷ None ∷ None ∷ None ∷ []
 no_routes = refl
 
 -- ---- requests
 
 abbrev head_with : List ℕ → List ℕ → List Field → RequestHead
-head_with method target fields = record { blank = []; method = method; target = target; minor = 1; line_end = crlf; fields = fields; last = crlf }
+head_with method target fields = record {
+  blank = [];
+  method = method;
+  target = target;
+  minor = 1;
+  line_end = crlf;
+  fields = fields;
+  last = crlf;
+}
 
 abbrev field : List ℕ → List ℕ → Field
 field name value = record { name = name; raw = 32 ∷ value; end = crlf }
@@ -146,7 +167,8 @@ pub two_lengths : (rest : List ℕ) → asked_of (post (of_length (codes "4097")
 unfolding httparse_on_literals digits
 two_lengths rest = refl
 
-pub encoded : (rest : List ℕ) → asked_of (post (of_length (codes "4097") ∷ field (codes "Transfer-Encoding") (codes "chunked") ∷ [])) rest ≡ Err BadRequest
+pub encoded : (rest : List ℕ) → asked_of (post (of_length (codes "4097") ∷ field (codes "Transfer-Encoding") (codes "chunked") ∷ [])) rest
+    ≡ Err BadRequest
 unfolding httparse_on_literals digits
 encoded rest = refl
 
@@ -155,7 +177,8 @@ unfolding httparse_on_literals digits
 signed_length rest = refl
 
 -- the body's 19 bytes, and no more, are read as a slip
-pub handed_in : asked_of (post (of_length (codes "19") ∷ [])) (codes "{\"a\":2,\"b\":1,\"d\":0} and more") ≡ reported 1 1 (slip_games (codes "{\"a\":2,\"b\":1,\"d\":0}"))
+pub handed_in : asked_of (post (of_length (codes "19") ∷ [])) (codes "{\"a\":2,\"b\":1,\"d\":0} and more") ≡ reported 1 1
+    (slip_games (codes "{\"a\":2,\"b\":1,\"d\":0}"))
 unfolding httparse_on_literals digits
 handed_in = refl
 
@@ -182,7 +205,8 @@ friday = record {
   bracket = record { stages = [] };
 }
 
-pub slip_shown : row_answer (slip_of friday 1 1) ≡ slip_answer (slip_text (record { round = 1; table = 1; first = (4, codes "Di"); second = Some (2, codes "Bo"); score = None }))
+pub slip_shown : row_answer (slip_of friday 1 1) ≡ slip_answer
+    (slip_text (record { round = 1; table = 1; first = (4, codes "Di"); second = Some (2, codes "Bo"); score = None }))
 slip_shown = refl
 
 pub no_slip : row_answer (slip_of friday 1 3) ≡ refusal_answer NoSuchMatch

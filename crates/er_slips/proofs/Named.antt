@@ -1,5 +1,6 @@
 -- The fields of a head, one at a time.
-use Rattle.std.proofs.Common.{◌≡◌, ℕ, ◌+◌, ◌<◌, Bool, true, false, ◌||◌, Bor, List, [], ◌∷◌, ◌++◌, codes, take, drop, length, map, filter, get_or, Option, Some, None, Err, refl, sym, ap, ◌∙◌, arith, take-append-drop, if◌then◌else◌}
+use Rattle.std.proofs.Common.{◌≡◌, ℕ, ◌+◌, ◌<◌, Bool, true, false, ◌||◌, Bor, List, [], ◌∷◌, ◌++◌, codes, take, drop, length, map, filter}
+use Rattle.std.proofs.Common.{get_or, Option, Some, None, Err, refl, sym, ap, ◌∙◌, arith, take-append-drop, if◌then◌else◌}
 use Rattle.std.specs.List.{list_any}
 use Rattle.std.proofs.lemmas.List.{take_more, get_or-map, length-map}
 use Rattle.std.specs.Option.{is_some}
@@ -8,7 +9,7 @@ use Rattle.httparse.specs.declared.spans.HeaderSpan.{HeaderSpan}
 use Rattle.std.proofs.lemmas.List.Elements.{filter-append, filter_more}
 use Rattle.std.proofs.lemmas.List.Folds.{list_any-append}
 use Rattle.er_slips.specs.declared.request.asked.Fault.TheVariants.{BadRequest}
-use Rattle.er_slips.specs.Request.{HeadField, is_named, only_length, body_length, length_of}
+use Rattle.er_slips.specs.Request.{HeadField, is_named, only_length, body_length}
 
 abbrev pub refused : HeadField → Bool
 refused field = is_named (codes "transfer-encoding") field
@@ -23,7 +24,8 @@ HasFound fields (Some value) = (name : List ℕ) × (filter counted fields ≡ (
 
 filter-at : (fields : List HeadField) (i : ℕ) (field : HeadField) → i < length fields → field ≡ get_or fields i field
     → filter counted (take (i + 1) fields) ≡ filter counted (take i fields) ++ filter counted (field ∷ [])
-filter-at fields i field below is = filter_more counted fields i field below ∙ ap (λ f. filter counted (take i fields) ++ filter counted (f ∷ [])) (sym is)
+filter-at fields i field below is = filter_more counted fields i field below ∙ ap
+    (λ f. filter counted (take i fields) ++ filter counted (f ∷ [])) (sym is)
 
 any-at : (fields : List HeadField) (i : ℕ) (field : HeadField) → i < length fields → field ≡ get_or fields i field
     → list_any refused (take (i + 1) fields) ≡ (list_any refused (take i fields) || (refused field || false))
@@ -39,24 +41,30 @@ whole : (fields : List HeadField) (i : ℕ) → take i fields ++ drop i fields �
 whole fields i = take-append-drop i fields
 
 -- the state after one more field
-pub whole-more : (fields : List HeadField) (i : ℕ) (field : HeadField) → i < length fields → field ≡ get_or fields i field → refused field ≡ false
+pub whole-more : (fields : List HeadField) (i : ℕ) (field : HeadField) → i < length fields → field ≡ get_or fields i field
+    → refused field ≡ false
     → list_any refused (take i fields) ≡ false → list_any refused (take (i + 1) fields) ≡ false
 whole-more fields i field below is not so_far = any-at fields i field below is ∙ rw (so_far, not) refl
 
-pub found-same : (fields : List HeadField) (i : ℕ) (field : HeadField) (found : Option (Bor (List ℕ))) → i < length fields → field ≡ get_or fields i field → counted field ≡ false
+pub found-same : (fields : List HeadField) (i : ℕ) (field : HeadField) (found : Option (Bor (List ℕ))) → i < length fields
+    → field ≡ get_or fields i field → counted field ≡ false
     → HasFound (take i fields) found → HasFound (take (i + 1) fields) found
 found-same fields i field None below is not so_far = filter-at fields i field below is ∙ rw (so_far, not) refl
 found-same fields i field (Some value) below is not so_far = (so_far.0, filter-at fields i field below is ∙ rw (so_far.1, not) refl)
 
-pub found-new : (fields : List HeadField) (i : ℕ) (field : HeadField) (value : Bor (List ℕ)) → i < length fields → field ≡ get_or fields i field → counted field ≡ true
+pub found-new : (fields : List HeadField) (i : ℕ) (field : HeadField) (value : Bor (List ℕ)) → i < length fields
+    → field ≡ get_or fields i field → counted field ≡ true
     → value.now ≡ field.1 → HasFound (take i fields) None → HasFound (take (i + 1) fields) (Some value)
-found-new fields i field value below is so same so_far = (field.0, filter-at fields i field below is ∙ rw (so_far, so) (ap (λ v. (field.0, v) ∷ []) (sym same)))
+found-new fields i field value below is so same so_far =
+    (field.0, filter-at fields i field below is ∙ rw (so_far, so) (ap (λ v. (field.0, v) ∷ []) (sym same)))
 
 -- the answers
-pub refused-at : (fields : List HeadField) (i : ℕ) (field : HeadField) → i < length fields → field ≡ get_or fields i field → refused field ≡ true → body_length fields ≡ Err BadRequest
+pub refused-at : (fields : List HeadField) (i : ℕ) (field : HeadField) → i < length fields → field ≡ get_or fields i field
+    → refused field ≡ true → body_length fields ≡ Err BadRequest
 refused-at fields i field below is so =
     let any : list_any refused fields ≡ true =
-    let front : list_any refused (take (i + 1) fields) ≡ true = any-at fields i field below is ∙ rw so (or-true (list_any refused (take i fields))) in
+    let front : list_any refused (take (i + 1) fields) ≡ true =
+    any-at fields i field below is ∙ rw so (or-true (list_any refused (take i fields))) in
     ap (list_any refused) (sym (whole fields (i + 1))) ∙ list_any-append refused (take (i + 1) fields) (drop (i + 1) fields)
     ∙ ap (λ b. b || list_any refused (drop (i + 1) fields)) front in
     rw any refl
@@ -65,21 +73,26 @@ second : (b : Bool) (v w : HeadField) (rest : List HeadField) → (if b then Err
 second true v w rest = refl
 second false v w rest = refl
 
-pub second-at : (fields : List HeadField) (i : ℕ) (field : HeadField) (value : Bor (List ℕ)) → i < length fields → field ≡ get_or fields i field → counted field ≡ true
+pub second-at : (fields : List HeadField) (i : ℕ) (field : HeadField) (value : Bor (List ℕ)) → i < length fields
+    → field ≡ get_or fields i field → counted field ≡ true
     → HasFound (take i fields) (Some value) → body_length fields ≡ Err BadRequest
 second-at fields i field value below is so so_far =
     let counts : filter counted fields ≡ (so_far.0, value.now) ∷ field ∷ filter counted (drop (i + 1) fields) =
-    let front : filter counted (take (i + 1) fields) ≡ (so_far.0, value.now) ∷ field ∷ [] = filter-at fields i field below is ∙ rw (so_far.1, so) refl in
+    let front : filter counted (take (i + 1) fields) ≡ (so_far.0, value.now) ∷ field ∷ [] = filter-at fields i field below is
+    ∙ rw (so_far.1, so) refl in
     ap (filter counted) (sym (whole fields (i + 1))) ∙ filter-append counted (take (i + 1) fields) (drop (i + 1) fields)
     ∙ ap (λ fs. fs ++ filter counted (drop (i + 1) fields)) front in
-    ap (λ fs. if list_any refused fields then Err BadRequest else only_length fs) counts ∙ second (list_any refused fields) (so_far.0, value.now) field (filter counted (drop (i + 1) fields))
+    ap (λ fs. if list_any refused fields then Err BadRequest else only_length fs) counts
+    ∙ second (list_any refused fields) (so_far.0, value.now) field (filter counted (drop (i + 1) fields))
 
-pub second-found : (fields : List HeadField) (i : ℕ) (field : HeadField) (found : Option (Bor (List ℕ))) → i < length fields → field ≡ get_or fields i field → counted field ≡ true
+pub second-found : (fields : List HeadField) (i : ℕ) (field : HeadField) (found : Option (Bor (List ℕ))) → i < length fields
+    → field ≡ get_or fields i field → counted field ≡ true
     → is_some found ≡ true → HasFound (take i fields) found → body_length fields ≡ Err BadRequest
 second-found fields i field None below is so some so_far = absurd (cc)
 second-found fields i field (Some value) below is so some so_far = second-at fields i field value below is so so_far
 
-pub was-none : (fields : List HeadField) (found : Option (Bor (List ℕ))) → is_some found ≡ false → HasFound fields found → HasFound fields None
+pub was-none : (fields : List HeadField) (found : Option (Bor (List ℕ))) → is_some found ≡ false → HasFound fields found
+    → HasFound fields None
 was-none fields None none so_far = so_far
 was-none fields (Some value) none so_far = absurd (cc)
 
@@ -90,7 +103,9 @@ no_header = record { name = record { start = 0; end = 0 }; value = record { star
 
 module _ (bytes : List ℕ) (headers : List HeaderSpan) (i : ℕ) (below : i < length headers) where
   pub field-below : i < length (map (header_bytes bytes) headers)
-  field-below = let same : length (map (header_bytes bytes) headers) ≡ length headers = length-map headers (header_bytes bytes) in omega arith
+  field-below = let same : length (map (header_bytes bytes) headers) ≡ length headers =
+      length-map headers (header_bytes bytes) in omega arith
 
-  pub field-is : header_bytes bytes (get_or headers i no_header) ≡ get_or (map (header_bytes bytes) headers) i (header_bytes bytes (get_or headers i no_header))
+  pub field-is : header_bytes bytes (get_or headers i no_header) ≡ get_or (map (header_bytes bytes) headers) i
+      (header_bytes bytes (get_or headers i no_header))
   field-is = sym (get_or-map (header_bytes bytes) headers i no_header (header_bytes bytes (get_or headers i no_header)) below)

@@ -1,16 +1,20 @@
 -- Which route a path has, in plain words.
-use Rattle.std.proofs.Common.{◌≡◌, ◌≢◌, ℕ, zero, suc, ◌-◌, ◌<◌, Bool, true, false, cond, not, ◌&&◌, ◌||◌, List, [], ◌∷◌, ◌++◌, codes, drop, length, get_or, Option, Some, None, refl, sym, ap, ap₂, ◌∙◌, arith, nat_eq, ◌==◌, ltb, append-nil, length-append, lit<, Fits, w8}
+use Rattle.std.proofs.Common.{◌≡◌, ◌≢◌, ℕ, zero, suc, ◌-◌, ◌<◌, Bool, true, false, cond, not, ◌&&◌, ◌||◌, List, [], ◌∷◌, ◌++◌, codes, drop}
+use Rattle.std.proofs.Common.{length, get_or, Option, Some, None, refl, sym, ap, ap₂, ◌∙◌, arith, nat_eq, ◌==◌, ltb, append-nil}
+use Rattle.std.proofs.Common.{length-append, lit<, Fits, w8}
 use Rattle.std.specs.Cmp.Lexicographic.{pointwise}
 use Rattle.std.proofs.lemmas.Bool.Decides.{nat_tests}
 use Rattle.std.specs.List.{starts_with}
 use Rattle.matchit.specs.Rows.{Rows, Seen, prepend, ends, param_token, catch_all_token, rows, rows_of}
 use Rattle.matchit.specs.Seek.{step, or_else, seek, first, after_param, param_step, segment, has_slash, longest_suffix, cuts}
 use Rattle.matchit.specs.Level.{IsText, AreSuffixes}
-use Rattle.matchit.proofs.SeekLemmas.{first-prefix, step-append, step-hit, step-miss, prepend-nil, seek-empty, param_step-empty, or_else-none, own-append}
+use Rattle.matchit.proofs.SeekLemmas.{first-prefix, step-append, step-hit, step-miss, prepend-nil, seek-empty, param_step-empty}
+use Rattle.matchit.proofs.SeekLemmas.{or_else-none, own-append}
 use Rattle.matchit.proofs.ParamLemmas.{after_param-end, after_param-stop, after_param-kid}
 use Rattle.matchit.specs.Router.{RouteOf, rename, map_key}
 use Rattle.matchit.proofs.RenameLemmas.{first-rename}
-use Rattle.er_slips.specs.Routes.{routes, before, after, is_empty, ends_in_number, after_round, in_rounds, after_root, number_of_route, round_pattern, table_pattern}
+use Rattle.er_slips.specs.Routes.{routes, before, after, is_empty, ends_in_number, after_round, in_rounds, after_root, number_of_route}
+use Rattle.er_slips.specs.Routes.{round_pattern, table_pattern}
 
 -- ---- a text's first part
 
@@ -20,7 +24,8 @@ IsWhole p = (after p ≡ []) × (before p ≡ p) × (segment p ≡ p)
 true_false : true ≡ false → ⊥
 true_false e = absurd (cc)
 
-no_slash_by : (v : Bool) (b : ℕ) (p : List ℕ) → (b == 47) ≡ v → (has_slash p ≡ false → IsWhole p) → has_slash (b ∷ p) ≡ false → IsWhole (b ∷ p)
+no_slash_by : (v : Bool) (b : ℕ) (p : List ℕ) → (b == 47) ≡ v → (has_slash p ≡ false → IsWhole p) → has_slash (b ∷ p) ≡ false
+    → IsWhole (b ∷ p)
 no_slash_by true b p q later e = let bad : true ≡ false = rw q at e in absurd (true_false bad)
 no_slash_by false b p q later e =
     let ih = later (rw q at e) in
@@ -88,10 +93,12 @@ tables : Seen
 tables = record { prefix = 47 ∷ []; tails = prepend (codes "tables/") ((param_token ∷ [], 2) ∷ []); height = 0 }
 
 abbrev after_number : Rows
-after_number = rows_of (record { prefix = 47 ∷ []; tails = prepend (codes "tables/") ((param_token ∷ [], 2) ∷ []); height = 0 } ∷ []) ++ ends (Some 1)
+after_number = rows_of (record { prefix = 47 ∷ []; tails = prepend (codes "tables/") ((param_token ∷ [], 2) ∷ []); height = 0 } ∷ [])
+    ++ ends (Some 1)
 
 -- a byte is no token
-param_only : (t : Rows) (c : ℕ) (p : List ℕ) → c < 256 → first (prepend (param_token ∷ []) t) (c ∷ p) ≡ after_param (step param_token (prepend (param_token ∷ []) t)) (c ∷ p)
+param_only : (t : Rows) (c : ℕ) (p : List ℕ) → c < 256
+    → first (prepend (param_token ∷ []) t) (c ∷ p) ≡ after_param (step param_token (prepend (param_token ∷ []) t)) (c ∷ p)
 unfolding seek
 param_only t c p small =
     let miss : param_token ≢ c = λ e. omega arith in
@@ -100,7 +107,8 @@ param_only t c p small =
 
 -- what two lists of rows with other first bytes answer
 two_steps : (v0 : Bool) (x y c : ℕ) (w v : List ℕ) (t u : Rows) (p : List ℕ) → (x == c) ≡ v0 → x ≢ y
-    → seek 0 (step c (prepend (x ∷ w) t) ++ step c (prepend (y ∷ v) u)) p ≡ or_else (seek 0 (step c (prepend (x ∷ w) t)) p) (seek 0 (step c (prepend (y ∷ v) u)) p)
+    → seek 0 (step c (prepend (x ∷ w) t) ++ step c (prepend (y ∷ v) u)) p ≡ or_else (seek 0 (step c (prepend (x ∷ w) t)) p)
+    (seek 0 (step c (prepend (y ∷ v) u)) p)
 two_steps true x y c w v t u p q n =
     let other : y ≢ c = λ e. n (grind (arith, nat_tests)) in
     rw (step-miss c y v u other, append-nil (step c (prepend (x ∷ w) t)), seek-empty 0 p, or_else-none) refl
@@ -226,7 +234,8 @@ slash_by false c p q cut e h =
     ∙ ap (first (rows tables)) (kid_rest c p cut) ∙ round_rest (after (c ∷ p)) (text_after (c ∷ p) h)
     ∙ sym (rounds_slash false c p q cut)
 
-rounds_by : (v : Bool) (c : ℕ) (p : List ℕ) → has_slash (c ∷ p) ≡ v → IsText (c ∷ p) → after_param (rows_of (tables ∷ []) ++ ends (Some 1)) (c ∷ p) ≡ in_rounds (c ∷ p)
+rounds_by : (v : Bool) (c : ℕ) (p : List ℕ) → has_slash (c ∷ p) ≡ v → IsText (c ∷ p)
+    → after_param (rows_of (tables ∷ []) ++ ends (Some 1)) (c ∷ p) ≡ in_rounds (c ∷ p)
 rounds_by false c p e h =
     let whole = no_slash (c ∷ p) e in
     let longest = longest_is (segment (c ∷ p)) ∙ ap chosen whole.2 ∙ ap (λ (b : Bool). cond b (47 ∷ []) []) (cuts_none (c ∷ p) e) in
@@ -278,7 +287,8 @@ root_by false false z o n = refl
 
 root : (text : List ℕ) → IsText text → first (rounds_rows ++ standings_rows) text ≡ after_root text
 root text h =
-    two 114 115 (codes "ounds/") (codes "tandings") (prepend (param_token ∷ []) after_number) (ends (Some 0)) text (lit< tt) (lit< tt) (λ e. omega arith)
+    two 114 115 (codes "ounds/") (codes "tandings") (prepend (param_token ∷ []) after_number) (ends (Some 0)) text (lit< tt) (lit< tt)
+    (λ e. omega arith)
     ∙ ap₂ or_else
     (first-prefix (codes "rounds/") (prepend (param_token ∷ []) after_number) text rounds_text
     ∙ ap (λ (o : Option ℕ). cond (begins_rounds text) o None) (rounds_rest (drop 7 text) (text_drop 7 text h)))

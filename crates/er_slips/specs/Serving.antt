@@ -1,6 +1,6 @@
 -- What serving one request does: to the desk, and to what is written.
 use Rattle.std.specs.Global.{Global}
-use Rattle.std.specs.Prelude.{◌≡◌, ◌⊎◌, ◌≤◌, ℕ, IsTrue, IsFalse, List, length, take, Option, Some, Result, Ok, Err, IfOk, IfSome, Vec}
+use Rattle.std.specs.Prelude.{◌≡◌, ◌⊎◌, ◌≤◌, ℕ, List, length, take, Option, Some, Result, Ok, Err, IfOk, IfSome, Vec}
 use Rattle.std.specs.Io.KnownBytes.{Appends, Keeps}
 use Rattle.er_event.specs.declared.commands.Command.TheVariants.{Result as Hand}
 use Rattle.er_event.specs.declared.refusals.Refusal.{Refusal}

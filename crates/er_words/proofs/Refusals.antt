@@ -1,5 +1,6 @@
 -- When the parser refuses words of which none begins with a hyphen: never, where the first names a subcommand.
-use Rattle.std.proofs.Common.{◌≡◌, ℕ, ◌<◌, ◌≤◌, Bool, true, false, ◌&&◌, List, [], ◌∷◌, ◌++◌, length, codes, Option, Some, None, is_some, option_map, refl, sym, ap, ap₂, ◌∙◌, cond, arith, ◌⊎◌, inl, inr, ◌^◌}
+use Rattle.std.proofs.Common.{◌≡◌, ℕ, ◌<◌, ◌≤◌, Bool, true, false, ◌&&◌, List, [], ◌∷◌, ◌++◌, length, codes, Option, Some, None, is_some}
+use Rattle.std.proofs.Common.{option_map, refl, sym, ap, ap₂, ◌∙◌, cond, arith, ◌⊎◌, inl, inr, ◌^◌}
 use Rattle.std.specs.List.{fold}
 use Rattle.std.specs.Str.{bytes_eq}
 use Rattle.std.specs.Option.{option_map_or}
@@ -8,15 +9,19 @@ use borrow.Author.Tests.{le-ltb}
 use Rattle.clap.specs.Words.{App, Row, Shape, Text, built}
 use Rattle.clap.specs.Lexer.{usize_max}
 use Rattle.clap.specs.Simple.{label_of, entered, subcommand_of}
-use Rattle.clap.specs.Walk.{Held, Step, Waiting, Walk, idle, positional, value, walked, walk_from, nothing_held, word_met, settled, finished, rows_after}
+use Rattle.clap.specs.Walk.{Held, Step, Waiting, Walk, idle, positional, value, walked, walk_from, nothing_held, word_met, settled}
+use Rattle.clap.specs.Walk.{finished, rows_after}
 use Rattle.clap.specs.Values.{kind_of}
 use Rattle.clap.specs.declared.Error.{Error}
 use Rattle.clap.specs.Kinds.{HasKind, Kinds, or_else, range_kinds}
-use Rattle.clap.specs.Faults.{fault_of, walk_fault, turn_fault, other_fault, step_fault, level_fault, entered_fault, defaults_fault, settle_fault, values_fault, check_fault}
+use Rattle.clap.specs.Faults.{fault_of, walk_fault, turn_fault, other_fault, step_fault, level_fault, entered_fault, defaults_fault}
+use Rattle.clap.specs.Faults.{settle_fault, values_fault, check_fault}
 use Rattle.clap.proofs.FaultLemmas.{stopped_fault}
 use Rattle.er_words.specs.Line.{is_option}
 use Rattle.er_words.specs.Words.{names, bare, program, split_of, words_in}
-use Rattle.er_words.proofs.Walks.{AllPlain, no_dashes, no_long, no_short, plain_met, leaf_rule, leaf_rules, leaf_built, labels, reading_words, first_word, next_word, leaf_walk, is_name, met_name, met_none, name_word, name_walked, whole_walk, entered_is, find_named, subcommand_is, leaf_words}
+use Rattle.er_words.proofs.Walks.{AllPlain, no_dashes, no_long, no_short, plain_met, leaf_rule, leaf_rules, leaf_built, labels}
+use Rattle.er_words.proofs.Walks.{reading_words, first_word, next_word, leaf_walk, is_name, met_name, met_none, name_word, name_walked}
+use Rattle.er_words.proofs.Walks.{whole_walk, entered_is, find_named, subcommand_is, leaf_words}
 
 -- a word with no hyphen in front is no flag
 other_none : (s : Shape) (w : Text) (h : Held) → is_option w ≡ false → other_fault s None w h ≡ []
@@ -24,13 +29,15 @@ other_none s w h plain = rw (no_dashes w plain, no_long w plain, no_short w plai
 
 turn_by : (n : Text) (w : Text) (h : Held) (waiting : Waiting) (met : Held × Step) → is_option w ≡ false → met ≡ (h, value)
     → or_else (other_fault (leaf_built n) None w h) (step_fault (leaf_built n) 1 met.0 met.1) ≡ step_fault (leaf_built n) 1 h value
-turn_by n w h waiting met plain is = ap₂ (λ (k : Kinds) (m : Held × Step). or_else k (step_fault (leaf_built n) 1 m.0 m.1)) (other_none (leaf_built n) w h plain) is
+turn_by n w h waiting met plain is = ap₂ (λ (k : Kinds) (m : Held × Step). or_else k (step_fault (leaf_built n) 1 m.0 m.1))
+    (other_none (leaf_built n) w h plain) is
 
 first_turn : (n w : Text) → is_option w ≡ false → turn_fault (leaf_built n) [] (walk_from nothing_held) w ≡ []
 first_turn n w plain = turn_by n w nothing_held idle _ plain (plain_met leaf_rules [] idle 1 w nothing_held plain refl refl)
 
 next_turn : (n : Text) (ws : List Text) (w : Text) → is_option w ≡ false → turn_fault (leaf_built n) [] (reading_words ws) w ≡ []
-next_turn n ws w plain = turn_by n w (reading_words ws).held positional _ plain (plain_met leaf_rules [] positional 1 w (reading_words ws).held plain refl refl)
+next_turn n ws w plain = turn_by n w (reading_words ws).held positional _ plain
+    (plain_met leaf_rules [] positional 1 w (reading_words ws).held plain refl refl)
 
 next_turns : (n : Text) (ws rest : List Text) → AllPlain rest → walk_fault (leaf_built n) [] (reading_words ws) rest ≡ []
 unfolding walk_fault
@@ -55,7 +62,8 @@ any_text (w ∷ ws) = any_text ws
 in_range : (k : ℕ) → k ≤ usize_max → range_kinds 0 usize_max k ≡ []
 in_range k fits = rw (le-ltb k 0 (omega arith), le-ltb usize_max k fits) refl
 
-end_fault : (n w : Text) (rest : List Text) → length (w ∷ rest) ≤ usize_max → settle_fault leaf_rules false (reading_words (w ∷ rest)).held ≡ []
+end_fault : (n w : Text) (rest : List Text) → length (w ∷ rest) ≤ usize_max
+    → settle_fault leaf_rules false (reading_words (w ∷ rest)).held ≡ []
 end_fault n w rest fits = ap₂ or_else (in_range (length (w ∷ rest)) fits) (any_text (w ∷ rest))
 
 -- what is asked after the words
@@ -97,7 +105,8 @@ own_words w rest named =
     (ap (λ (s : Walk). walk_fault top_built labels s rest) (name_walked w named)
     ∙ stopped_fault top_built labels (walk_from nothing_held) (w, []) rest)
 
-below : (w : Text) (rest : List Text) → is_name w ≡ true → AllPlain rest → length rest ≤ usize_max → entered_fault (built program) (Some (w, rest)) ≡ []
+below : (w : Text) (rest : List Text) → is_name w ≡ true → AllPlain rest → length rest ≤ usize_max
+    → entered_fault (built program) (Some (w, rest)) ≡ []
 below w rest named plain fits =
     ap (λ (o : Option Shape). option_map_or (λ s. level_fault s [] nothing_held rest false []) o [])
     (find_named leaf_built label_of (λ n. refl) names w named) ∙ leaf_takes w rest plain fits
@@ -107,18 +116,21 @@ ending : (k1 k2 : Kinds) (x : Bool) → k1 ≡ [] → k2 ≡ [] → x ≡ true
 unfolding defaults_fault
 ending k1 k2 x a b c = rw (a, b, c) refl
 
-pub named_taken : (w : Text) (rest : List Text) → is_name w ≡ true → AllPlain rest → length rest ≤ usize_max → fault_of program (w ∷ rest) ≡ []
+pub named_taken : (w : Text) (rest : List Text) → is_name w ≡ true → AllPlain rest → length rest ≤ usize_max
+    → fault_of program (w ∷ rest) ≡ []
 named_taken w rest named plain fits =
     ap (λ (s : Walk). or_else (walk_fault top_built labels (walk_from nothing_held) (w ∷ rest))
     (or_else (entered_fault (built program) s.stopped) (or_else (settle_fault [] false s.held)
-    (or_else (defaults_fault (settled [] s.held).rows []) (check_fault top_built (finished [] s.held) (is_some (entered (built program) s.stopped)))))))
+    (or_else (defaults_fault (settled [] s.held).rows [])
+    (check_fault top_built (finished [] s.held) (is_some (entered (built program) s.stopped)))))))
     (whole_walk w rest named)
     ∙ ending _ _ _ (own_words w rest named) (below w rest named plain fits) (ap is_some (entered_is w rest named))
 
 stray_word : (w : Text) → is_name w ≡ false → is_option w ≡ false → word_met [] labels false idle 1 w nothing_held ≡ (nothing_held, value)
 stray_word w stray plain = plain_met [] labels idle 1 w nothing_held plain (met_none w stray) refl
 
-stray_turn : (w : Text) → is_name w ≡ false → is_option w ≡ false → turn_fault top_built labels (walk_from nothing_held) w ≡ UnknownArgument ∷ InvalidSubcommand ∷ []
+stray_turn : (w : Text) → is_name w ≡ false → is_option w ≡ false
+    → turn_fault top_built labels (walk_from nothing_held) w ≡ UnknownArgument ∷ InvalidSubcommand ∷ []
 stray_turn w stray plain =
     ap₂ (λ (o : Option Text) (m : Held × Step). or_else (other_fault top_built o w nothing_held) (step_fault top_built 1 m.0 m.1))
     (met_none w stray) (stray_word w stray plain)
@@ -133,7 +145,8 @@ stray_refused w rest stray plain h =
     let end = fold (walked [] labels) (walk_from nothing_held) (w ∷ rest) in
     let e = ap (λ (k : Kinds). or_else (or_else k (walk_fault top_built labels (walked [] labels (walk_from nothing_held) w) rest))
     (or_else (entered_fault (built program) end.stopped) (or_else (settle_fault [] false end.held)
-    (or_else (defaults_fault (settled [] end.held).rows []) (check_fault top_built (finished [] end.held) (is_some (entered (built program) end.stopped)))))))
+    (or_else (defaults_fault (settled [] end.held).rows [])
+    (check_fault top_built (finished [] end.held) (is_some (entered (built program) end.stopped)))))))
     (stray_turn w stray plain) in
     apart _ _ (sym e ∙ h)
 
@@ -184,7 +197,8 @@ pub fault_as : (a : App) (ws : List Text) → a ≡ program → fault_of program
 fault_as a ws is none = ap (λ (x : App). fault_of x ws) is ∙ none
 
 pub both_halves : {B X Y : Type 0} (f : B → X) (g : B → Y) (o : Option B) (x : X) (y : Y) → Some x ≡ option_map f o
-    → Some y ≡ option_map (λ (p : X × Y). p.1) (option_map {U = X × Y} (λ b. (f b, g b)) o) → option_map {U = X × Y} (λ b. (f b, g b)) o ≡ Some (x, y)
+    → Some y ≡ option_map (λ (p : X × Y). p.1) (option_map {U = X × Y} (λ b. (f b, g b)) o)
+    → option_map {U = X × Y} (λ b. (f b, g b)) o ≡ Some (x, y)
 both_halves f g None x y p q = absurd (some_none x p)
 both_halves f g (Some b) x y p q = cc
 

@@ -1,5 +1,6 @@
 -- A seed, as the crate `hex` decodes it.
-use Rattle.std.proofs.Common.{◌≡◌, ℕ, ◌+◌, ◌*◌, ◌%◌, Bool, true, false, ◌&&◌, cond, List, [], ◌∷◌, length, Option, Some, None, Result, Ok, Err, refl, sym, ap, ◌∙◌, inl, inr, arith}
+use Rattle.std.proofs.Common.{◌≡◌, ℕ, ◌+◌, ◌*◌, ◌%◌, Bool, true, false, ◌&&◌, cond, List, [], ◌∷◌, length, Option, Some, None, Result, Ok}
+use Rattle.std.proofs.Common.{Err, refl, sym, ap, ◌∙◌, inl, inr, arith}
 use Rattle.std.specs.Char.{is_ascii_hexdigit, digit_value}
 use Rattle.std.specs.List.{list_all}
 use Rattle.std.specs.Result.{result_ok}
@@ -17,10 +18,13 @@ hex_digit_value-is c = grind (arith, nat_tests)
 
 -- the value of a byte's two digits, and the bytes after it
 abbrev decoded : ℕ → ℕ → ℕ → Option ℕ → Option ℕ → Result (List ℕ) FromHexError → Result (List ℕ) FromHexError
-decoded i a b high low rest = (digit_or_error a i high >>= (λ h. digit_or_error b (i + 1) low >>= (λ l. Ok (h * 16 + l)))) >>= (λ byte. rest >>= (λ bytes. Ok (byte ∷ bytes)))
+decoded i a b high low rest = (digit_or_error a i high >>= (λ h. digit_or_error b (i + 1) low >>= (λ l. Ok (h * 16 + l)))) >>=
+    (λ byte. rest >>= (λ bytes. Ok (byte ∷ bytes)))
 
-two_digits : (i a b va vb : ℕ) (x y all : Bool) (rest : Result (List ℕ) FromHexError) (bytes : List ℕ) → result_ok rest ≡ cond all (Some bytes) None
-    → result_ok (decoded i a b (cond x (Some va) None) (cond y (Some vb) None) rest) ≡ cond (x && (y && all)) (Some ((16 * va + vb) ∷ bytes)) None
+two_digits : (i a b va vb : ℕ) (x y all : Bool) (rest : Result (List ℕ) FromHexError) (bytes : List ℕ)
+    → result_ok rest ≡ cond all (Some bytes) None
+    → result_ok (decoded i a b (cond x (Some va) None) (cond y (Some vb) None) rest) ≡ cond (x && (y && all))
+    (Some ((16 * va + vb) ∷ bytes)) None
 two_digits i a b va vb false y all rest bytes is = refl
 two_digits i a b va vb true false all rest bytes is = refl
 two_digits i a b va vb true true true (Ok found) bytes is =
@@ -31,12 +35,15 @@ two_digits i a b va vb true true false (Ok found) bytes is = absurd (cc is)
 two_digits i a b va vb true true true (Err e) bytes is = absurd (cc is)
 two_digits i a b va vb true true false (Err e) bytes is = refl
 
-decode_pairs-is : (i : ℕ) (s : List ℕ) → length s % 2 ≡ 0 → result_ok (decode_pairs i s) ≡ cond (list_all is_ascii_hexdigit s) (Some (hex_bytes s)) None
+decode_pairs-is : (i : ℕ) (s : List ℕ) → length s % 2 ≡ 0
+    → result_ok (decode_pairs i s) ≡ cond (list_all is_ascii_hexdigit s) (Some (hex_bytes s)) None
 unfolding decode_pairs
 decode_pairs-is i [] even = refl
 decode_pairs-is i (a ∷ []) even = absurd (omega arith)
 decode_pairs-is i (a ∷ b ∷ rest) even =
-    rw (hex_digit_value-is a, hex_digit_value-is b) (two_digits i a b (digit_value a) (digit_value b) (is_ascii_hexdigit a) (is_ascii_hexdigit b) (list_all is_ascii_hexdigit rest) (decode_pairs (i + 2) rest) (hex_bytes rest) (decode_pairs-is (i + 2) rest (omega arith)))
+    rw (hex_digit_value-is a, hex_digit_value-is b)
+    (two_digits i a b (digit_value a) (digit_value b) (is_ascii_hexdigit a) (is_ascii_hexdigit b) (list_all is_ascii_hexdigit rest)
+    (decode_pairs (i + 2) rest) (hex_bytes rest) (decode_pairs-is (i + 2) rest (omega arith)))
 
 seed_of-long : (word : List ℕ) → length word ≡ 64 → seed_of word ≡ cond (list_all is_ascii_hexdigit word) (Some (hex_bytes word)) None
 unfolding seed_of
@@ -56,6 +63,7 @@ seed_of-decoded word =
       | inr other ↦
           elim (cases_eq (length word % 2) 1) [
             | inl odd ↦ ap result_ok (decode_sized-odd word 32 odd) ∙ sym (seed_of-other word other)
-            | inr even ↦ ap result_ok (decode_sized-other word 32 (omega arith) (λ half. other (omega arith))) ∙ sym (seed_of-other word other)
+            | inr even ↦ ap result_ok (decode_sized-other word 32 (omega arith) (λ half. other (omega arith)))
+                ∙ sym (seed_of-other word other)
           ]
     ]

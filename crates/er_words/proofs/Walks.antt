@@ -1,12 +1,14 @@
 -- What the parser makes of words of which none begins with a hyphen.
-use Rattle.std.proofs.Common.{◌≡◌, ℕ, Bool, true, false, List, [], ◌∷◌, ◌++◌, map, codes, Option, Some, None, refl, sym, ap, ◌∙◌, cond, append_assoc, append-nil, option_map, find}
+use Rattle.std.proofs.Common.{◌≡◌, ℕ, Bool, true, false, List, [], ◌∷◌, ◌++◌, map, codes, Option, Some, None, refl, sym, ap, ◌∙◌, cond}
+use Rattle.std.proofs.Common.{append_assoc, append-nil, option_map, find}
 use Rattle.std.specs.List.{fold, list_any}
 use Rattle.std.specs.Str.{bytes_eq}
 use Rattle.clap.specs.Words.{Rule, Shape, Text, built}
 use Rattle.clap.specs.Lexer.{strip_byte, long_of, short_of}
 use Rattle.std.proofs.lemmas.Slice.Eq.{bytes_eq-Decides}
-use Rattle.clap.specs.Simple.{filled, with_index, names_of, label_of, subcommand_of, entered, rows_at}
-use Rattle.clap.specs.Walk.{Held, Names, Step, Waiting, Walk, idle, positional, value, subcommand, walked, walk_from, nothing_held, word_met, subcommand_met, plain_word, after_step, finished, rows_after, subcommand_or_other, answers_to}
+use Rattle.clap.specs.Simple.{filled, with_index, label_of, subcommand_of, entered, rows_at}
+use Rattle.clap.specs.Walk.{Held, Names, Step, Waiting, Walk, idle, positional, value, subcommand, walked, walk_from, nothing_held}
+use Rattle.clap.specs.Walk.{word_met, subcommand_met, plain_word, after_step, finished, rows_after, subcommand_or_other, answers_to}
 use Rattle.clap.specs.Faults.{is_simple_and_free}
 use Rattle.er_words.specs.Line.{is_option}
 use Rattle.er_words.specs.Words.{names, leaf, program, words_rule, words_in}
@@ -17,7 +19,8 @@ abbrev pub AllPlain : List Text → Type 0
 AllPlain [] = Unit {0}
 AllPlain (w ∷ rest) = (is_option w ≡ false) × AllPlain rest
 
-plain_by : (b : Bool) (w : Text) (rest : List Text) → is_option w ≡ b → (list_any is_option rest ≡ false → AllPlain rest) → list_any is_option (w ∷ rest) ≡ false → AllPlain (w ∷ rest)
+plain_by : (b : Bool) (w : Text) (rest : List Text) → is_option w ≡ b → (list_any is_option rest ≡ false → AllPlain rest)
+    → list_any is_option (w ∷ rest) ≡ false → AllPlain (w ∷ rest)
 plain_by true w rest e later none = let bad : true ≡ false = rw e at none in cc
 plain_by false w rest e later none = (e, later (rw e at none))
 
@@ -80,7 +83,8 @@ next_words ws (w ∷ rest) plain =
     ap (λ (s : Walk). fold (walked leaf_rules []) s rest) (next_word ws w plain.0)
     ∙ next_words (ws ++ w ∷ []) rest plain.1 ∙ ap reading_words (append_assoc ws (w ∷ []) rest)
 
-pub leaf_walk : (w : Text) (rest : List Text) → AllPlain (w ∷ rest) → fold (walked leaf_rules []) (walk_from nothing_held) (w ∷ rest) ≡ reading_words (w ∷ rest)
+pub leaf_walk : (w : Text) (rest : List Text) → AllPlain (w ∷ rest)
+    → fold (walked leaf_rules []) (walk_from nothing_held) (w ∷ rest) ≡ reading_words (w ∷ rest)
 leaf_walk w rest plain =
     ap (λ (s : Walk). fold (walked leaf_rules []) s rest) (first_word w plain.0) ∙ next_words (w ∷ []) rest plain.1
 
@@ -95,27 +99,37 @@ same_text n w h = (bytes_eq-Decides n w).0 h
 
 -- the item of a name, in a list with one for each name
 module _ {S : Type 0} (f : Text → S) (label : S → Text × List Text) (is : (n : Text) → label (f n) ≡ (n, [])) where
-  named_by : (n w : Text) (ns : List Text) (b : Bool) → bytes_eq n w ≡ b → (list_any (λ n. bytes_eq n w) ns ≡ true → find (λ s. answers_to w (label s)) (map f ns) ≡ Some (f w))
+  named_by : (n w : Text) (ns : List Text) (b : Bool) → bytes_eq n w ≡ b
+      → (list_any (λ n. bytes_eq n w) ns ≡ true → find (λ s. answers_to w (label s)) (map f ns) ≡ Some (f w))
       → list_any (λ n. bytes_eq n w) (n ∷ ns) ≡ true → find (λ s. answers_to w (label s)) (map f (n ∷ ns)) ≡ Some (f w)
   named_by n w ns true e later h = rw (is n, e) (ap (λ (t : Text). Some (f t)) (same_text n w e))
   named_by n w ns false e later h = rw (is n, e) (later (rw e at h))
 
-  pub find_named : (ns : List Text) (w : Text) → list_any (λ n. bytes_eq n w) ns ≡ true → find (λ s. answers_to w (label s)) (map f ns) ≡ Some (f w)
+  pub find_named : (ns : List Text) (w : Text) → list_any (λ n. bytes_eq n w) ns ≡ true
+      → find (λ s. answers_to w (label s)) (map f ns) ≡ Some (f w)
   find_named [] w h = cc
   find_named (n ∷ ns) w h = named_by n w ns (bytes_eq n w) refl (find_named ns w) h
 
-  none_by : (n w : Text) (ns : List Text) (b : Bool) → bytes_eq n w ≡ b → (list_any (λ n. bytes_eq n w) ns ≡ false → find (λ s. answers_to w (label s)) (map f ns) ≡ None)
+  none_by : (n w : Text) (ns : List Text) (b : Bool) → bytes_eq n w ≡ b
+      → (list_any (λ n. bytes_eq n w) ns ≡ false → find (λ s. answers_to w (label s)) (map f ns) ≡ None)
       → list_any (λ n. bytes_eq n w) (n ∷ ns) ≡ false → find (λ s. answers_to w (label s)) (map f (n ∷ ns)) ≡ None
   none_by n w ns true e later h = let bad : true ≡ false = rw e at h in cc
   none_by n w ns false e later h = rw (is n, e) (later (rw e at h))
 
-  pub find_none : (ns : List Text) (w : Text) → list_any (λ n. bytes_eq n w) ns ≡ false → find (λ s. answers_to w (label s)) (map f ns) ≡ None
+  pub find_none : (ns : List Text) (w : Text) → list_any (λ n. bytes_eq n w) ns ≡ false
+      → find (λ s. answers_to w (label s)) (map f ns) ≡ None
   find_none [] w h = refl
   find_none (n ∷ ns) w h = none_by n w ns (bytes_eq n w) refl (find_none ns w) h
 
 -- what the parser is told, once it is built
 abbrev pub leaf_built : Text → Shape
-leaf_built n = record (leaf n) { rules = leaf_rules; is_built = true; no_binary_name = true; disable_help_flag = true; disable_help_subcommand = true }
+leaf_built n = record (leaf n) {
+  rules = leaf_rules;
+  is_built = true;
+  no_binary_name = true;
+  disable_help_flag = true;
+  disable_help_subcommand = true;
+}
 
 abbrev pub label_built : Text → Text × List Text
 label_built n = (n, [])
@@ -152,11 +166,14 @@ unfolding walked
 rest_walked w acc [] = ap (stopped_at w) (sym (append-nil acc))
 rest_walked w acc (x ∷ rest) = rest_walked w (acc ++ x ∷ []) rest ∙ ap (stopped_at w) (append_assoc acc (x ∷ []) rest)
 
-pub whole_walk : (w : Text) (rest : List Text) → is_name w ≡ true → fold (walked [] labels) (walk_from nothing_held) (w ∷ rest) ≡ stopped_at w rest
+pub whole_walk : (w : Text) (rest : List Text) → is_name w ≡ true
+    → fold (walked [] labels) (walk_from nothing_held) (w ∷ rest) ≡ stopped_at w rest
 whole_walk w rest named = ap (λ (s : Walk). fold (walked [] labels) s rest) (name_walked w named) ∙ rest_walked w [] rest
 
-pub entered_is : (w : Text) (rest : List Text) → is_name w ≡ true → entered (built program) (Some (w, rest)) ≡ Some (w, rows_after leaf_rules [] rest)
+pub entered_is : (w : Text) (rest : List Text) → is_name w ≡ true
+    → entered (built program) (Some (w, rest)) ≡ Some (w, rows_after leaf_rules [] rest)
 entered_is w rest named = ap (option_map (λ s. rows_at s rest)) (find_named leaf_built label_of (λ n. refl) names w named)
 
-pub subcommand_is : (w : Text) (rest : List Text) → is_name w ≡ true → subcommand_of program (w ∷ rest) ≡ Some (w, rows_after leaf_rules [] rest)
+pub subcommand_is : (w : Text) (rest : List Text) → is_name w ≡ true
+    → subcommand_of program (w ∷ rest) ≡ Some (w, rows_after leaf_rules [] rest)
 subcommand_is w rest named = ap (λ (s : Walk). entered (built program) s.stopped) (whole_walk w rest named) ∙ entered_is w rest named

@@ -22,7 +22,8 @@ named c =
 pub returns-clause-value : goal.returns-clause-value
 returns-clause-value c =
     let stages = c.args.event.now.bracket.stages in
-    let won : champion c.args.event.now ≡ Some (winner c.in_ok-played.played.now) = ap (λ (p : Phase). champion_in p stages) (over c) ∙ ap (option_map winner) (is c) in
+    let won : champion c.args.event.now ≡ Some (winner c.in_ok-played.played.now) = ap (λ (p : Phase). champion_in p stages) (over c)
+    ∙ ap (option_map winner) (is c) in
     some-number c.try_new.result c.winner.result (named c) c.try_new.ensures.value ∙ (ap Some c.winner.ensures ∙ sym won)
 
 pub returns-clause-finished : goal.returns-clause-finished

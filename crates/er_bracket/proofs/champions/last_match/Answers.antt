@@ -3,7 +3,8 @@ use Rattle.std.proofs.lemmas.Bool.Decides.{nat_tests}
 use Rattle.er_event.specs.Bracket.{last_match}
 use Rattle.er_bracket.proofs.LastLemmas.{only_match, last-read, only-one, only-else}
 use Rattle.er_bracket.proofs.champions.last_match.Goals as goal
-use Rattle.er_bracket.proofs.champions.last_match.Goals.{in_default-as_slice-via-then-as_slice-lt1-2, in_default-as_slice-via-else-as_slice-lt1-2+else-this-lt2}
+use Rattle.er_bracket.proofs.champions.last_match.Goals.{in_default-as_slice-via-then-as_slice-lt1-2}
+use Rattle.er_bracket.proofs.champions.last_match.Goals.{in_default-as_slice-via-else-as_slice-lt1-2+else-this-lt2}
 
 pub returns-in_default-as_slice : goal.returns-in_default-as_slice
 returns-in_default-as_slice c =
@@ -12,7 +13,8 @@ returns-in_default-as_slice c =
       | in_default-as_slice-via-else-as_slice-lt1-2+else-this-lt2 w ↦ grind (arith, nat_tests)
     ] in
     let last = last-read c.as_slice.result.now c.last-item.result c.in-len1-up.len_at_least c.last-item.is in
-    sym (ap last_match (sym c.as_slice.ensures) ∙ (last ∙ (ap only_match (sym c.as_slice-2.ensures) ∙ only-else c.as_slice-2.result.now other)))
+    sym (ap last_match (sym c.as_slice.ensures) ∙ (last
+    ∙ (ap only_match (sym c.as_slice-2.ensures) ∙ only-else c.as_slice-2.result.now other)))
 
 pub returns : goal.returns
 returns c =

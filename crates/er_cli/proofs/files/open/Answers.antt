@@ -6,8 +6,25 @@ pub returns-in-Err : goal.returns-in-Err
 returns-in-Err g c = inl (Refused c.in-Err.why, (c.in-Err.why, c.in-Err.ensures, refl), c.tell_refusal.ensures)
 
 pub returns-in-Err-open : goal.returns-in-Err-open
-returns-in-Err-open g c = inl (Refused c.into_refusal.result, (c.into_refusal.result, rw c.into_refusal.ensures c.in-Err-open.ensures.why, refl), c.tell_refusal-in-Err-open.ensures)
+returns-in-Err-open g c = inl (
+  Refused c.into_refusal.result,
+  (
+    c.into_refusal.result,
+    rw c.into_refusal.ensures c.in-Err-open.ensures.why,
+    refl,
+  ),
+  c.tell_refusal-in-Err-open.ensures,
+)
 
 pub returns-in-Ok : goal.returns-in-Ok
 returns-in-Ok g c =
-    inr (c.in-Ok.desk, record { sound = c.in-Ok.ensures.sound.0; low = c.in-Ok.ensures.sound.1; ready = c.in-Ok.ensures.ready; stands = c.in-Ok.ensures.stands }, c.do_task.ensures)
+    inr (
+      c.in-Ok.desk,
+      record {
+        sound = c.in-Ok.ensures.sound.0;
+        low = c.in-Ok.ensures.sound.1;
+        ready = c.in-Ok.ensures.ready;
+        stands = c.in-Ok.ensures.stands;
+      },
+      c.do_task.ensures,
+    )

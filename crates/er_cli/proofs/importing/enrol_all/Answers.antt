@@ -8,12 +8,14 @@ use Rattle.er_cli.proofs.importing.enrol_all.Goals.{in-Ok, in-Err}
 
 pub returns-in-Err-2-clause-enrols : goal.returns-in-Err-2-clause-enrols
 returns-in-Err-2-clause-enrols g c =
-    ended c.args.lines.now c.loop-line.line-index c.line-item.result c.loop-line-test.true c.line-item.is _ _ _ c.loop-line.tally c.loop-line.invariant.enrols c.enrol.result c.enrol.ensures.turn
+    ended c.args.lines.now c.loop-line.line-index c.line-item.result c.loop-line-test.true c.line-item.is _ _ _ c.loop-line.tally
+    c.loop-line.invariant.enrols c.enrol.result c.enrol.ensures.turn
     c.in-Err.why c.in-Err.is (sym c.if-is_taken.ensures)
 
 pub returns-in-Err-2-clause-leaves : goal.returns-in-Err-2-clause-leaves
 returns-in-Err-2-clause-leaves g c = λ shows left runs clean trees may.
-    c.enrol.ensures.leaves (c.loop-line.invariant.stands (c.enrol.ensures.clean clean) shows) (c.loop-line.invariant.leaves shows left) runs clean trees may
+    c.enrol.ensures.leaves (c.loop-line.invariant.stands (c.enrol.ensures.clean clean) shows) (c.loop-line.invariant.leaves shows left) runs
+    clean trees may
 
 pub loop-line-preserved : goal.loop-line-preserved
 loop-line-preserved g c =
@@ -32,9 +34,11 @@ loop-line-preserved g c =
     ] in
     let enrols : Enrols names old c.match-enrol.tally None new = elim c.match-enrol.branch [
       | in-Ok w ↦ subst (λ (t : Tally). Enrols names old t None new) (sym w.tally-is)
-          (added c.args.lines.now c.loop-line.line-index c.line-item.result c.loop-line-test.true c.line-item.is _ _ _ c.loop-line.tally inv.enrols c.enrol.result one.turn w.in-Ok._receipt w.in-Ok.is)
+          (added c.args.lines.now c.loop-line.line-index c.line-item.result c.loop-line-test.true c.line-item.is _ _ _ c.loop-line.tally
+          inv.enrols c.enrol.result one.turn w.in-Ok._receipt w.in-Ok.is)
       | in-Err w ↦ subst (λ (t : Tally). Enrols names old t None new) (sym w.tally-is)
-          (found c.args.lines.now c.loop-line.line-index c.line-item.result c.loop-line-test.true c.line-item.is _ _ _ c.loop-line.tally inv.enrols c.enrol.result one.turn w.in-Err.why w.in-Err.is (sym w.if-is_taken.ensures))
+          (found c.args.lines.now c.loop-line.line-index c.line-item.result c.loop-line-test.true c.line-item.is _ _ _ c.loop-line.tally
+          inv.enrols c.enrol.result one.turn w.in-Err.why w.in-Err.is (sym w.if-is_taken.ensures))
     ] in
     let runs : IsFalse new.stopped = runs_on _ _ _ _ one.turn goes_on in
     record {

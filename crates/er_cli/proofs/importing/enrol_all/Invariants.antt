@@ -12,5 +12,6 @@ invariant-loop-line g l = record {
   runs : IsFalse (standing l.desk).stopped;
   clean : HasCleanDisk (state g.S.Store l.desk) → HasCleanDisk (state g.S.Store l.fn.desk);
   stands : HasCleanDisk (state g.S.Store l.desk) → ShowsOwn g.S.Store l.fn.desk → ShowsOwn g.S.Store l.desk;
-  leaves : ShowsOwn g.S.Store l.fn.desk → LeavesJust (state g.S.Store l.fn.desk) (point_of (standing l.fn.desk)) → LeavesJust (state g.S.Store l.desk) (point_of (standing l.desk));
+  leaves : ShowsOwn g.S.Store l.fn.desk → LeavesJust (state g.S.Store l.fn.desk) (point_of (standing l.fn.desk))
+      → LeavesJust (state g.S.Store l.desk) (point_of (standing l.desk));
 }

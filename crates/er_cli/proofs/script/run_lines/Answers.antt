@@ -15,8 +15,12 @@ loop-line-preserved g c =
     let answer = c.answer-answer.result in
     let runs = Runs-push _ so_far.0 _ _ _ _ answer so_far.1 c.answer-answer.ensures.answers in
     let printed = Appends-trans _ _ _ _ _ so_far.2 c.in_ok-print_answer.ensures.sent in
-    let none : Bor (List ℕ) = record { ref_ptr = (0, 0); now = [] } in
-    (so_far.0 ++ answer ∷ [], rw (lines-push c.args.lines.now c.loop-line.line-index none c.loop-line-test.true) runs, rw (printed-push so_far.0 answer) printed, c.answer-answer.ensures.written)
+    let none : Bor (List ℕ) = record { ref_ptr = (0, 0); now = [] } in (
+      so_far.0 ++ answer ∷ [],
+      rw (lines-push c.args.lines.now c.loop-line.line-index none c.loop-line-test.true) runs,
+      rw (printed-push so_far.0 answer) printed,
+      c.answer-answer.ensures.written,
+    )
 
 pub returns-in_err-print_answer-clause-part : goal.returns-in_err-print_answer-clause-part
 returns-in_err-print_answer-clause-part g c =
@@ -25,7 +29,18 @@ returns-in_err-print_answer-clause-part g c =
     let none : Bor (List ℕ) = record { ref_ptr = (0, 0); now = [] } in
     let runs = Runs-push _ so_far.0 _ _ _ _ answer so_far.1 c.answer-answer.ensures.answers in
     let printed = part_after _ _ _ _ _ so_far.2 c.in_err-print_answer.ensures.part in
-    let part : PrintsPart (map (λ (line : Bor (List ℕ)). line.now) c.args.lines.now) (g.W.Write.contents c.args.writer.now) (g.W.Write.contents c.print_answer.new.writer) = record { count = c.loop-line.line-index + 1; answers = so_far.0 ++ answer ∷ []; last = standing_of c.answer-answer.new.self.desk; runs = rw (take-map (λ (line : Bor (List ℕ)). line.now) (c.loop-line.line-index + 1) c.args.lines.now, lines-push c.args.lines.now c.loop-line.line-index none c.loop-line-test.true) runs; printed = rw (printed-push so_far.0 answer) printed } in
+    let part : PrintsPart (map (λ (line : Bor (List ℕ)). line.now) c.args.lines.now) (g.W.Write.contents c.args.writer.now)
+    (g.W.Write.contents c.print_answer.new.writer) =
+    record {
+      count = c.loop-line.line-index + 1;
+      answers = so_far.0 ++ answer ∷ [];
+      last = standing_of c.answer-answer.new.self.desk;
+      runs = rw (
+        take-map (λ (line : Bor (List ℕ)). line.now) (c.loop-line.line-index + 1) c.args.lines.now,
+        lines-push c.args.lines.now c.loop-line.line-index none c.loop-line-test.true,
+      ) runs;
+      printed = rw (printed-push so_far.0 answer) printed;
+    } in
     err_is c.from_residual.result part
 
 pub returns-clause-whole : goal.returns-clause-whole

@@ -8,6 +8,7 @@ use Rattle.er_cli.proofs.script.run_lines.Given as goal
 
 abbrev pub invariant-loop-line : goal.invariant-loop-line
 invariant-loop-line g l =
-    (answers : List Answer) × RunsLines None (map (λ (line : Bor (List ℕ)). line.now) (take l.line-index l.lines)) answers (standing_of l.runner.desk)
+    (answers : List Answer) × RunsLines None (map (λ (line : Bor (List ℕ)). line.now) (take l.line-index l.lines)) answers
+    (standing_of l.runner.desk)
     × Appends (g.W.Write.contents l.initial.writer) (g.W.Write.contents l.writer) (flat_map answer_text answers)
     × IsWritten l.runner.desk

@@ -11,6 +11,8 @@ invariant-loop g l = record {
   turns : ConnectsAll l.counter (standing l.fn.desk) (standing l.desk);
   waits : IsTrue (standing l.fn.desk).stopped → l.desk ≡ l.fn.desk;
   clean : HasCleanDisk (state g.S.Store l.desk) → HasCleanDisk (state g.S.Store l.fn.desk);
-  stands : HasCleanDisk (state g.S.Store l.desk) → ShowsOwn g.S.Store l.fn.desk → IsFalse (standing l.desk).stopped → ShowsOwn g.S.Store l.desk;
-  leaves : ShowsOwn g.S.Store l.fn.desk → LeavesJust (state g.S.Store l.fn.desk) (point_of (standing l.fn.desk)) → IsFalse (standing l.desk).stopped → LeavesJust (state g.S.Store l.desk) (point_of (standing l.desk));
+  stands : HasCleanDisk (state g.S.Store l.desk) → ShowsOwn g.S.Store l.fn.desk → IsFalse (standing l.desk).stopped
+      → ShowsOwn g.S.Store l.desk;
+  leaves : ShowsOwn g.S.Store l.fn.desk → LeavesJust (state g.S.Store l.fn.desk) (point_of (standing l.fn.desk))
+      → IsFalse (standing l.desk).stopped → LeavesJust (state g.S.Store l.desk) (point_of (standing l.desk));
 }

@@ -10,7 +10,8 @@ use Rattle.er_desk.proofs.opening.open.Goals as goal
 pub returns-in-Ok-adopt-clause-found : goal.returns-in-Ok-adopt-clause-found
 returns-in-Ok-adopt-clause-found g c point was sound clean =
     let early = c.in-Ok-adopt.ensures.clean clean in
-    c.in-Ok-adopt.ensures.found point (opened_stands (file_state c.in-Ok.conn) _ (c.in-Ok.ensures.opened early) (c.in-Ok.ensures.found early) point c.stored_stands.ensures was) sound clean
+    c.in-Ok-adopt.ensures.found point (opened_stands (file_state c.in-Ok.conn) _ (c.in-Ok.ensures.opened early)
+    (c.in-Ok.ensures.found early) point c.stored_stands.ensures was) sound clean
 
 pub returns-in-Ok-adopt-clause-left : goal.returns-in-Ok-adopt-clause-left
 returns-in-Ok-adopt-clause-left g c db holds clean trees may =
@@ -20,7 +21,8 @@ returns-in-Ok-adopt-clause-left g c db holds clean trees may =
 pub returns-in-Ok-adopt-clause-kept : goal.returns-in-Ok-adopt-clause-kept
 returns-in-Ok-adopt-clause-kept g c db holds clean is_open =
     let early = c.in-Ok-adopt.ensures.clean clean in
-    sees_unchanged (file_state c.in-Ok.conn) _ (c.in-Ok.ensures.opened early) (c.in-Ok.ensures.found early) (state over_files c.in-Ok-adopt.desk) db holds (c.in-Ok-adopt.ensures.same clean)
+    sees_unchanged (file_state c.in-Ok.conn) _ (c.in-Ok.ensures.opened early) (c.in-Ok.ensures.found early)
+    (state over_files c.in-Ok-adopt.desk) db holds (c.in-Ok-adopt.ensures.same clean)
 
 pub returns-in-Ok-adopt-clause-stands : goal.returns-in-Ok-adopt-clause-stands
 returns-in-Ok-adopt-clause-stands g c clean has keyed =
@@ -30,7 +32,8 @@ returns-in-Ok-adopt-clause-stands g c clean has keyed =
 pub returns-in-Err-adopt-clause-found : goal.returns-in-Err-adopt-clause-found
 returns-in-Err-adopt-clause-found g c point was sound clean =
     let early = c.in-Err-adopt.ensures.clean clean in
-    c.in-Err-adopt.ensures.found point (opened_stands (file_state c.in-Ok.conn) _ (c.in-Ok.ensures.opened early) (c.in-Ok.ensures.found early) point c.stored_stands.ensures was) sound clean
+    c.in-Err-adopt.ensures.found point (opened_stands (file_state c.in-Ok.conn) _ (c.in-Ok.ensures.opened early)
+    (c.in-Ok.ensures.found early) point c.stored_stands.ensures was) sound clean
 
 pub returns-in-Err-adopt-clause-left : goal.returns-in-Err-adopt-clause-left
 returns-in-Err-adopt-clause-left g c db holds clean trees may =
@@ -40,12 +43,15 @@ returns-in-Err-adopt-clause-left g c db holds clean trees may =
 pub returns-in-Err-adopt-clause-kept : goal.returns-in-Err-adopt-clause-kept
 returns-in-Err-adopt-clause-kept g c db holds clean is_open =
     let early = c.in-Err-adopt.ensures.clean clean in
-    sees_kept (file_state c.in-Ok.conn) _ (c.in-Ok.ensures.opened early) (c.in-Ok.ensures.found early) (file_state c.in-Err-adopt.conn) db holds (c.in-Err-adopt.ensures.kept clean) is_open
+    sees_kept (file_state c.in-Ok.conn) _ (c.in-Ok.ensures.opened early) (c.in-Ok.ensures.found early) (file_state c.in-Err-adopt.conn) db
+    holds (c.in-Err-adopt.ensures.kept clean) is_open
 
 pub returns-in-Err-adopt-clause-first : goal.returns-in-Err-adopt-clause-first
 returns-in-Err-adopt-clause-first g c clean is_open =
     let opened = c.in-Ok.ensures.opened (c.in-Err-adopt.ensures.clean clean) in
-    subst (λ (d : Database). NamesFirstFault d c.in-Err-adopt.refusal) (sym (c.in-Err-adopt.ensures.kept clean opened.0.clean is_open).0) (c.in-Err-adopt.ensures.first clean)
+    subst (λ (d : Database). NamesFirstFault d c.in-Err-adopt.refusal) (sym (c.in-Err-adopt.ensures.kept clean opened.0.clean is_open).0)
+    (c.in-Err-adopt.ensures.first clean)
 
 pub returns-in-Err-clause-spared : goal.returns-in-Err-clause-spared
-returns-in-Err-clause-spared g c = if_left c.in-Err.left _ _ (λ left told. (told.0, told.1, told.2, λ clean. (told.3 clean).1)) c.in-Err.ensures.cause
+returns-in-Err-clause-spared g c = if_left c.in-Err.left _ _
+    (λ left told. (told.0, told.1, told.2, λ clean. (told.3 clean).1)) c.in-Err.ensures.cause

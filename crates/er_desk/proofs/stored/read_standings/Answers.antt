@@ -20,16 +20,19 @@ pub returns-in_err-meetings-clause-found : goal.returns-in_err-meetings-clause-f
 returns-in_err-meetings-clause-found g c clean e s stands sound =
     let early = c.meetings.ensures.clean clean in
     let running : IsFalse (store.is_stopped c.tallies.new.self) = c.in_ok-tallies.ensures.stops c.requires.running in
-    let here = still_stands (store.state g.S.Store c.args.store.now) (store.state g.S.Store c.tallies.new.self) e s (c.in_ok-tallies.ensures.same early) stands in
+    let here = still_stands (store.state g.S.Store c.args.store.now) (store.state g.S.Store c.tallies.new.self) e s
+    (c.in_ok-tallies.ensures.same early) stands in
     let fault : IsFault c.in_err-meetings.field-0.0 = c.in_err-meetings.ensures.found running clean e s here sound in
     search (rules, fault)
 
 pub returns-then-not-branch-clause-found : goal.returns-then-not-branch-clause-found
 returns-then-not-branch-clause-found g c clean e s stands sound =
-    let late : HasCleanDisk (store.state g.S.Store c.meetings.new.self) = subst (λ h. HasCleanDisk (sqlite.state g.S.Store h)) c.stop.ensures.same clean in
+    let late : HasCleanDisk (store.state g.S.Store c.meetings.new.self) =
+    subst (λ h. HasCleanDisk (sqlite.state g.S.Store h)) c.stop.ensures.same clean in
     let early = c.meetings.ensures.clean late in
     let running : IsFalse (store.is_stopped c.tallies.new.self) = c.in_ok-tallies.ensures.stops c.requires.running in
-    let here = still_stands (store.state g.S.Store c.args.store.now) (store.state g.S.Store c.tallies.new.self) e s (c.in_ok-tallies.ensures.same early) stands in
+    let here = still_stands (store.state g.S.Store c.args.store.now) (store.state g.S.Store c.tallies.new.self) e s
+    (c.in_ok-tallies.ensures.same early) stands in
     let are : AreListsOf e c.as_slice.result.now c.as_slice-2.result.now = record {
       sound = sound;
       tallies = c.as_slice.ensures.value ∙ c.in_ok-tallies.ensures.found c.requires.running early e s stands sound;
@@ -43,7 +46,8 @@ pub returns-clause-found : goal.returns-clause-found
 returns-clause-found g c clean e s stands sound =
     let early = c.meetings.ensures.clean clean in
     let running : IsFalse (store.is_stopped c.tallies.new.self) = c.in_ok-tallies.ensures.stops c.requires.running in
-    let here = still_stands (store.state g.S.Store c.args.store.now) (store.state g.S.Store c.tallies.new.self) e s (c.in_ok-tallies.ensures.same early) stands in
+    let here = still_stands (store.state g.S.Store c.args.store.now) (store.state g.S.Store c.tallies.new.self) e s
+    (c.in_ok-tallies.ensures.same early) stands in
     let are : AreListsOf e c.as_slice-3.result.now c.as_slice-4.result.now = record {
       sound = sound;
       tallies = c.as_slice-3.ensures.value ∙ c.in_ok-tallies.ensures.found c.requires.running early e s stands sound;

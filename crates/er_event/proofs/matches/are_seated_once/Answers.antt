@@ -13,14 +13,18 @@ returns-then-played c =
     let m = c.index-matches-place.result in (
       λ never. absurd (true≢false (sym never)),
       λ apart. elim c.then-played.branch [
-        | then-played-via-then-played w ↦ absurd (seats-apart ms at m m c.loop-place-test.true (sym c.index-matches-place.is) apart w.if-played.true)
-        | then-played-via-else-played+then-is_seat_taken w ↦ absurd (true≢false (sym w.if-is_seat_taken.true ∙ (w.is_seat_taken.ensures ∙ seats-free ms at m m c.loop-place-test.true (sym c.index-matches-place.is) apart)))
+        | then-played-via-then-played w ↦ absurd (seats-apart ms at m m c.loop-place-test.true (sym c.index-matches-place.is) apart
+            w.if-played.true)
+        | then-played-via-else-played+then-is_seat_taken w ↦ absurd
+            (true≢false (sym w.if-is_seat_taken.true
+            ∙ (w.is_seat_taken.ensures ∙ seats-free ms at m m c.loop-place-test.true (sym c.index-matches-place.is) apart)))
       ],
     )
 
 pub loop-place-preserved : goal.loop-place-preserved
 loop-place-preserved c =
-    seats-more c.args.matches.now c.loop-place.place c.index-matches-place.result c.index-matches-place.result c.loop-place-test.true (sym c.index-matches-place.is)
+    seats-more c.args.matches.now c.loop-place.place c.index-matches-place.result c.index-matches-place.result c.loop-place-test.true
+    (sym c.index-matches-place.is)
     c.loop-place.invariant (sym c.is_seat_taken.ensures ∙ c.if-is_seat_taken.false) c.if-played.false
 
 pub returns : goal.returns

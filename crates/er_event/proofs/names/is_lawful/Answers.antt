@@ -7,5 +7,7 @@ pub returns : goal.returns
 returns c =
     let bytes = c.args.bytes.now in
     let some : 0 < length bytes = grind arith in
-    let text = is_ok-when _ _ (IsUtf8 bytes) _ c.from_utf8.ensures.cases in
-    (λ yes. is_lawful_name-parts bytes some c.if-bytes-gt-MAX_NAME_BYTES.false (text.0 (sym c.is_ok.ensures.value ∙ yes)) (cc) (cc), λ lawful. c.is_ok.ensures.value ∙ text.1 (is_lawful_name-utf8 bytes lawful))
+    let text = is_ok-when _ _ (IsUtf8 bytes) _ c.from_utf8.ensures.cases in (
+      λ yes. is_lawful_name-parts bytes some c.if-bytes-gt-MAX_NAME_BYTES.false (text.0 (sym c.is_ok.ensures.value ∙ yes)) (cc) (cc),
+      λ lawful. c.is_ok.ensures.value ∙ text.1 (is_lawful_name-utf8 bytes lawful),
+    )

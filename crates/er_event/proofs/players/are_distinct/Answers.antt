@@ -7,13 +7,18 @@ use Rattle.er_event.proofs.players.are_distinct.Goals as goal
 
 pub returns-then-has_name : goal.returns-then-has_name
 returns-then-has_name c =
-    let found = sym c.has_name.ensures.value ∙ c.if-has_name.true in
-    (λ never. absurd (true≢false (sym never)), λ apart. absurd (names-new c.args.players.now c.loop-place.place c.index-players-place.result c.loop-place-test.true c.index-players-place.is apart found))
+    let found = sym c.has_name.ensures.value ∙ c.if-has_name.true in (
+      λ never. absurd (true≢false (sym never)),
+      λ apart.
+          absurd (names-new c.args.players.now c.loop-place.place c.index-players-place.result c.loop-place-test.true c.index-players-place.is
+          apart found),
+    )
 
 pub loop-place-preserved : goal.loop-place-preserved
 loop-place-preserved c =
     let new = sym c.has_name.ensures.value ∙ c.if-has_name.false in
-    names-more c.args.players.now c.loop-place.place c.index-players-place.result c.loop-place-test.true c.index-players-place.is new c.loop-place.invariant
+    names-more c.args.players.now c.loop-place.place c.index-players-place.result c.loop-place-test.true c.index-players-place.is new
+    c.loop-place.invariant
 
 pub returns : goal.returns
 returns c =

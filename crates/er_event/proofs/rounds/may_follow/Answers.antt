@@ -8,7 +8,8 @@ use Rattle.er_event.proofs.rounds.may_follow.Goals as goal
 pub returns-then-not-are_counted : goal.returns-then-not-are_counted
 returns-then-not-are_counted c = (
   λ never. absurd (true≢false (sym never)),
-  λ follows. absurd (true≢false (sym (of-All (λ (r : Round). is_counted r.matches) c.args.earlier.now follows.done) ∙ (sym c.are_counted.ensures ∙ c.if-not-are_counted.true))),
+  λ follows. absurd (true≢false (sym (of-All (λ (r : Round). is_counted r.matches) c.args.earlier.now follows.done)
+      ∙ (sym c.are_counted.ensures ∙ c.if-not-are_counted.true))),
 )
 
 pub returns-then-not-is_round : goal.returns-then-not-is_round

@@ -8,7 +8,8 @@ use Rattle.er_event.proofs.totals.games_at.Goals as goal
 
 pub games_in_with-requires-clause-seated : goal.games_in_with-requires-clause-seated
 games_in_with-requires-clause-seated c =
-    subst (λ (ms : List Match). IsSeatedOnce (scored_slot ms c.args.new.now.table c.args.new.now.score)) (sym (c.as_slice-matches.ensures ∙ ap (λ (r : Round). r.matches) (sym c.index-rounds-at.is)))
+    subst (λ (ms : List Match). IsSeatedOnce (scored_slot ms c.args.new.now.table c.args.new.now.score))
+    (sym (c.as_slice-matches.ensures ∙ ap (λ (r : Round). r.matches) (sym c.index-rounds-at.is)))
     (seated-here c.args.rounds.now c.args.at c.args.new.now.place c.args.new.now.table c.args.new.now.score c.index-rounds-at.result
     c.requires.within c.if-at-new.true c.index-rounds-at.is c.requires.seated)
 

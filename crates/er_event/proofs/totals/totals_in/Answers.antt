@@ -16,13 +16,15 @@ loop-round-preserved c =
     = λ n. ap (λ (ms : List Match). counted_lines n (record { matches = ms })) c.as_slice.ensures in
     elim c.match-games_in.branch [
       | in-Some w ↦ record {
-        value = w.totals-is ∙ (w.with-totals.ensures.value ∙ totals-more c.args.player c.args.rounds.now i c.round-item.result c.loop-round.totals (Some w.in-Some.games)
+        value = w.totals-is ∙ (w.with-totals.ensures.value
+            ∙ totals-more c.args.player c.args.rounds.now i c.round-item.result c.loop-round.totals (Some w.in-Some.games)
             c.loop-round-test.true c.round-item.is inv.value (λ n. sym (ap own_totals (lines n)) ∙ w.in-Some.ensures.value n));
         over = rw w.totals-is (w.with-totals.ensures.more i inv.over);
       }
       | in_default w ↦ record {
         value = w.totals-is ∙ totals-same c.args.player c.args.rounds.now i c.round-item.result c.loop-round.totals
-            c.loop-round-test.true c.round-item.is inv.value (λ n. sym (ap own_totals (lines n)) ∙ (c.games_in.ensures.value n ∙ ap totals_of_games w.in_default.is));
+            c.loop-round-test.true c.round-item.is inv.value
+            (λ n. sym (ap own_totals (lines n)) ∙ (c.games_in.ensures.value n ∙ ap totals_of_games w.in_default.is));
         over = rw w.totals-is (over-more i c.loop-round.totals inv.over);
       }
     ]

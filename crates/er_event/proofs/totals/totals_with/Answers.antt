@@ -20,7 +20,8 @@ loop-at-preserved c =
     elim c.match-games_at.branch [
       | in-Some w ↦ record {
         value = w.totals-is ∙ (w.with-totals.ensures.value
-            ∙ totals-more c.args.player rounds i r c.loop-at.totals (Some w.in-Some.games) below is inv.value (λ n. w.in-Some.ensures.value r is n));
+            ∙ totals-more c.args.player rounds i r c.loop-at.totals (Some w.in-Some.games) below is inv.value
+            (λ n. w.in-Some.ensures.value r is n));
         over = rw w.totals-is (w.with-totals.ensures.more i inv.over);
       }
       | in_default w ↦ record {

@@ -12,4 +12,6 @@ returns c =
     let number = rw stage at c.in_ok-write.ensures.bytes in
     let text = string_bytes c.args.text.now in
     let line = pairing_line c.args.event.now c.args.slot c.args.m.now in
-    IfOk-weaker c.push_pairing.result _ _ (λ done ended. ended ∙ (ap (λ t. t ++ line) number ∙ (append_assoc text (right 4 c.args.stage ++ 32 ∷ []) line ∙ ap (λ l. text ++ l) (append_assoc (right 4 c.args.stage) (32 ∷ []) line)))) c.push_pairing.ensures
+    IfOk-weaker c.push_pairing.result _ _ (λ done ended. ended
+    ∙ (ap (λ t. t ++ line) number ∙ (append_assoc text (right 4 c.args.stage ++ 32 ∷ []) line ∙ ap
+    (λ l. text ++ l) (append_assoc (right 4 c.args.stage) (32 ∷ []) line)))) c.push_pairing.ensures

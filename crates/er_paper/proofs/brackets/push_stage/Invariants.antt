@@ -5,4 +5,5 @@ use Rattle.er_paper.specs.Texts.{slot_line}
 use Rattle.er_paper.proofs.brackets.push_stage.Given as goal
 
 abbrev pub invariant-loop-place : goal.invariant-loop-place
-invariant-loop-place l = string_bytes l.text ≡ string_bytes l.fn.text ++ flat_map (slot_line l.event l.stage) (numbered_from 1 (take l.place l.matches))
+invariant-loop-place l = string_bytes l.text ≡ string_bytes l.fn.text ++ flat_map (slot_line l.event l.stage)
+    (numbered_from 1 (take l.place l.matches))

@@ -9,10 +9,12 @@ use Rattle.er_paper.proofs.exports.players_csv.Goals as goal
 pub loop-player-init : goal.loop-player-init
 loop-player-init c =
     let from = c.from_writer-table.ensures in
-    let start : written c.from_writer-table.result ≡ [] = ap₂ (λ (v : Vec ℕ Global) (p : List ℕ). v.items ++ p) from.wtr from.empty ∙ ap (λ (xs : List ℕ). xs ++ []) c.new-2.ensures.items in
+    let start : written c.from_writer-table.result ≡ [] = ap₂ (λ (v : Vec ℕ Global) (p : List ℕ). v.items ++ p) from.wtr from.empty ∙ ap
+    (λ (xs : List ℕ). xs ++ []) c.new-2.ensures.items in
     record {
       plain = c.in_ok-push_fields.ensures.plain;
-      text = c.in_ok-push_fields.ensures.text ∙ ap (λ (t : List ℕ). t ++ row_text default_writer players_heading) start ∙ rows-first players_heading;
+      text = c.in_ok-push_fields.ensures.text ∙ ap (λ (t : List ℕ). t ++ row_text default_writer players_heading) start
+          ∙ rows-first players_heading;
     }
 
 pub loop-player-preserved : goal.loop-player-preserved

@@ -13,6 +13,8 @@ loop-at-preserved c =
     let row = c.index-rows-at.result in
     let items : c.push.new.self.items ≡ c.loop-at.lines.items ++ c.in-Some.line ∷ [] = grind (arith, common_steps) in
     let number : 1 + at ≡ at + 1 = omega arith in
-    let read : line (1 + at) (fields_of row) ≡ Some c.in-Some.line = ap (λ (k : ℕ). line k (fields_of row)) number ∙ sym c.line_under.ensures ∙ c.in-Some.is in
+    let read : line (1 + at) (fields_of row) ≡ Some c.in-Some.line = ap (λ (k : ℕ). line k (fields_of row)) number
+    ∙ sym c.line_under.ensures ∙ c.in-Some.is in
     subst (λ (ls : List PlayerLine). Reached line c.args.rows.now ls (at + 1)) (sym items)
-    (reached-more line c.args.rows.now c.loop-at.lines.items at row c.loop-at-test.true c.index-rows-at.is c.loop-at.invariant c.in-Some.line (at + 1) read refl)
+    (reached-more line c.args.rows.now c.loop-at.lines.items at row c.loop-at-test.true c.index-rows-at.is c.loop-at.invariant
+    c.in-Some.line (at + 1) read refl)

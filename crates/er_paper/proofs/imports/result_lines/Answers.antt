@@ -12,4 +12,5 @@ loop-at-preserved c =
     let row = c.index-rows-at.result in
     let read : result_of (fields_of row) ≡ Some c.in-Some.line = sym c.result_of.ensures ∙ c.in-Some.is in
     subst (λ (ls : List ResultLine). Reached line c.args.rows.now ls (at + 1)) (sym c.in_ok-push_result.ensures)
-    (reached-more line c.args.rows.now c.loop-at.lines.items at row c.loop-at-test.true c.index-rows-at.is c.loop-at.invariant c.in-Some.line (at + 1) read refl)
+    (reached-more line c.args.rows.now c.loop-at.lines.items at row c.loop-at-test.true c.index-rows-at.is c.loop-at.invariant
+    c.in-Some.line (at + 1) read refl)

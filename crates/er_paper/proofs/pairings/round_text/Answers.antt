@@ -13,5 +13,6 @@ loop-place-preserved c =
     let pushed = c.in_ok-push_pairing.ensures in
     let more = lines-more (table_line event) matches place m c.loop-place-test.true c.index-matches-place.is in
     pushed ∙ (ap (λ text. text ++ pairing_line event c.table_at.result m) c.loop-place.invariant
-    ∙ (ap (λ table. (codes " Tab    A    B Score Names" ++ (10 ∷ flat_map (table_line event) (numbered_from 1 (take place matches)))) ++ pairing_line event table m) c.table_at.ensures
+    ∙ (ap (λ table. (codes " Tab    A    B Score Names" ++ (10 ∷ flat_map (table_line event) (numbered_from 1 (take place matches))))
+    ++ pairing_line event table m) c.table_at.ensures
     ∙ ap (λ lines. codes " Tab    A    B Score Names" ++ (10 ∷ lines)) (sym more)))

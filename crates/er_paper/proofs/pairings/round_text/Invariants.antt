@@ -5,4 +5,5 @@ use Rattle.er_paper.specs.Texts.{table_line}
 use Rattle.er_paper.proofs.pairings.round_text.Given as goal
 
 abbrev pub invariant-loop-place : goal.invariant-loop-place
-invariant-loop-place l = string_bytes l.text ≡ codes " Tab    A    B Score Names" ++ (10 ∷ flat_map (table_line l.event) (numbered_from 1 (take l.place l.matches)))
+invariant-loop-place l = string_bytes l.text ≡ codes " Tab    A    B Score Names"
+    ++ (10 ∷ flat_map (table_line l.event) (numbered_from 1 (take l.place l.matches)))

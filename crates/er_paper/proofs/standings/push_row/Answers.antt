@@ -12,4 +12,5 @@ returns c =
     let points = at_hole styled_decimal _ _ c.laid_out-3.ensures (right 3) right_3 row.points in
     let numbers = rw (rank, number, points, c.get-number.ensures.value) at c.in_ok-write.ensures.bytes in
     let ending = rw (c.mark_of-mark.ensures, c.name_of-name.ensures, c.get-number.ensures.value) at c.writeln.ensures.bytes in
-    IfOk-weaker c.writeln.result _ _ (λ done ended. five_pieces _ _ _ _ _ _ _ _ _ _ _ numbers c.in_ok-push_percent.ensures c.in_ok-push_percent-2.ensures c.in_ok-push_percent-3.ensures ended) ending
+    IfOk-weaker c.writeln.result _ _ (λ done ended. five_pieces _ _ _ _ _ _ _ _ _ _ _ numbers c.in_ok-push_percent.ensures
+    c.in_ok-push_percent-2.ensures c.in_ok-push_percent-3.ensures ended) ending

@@ -5,7 +5,8 @@ use Rattle.er_share.proofs.share.hundredths.Goals as goal
 
 pub returns-clause-for_any : goal.returns-clause-for_any
 returns-clause-for_any c = λ f is.
-    hundredths-share c.share.inside.parts c.from-rounded_up.result f (λ half. grind (arith, nat_tests)) (λ less. grind (arith, nat_tests)) (rw c.share.view_is is)
+    hundredths-share c.share.inside.parts c.from-rounded_up.result f (λ half. grind (arith, nat_tests))
+    (λ less. grind (arith, nat_tests)) (rw c.share.view_is is)
 
 pub returns-clause-value : goal.returns-clause-value
 returns-clause-value c = returns-clause-for_any c _ (IsShareOf-fraction_of c.args.share)

@@ -6,4 +6,5 @@ use Rattle.er_slips.proofs.request.next_of.Goals as goal
 
 pub returns-in_default-clause-value : goal.returns-in_default-clause-value
 returns-in_default-clause-value c = λ head at. absurd (c.in_default.ensures.cases.0
-    (subst IsUtf8 (sym (c.path_of-path.ensures ∙ ap path_of c.of.ensures)) (path-is-text c.args.bytes.now c.args.headers.now c.args.spans head at)))
+    (subst IsUtf8 (sym (c.path_of-path.ensures ∙ ap path_of c.of.ensures))
+    (path-is-text c.args.bytes.now c.args.headers.now c.args.spans head at)))

@@ -8,7 +8,8 @@ returns-in-Err g c =
     let filled = c.read_head-head.result.1 in
     let bytes = take filled c.read_head-head.new.buf in
     let shows = shows-of _ c.in-Found.spans (ShowsHead bytes c.read_head-head.new.headers) c.in-Found.is c.read_head-head.ensures.found in
-    asks-next _ _ bytes c.read_head-head.new.headers c.in-Found.spans c.read_head-head.ensures.read (few-bytes filled c.read_head-head.new.buf c.read_head-head.ensures.within) shows
+    asks-next _ _ bytes c.read_head-head.new.headers c.in-Found.spans c.read_head-head.ensures.read
+    (few-bytes filled c.read_head-head.new.buf c.read_head-head.ensures.within) shows
     c.next_in.result _ (c.next_in.ensures.value shows.head shows.at) c.in-Err.is
 
 pub returns-in-Ok-Get : goal.returns-in-Ok-Get
@@ -16,17 +17,26 @@ returns-in-Ok-Get g c =
     let filled = c.read_head-head.result.1 in
     let bytes = take filled c.read_head-head.new.buf in
     let shows = shows-of _ c.in-Found.spans (ShowsHead bytes c.read_head-head.new.headers) c.in-Found.is c.read_head-head.ensures.found in
-    asks-get _ _ bytes c.read_head-head.new.headers c.in-Found.spans c.read_head-head.ensures.read (few-bytes filled c.read_head-head.new.buf c.read_head-head.ensures.within) shows
-    c.in-Ok-Get.asked (is-next _ c.next_in.result _ (c.next_in.ensures.value shows.head shows.at) c.in-Ok-Get.is ∙ ap Ok c.in-Ok-Get.field-0-is)
+    asks-get _ _ bytes c.read_head-head.new.headers c.in-Found.spans c.read_head-head.ensures.read
+    (few-bytes filled c.read_head-head.new.buf c.read_head-head.ensures.within) shows
+    c.in-Ok-Get.asked (is-next _ c.next_in.result _ (c.next_in.ensures.value shows.head shows.at) c.in-Ok-Get.is
+    ∙ ap Ok c.in-Ok-Get.field-0-is)
 
 pub returns-then-count-end : goal.returns-then-count-end
 returns-then-count-end g c =
     let filled = c.read_head-head.result.1 in
     let bytes = take filled c.read_head-head.new.buf in
     let shows = shows-of _ c.in-Found.spans (ShowsHead bytes c.read_head-head.new.headers) c.in-Found.is c.read_head-head.ensures.found in
-    let past : c.in-Found.spans.len ≤ c.in-Ok.count = omega (arith, head-fits bytes c.read_head-head.new.headers c.in-Found.spans filled c.read_head-head.new.buf refl shows, c.in-Ok.ensures.more) in
-    asks-short _ _ bytes c.read_head-head.new.headers c.in-Found.spans c.read_head-head.ensures.read (few-bytes filled c.read_head-head.new.buf c.read_head-head.ensures.within) shows
-    c.in-Ok-Body.round c.in-Ok-Body.table c.in-Ok-Body.length (is-next _ c.next_in.result _ (c.next_in.ensures.value shows.head shows.at) c.in-Ok-Body.is ∙ ap Ok c.in-Ok-Body.field-0-is)
+    let past : c.in-Found.spans.len ≤ c.in-Ok.count =
+    omega (
+      arith,
+      head-fits bytes c.read_head-head.new.headers c.in-Found.spans filled c.read_head-head.new.buf refl shows,
+      c.in-Ok.ensures.more,
+    ) in
+    asks-short _ _ bytes c.read_head-head.new.headers c.in-Found.spans c.read_head-head.ensures.read
+    (few-bytes filled c.read_head-head.new.buf c.read_head-head.ensures.within) shows
+    c.in-Ok-Body.round c.in-Ok-Body.table c.in-Ok-Body.length
+    (is-next _ c.next_in.result _ (c.next_in.ensures.value shows.head shows.at) c.in-Ok-Body.is ∙ ap Ok c.in-Ok-Body.field-0-is)
     _ c.read_on.new.buf c.in-Ok.count (c.in-Ok.ensures.read _ c.read_head-head.ensures.read) c.in-Ok.ensures.within
     past c.if-count-end.true (c.in-Ok.ensures.ended c.if-count-end.true)
 
@@ -35,7 +45,9 @@ returns-else-count-end g c =
     let filled = c.read_head-head.result.1 in
     let bytes = take filled c.read_head-head.new.buf in
     let shows = shows-of _ c.in-Found.spans (ShowsHead bytes c.read_head-head.new.headers) c.in-Found.is c.read_head-head.ensures.found in
-    asks-body _ _ bytes c.read_head-head.new.headers c.in-Found.spans c.read_head-head.ensures.read (few-bytes filled c.read_head-head.new.buf c.read_head-head.ensures.within) shows
-    c.in-Ok-Body.round c.in-Ok-Body.table c.in-Ok-Body.length (is-next _ c.next_in.result _ (c.next_in.ensures.value shows.head shows.at) c.in-Ok-Body.is ∙ ap Ok c.in-Ok-Body.field-0-is)
+    asks-body _ _ bytes c.read_head-head.new.headers c.in-Found.spans c.read_head-head.ensures.read
+    (few-bytes filled c.read_head-head.new.buf c.read_head-head.ensures.within) shows
+    c.in-Ok-Body.round c.in-Ok-Body.table c.in-Ok-Body.length
+    (is-next _ c.next_in.result _ (c.next_in.ensures.value shows.head shows.at) c.in-Ok-Body.is ∙ ap Ok c.in-Ok-Body.field-0-is)
     _ c.read_on.new.buf c.in-Ok.count (c.in-Ok.ensures.read _ c.read_head-head.ensures.read) c.in-Ok.ensures.within
     _ refl c.if-count-end.false c.report.result c.report.ensures

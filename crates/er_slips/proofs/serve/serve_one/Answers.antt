@@ -10,7 +10,8 @@ pub returns-in-Ok-clause-written : goal.returns-in-Ok-clause-written
 returns-in-Ok-clause-written g c = written _ _ _ _ _ _ _ (returns-in-Ok-clause-ends g c)
 
 pub returns-in-Err-Refused-clause-ends : goal.returns-in-Err-Refused-clause-ends
-returns-in-Err-Refused-clause-ends g c = ends-refused _ _ _ _ _ _ _ _ _ _ c.in-Err-Refused.field-0-is c.in-Err-Refused.ensures (c.fault_answer.ensures ∙ ap fault_answer c.in-Err-Refused.fault-is) refl c.deliver-in-Err-Refused.ensures
+returns-in-Err-Refused-clause-ends g c = ends-refused _ _ _ _ _ _ _ _ _ _ c.in-Err-Refused.field-0-is c.in-Err-Refused.ensures
+    (c.fault_answer.ensures ∙ ap fault_answer c.in-Err-Refused.fault-is) refl c.deliver-in-Err-Refused.ensures
 
 pub returns-in-Err-Refused-clause-written : goal.returns-in-Err-Refused-clause-written
 returns-in-Err-Refused-clause-written g c = written _ _ _ _ _ _ _ (returns-in-Err-Refused-clause-ends g c)

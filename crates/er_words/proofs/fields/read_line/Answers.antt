@@ -11,5 +11,7 @@ returns-in_default c = script_line-no_text c.args.line.now c.in_default.ensures.
 pub returns : goal.returns
 returns c =
     let cases = c.in-Ok.ensures.cases in
-    let words = words-fields c.as_slice.result.now _ _ c.args.line.now _ c.as_slice.ensures.value (c.in_ok-fields.ensures ∙ ap fields_of cases.0) c.in-len1-up.len_at_least c.in_ok-words.ensures in
-    Reads-script c.args.line.now _ c.read_words.result cases.1 (ap (map (string_bytes {Z = Global})) c.deref.ensures.value ∙ words) c.read_words.ensures
+    let words = words-fields c.as_slice.result.now _ _ c.args.line.now _ c.as_slice.ensures.value
+    (c.in_ok-fields.ensures ∙ ap fields_of cases.0) c.in-len1-up.len_at_least c.in_ok-words.ensures in
+    Reads-script c.args.line.now _ c.read_words.result cases.1 (ap (map (string_bytes {Z = Global})) c.deref.ensures.value ∙ words)
+    c.read_words.ensures

@@ -4,4 +4,5 @@ use Rattle.std.specs.Global.{Global}
 use Rattle.er_words.proofs.fields.words_of.Given as goal
 
 abbrev pub invariant-loop-value : goal.invariant-loop-value
-invariant-loop-value l = map (string_bytes {Z = Global}) l.words.items ≡ l.name ∷ codes "script" ∷ map (λ (value : Bor (List ℕ)). value.now) (take l.value-index l.values)
+invariant-loop-value l = map (string_bytes {Z = Global}) l.words.items ≡ l.name ∷ codes "script" ∷ map
+    (λ (value : Bor (List ℕ)). value.now) (take l.value-index l.values)

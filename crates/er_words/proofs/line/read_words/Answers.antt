@@ -7,10 +7,12 @@ use Rattle.er_words.proofs.line.read_words.Goals as goal
 pub returns-in_err-name : goal.returns-in_err-name
 returns-in_err-name c =
     let words = map (string_bytes {Z = Global}) c.args.words.now in
-    Reads-unsplit words c.from_residual.result c.in_err-name.field-0.0 (sym c.has_option.ensures ∙ c.if-has_option.false) (λ is. c.in_err-name.ensures.usage (ap Err is)) c.from_residual.ensures.1
+    Reads-unsplit words c.from_residual.result c.in_err-name.field-0.0 (sym c.has_option.ensures ∙ c.if-has_option.false)
+    (λ is. c.in_err-name.ensures.usage (ap Err is)) c.from_residual.ensures.1
 
 pub returns : goal.returns
 returns c =
     let words = map (string_bytes {Z = Global}) c.args.words.now in
     let values = ap (map (λ (word : Bor (List ℕ)). word.now)) (sym c.deref.ensures.value) in
-    Reads-split words c.in_ok-name.name.now _ c.read_named.result (sym c.has_option.ensures ∙ c.if-has_option.false) (c.in_ok-name.ensures.ok ∙ ap (λ ws. Some (c.in_ok-name.name.now, ws)) values) c.read_named.ensures
+    Reads-split words c.in_ok-name.name.now _ c.read_named.result (sym c.has_option.ensures ∙ c.if-has_option.false)
+    (c.in_ok-name.ensures.ok ∙ ap (λ ws. Some (c.in_ok-name.name.now, ws)) values) c.read_named.ensures

@@ -6,4 +6,5 @@ use Rattle.er_words.specs.Line.{is_option}
 use Rattle.er_words.proofs.usage.dash_at.Given as goal
 
 abbrev pub invariant-loop-word : goal.invariant-loop-word
-invariant-loop-word l = (l.place ≡ l.word-index) × (list_any is_option (map (string_bytes {Z = Global}) (take l.word-index l.words)) ≡ false)
+invariant-loop-word l = (l.place ≡ l.word-index) × (list_any is_option (map (string_bytes {Z = Global}) (take l.word-index l.words))
+    ≡ false)

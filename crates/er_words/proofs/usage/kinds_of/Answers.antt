@@ -8,7 +8,8 @@ use Rattle.er_words.proofs.usage.kinds_of.Goals as goal
 pub returns-in-playoff : goal.returns-in-playoff
 returns-in-playoff c = rw c.in-playoff.is takes-playoff
 
-either : (name : List ℕ) → (name ≡ codes "result") ⊎ (name ≡ codes "correct") → Takes (Text ∷ SmallNumber ∷ Number ∷ SmallNumber ∷ SmallNumber ∷ SmallNumber ∷ []) (line_by subcommands name)
+either : (name : List ℕ) → (name ≡ codes "result") ⊎ (name ≡ codes "correct")
+    → Takes (Text ∷ SmallNumber ∷ Number ∷ SmallNumber ∷ SmallNumber ∷ SmallNumber ∷ []) (line_by subcommands name)
 either name (inl is) = rw is takes-result
 either name (inr is) = rw is takes-correct
 

@@ -8,4 +8,5 @@ use Rattle.er_words.proofs.usage.values_fault.Given as goal
 abbrev pub invariant-loop-kind : goal.invariant-loop-kind
 invariant-loop-kind l =
     let texts = map (string_bytes {Z = Global}) l.words in
-    (l.place ≤ length l.words) × (l.place ≡ 1 + l.kind-index) × (are_of_kinds l.kinds (drop 1 texts) ≡ are_of_kinds (drop l.kind-index l.kinds) (drop l.place texts))
+    (l.place ≤ length l.words) × (l.place ≡ 1 + l.kind-index)
+    × (are_of_kinds l.kinds (drop 1 texts) ≡ are_of_kinds (drop l.kind-index l.kinds) (drop l.place texts))

@@ -10,4 +10,6 @@ use Rattle.er_words.proofs.words.has_option.Goals as goal
 pub returns : goal.returns
 returns c =
     let words = c.args.words.now in
-    any_from_yields_List (λ word. is_option (string_bytes word)) _ _ c.any.result c.any.ensures.ran (YieldsList-from_slice words (search rules)) (λ x b q k. search (rules, tests)) ∙ sym (list_any-map is_option (string_bytes {Z = Global}) words)
+    any_from_yields_List (λ word. is_option (string_bytes word)) _ _ c.any.result c.any.ensures.ran
+    (YieldsList-from_slice words (search rules)) (λ x b q k. search (rules, tests))
+    ∙ sym (list_any-map is_option (string_bytes {Z = Global}) words)

@@ -17,7 +17,8 @@ returns-in-Err-clause-usage c = λ e.
     let plain = AllPlain-none texts c.requires in
     let usage : c.fault_of.result ≡ Usage = cc in
     let refused = c.in-Err.ensures.kinds (ap is_simple_and_free app_is ∙ simple_and_free) in
-    let fits : length texts < 2 ^ 64 = let short : length c.args.words.now < 2 ^ 64 = omega arith in subst (λ n. n < 2 ^ 64) (sym (length-map c.args.words.now (string_bytes {Z = Global}))) short in
+    let fits : length texts < 2 ^ 64 = let short : length c.args.words.now < 2 ^ 64 =
+    omega arith in subst (λ n. n < 2 ^ 64) (sym (length-map c.args.words.now (string_bytes {Z = Global}))) short in
     elim (unsplit_or_taken texts plain fits) [
       | inl none ↦ none
       | inr taken ↦ absurd (c.fault_of.ensures usage (only_memory _ c.in-Err.error (fault_as _ texts app_is taken) refused))

@@ -13,9 +13,11 @@ some_is (Some y) x h = ap Some h
 
 pub returns : goal.returns
 returns c =
-    let range = some_is c.num_args-words.result.num_vals (record { start_inclusive = 0; end_inclusive = usize_max }) c.num_args-words.ensures.1 in
+    let range = some_is c.num_args-words.result.num_vals (record { start_inclusive = 0; end_inclusive = usize_max })
+    c.num_args-words.ensures.1 in
     let words_is : rule_of c.num_args-words.result ≡ words_rule =
     ap rule_of c.num_args-words.ensures.0 ∙ ap₂ (λ (r : Rule) (v : Option ValueRange). record r { range = v }) c.new.ensures.rule range in
     let leaf_is : app_of c.in_ok-leaf.leaf ≡ with_rule (new_app c.args.name.now) words_rule =
     c.in_ok-leaf.ensures.shape (search rules) ∙ ap₂ with_rule c.new-2.ensures.app words_is in
-    IfOk-weaker c.subcommand.result _ _ (λ r h. h.shape (search rules) ∙ ap (λ (a : App). with_subcommand (app_of c.args.command) a.top) leaf_is) c.subcommand.ensures
+    IfOk-weaker c.subcommand.result _ _ (λ r h. h.shape (search rules) ∙ ap
+    (λ (a : App). with_subcommand (app_of c.args.command) a.top) leaf_is) c.subcommand.ensures

@@ -51,10 +51,19 @@ returns-in_err-store-clause-left g c is_open =
 -- ---- the seeds agree
 
 pub invariant_of-result-clause-sound : goal.invariant_of-result-clause-sound
-invariant_of-result-clause-sound g c = ∣ record { but_for_seeds = c.in_ok-store.ensures.sound; seeds = c.in-Ok-true.ensures.0 c.in-Ok-true.field-0-test } ∣₁
+invariant_of-result-clause-sound g c = ∣ record {
+  but_for_seeds = c.in_ok-store.ensures.sound;
+  seeds = c.in-Ok-true.ensures.0 c.in-Ok-true.field-0-test;
+} ∣₁
 
 pub returns-in-Ok-true-clause-sound : goal.returns-in-Ok-true-clause-sound
-returns-in-Ok-true-clause-sound g c = (record { but_for_seeds = c.in_ok-store.ensures.sound; seeds = c.in-Ok-true.ensures.0 c.in-Ok-true.field-0-test }, c.in_ok-store.ensures.low)
+returns-in-Ok-true-clause-sound g c = (
+  record {
+    but_for_seeds = c.in_ok-store.ensures.sound;
+    seeds = c.in-Ok-true.ensures.0 c.in-Ok-true.field-0-test;
+  },
+  c.in_ok-store.ensures.low,
+)
 
 pub returns-in-Ok-true-clause-repeats : goal.returns-in-Ok-true-clause-repeats
 returns-in-Ok-true-clause-repeats g c = c.in_ok-store.ensures.sound.rounds.no_repeats
@@ -64,67 +73,100 @@ returns-in-Ok-true-clause-found g c point stands sound clean =
     let found = c.in_ok-store.ensures.found point.event point.serial stands sound.but_for_seeds clean in
     record {
       found = point_is point c.in_ok-store.event c.in_ok-store.serial found.0 found.1;
-      shows = shows_as (tables.state g.S.Store c.in_ok-store.store) point.event c.in_ok-store.event point.serial c.in_ok-store.serial found.0 found.1 found.2;
+      shows = shows_as (tables.state g.S.Store c.in_ok-store.store) point.event c.in_ok-store.event point.serial c.in_ok-store.serial
+          found.0 found.1 found.2;
       leaves = λ late. c.in_ok-store.ensures.leaves late point.event point.serial stands sound.but_for_seeds;
     }
 
 pub returns-in-Ok-true-clause-other_seeds : goal.returns-in-Ok-true-clause-other_seeds
 returns-in-Ok-true-clause-other_seeds g c point stands sound none clean =
-    none (subst HasSeeds (c.in_ok-store.ensures.found point.event point.serial stands sound clean).0 (c.in-Ok-true.ensures.0 c.in-Ok-true.field-0-test))
+    none (subst HasSeeds (c.in_ok-store.ensures.found point.event point.serial stands sound clean).0
+    (c.in-Ok-true.ensures.0 c.in-Ok-true.field-0-test))
 
 pub returns-in-Ok-true-clause-left : goal.returns-in-Ok-true-clause-left
-returns-in-Ok-true-clause-left g c is_open clean db may = g.met.S.Store.settled c.args.conn.store db is_open (c.in_ok-store.ensures.crash_ok clean db may)
+returns-in-Ok-true-clause-left g c is_open clean db may =
+    g.met.S.Store.settled c.args.conn.store db is_open (c.in_ok-store.ensures.crash_ok clean db may)
 
 -- ---- they do not
 
 pub returns-in-Ok-false-clause-found : goal.returns-in-Ok-false-clause-found
 returns-in-Ok-false-clause-found g c point stands sound clean =
-    let found = c.in_ok-store.ensures.found point.event point.serial stands sound.but_for_seeds (back_clean g.S.Store (state g.S.Store c.args.conn) c.into_connection.result c.in_ok-store.store c.into_connection.ensures.same clean) in
+    let found = c.in_ok-store.ensures.found point.event point.serial stands sound.but_for_seeds
+    (back_clean g.S.Store (state g.S.Store c.args.conn) c.into_connection.result c.in_ok-store.store c.into_connection.ensures.same
+    clean) in
     let has : HasSeeds c.in_ok-store.event = subst HasSeeds (sym found.0) sound.seeds in
     absurd (true≢false (sym (c.in-Ok-false.ensures.1 has) ∙ c.in-Ok-false.field-0-test))
 
 pub returns-in-Ok-false-clause-first : goal.returns-in-Ok-false-clause-first
 returns-in-Ok-false-clause-first g c clean =
-    let reads = c.in_ok-store.ensures.reads (back_clean g.S.Store (state g.S.Store c.args.conn) c.into_connection.result c.in_ok-store.store c.into_connection.ensures.same clean) in
+    let reads = c.in_ok-store.ensures.reads (back_clean g.S.Store (state g.S.Store c.args.conn) c.into_connection.result c.in_ok-store.store
+    c.into_connection.ensures.same clean) in
     record {
       no_event = λ is. absurd (cc);
       readable = λ place is. read_whole (state g.S.Store c.args.conn).now _ reads.0;
-      first = λ place is. inr (let same : place ≡ BracketTable = cc in same, (c.in_ok-store.event, c.in_ok-store.serial, reads.0, reads.1, c.in_ok-store.ensures.sound, λ has. true≢false (sym (c.in-Ok-false.ensures.1 has) ∙ c.in-Ok-false.field-0-test)));
+      first = λ place is. inr (
+        let same : place ≡ BracketTable = cc in same,
+        (
+          c.in_ok-store.event,
+          c.in_ok-store.serial,
+          reads.0,
+          reads.1,
+          c.in_ok-store.ensures.sound,
+          λ has. true≢false (sym (c.in-Ok-false.ensures.1 has) ∙ c.in-Ok-false.field-0-test),
+        ),
+      );
     }
 
 pub returns-in-Ok-false-clause-other_seeds : goal.returns-in-Ok-false-clause-other_seeds
 returns-in-Ok-false-clause-other_seeds g c point stands sound none clean = inr refl
 
 pub returns-in-Ok-false-clause-clean : goal.returns-in-Ok-false-clause-clean
-returns-in-Ok-false-clause-clean g c clean = c.in_ok-store.ensures.clean (back_clean g.S.Store (state g.S.Store c.args.conn) c.into_connection.result c.in_ok-store.store c.into_connection.ensures.same clean)
+returns-in-Ok-false-clause-clean g c clean = c.in_ok-store.ensures.clean
+    (back_clean g.S.Store (state g.S.Store c.args.conn) c.into_connection.result c.in_ok-store.store c.into_connection.ensures.same clean)
 
 pub returns-in-Ok-false-clause-kept : goal.returns-in-Ok-false-clause-kept
-returns-in-Ok-false-clause-kept g c clean = back_keeps g.S.Store (state g.S.Store c.args.conn) c.into_connection.result c.in_ok-store.store c.into_connection.ensures.same (c.in_ok-store.ensures.same (back_clean g.S.Store (state g.S.Store c.args.conn) c.into_connection.result c.in_ok-store.store c.into_connection.ensures.same clean))
+returns-in-Ok-false-clause-kept g c clean = back_keeps g.S.Store (state g.S.Store c.args.conn) c.into_connection.result c.in_ok-store.store
+    c.into_connection.ensures.same (c.in_ok-store.ensures.same
+    (back_clean g.S.Store (state g.S.Store c.args.conn) c.into_connection.result c.in_ok-store.store c.into_connection.ensures.same clean))
 
 pub returns-in-Ok-false-clause-crash : goal.returns-in-Ok-false-clause-crash
-returns-in-Ok-false-clause-crash g c = back_leaves g.S.Store (state g.S.Store c.args.conn) c.into_connection.result c.in_ok-store.store c.into_connection.ensures.same _ c.in_ok-store.ensures.crash_ok
+returns-in-Ok-false-clause-crash g c = back_leaves g.S.Store (state g.S.Store c.args.conn) c.into_connection.result c.in_ok-store.store
+    c.into_connection.ensures.same _ c.in_ok-store.ensures.crash_ok
 
 pub returns-in-Ok-false-clause-left : goal.returns-in-Ok-false-clause-left
 returns-in-Ok-false-clause-left g c is_open =
-    back_leaves g.S.Store (state g.S.Store c.args.conn) c.into_connection.result c.in_ok-store.store c.into_connection.ensures.same _ (λ clean db may. g.met.S.Store.settled c.args.conn.store db is_open (c.in_ok-store.ensures.crash_ok clean db may))
+    back_leaves g.S.Store (state g.S.Store c.args.conn) c.into_connection.result c.in_ok-store.store c.into_connection.ensures.same _
+    (λ clean db may. g.met.S.Store.settled c.args.conn.store db is_open (c.in_ok-store.ensures.crash_ok clean db may))
 
 -- ---- memory is wanting
 
 pub returns-in-Err-clause-first : goal.returns-in-Err-clause-first
-returns-in-Err-clause-first g c clean = record { no_event = λ is. absurd (cc); readable = λ place is. absurd (cc); first = λ place is. absurd (cc) }
+returns-in-Err-clause-first g c clean = record {
+  no_event = λ is. absurd (cc);
+  readable = λ place is. absurd (cc);
+  first = λ place is. absurd (cc);
+}
 
 pub returns-in-Err-clause-other_seeds : goal.returns-in-Err-clause-other_seeds
 returns-in-Err-clause-other_seeds g c point stands sound none clean = inl (inl refl)
 
 pub returns-in-Err-clause-clean : goal.returns-in-Err-clause-clean
-returns-in-Err-clause-clean g c clean = c.in_ok-store.ensures.clean (back_clean g.S.Store (state g.S.Store c.args.conn) c.into_connection-in-Err.result c.in_ok-store.store c.into_connection-in-Err.ensures.same clean)
+returns-in-Err-clause-clean g c clean = c.in_ok-store.ensures.clean
+    (back_clean g.S.Store (state g.S.Store c.args.conn) c.into_connection-in-Err.result c.in_ok-store.store
+    c.into_connection-in-Err.ensures.same clean)
 
 pub returns-in-Err-clause-kept : goal.returns-in-Err-clause-kept
-returns-in-Err-clause-kept g c clean = back_keeps g.S.Store (state g.S.Store c.args.conn) c.into_connection-in-Err.result c.in_ok-store.store c.into_connection-in-Err.ensures.same (c.in_ok-store.ensures.same (back_clean g.S.Store (state g.S.Store c.args.conn) c.into_connection-in-Err.result c.in_ok-store.store c.into_connection-in-Err.ensures.same clean))
+returns-in-Err-clause-kept g c clean = back_keeps g.S.Store (state g.S.Store c.args.conn) c.into_connection-in-Err.result
+    c.in_ok-store.store c.into_connection-in-Err.ensures.same
+    (c.in_ok-store.ensures.same (back_clean g.S.Store (state g.S.Store c.args.conn) c.into_connection-in-Err.result c.in_ok-store.store
+    c.into_connection-in-Err.ensures.same clean))
 
 pub returns-in-Err-clause-crash : goal.returns-in-Err-clause-crash
-returns-in-Err-clause-crash g c = back_leaves g.S.Store (state g.S.Store c.args.conn) c.into_connection-in-Err.result c.in_ok-store.store c.into_connection-in-Err.ensures.same _ c.in_ok-store.ensures.crash_ok
+returns-in-Err-clause-crash g c = back_leaves g.S.Store (state g.S.Store c.args.conn) c.into_connection-in-Err.result c.in_ok-store.store
+    c.into_connection-in-Err.ensures.same _ c.in_ok-store.ensures.crash_ok
 
 pub returns-in-Err-clause-left : goal.returns-in-Err-clause-left
 returns-in-Err-clause-left g c is_open =
-    back_leaves g.S.Store (state g.S.Store c.args.conn) c.into_connection-in-Err.result c.in_ok-store.store c.into_connection-in-Err.ensures.same _ (λ clean db may. g.met.S.Store.settled c.args.conn.store db is_open (c.in_ok-store.ensures.crash_ok clean db may))
+    back_leaves g.S.Store (state g.S.Store c.args.conn) c.into_connection-in-Err.result c.in_ok-store.store
+    c.into_connection-in-Err.ensures.same _ (λ clean db may. g.met.S.Store.settled c.args.conn.store db is_open
+    (c.in_ok-store.ensures.crash_ok clean db may))

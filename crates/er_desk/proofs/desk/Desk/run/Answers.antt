@@ -11,7 +11,8 @@ use Rattle.er_desk.proofs.desk.Desk.run.Goals as goal
 
 pub loop-command-init : goal.loop-command-init
 loop-command-init g c = record {
-  ran = subst (λ (rs : List Reply). Runs (standing c.args.self.now) [] rs (standing c.args.self.now)) (sym c.in_ok-replies.ensures.items) refl;
+  ran = subst (λ (rs : List Reply). Runs (standing c.args.self.now) [] rs (standing c.args.self.now)) (sym c.in_ok-replies.ensures.items)
+      refl;
   count = c.in_ok-replies.ensures.len;
   room = omega (arith, c.in_ok-replies.ensures.capacity, c.len.ensures, c.deref-command-items.ensures.len);
   waits = λ stopped. refl;
@@ -33,7 +34,8 @@ loop-command-preserved g c =
     let reply = c.take-reply.result in
     let inv = c.loop-command.invariant in
     let took = c.take-reply.ensures in
-    let more : take (at + 1) items ≡ take at items ++ cmd ∷ [] = take_more items at cmd c.loop-command-test.true ∙ ap (λ (x : Command). take at items ++ x ∷ []) (sym c.command-item.is) in
+    let more : take (at + 1) items ≡ take at items ++ cmd ∷ [] = take_more items at cmd c.loop-command-test.true ∙ ap
+    (λ (x : Command). take at items ++ x ∷ []) (sym c.command-item.is) in
     let pushed : c.push.new.self.items ≡ rs ++ reply ∷ [] = c.in-Ok.ensures.items in
     let ran = runs_push (standing first) (standing old) (standing new) (take at items) rs cmd reply inv.ran took.turn in
     record {
@@ -42,9 +44,12 @@ loop-command-preserved g c =
       room = omega (arith, inv.room, c.in-Ok.ensures.capacity);
       waits = waits_more first old new inv.waits took.waits;
       clean = λ clean. inv.clean (took.clean clean);
-      stands = λ clean shows runs. took.stands clean (inv.stands (took.clean clean) shows (was_running (standing old) (standing new) cmd reply runs took.turn)) runs;
-      others = λ clean shows is_open. keeps_more g.S.Store first old new took.waits (inv.stands (took.clean clean) shows) (inv.others (took.clean clean) shows) (took.others clean) is_open;
-      crash = rw (more, pushed) (crash_more g.S.Store first old new (take at items) rs cmd reply inv.ran took.turn took.waits took.undecided took.clean inv.stands inv.crash);
+      stands = λ clean shows runs. took.stands clean
+          (inv.stands (took.clean clean) shows (was_running (standing old) (standing new) cmd reply runs took.turn)) runs;
+      others = λ clean shows is_open. keeps_more g.S.Store first old new took.waits (inv.stands (took.clean clean) shows)
+          (inv.others (took.clean clean) shows) (took.others clean) is_open;
+      crash = rw (more, pushed) (crash_more g.S.Store first old new (take at items) rs cmd reply inv.ran took.turn took.waits took.undecided
+          took.clean inv.stands inv.crash);
     }
 
 pub returns : goal.returns
@@ -53,7 +58,9 @@ returns g c =
     let now = c.loop-command.self in
     let inv = c.loop-command.invariant in
     let rs = c.loop-command.replies.items in
-    let all : take c.loop-command.command-index c.deref-command-items.result.now ≡ c.args.commands.items = take_all c.loop-command.command-index c.deref-command-items.result.now c.loop-command-test.false ∙ c.deref-command-items.ensures.value in
+    let all : take c.loop-command.command-index c.deref-command-items.result.now ≡ c.args.commands.items =
+    take_all c.loop-command.command-index c.deref-command-items.result.now c.loop-command-test.false
+    ∙ c.deref-command-items.ensures.value in
     let ran = subst (λ (cs : List Command). Runs (standing first) cs rs (standing now)) all inv.ran in
     record {
       ran = ran;

@@ -14,7 +14,9 @@ invariant-loop-command g l = record {
   room : length l.command-items ≤ vec_capacity l.replies;
   waits : IsTrue (standing l.fn.self).stopped → l.self ≡ l.fn.self;
   clean : HasCleanDisk (state g.S.Store l.self) → HasCleanDisk (state g.S.Store l.fn.self);
-  stands : HasCleanDisk (state g.S.Store l.self) → ShowsOwn g.S.Store l.fn.self → IsFalse (standing l.self).stopped → ShowsOwn g.S.Store l.self;
-  others : HasCleanDisk (state g.S.Store l.self) → ShowsOwn g.S.Store l.fn.self → IsTrue (state g.S.Store l.self).is_open → KeepsOthers (state g.S.Store l.fn.self).now (state g.S.Store l.self).now;
+  stands : HasCleanDisk (state g.S.Store l.self) → ShowsOwn g.S.Store l.fn.self → IsFalse (standing l.self).stopped
+      → ShowsOwn g.S.Store l.self;
+  others : HasCleanDisk (state g.S.Store l.self) → ShowsOwn g.S.Store l.fn.self → IsTrue (state g.S.Store l.self).is_open
+      → KeepsOthers (state g.S.Store l.fn.self).now (state g.S.Store l.self).now;
   crash : CrashesAt g.S.Store l.fn.self l.self (take l.command-index l.command-items) l.replies.items;
 }

@@ -1,6 +1,7 @@
 use Rattle.std.proofs.Common.{◌≡◌, ◌<◌, ◌∙◌, inl, inr, refl, sym, ap, arith}
 use Rattle.er_desk.specs.Desk.{state, standing}
-use Rattle.er_desk.proofs.Turns.{declined, full, written, turn_fault, turn_asks, waits_of, stops_of, stopped_of, keeps_self, on_error, same_unless, stands_after, leaves_refused}
+use Rattle.er_desk.proofs.Turns.{declined, full, written, turn_fault, turn_asks, waits_of, stops_of, stopped_of, keeps_self, on_error}
+use Rattle.er_desk.proofs.Turns.{same_unless, stands_after, leaves_refused}
 use Rattle.er_desk.proofs.desk.Desk.take.Goals as goal
 
 -- ---- the step refuses the command
@@ -8,16 +9,23 @@ use Rattle.er_desk.proofs.desk.Desk.take.Goals as goal
 pub returns-in_err-change-clause-turn : goal.returns-in_err-change-clause-turn
 returns-in_err-change-clause-turn g c =
     let desk = c.args.self.now in
-    declined (standing desk) (sym desk.told ∙ c.if-self.false) c.args.command.now c.from_residual.result _ c.from_residual.ensures.1 c.in_err-change.ensures.refused c.in_err-change.ensures.named
+    declined (standing desk) (sym desk.told ∙ c.if-self.false) c.args.command.now c.from_residual.result _ c.from_residual.ensures.1
+    c.in_err-change.ensures.refused c.in_err-change.ensures.named
 
 pub returns-in_err-change-clause-stops : goal.returns-in_err-change-clause-stops
-returns-in_err-change-clause-stops g c = (stops_of _ _ _ _ (returns-in_err-change-clause-turn g c), stopped_of _ _ _ _ (returns-in_err-change-clause-turn g c))
+returns-in_err-change-clause-stops g c = (
+  stops_of _ _ _ _ (returns-in_err-change-clause-turn g c),
+  stopped_of _ _ _ _ (returns-in_err-change-clause-turn g c),
+)
 
 pub returns-in_err-change-clause-fault : goal.returns-in_err-change-clause-fault
 returns-in_err-change-clause-fault g c = turn_fault _ _ _ _ (returns-in_err-change-clause-turn g c)
 
 pub returns-in_err-change-clause-asks : goal.returns-in_err-change-clause-asks
-returns-in_err-change-clause-asks g c = (turn_asks _ _ _ _ (returns-in_err-change-clause-turn g c), waits_of _ _ _ _ (returns-in_err-change-clause-turn g c))
+returns-in_err-change-clause-asks g c = (
+  turn_asks _ _ _ _ (returns-in_err-change-clause-turn g c),
+  waits_of _ _ _ _ (returns-in_err-change-clause-turn g c),
+)
 
 pub returns-in_err-change-clause-others : goal.returns-in_err-change-clause-others
 returns-in_err-change-clause-others g c clean shows is_open = keeps_self (state g.S.Store c.args.self.now).now
@@ -33,16 +41,23 @@ returns-in_err-change-clause-refused g c shows = on_error c.from_residual.result
 pub returns-then-self-eq-MAX_SERIAL-clause-turn : goal.returns-then-self-eq-MAX_SERIAL-clause-turn
 returns-then-self-eq-MAX_SERIAL-clause-turn g c =
     let desk = c.args.self.now in
-    full (standing desk) (sym desk.told ∙ c.if-self.false) c.args.command.now _ c.in_ok-change.ensures.taken.1 (omega (arith, c.if-self-eq-MAX_SERIAL.true))
+    full (standing desk) (sym desk.told ∙ c.if-self.false) c.args.command.now _ c.in_ok-change.ensures.taken.1
+    (omega (arith, c.if-self-eq-MAX_SERIAL.true))
 
 pub returns-then-self-eq-MAX_SERIAL-clause-stops : goal.returns-then-self-eq-MAX_SERIAL-clause-stops
-returns-then-self-eq-MAX_SERIAL-clause-stops g c = (stops_of _ _ _ _ (returns-then-self-eq-MAX_SERIAL-clause-turn g c), stopped_of _ _ _ _ (returns-then-self-eq-MAX_SERIAL-clause-turn g c))
+returns-then-self-eq-MAX_SERIAL-clause-stops g c = (
+  stops_of _ _ _ _ (returns-then-self-eq-MAX_SERIAL-clause-turn g c),
+  stopped_of _ _ _ _ (returns-then-self-eq-MAX_SERIAL-clause-turn g c),
+)
 
 pub returns-then-self-eq-MAX_SERIAL-clause-fault : goal.returns-then-self-eq-MAX_SERIAL-clause-fault
 returns-then-self-eq-MAX_SERIAL-clause-fault g c = turn_fault _ _ _ _ (returns-then-self-eq-MAX_SERIAL-clause-turn g c)
 
 pub returns-then-self-eq-MAX_SERIAL-clause-asks : goal.returns-then-self-eq-MAX_SERIAL-clause-asks
-returns-then-self-eq-MAX_SERIAL-clause-asks g c = (turn_asks _ _ _ _ (returns-then-self-eq-MAX_SERIAL-clause-turn g c), waits_of _ _ _ _ (returns-then-self-eq-MAX_SERIAL-clause-turn g c))
+returns-then-self-eq-MAX_SERIAL-clause-asks g c = (
+  turn_asks _ _ _ _ (returns-then-self-eq-MAX_SERIAL-clause-turn g c),
+  waits_of _ _ _ _ (returns-then-self-eq-MAX_SERIAL-clause-turn g c),
+)
 
 pub returns-then-self-eq-MAX_SERIAL-clause-others : goal.returns-then-self-eq-MAX_SERIAL-clause-others
 returns-then-self-eq-MAX_SERIAL-clause-others g c clean shows is_open = keeps_self (state g.S.Store c.args.self.now).now
@@ -59,7 +74,8 @@ pub returns-clause-turn : goal.returns-clause-turn
 returns-clause-turn g c =
     let desk = c.args.self.now in
     let room : desk.serial < 999999 = omega (arith, desk.low, c.if-self-eq-MAX_SERIAL.false) in
-    written (standing desk) (sym desk.told ∙ c.if-self.false) c.args.command.now (standing c.write.new.self) c.write.result _ (c.write.new.self ≡ desk) (λ same. ap standing same)
+    written (standing desk) (sym desk.told ∙ c.if-self.false) c.args.command.now (standing c.write.new.self) c.write.result _
+    (c.write.new.self ≡ desk) (λ same. ap standing same)
     c.in_ok-change.ensures.taken.1 room c.write.ensures.taken c.write.ensures.refused
 
 pub returns-clause-stops : goal.returns-clause-stops
@@ -75,14 +91,16 @@ pub returns-clause-same : goal.returns-clause-same
 returns-clause-same g c = same_unless g.S.Store c.args.self.now c.write.new.self c.write.result c.write.ensures.refused
 
 pub returns-clause-stands : goal.returns-clause-stands
-returns-clause-stands g c clean shows runs = stands_after g.S.Store c.args.self.now c.write.new.self c.write.result shows (c.write.ensures.written clean shows) c.write.ensures.refused runs
+returns-clause-stands g c clean shows runs = stands_after g.S.Store c.args.self.now c.write.new.self c.write.result shows
+    (c.write.ensures.written clean shows) c.write.ensures.refused runs
 
 pub returns-clause-undecided : goal.returns-clause-undecided
 returns-clause-undecided g c runs shows clean trees may =
     elim (c.write.ensures.crash shows clean trees may) [ inl old ↦ inl old | inr new ↦ inr (_, c.in_ok-change.ensures.taken.1, new) ]
 
 pub returns-clause-refused : goal.returns-clause-refused
-returns-clause-refused g c shows = leaves_refused g.S.Store c.args.self.now c.write.new.self c.write.result (c.shown_is_stored.ensures _ _ shows) c.write.ensures.refused
+returns-clause-refused g c shows = leaves_refused g.S.Store c.args.self.now c.write.new.self c.write.result
+    (c.shown_is_stored.ensures _ _ shows) c.write.ensures.refused
 
 -- ---- the rest of what `write` says
 

@@ -7,7 +7,8 @@ use Rattle.er_desk.specs.Desk.{Standing, state}
 use Rattle.er_desk.proofs.Turns.{keeps_self}
 use Rattle.er_desk.proofs.desk.Desk.write.Goals as goal
 
-standing_same : (a b : EventValue) (n : ℕ) (s t : Bool) → a ≡ b → s ≡ t → (let it : Standing = record { event = a; serial = n; stopped = s } in it) ≡ record { event = b; serial = n; stopped = t }
+standing_same : (a b : EventValue) (n : ℕ) (s t : Bool) → a ≡ b → s ≡ t
+    → (let it : Standing = record { event = a; serial = n; stopped = s } in it) ≡ record { event = b; serial = n; stopped = t }
 standing_same a b n s t events stops = cc
 
 pub returns-in_err-next-clause-crash : goal.returns-in_err-next-clause-crash
@@ -17,7 +18,8 @@ pub returns-in_err-next-clause-others : goal.returns-in_err-next-clause-others
 returns-in_err-next-clause-others g c clean shows is_open = keeps_self (state g.S.Store c.args.self.now).now
 
 pub invariant_of-self-clause-sound : goal.invariant_of-self-clause-sound
-invariant_of-self-clause-sound g c = subst (λ (e : EventValue). ∥ IsSound e ∥₁) (sym c.in_ok-next.ensures.ok) (∥∥₁_map c.args.self.now.sound c.requires.sound)
+invariant_of-self-clause-sound g c = subst (λ (e : EventValue). ∥ IsSound e ∥₁) (sym c.in_ok-next.ensures.ok)
+    (∥∥₁_map c.args.self.now.sound c.requires.sound)
 
 -- ---- what the store says. The goal on what is written has no answer, so that a body that doesn't write is refused there.
 
@@ -44,7 +46,8 @@ returns-in-Ok-clause-taken g c = (standing_same _ _ _ _ _ c.in_ok-next.ensures.o
 
 pub returns-in-Ok-clause-acknowledged : goal.returns-in-Ok-clause-acknowledged
 returns-in-Ok-clause-acknowledged g c shows clean trees may =
-    subst (λ (e : EventValue). IsStored e (c.args.self.now.serial + 1) trees) (sym c.in_ok-next.ensures.ok) (c.in-Ok.ensures.acknowledged clean shows trees may)
+    subst (λ (e : EventValue). IsStored e (c.args.self.now.serial + 1) trees) (sym c.in_ok-next.ensures.ok)
+    (c.in-Ok.ensures.acknowledged clean shows trees may)
 
 pub returns-in-Ok-clause-crash : goal.returns-in-Ok-clause-crash
 returns-in-Ok-clause-crash g c = c.write.ensures.crash c.requires.runs

@@ -10,5 +10,8 @@ returns-then-players-from c =
     let lawful = c.has_name.ensures.lawful in
     let same = ap length c.players-players.ensures.value in
     let room : length e.players < 512 = omega arith in
-    let test : c.has_name.result ≡ has_name e.players name = c.has_name.ensures.value ∙ ap (λ ps. has_name ps name) c.players-players.ensures.value in
-    (λ new. IsSound-with e name c.players-players.ensures.sound lawful room (ap not (sym test) ∙ new), λ sound. ap not test ∙ IsSound-new e name sound)
+    let test : c.has_name.result ≡ has_name e.players name =
+    c.has_name.ensures.value ∙ ap (λ ps. has_name ps name) c.players-players.ensures.value in (
+      λ new. IsSound-with e name c.players-players.ensures.sound lawful room (ap not (sym test) ∙ new),
+      λ sound. ap not test ∙ IsSound-new e name sound,
+    )

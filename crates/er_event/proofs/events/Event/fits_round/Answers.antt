@@ -14,6 +14,7 @@ returns c =
     let view = ap (λ (v : EventValue). v.rounds) c.self.view_is in
     let room : length e.stored < e.rounds = omega (arith, c.from.ensures, c.if-stored-from.false) in
     let known = c.players.ensures.sound.players.numbered ∙ ap (range_with_len 1) (sym (ap length c.players.ensures.value)) in (
-      λ yes. IsSound-round e ms c.phase.ensures.sound swiss room (rw (known) (rw (c.stored-2.ensures.value) at (c.may_follow.ensures.0 yes))),
+      λ yes. IsSound-round e ms c.phase.ensures.sound swiss room
+          (rw (known) (rw (c.stored-2.ensures.value) at (c.may_follow.ensures.0 yes))),
       λ sound. c.may_follow.ensures.1 (rw (c.stored-2.ensures.value) (rw (known) at (round-follows e ms sound))),
     )

@@ -12,5 +12,7 @@ returns c =
     let test = c.are_counted.ensures ∙ ap (list_all (λ (r : Round). is_counted r.matches)) c.stored-2.ensures.value in
     let count = ap length c.stored.ensures.value in
     let view = ap (λ (v : EventValue). v.rounds) c.self.view_is in
-    let limit : length e.stored ≡ e.rounds = sym count ∙ (c.if-stored-from.false ∙ (c.from.ensures ∙ view)) in
-    (λ yes. (limit, All-of (λ (r : Round). is_counted r.matches) e.stored (sym test ∙ yes)), λ done. test ∙ of-All (λ (r : Round). is_counted r.matches) e.stored done.1)
+    let limit : length e.stored ≡ e.rounds = sym count ∙ (c.if-stored-from.false ∙ (c.from.ensures ∙ view)) in (
+      λ yes. (limit, All-of (λ (r : Round). is_counted r.matches) e.stored (sym test ∙ yes)),
+      λ done. test ∙ of-All (λ (r : Round). is_counted r.matches) e.stored done.1,
+    )

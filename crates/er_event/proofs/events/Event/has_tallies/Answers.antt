@@ -18,7 +18,8 @@ loop-at-preserved c =
     let below = c.loop-at-test.true in
     let player = c.index-players-at.result in
     let due : Player → TallyRow = λ p. tally_row p.no (totals event p.no) in
-    let here = c.is_row_of.ensures.0 c.if-not-is_row_of.false ∙ (ap (tally_row player.no) c.totals.ensures ∙ ap due c.index-players-at.is) in
+    let here = c.is_row_of.ensures.0 c.if-not-is_row_of.false
+    ∙ (ap (tally_row player.no) c.totals.ensures ∙ ap due c.index-players-at.is) in
     let is = moved rows at _ (due (get_or players at player)) (omega (arith, below, c.if-rows-players.false)) here in
     take_more rows at (due (get_or players at player)) (omega (arith, below, c.if-rows-players.false))
     ∙ (ap₂ (λ (xs : List TallyRow) (r : TallyRow). xs ++ r ∷ []) c.loop-at.invariant (sym is)
@@ -30,5 +31,6 @@ returns c =
     let due : Player → TallyRow = λ p. tally_row p.no (totals event p.no) in
     let all : c.args.rows.now ≡ map due event.players =
     sym (take_all c.loop-at.at c.args.rows.now (omega (arith, c.loop-at-test.false, c.if-rows-players.false)))
-    ∙ (c.loop-at.invariant ∙ (ap (map due) (take_all c.loop-at.at c.players-players.result.now c.loop-at-test.false) ∙ ap (map due) c.players-players.ensures.value)) in
+    ∙ (c.loop-at.invariant ∙ (ap (map due) (take_all c.loop-at.at c.players-players.result.now c.loop-at-test.false)
+    ∙ ap (map due) c.players-players.ensures.value)) in
     (λ _. all, λ _. refl)

@@ -17,7 +17,8 @@ matches_to_recount_in-requires c =
     let fits : Fits event (SetScore score.round score.table score.score) = subst (Fits event) score.is c.requires in
     let round = c.index-stored-from.result in
     let is : round ≡ get_or event.stored (score.round - 1) round =
-    c.index-stored-from.is ∙ (ap (λ (rs : List Round). get_or rs (c.from.result - 1) round) c.stored-stored.ensures.value ∙ ap (λ (k : ℕ). get_or event.stored (k - 1) round) c.from.ensures) in
+    c.index-stored-from.is ∙ (ap (λ (rs : List Round). get_or rs (c.from.result - 1) round) c.stored-stored.ensures.value ∙ ap
+    (λ (k : ℕ). get_or event.stored (k - 1) round) c.from.ensures) in
     rw (c.from-in-SetScore.ensures, c.as_slice-in-SetScore.ensures) (table-within event score.round score.table score.score fits round is)
 
 pub returns-in-AddRound-clause-known : goal.returns-in-AddRound-clause-known
@@ -41,11 +42,15 @@ given c =
     let fits : Fits event (SetScore score.round score.table score.score) = subst (Fits event) score.is c.requires in
     let round = c.index-stored-from.result in
     let is : round ≡ get_or event.stored (score.round - 1) (record { matches = [] }) =
-    c.index-stored-from.is ∙ (ap (λ (rs : List Round). get_or rs (c.from.result - 1) round) c.stored-stored.ensures.value ∙ (ap (λ (k : ℕ). get_or event.stored (k - 1) round) c.from.ensures
-    ∙ get_or_default event.stored (score.round - 1) round (record { matches = [] }) (round-within event score.round score.table score.score fits))) in
+    c.index-stored-from.is ∙ (ap (λ (rs : List Round). get_or rs (c.from.result - 1) round) c.stored-stored.ensures.value
+    ∙ (ap (λ (k : ℕ). get_or event.stored (k - 1) round) c.from.ensures
+    ∙ get_or_default event.stored (score.round - 1) round (record { matches = [] })
+    (round-within event score.round score.table score.score fits))) in
     c.matches_to_recount_in.ensures
-    ∙ (ap (λ (ms : List Match). recounted_in ms c.from-in-SetScore.result score.score) (c.as_slice-in-SetScore.ensures ∙ ap (λ (r : Round). r.matches) is)
-    ∙ (ap (λ (t : ℕ). recounted_in (get_or event.stored (score.round - 1) (record { matches = [] })).matches t score.score) c.from-in-SetScore.ensures
+    ∙ (ap (λ (ms : List Match). recounted_in ms c.from-in-SetScore.result score.score)
+    (c.as_slice-in-SetScore.ensures ∙ ap (λ (r : Round). r.matches) is)
+    ∙ (ap (λ (t : ℕ). recounted_in (get_or event.stored (score.round - 1) (record { matches = [] })).matches t score.score)
+    c.from-in-SetScore.ensures
     ∙ ap (recounted event) (sym score.is)))
 
 pub returns-in-SetScore-clause-value : goal.returns-in-SetScore-clause-value
@@ -63,4 +68,5 @@ returns-in-SetScore-clause-others c = λ player away.
     let score = c.in-SetScore in
     let event = c.args.self.now in
     let fits : Fits event (SetScore score.round score.table score.score) = subst (Fits event) score.is c.requires in
-    rw score.is (scored-same event score.round score.table score.score player fits (subst (IsAbsent player) (given c ∙ ap (recounted event) score.is) away))
+    rw score.is (scored-same event score.round score.table score.score player fits
+    (subst (IsAbsent player) (given c ∙ ap (recounted event) score.is) away))

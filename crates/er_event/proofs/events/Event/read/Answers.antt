@@ -109,4 +109,5 @@ returns-clause-only c other is sound =
     let stages = c.in_ok-stages.stages.items in
     let drawn = rw (c.as_slice-4.ensures, count) at c.in_ok-stages.ensures.value in
     let only_these = rw (c.as_slice-4.ensures, count) at c.in_ok-stages.ensures.only in
-    rw (c.from.ensures) (only_whole parts setup set players listed.0 listed.1 rounds paired.0 paired.1 only stages drawn.0 drawn.1 only_these other is sound)
+    rw (c.from.ensures) (only_whole parts setup set players listed.0 listed.1 rounds paired.0 paired.1 only stages drawn.0 drawn.1
+    only_these other is sound)

@@ -17,19 +17,29 @@ invariant_of-self c =
 pub score_slot-requires : goal.score_slot-requires
 score_slot-requires c =
     let e = value_of c.self.inside in
-    let fits = subst (λ (v : EventValue). Fits v (SetBracketScore c.args.stage c.args.slot c.args.score c.args.next c.args.finished)) (sym c.self.view_is) c.requires in
-    (fits.named.0, slot-more e c.args.stage c.args.slot fits.named.0 fits.named.1 (one_more c.args.next) c.add_next.new.stages c.in_default.ensures.ok)
+    let fits = subst (λ (v : EventValue). Fits v (SetBracketScore c.args.stage c.args.slot c.args.score c.args.next c.args.finished))
+    (sym c.self.view_is) c.requires in (
+      fits.named.0,
+      slot-more e c.args.stage c.args.slot fits.named.0 fits.named.1 (one_more c.args.next) c.add_next.new.stages
+          c.in_default.ensures.ok,
+    )
 
-made : (c : goal.After-phase_after-self-inside) → in_playoff (value_of c.self.inside) c.phase_after-self-inside.result c.score_slot.new.stages ≡ with_bracket_score (value_of c.self.inside) c.args.stage c.args.slot c.args.score c.args.next c.args.finished
+made : (c : goal.After-phase_after-self-inside) → in_playoff (value_of c.self.inside) c.phase_after-self-inside.result
+    c.score_slot.new.stages ≡ with_bracket_score (value_of c.self.inside) c.args.stage c.args.slot c.args.score c.args.next c.args.finished
 made c =
     let e = value_of c.self.inside in
-    let fits = subst (λ (v : EventValue). Fits v (SetBracketScore c.args.stage c.args.slot c.args.score c.args.next c.args.finished)) (sym c.self.view_is) c.requires in
-    written-slot e c.args.stage c.args.slot c.args.score c.args.next c.args.finished fits.named.0 fits.named.1 c.add_next.new.stages c.score_slot.new.stages c.in_default.ensures.ok c.score_slot.ensures c.phase_after-self-inside.result c.phase_after-self-inside.ensures
+    let fits = subst (λ (v : EventValue). Fits v (SetBracketScore c.args.stage c.args.slot c.args.score c.args.next c.args.finished))
+    (sym c.self.view_is) c.requires in
+    written-slot e c.args.stage c.args.slot c.args.score c.args.next c.args.finished fits.named.0 fits.named.1 c.add_next.new.stages
+    c.score_slot.new.stages c.in_default.ensures.ok c.score_slot.ensures c.phase_after-self-inside.result
+    c.phase_after-self-inside.ensures
 
 pub invariant_of-self-2 : goal.invariant_of-self-2
 invariant_of-self-2 c =
-    let fits = subst (λ (v : EventValue). Fits v (SetBracketScore c.args.stage c.args.slot c.args.score c.args.next c.args.finished)) (sym c.self.view_is) c.requires in
+    let fits = subst (λ (v : EventValue). Fits v (SetBracketScore c.args.stage c.args.slot c.args.score c.args.next c.args.finished))
+    (sym c.self.view_is) c.requires in
     subst IsSoundButForSeeds (sym (made c)) fits.sound
 
 pub returns-clause-ok : goal.returns-clause-ok
-returns-clause-ok c = made c ∙ ap (λ (v : EventValue). with_bracket_score v c.args.stage c.args.slot c.args.score c.args.next c.args.finished) c.self.view_is
+returns-clause-ok c = made c ∙ ap (λ (v : EventValue). with_bracket_score v c.args.stage c.args.slot c.args.score c.args.next
+    c.args.finished) c.self.view_is

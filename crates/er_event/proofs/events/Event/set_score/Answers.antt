@@ -16,17 +16,21 @@ pub score_match-requires : goal.score_match-requires
 score_match-requires c =
     let e = value_of c.self.inside in
     let fits = subst (λ (v : EventValue). Fits v (SetScore c.args.round c.args.table c.args.score)) (sym c.self.view_is) c.requires in
-    listed-within e c.args.round c.args.table c.args.score fits c.from.result c.from-2.result c.index_mut-listed.result.now c.from.ensures c.from-2.ensures c.index_mut-listed.ensures.value
+    listed-within e c.args.round c.args.table c.args.score fits c.from.result c.from-2.result c.index_mut-listed.result.now c.from.ensures
+    c.from-2.ensures c.index_mut-listed.ensures.value
 
 pub invariant_of-self : goal.invariant_of-self
 invariant_of-self c =
     let e = value_of c.self.inside in
     let fits = subst (λ (v : EventValue). Fits v (SetScore c.args.round c.args.table c.args.score)) (sym c.self.view_is) c.requires in
-    subst IsSoundButForSeeds (sym (written e c.args.round c.args.table c.args.score fits c.from.result c.from-2.result c.index_mut-listed.result.now c.from.ensures c.from-2.ensures c.index_mut-listed.ensures.value c.score_match.new.matches c.score_match.ensures)) fits.sound
+    subst IsSoundButForSeeds (sym (written e c.args.round c.args.table c.args.score fits c.from.result c.from-2.result
+    c.index_mut-listed.result.now c.from.ensures c.from-2.ensures c.index_mut-listed.ensures.value c.score_match.new.matches
+    c.score_match.ensures)) fits.sound
 
 pub returns : goal.returns
 returns c =
     let e = value_of c.self.inside in
     let fits = subst (λ (v : EventValue). Fits v (SetScore c.args.round c.args.table c.args.score)) (sym c.self.view_is) c.requires in
-    written e c.args.round c.args.table c.args.score fits c.from.result c.from-2.result c.index_mut-listed.result.now c.from.ensures c.from-2.ensures c.index_mut-listed.ensures.value c.score_match.new.matches c.score_match.ensures
+    written e c.args.round c.args.table c.args.score fits c.from.result c.from-2.result c.index_mut-listed.result.now c.from.ensures
+    c.from-2.ensures c.index_mut-listed.ensures.value c.score_match.new.matches c.score_match.ensures
     ∙ ap (λ (v : EventValue). with_score v c.args.round c.args.table c.args.score) c.self.view_is

@@ -15,5 +15,6 @@ returns c =
     let below : at < length players = omega arith in
     let number : 1 + at ≡ c.args.player = omega arith in
     let dropped = set-dropped players 1 at c.index_mut-listed.result.now below c.requires.numbered in
-    subst (λ (p : Player). set players at (record p { dropped = true }) ≡ map (dropped_at c.args.player) players) (sym c.index_mut-listed.ensures.value)
+    subst (λ (p : Player). set players at (record p { dropped = true }) ≡ map (dropped_at c.args.player) players)
+    (sym c.index_mut-listed.ensures.value)
     (dropped ∙ ap (λ k. map (dropped_at k) players) number)

@@ -13,4 +13,5 @@ returns c stage n shown is =
     let second : c.args.row.now.b ≡ pos n.1.b = ap (λ (r : BracketRow). r.b) is in
     let a : c.in_ok-a.a ≡ n.1.a = search rules in
     let b : c.in_ok-b.b ≡ n.1.b = search rules in
-    ap Some (match_same c.in_ok-a.a c.in_ok-b.b c.in_ok-score.score n.1 a b (same_Some c.in_ok-score.score n.1.score (sym c.in_ok-score.was ∙ c.score_of.ensures stage n shown is)))
+    ap Some (match_same c.in_ok-a.a c.in_ok-b.b c.in_ok-score.score n.1 a b
+    (same_Some c.in_ok-score.score n.1.score (sym c.in_ok-score.was ∙ c.score_of.ensures stage n shown is)))

@@ -24,7 +24,8 @@ returns-then-not-suits-clause-damaged c place bad =
       λ stages are listed.
           let shown = stages_shown c.args.count s.cut c.requires.players c.requires.cut stages (are.bracket over) in
           let same = c.in_ok-stages.ensures.exact stages shown.0 shown.1 listed in
-          true≢false (sym (c.suits.ensures.1 (subst (AreStages s.phase s.cut (range_with_len 1 c.args.count)) (sym same ∙ sym c.as_slice.ensures.value) are)) ∙ c.if-not-suits.true),
+          true≢false (sym (c.suits.ensures.1 (subst (AreStages s.phase s.cut (range_with_len 1 c.args.count))
+          (sym same ∙ sym c.as_slice.ensures.value) are)) ∙ c.if-not-suits.true),
     )
 
 pub returns-clause-only : goal.returns-clause-only

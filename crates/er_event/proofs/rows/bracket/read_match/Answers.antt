@@ -7,7 +7,8 @@ use Rattle.er_event.proofs.StageLemmas.{rows_equal, columns_equal}
 use Rattle.er_event.proofs.rows.bracket.read_match.Goals as goal
 
 pub returns-in_default-clause-exact : goal.returns-in_default-clause-exact
-returns-in_default-clause-exact c m shown is = never_none c.match_of.result m c.in_default.is (c.match_of.ensures c.args.stage (c.args.slot, m) shown is)
+returns-in_default-clause-exact c m shown is = never_none c.match_of.result m c.in_default.is
+    (c.match_of.ensures c.args.stage (c.args.slot, m) shown is)
 
 pub returns-then-eq-clause-value : goal.returns-then-eq-clause-value
 returns-then-eq-clause-value c = sym (rows_equal c.of.result c.args.row.now (sym c.eq.ensures ∙ c.if-eq.true)) ∙ c.of.ensures
@@ -17,6 +18,8 @@ returns-then-eq-clause-exact c m shown is = sym c.in-Some.is ∙ c.match_of.ensu
 
 pub returns-else-eq-clause-exact : goal.returns-else-eq-clause-exact
 returns-else-eq-clause-exact c m shown is =
-    let found : c.in-Some.played ≡ m = same_Some c.in-Some.played m (sym c.in-Some.is ∙ c.match_of.ensures c.args.stage (c.args.slot, m) shown is) in
-    let same : c.of.result ≡ c.args.row.now = c.of.ensures ∙ (ap (λ (k : Match). bracket_row c.args.stage (c.args.slot, k)) found ∙ sym is) in
+    let found : c.in-Some.played ≡ m = same_Some c.in-Some.played m
+    (sym c.in-Some.is ∙ c.match_of.ensures c.args.stage (c.args.slot, m) shown is) in
+    let same : c.of.result ≡ c.args.row.now = c.of.ensures
+    ∙ (ap (λ (k : Match). bracket_row c.args.stage (c.args.slot, k)) found ∙ sym is) in
     absurd (true≢false (sym (columns_equal c.of.result c.args.row.now same) ∙ (sym c.eq.ensures ∙ c.if-eq.false)))

@@ -8,7 +8,8 @@ use Rattle.er_event.proofs.rows.bracket.read_slots.Goals as goal
 pub returns-in_default-clause-exact : goal.returns-in_default-clause-exact
 returns-in_default-clause-exact c ms shown are =
     let left = c.loop-place.invariant.2 ms shown are in
-    let here = here_shown c.args.stage c.loop-place.place c.args.rows.now c.loop-place-test.true c.loop-place.matches ms left.0 shown left.1 left.2 in
+    let here = here_shown c.args.stage c.loop-place.place c.args.rows.now c.loop-place-test.true c.loop-place.matches ms left.0 shown left.1
+    left.2 in
     never_none c.read_match.result here.0 c.in_default.is (c.read_match.ensures.exact here.0 here.2 here.3)
 
 pub loop-place-preserved : goal.loop-place-preserved
@@ -19,9 +20,11 @@ loop-place-preserved c =
     let m = c.in-Some.played in
     let read = c.in-Some.ensures.value in
     let pushed = c.in_ok-push.ensures.ok in
-    let count : length c.push.new.self ≡ at + 1 = ap length pushed ∙ (length-append items (m ∷ []) ∙ ap (λ n. n + 1) c.loop-place.invariant.0) in (
+    let count : length c.push.new.self ≡ at + 1 =
+    ap length pushed ∙ (length-append items (m ∷ []) ∙ ap (λ n. n + 1) c.loop-place.invariant.0) in (
       count,
-      rows_more c.args.stage at rows c.loop-place-test.true items m c.loop-place.invariant.0 c.loop-place.invariant.1 read ∙ ap (slot_rows c.args.stage 1) (sym pushed),
+      rows_more c.args.stage at rows c.loop-place-test.true items m c.loop-place.invariant.0 c.loop-place.invariant.1 read
+          ∙ ap (slot_rows c.args.stage 1) (sym pushed),
       λ ms shown are.
           let left = c.loop-place.invariant.2 ms shown are in
           let here = here_shown c.args.stage at rows c.loop-place-test.true items ms left.0 shown left.1 left.2 in
@@ -32,5 +35,6 @@ loop-place-preserved c =
 pub returns-clause-exact : goal.returns-clause-exact
 returns-clause-exact c ms shown are =
     let left = c.loop-place.invariant.2 ms shown are in
-    let none = nothing_left c.args.stage (c.loop-place.place + 1) c.loop-place.place c.args.rows.now left.0 c.loop-place-test.false left.2 in
+    let none = nothing_left c.args.stage (c.loop-place.place + 1) c.loop-place.place c.args.rows.now left.0 c.loop-place-test.false
+    left.2 in
     sym (left.1 ∙ (ap (λ l. c.loop-place.matches ++ l) none ∙ append-nil c.loop-place.matches))

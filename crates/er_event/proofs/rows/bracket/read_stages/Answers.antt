@@ -14,14 +14,20 @@ loop-read-init c =
       omega arith,
       subst (λ (rs : List (List Match)). length rs ≤ 3) (sym none) (omega arith),
       ap (bracket_rows_from 1) (sym none),
-      λ rs all few are. (rs, ap (λ l. l ++ rs) (sym none), are ∙ ap (λ (l : List (List Match)). bracket_rows_from (length l + 1) rs) (sym none)),
+      λ rs all few are. (
+        rs,
+        ap (λ l. l ++ rs) (sym none),
+        are ∙ ap (λ (l : List (List Match)). bracket_rows_from (length l + 1) rs) (sym none),
+      ),
     )
 
 pub returns-in_err-matches-clause-exact : goal.returns-in_err-matches-clause-exact
 returns-in_err-matches-clause-exact c rs all few are =
     let left = c.loop-read.invariant.3 rs all few are in
-    let next = next_shown c.args.rows.now c.loop-read.read c.loop-read.stages.items c.len-in-loop-read.result (c.len-in-loop-read.ensures ∙ c.loop-read.stages.ok.0) rs left.0 c.loop-read-test.true all left.1 left.2 in
-    let why : c.in_err-matches.field-0.0 ≡ Memory = c.in_err-matches.ensures.exact next.stage next.later next.shown next.all next.rows_are in
+    let next = next_shown c.args.rows.now c.loop-read.read c.loop-read.stages.items c.len-in-loop-read.result
+    (c.len-in-loop-read.ensures ∙ c.loop-read.stages.ok.0) rs left.0 c.loop-read-test.true all left.1 left.2 in
+    let why : c.in_err-matches.field-0.0 ≡ Memory =
+    c.in_err-matches.ensures.exact next.stage next.later next.shown next.all next.rows_are in
     search (rules, why)
 
 pub loop-read-preserved : goal.loop-read-preserved
@@ -46,12 +52,15 @@ loop-read-preserved c =
           let same : ms ≡ next.stage = found.0 in (
             next.later,
             next.split ∙ ap (λ (l : List (List Match)). l ++ next.later) (ap (λ (s : List Match). items ++ s ∷ []) (sym same) ∙ sym pushed),
-            drop_more rows read items k k_is next.stage count next.later next.rows_are found.1 ∙ ap (λ (l : List (List Match)). bracket_rows_from (length l + 1) next.later) (ap (λ (s : List Match). items ++ s ∷ []) (sym same) ∙ sym pushed),
+            drop_more rows read items k k_is next.stage count next.later next.rows_are found.1 ∙ ap
+                (λ (l : List (List Match)). bracket_rows_from (length l + 1) next.later)
+                (ap (λ (s : List Match). items ++ s ∷ []) (sym same) ∙ sym pushed),
           ),
     )
 
 pub returns-clause-exact : goal.returns-clause-exact
 returns-clause-exact c rs all few are =
     let left = c.loop-read.invariant.3 rs all few are in
-    let none = no_rows c.args.rows.now c.loop-read.read (length c.loop-read.stages.items + 1) left.0 (rest_of c.loop-read.stages.items left.0 (subst (All FitStageRows) left.1 all)) c.loop-read-test.false left.2 in
+    let none = no_rows c.args.rows.now c.loop-read.read (length c.loop-read.stages.items + 1) left.0
+    (rest_of c.loop-read.stages.items left.0 (subst (All FitStageRows) left.1 all)) c.loop-read-test.false left.2 in
     sym (left.1 ∙ (ap (λ l. c.loop-read.stages.items ++ l) none ∙ append-nil c.loop-read.stages.items))

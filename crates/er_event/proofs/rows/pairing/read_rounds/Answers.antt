@@ -20,8 +20,10 @@ loop-read-init c =
 pub returns-in_err-matches-clause-exact : goal.returns-in_err-matches-clause-exact
 returns-in_err-matches-clause-exact c rs all few are =
     let left = c.loop-read.invariant.3 rs all few are in
-    let next = next_shown c.args.rows.now c.loop-read.read c.loop-read.rounds.items c.len-in-loop-read.result (c.len-in-loop-read.ensures ∙ c.loop-read.rounds.ok.0) rs left.0 c.loop-read-test.true all left.1 left.2 in
-    let why : c.in_err-matches.field-0.0 ≡ Memory = c.in_err-matches.ensures.exact next.round.matches next.later next.shown next.all next.rows_are in
+    let next = next_shown c.args.rows.now c.loop-read.read c.loop-read.rounds.items c.len-in-loop-read.result
+    (c.len-in-loop-read.ensures ∙ c.loop-read.rounds.ok.0) rs left.0 c.loop-read-test.true all left.1 left.2 in
+    let why : c.in_err-matches.field-0.0 ≡ Memory =
+    c.in_err-matches.ensures.exact next.round.matches next.later next.shown next.all next.rows_are in
     search (rules, why)
 
 pub loop-read-preserved : goal.loop-read-preserved
@@ -47,12 +49,15 @@ loop-read-preserved c =
           let same : r ≡ next.round = ap (λ (l : List Match). (let s : Round = record { matches = l } in s)) found.0 in (
             next.later,
             next.split ∙ ap (λ (l : List Round). l ++ next.later) (ap (λ (s : Round). items ++ s ∷ []) (sym same) ∙ sym pushed),
-            drop_more rows read items k k_is next.round.matches count next.later next.rows_are found.1 ∙ ap (λ (l : List Round). keyed_rows_from (length l + 1) next.later) (ap (λ (s : Round). items ++ s ∷ []) (sym same) ∙ sym pushed),
+            drop_more rows read items k k_is next.round.matches count next.later next.rows_are found.1 ∙ ap
+                (λ (l : List Round). keyed_rows_from (length l + 1) next.later)
+                (ap (λ (s : Round). items ++ s ∷ []) (sym same) ∙ sym pushed),
           ),
     )
 
 pub returns-clause-exact : goal.returns-clause-exact
 returns-clause-exact c rs all few are =
     let left = c.loop-read.invariant.3 rs all few are in
-    let none = no_rows c.args.rows.now c.loop-read.read (length c.loop-read.rounds.items + 1) left.0 (rest_of c.loop-read.rounds.items left.0 (subst (All Shown) left.1 all)) c.loop-read-test.false left.2 in
+    let none = no_rows c.args.rows.now c.loop-read.read (length c.loop-read.rounds.items + 1) left.0
+    (rest_of c.loop-read.rounds.items left.0 (subst (All Shown) left.1 all)) c.loop-read-test.false left.2 in
     sym (left.1 ∙ (ap (λ l. c.loop-read.rounds.items ++ l) none ∙ append-nil c.loop-read.rounds.items))

@@ -12,7 +12,8 @@ returns-in_err-rounds-clause-damaged c place bad =
       c.in_err-rounds.ensures.damaged place (cc),
       λ rounds are listed.
           let few = are.few in
-          let memory = c.in_err-rounds.ensures.exact rounds (rounds_shown s.phase s.rounds c.args.count rounds c.requires.players are) (omega (arith, c.requires.limit)) listed in
+          let memory = c.in_err-rounds.ensures.exact rounds (rounds_shown s.phase s.rounds c.args.count rounds c.requires.players are)
+          (omega (arith, c.requires.limit)) listed in
           cc,
     )
 
@@ -22,12 +23,15 @@ returns-then-not-suits-clause-damaged c place bad =
       (cc),
       λ rounds are listed.
           let few = are.few in
-          let same = c.in_ok-rounds.ensures.exact rounds (rounds_shown s.phase s.rounds c.args.count rounds c.requires.players are) (omega (arith, c.requires.limit)) listed in
-          true≢false (sym (c.suits.ensures.1 (subst (AreRounds s.phase s.rounds (range_with_len 1 c.args.count)) (sym same ∙ sym c.as_slice.ensures.value) are)) ∙ c.if-not-suits.true),
+          let same = c.in_ok-rounds.ensures.exact rounds (rounds_shown s.phase s.rounds c.args.count rounds c.requires.players are)
+          (omega (arith, c.requires.limit)) listed in
+          true≢false (sym (c.suits.ensures.1 (subst (AreRounds s.phase s.rounds (range_with_len 1 c.args.count))
+          (sym same ∙ sym c.as_slice.ensures.value) are)) ∙ c.if-not-suits.true),
     )
 
 pub returns-clause-only : goal.returns-clause-only
 returns-clause-only c others are listed =
     let s = c.args.setup.now in
     let few = are.few in
-    sym (c.in_ok-rounds.ensures.exact others (rounds_shown s.phase s.rounds c.args.count others c.requires.players are) (omega (arith, c.requires.limit)) listed)
+    sym (c.in_ok-rounds.ensures.exact others (rounds_shown s.phase s.rounds c.args.count others c.requires.players are)
+    (omega (arith, c.requires.limit)) listed)

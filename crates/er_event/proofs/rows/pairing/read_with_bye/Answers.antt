@@ -7,4 +7,5 @@ pub returns-clause-value : goal.returns-clause-value
 returns-clause-value c =
     let bye = c.in-Some.ensures.value in
     let tables = c.in_ok-matches.ensures.value in
-    ap₂ ◌∷◌ bye.0 tables.0 ∙ (sym (keyed-bye c.args.round c.in_ok-matches.matches c.in-Some.bye tables.1 bye.1) ∙ ap (keyed_round_rows c.args.round) (sym c.in_ok-push.ensures.ok))
+    ap₂ ◌∷◌ bye.0 tables.0 ∙ (sym (keyed-bye c.args.round c.in_ok-matches.matches c.in-Some.bye tables.1 bye.1)
+    ∙ ap (keyed_round_rows c.args.round) (sym c.in_ok-push.ensures.ok))

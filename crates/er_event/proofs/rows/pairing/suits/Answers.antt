@@ -13,7 +13,8 @@ returns-then-rounds-limit-2 c =
     let rounds = c.args.rounds.now in
     let all : length rounds ≡ s.rounds = omega (arith, c.from-limit.ensures, c.if-rounds-limit-2.true) in
     let swiss = c.are_rounds.ensures.0 c.if-not-are_rounds.false in (
-      λ yes. of_swiss s.phase s.rounds _ rounds swiss (omega arith) (λ is. absurd (never c.in-Playoff.is is)) (λ over. (all, All-of (λ (r : Round). is_counted r.matches) rounds (sym c.are_counted.ensures ∙ yes))),
+      λ yes. of_swiss s.phase s.rounds _ rounds swiss (omega arith) (λ is. absurd (never c.in-Playoff.is is))
+          (λ over. (all, All-of (λ (r : Round). is_counted r.matches) rounds (sym c.are_counted.ensures ∙ yes))),
       λ are. c.are_counted.ensures ∙ of-All (λ (r : Round). is_counted r.matches) rounds (are.done c.in-Playoff.is).1,
     )
   where

@@ -15,5 +15,6 @@ returns-then-not-may_play-clause-damaged c place bad = (
   (cc),
   λ players are listed.
       let same = players-same players c.in_ok-players.players.items (sym listed ∙ c.in_ok-players.ensures.value.0) in
-      true≢false (sym (c.may_play.ensures.1 (subst (ArePlayers c.args.phase) (same ∙ sym c.as_slice.ensures.value) are)) ∙ c.if-not-may_play.true),
+      true≢false (sym (c.may_play.ensures.1 (subst (ArePlayers c.args.phase) (same ∙ sym c.as_slice.ensures.value) are))
+      ∙ c.if-not-may_play.true),
 )

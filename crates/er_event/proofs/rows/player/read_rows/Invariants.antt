@@ -5,4 +5,5 @@ use Rattle.er_event.specs.Rows.{player_row}
 use Rattle.er_event.proofs.rows.player.read_rows.Given as goal
 
 abbrev pub invariant-loop-row : goal.invariant-loop-row
-invariant-loop-row l = (take l.row-index l.rows ≡ map player_row l.players.items) × All (λ (p : Player). IsTrue (is_lawful_name p.name)) l.players.items
+invariant-loop-row l = (take l.row-index l.rows ≡ map player_row l.players.items) × All
+    (λ (p : Player). IsTrue (is_lawful_name p.name)) l.players.items

@@ -6,7 +6,8 @@ use Rattle.er_event.proofs.PairingLemmas.{and_true}
 use Rattle.er_event.proofs.rows.tally.is_row_of.Goals as goal
 
 abbrev same_columns : TallyRow → TallyRow → Bool
-same_columns a b = int_eq a.no b.no && (int_eq a.points b.points && (int_eq a.rounds b.rounds && (int_eq a.gamepoints b.gamepoints && int_eq a.games b.games)))
+same_columns a b = int_eq a.no b.no && (int_eq a.points b.points
+    && (int_eq a.rounds b.rounds && (int_eq a.gamepoints b.gamepoints && int_eq a.games b.games)))
 
 abbrev row : ℤ → ℤ → ℤ → ℤ → ℤ → TallyRow
 row number points rounds gamepoints games = record { no = number; points = points; rounds = rounds; gamepoints = gamepoints; games = games }
@@ -40,5 +41,7 @@ columns_equal a b e = subst (λ (c : TallyRow). same_columns a c ≡ true) e (it
 pub returns : goal.returns
 returns c =
     let found = c.args.row.now in
-    let made = c.of.result in
-    (λ is. rows_equal found made (sym c.eq.ensures ∙ is) ∙ c.of.ensures, λ is. c.eq.ensures ∙ columns_equal found made (is ∙ sym c.of.ensures))
+    let made = c.of.result in (
+      λ is. rows_equal found made (sym c.eq.ensures ∙ is) ∙ c.of.ensures,
+      λ is. c.eq.ensures ∙ columns_equal found made (is ∙ sym c.of.ensures),
+    )

@@ -12,13 +12,28 @@ returns-then-number-lt10-clause-value t c = rw (decimal_digit c.args.number c.if
 
 pub push-requires-2 : goal.push-requires-2
 push-requires-2 t c =
-    let size : length c.push_number.new.self ≡ length c.args.self.now + length (decimal (c.args.number / 10)) = ap (λ (xs : List ℕ). length xs) c.push_number.ensures.value ∙ length-append c.args.self.now (decimal (c.args.number / 10)) in
-    omega (arith, c.requires, size, front-shorter c.args.number c.if-number-lt10.false c.ranges.number.fits, decimal_short c.args.number c.ranges.number.fits)
+    let size : length c.push_number.new.self ≡ length c.args.self.now + length (decimal (c.args.number / 10)) =
+    ap (λ (xs : List ℕ). length xs) c.push_number.ensures.value ∙ length-append c.args.self.now (decimal (c.args.number / 10)) in
+    omega (
+      arith,
+      c.requires,
+      size,
+      front-shorter c.args.number c.if-number-lt10.false c.ranges.number.fits,
+      decimal_short c.args.number c.ranges.number.fits,
+    )
 
 pub returns-clause-value : goal.returns-clause-value
-returns-clause-value t c = one-more c.args.self.now c.push_number.new.self _ c.args.number c.if-number-lt10.false c.ranges.number.fits c.push_number.ensures.value c.push-2.ensures.value
+returns-clause-value t c = one-more c.args.self.now c.push_number.new.self _ c.args.number c.if-number-lt10.false c.ranges.number.fits
+    c.push_number.ensures.value c.push-2.ensures.value
 
 pub returns-clause-size : goal.returns-clause-size
 returns-clause-size t c =
-    let size : length c.push_number.new.self ≡ length c.args.self.now + length (decimal (c.args.number / 10)) = ap (λ (xs : List ℕ). length xs) c.push_number.ensures.value ∙ length-append c.args.self.now (decimal (c.args.number / 10)) in
-    omega (arith, c.push-2.ensures.size, size, front-shorter c.args.number c.if-number-lt10.false c.ranges.number.fits, decimal_short c.args.number c.ranges.number.fits)
+    let size : length c.push_number.new.self ≡ length c.args.self.now + length (decimal (c.args.number / 10)) =
+    ap (λ (xs : List ℕ). length xs) c.push_number.ensures.value ∙ length-append c.args.self.now (decimal (c.args.number / 10)) in
+    omega (
+      arith,
+      c.push-2.ensures.size,
+      size,
+      front-shorter c.args.number c.if-number-lt10.false c.ranges.number.fits,
+      decimal_short c.args.number c.ranges.number.fits,
+    )

@@ -16,4 +16,5 @@ returns c = λ fractions is.
     let count : c.self.inside.count ≡ length is.shares = ap (λ (m : MeanValue). m.count) c.self.view_is ∙ is.count in
     let some : 0 < length is.shares = grind (arith, nat_tests) in
     let few = c.self.invariant.0 in
-    rw (total, c.from.ensures, count) (IsShareOf-average is.shares fractions (subst IsBase total c.self.invariant.2) some (omega (arith, count, few)) is.each)
+    rw (total, c.from.ensures, count) (IsShareOf-average is.shares fractions (subst IsBase total c.self.invariant.2) some
+    (omega (arith, count, few)) is.each)

@@ -9,14 +9,16 @@ returns-then-is_named-clause-value c =
     let bytes = c.args.bytes.now in
     let headers = c.args.headers.now in
     let i = c.loop-header.header-index in
-    sym (refused-at (map (header_bytes bytes) headers) i _ (field-below bytes headers i c.loop-header-test.true) (field-is bytes headers i c.loop-header-test.true) (sym c.if-is_named.ensures))
+    sym (refused-at (map (header_bytes bytes) headers) i _ (field-below bytes headers i c.loop-header-test.true)
+    (field-is bytes headers i c.loop-header-test.true) (sym c.if-is_named.ensures))
 
 pub returns-then-is_some-clause-value : goal.returns-then-is_some-clause-value
 returns-then-is_some-clause-value c =
     let bytes = c.args.bytes.now in
     let headers = c.args.headers.now in
     let i = c.loop-header.header-index in
-    sym (second-found (map (header_bytes bytes) headers) i _ c.loop-header.found (field-below bytes headers i c.loop-header-test.true) (field-is bytes headers i c.loop-header-test.true)
+    sym (second-found (map (header_bytes bytes) headers) i _ c.loop-header.found (field-below bytes headers i c.loop-header-test.true)
+    (field-is bytes headers i c.loop-header-test.true)
     (sym c.if-is_named-2.ensures) (sym c.if-is_some.ensures) c.loop-header.invariant.found)
 
 pub loop-header-preserved : goal.loop-header-preserved
@@ -30,11 +32,14 @@ loop-header-preserved c =
     elim c.if-is_named-2.branch [
       | then-is_named-2+else-is_some w ↦ record {
         whole = whole;
-        found = rw w.found-is (found-new (map (header_bytes bytes) headers) i _ w.of.result below is (sym w.if-is_named-2.ensures) w.of.ensures
-            (was-none (take i (map (header_bytes bytes) headers)) c.loop-header.found (sym w.if-is_some.ensures) c.loop-header.invariant.found));
+        found = rw w.found-is (found-new (map (header_bytes bytes) headers) i _ w.of.result below is
+            (sym w.if-is_named-2.ensures) w.of.ensures
+            (was-none (take i (map (header_bytes bytes) headers)) c.loop-header.found
+            (sym w.if-is_some.ensures) c.loop-header.invariant.found));
       }
       | else-is_named-2 w ↦ record {
         whole = whole;
-        found = rw w.found-is (found-same (map (header_bytes bytes) headers) i _ c.loop-header.found below is (sym w.if-is_named-2.ensures) c.loop-header.invariant.found);
+        found = rw w.found-is (found-same (map (header_bytes bytes) headers) i _ c.loop-header.found below is
+            (sym w.if-is_named-2.ensures) c.loop-header.invariant.found);
       }
     ]

@@ -17,5 +17,6 @@ loop-spans-preserved g c = record {
 pub returns-then-filled-eq-MAX_HEAD-clause-refused : goal.returns-then-filled-eq-MAX_HEAD-clause-refused
 returns-then-filled-eq-MAX_HEAD-clause-refused g c =
     let size : length (take c.loop-spans.filled c.loop-spans.buf) ≡ MAX_HEAD =
-    length-take-le c.loop-spans.filled c.loop-spans.buf (omega (arith, c.loop-spans.invariant.within, c.requires.room, c.loop-spans.auto.buf)) ∙ c.if-filled-eq-MAX_HEAD.true in
+    length-take-le c.loop-spans.filled c.loop-spans.buf
+    (omega (arith, c.loop-spans.invariant.within, c.requires.room, c.loop-spans.auto.buf)) ∙ c.if-filled-eq-MAX_HEAD.true in
     λ e. full _ _ _ c.loop-spans.invariant.read c.in-NotYet.ensures size

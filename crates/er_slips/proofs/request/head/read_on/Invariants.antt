@@ -7,7 +7,8 @@ invariant-loop-count g l = record {
   within : l.count ≤ length l.buf;
   after : l.filled ≤ l.count;
   kept : take l.filled l.buf ≡ take l.filled l.initial.buf;
-  read : (start : Option (List ℕ)) → Consumes start (g.R.Read.remaining l.initial.reader) (take l.filled l.initial.buf) → Consumes start (g.R.Read.remaining l.reader) (take l.count l.buf);
+  read : (start : Option (List ℕ)) → Consumes start (g.R.Read.remaining l.initial.reader) (take l.filled l.initial.buf)
+      → Consumes start (g.R.Read.remaining l.reader) (take l.count l.buf);
 }
 
 abbrev pub decreases-loop-count : goal.decreases-loop-count
