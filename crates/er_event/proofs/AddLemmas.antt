@@ -1,11 +1,10 @@
 -- An event with one more round is sound exactly where its checks hold.
+use Rattle.std.proofs.lemmas.Grind.{common_steps}
 use Rattle.std.proofs.Common.{◌≡◌, ◌≢◌, ℕ, suc, ◌+◌, ◌-◌, ◌<◌, ◌||◌, not, Bool, true, false, inl, inr, List, [], ◌∷◌, ◌++◌, length, take}
 use Rattle.std.proofs.Common.{flat_map, All, AllPairs, IsTrue, IsFalse, refl, sym, ap, subst, ◌∙◌, true≢false, arith, length-append}
-use Rattle.std.proofs.Common.{append-nil}
 use Rattle.std.specs.List.{list_all, list_any, AllByRecursion}
 use Rattle.std.proofs.lemmas.Bool.Decides.{nat_tests}
 use Rattle.std.proofs.lemmas.List.Elements.{All-push, All-weaker, All-head, All-tail, All-from_recursion, recursion_from_All}
-use Rattle.std.proofs.lemmas.List.Concat.{flat_map-append}
 use Rattle.std.proofs.lemmas.List.Folds.{list_any-append}
 use Rattle.er_event.specs.declared.events.Phase.{Phase}
 use Rattle.er_event.specs.declared.events.Phase.TheVariants.{Enrolling, Swiss, Playoff, Finished}
@@ -118,8 +117,7 @@ module _ (stored : List Round) where
 -- ---- one round more
 
 matches-with : (stored : List Round) (ms : List Match) → matches_of (stored ++ record { matches = ms } ∷ []) ≡ matches_of stored ++ ms
-matches-with stored ms = flat_map-append (λ (r : Round). r.matches) stored (record { matches = ms } ∷ []) ∙ ap
-    (λ l. matches_of stored ++ l) (append-nil ms)
+matches-with stored ms = grind (arith, common_steps)
 
 take-before : (rs : List Round) (r : Round) → take (length (rs ++ r ∷ []) - 1) (rs ++ r ∷ []) ≡ rs
 take-before [] r = refl
@@ -184,11 +182,7 @@ module _ (e : EventValue) (ms : List Match) where
 
   module _ (h : IsSoundButForSeeds (with_round e ms)) where
     pub round-few : length e.stored < e.rounds
-    round-few =
-        let count : length (e.stored ++ record { matches = ms } ∷ []) ≡ length e.stored + 1 =
-        length-append e.stored (record { matches = ms } ∷ []) in
-        let few = h.rounds.few in
-        omega arith
+    round-few = grind (arith, common_steps)
 
     pub round-follows : MayFollow (numbers e.players) e.stored ms
     round-follows = may_follow (numbers e.players) e.stored ms e.phase e.rounds h.rounds

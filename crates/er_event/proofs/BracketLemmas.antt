@@ -1,4 +1,6 @@
 -- When stages are a bracket.
+use Rattle.std.proofs.Common.{arith}
+use Rattle.std.proofs.lemmas.Grind.{common_steps}
 use Rattle.std.proofs.Common.{◌≡◌, ◌≢◌, ℕ, ◌/◌, ◌<◌, ◌&&◌, Bool, true, false, List, [], ◌∷◌, length, flat_map, All, AllPairs, Contains}
 use Rattle.std.proofs.Common.{Option, Some, None, IfSome, IsTrue, refl, sym, subst, ◌∙◌, true≢false}
 use Rattle.std.specs.List.{list_all, range_with_len, slice_get, AllByRecursion}
@@ -11,7 +13,7 @@ use Rattle.er_event.specs.Match.{is_known, is_lawful_slot_score}
 use Rattle.er_event.specs.Round.{seats}
 use Rattle.er_event.specs.Bracket.{FollowOn}
 use Rattle.er_event.specs.Sound.{IsBracket}
-use Rattle.er_event.proofs.RoundLemmas.{All-of, of-All, known_contains, contains_known}
+use Rattle.er_event.proofs.RoundLemmas.{of-All, known_contains, contains_known}
 
 and-true : (a b : Bool) → (a && b) ≡ true → (a ≡ true) × (b ≡ true)
 and-true true b h = (refl, h)
@@ -35,8 +37,7 @@ module _ (count : ℕ) where
 
   known-seats : (ms : List Match) → AllByRecursion Known (flat_map seats ms) → list_all are_known ms ≡ true
   known-seats [] h = refl
-  known-seats (m ∷ ms) h = let a = contains_known count m.a h.0 in let b =
-      contains_known count m.b h.1.0 in rw (a, b) (known-seats ms h.1.1)
+  known-seats (m ∷ ms) h = grind (arith, common_steps, contains_known, known-seats ms h.1.1)
 
   pub Known-of : (ms : List Match) → list_all are_known ms ≡ true → All Known (flat_map seats ms)
   Known-of ms h = All-from_recursion Known (flat_map seats ms) (seats-known ms h)
@@ -49,10 +50,6 @@ module _ (count : ℕ) where
 abbrev pub Lawful : Match → Type 0
 Lawful m = IfSome m.score (λ s. IsTrue (is_playoff_score s))
 
-lawful-score : (o : Option Games) → is_lawful_slot_score o ≡ true → IfSome o (λ s. IsTrue (is_playoff_score s))
-lawful-score None h = tt
-lawful-score (Some s) h = h
-
 score-lawful : (o : Option Games) → IfSome o (λ s. IsTrue (is_playoff_score s)) → is_lawful_slot_score o ≡ true
 score-lawful None h = refl
 score-lawful (Some s) h = h
@@ -61,20 +58,13 @@ abbrev pub are_lawful : List Match → Bool
 are_lawful ms = list_all (λ (m : Match). is_lawful_slot_score m.score) ms
 
 pub Lawful-of : (ms : List Match) → are_lawful ms ≡ true → All Lawful ms
-Lawful-of ms h = All-weaker (λ (m : Match). IsTrue (is_lawful_slot_score m.score)) Lawful
-    (λ m. lawful-score m.score) ms (All-of (λ (m : Match). is_lawful_slot_score m.score) ms h)
+Lawful-of ms h = grind (arith, common_steps)
 
 pub of-Lawful : (ms : List Match) → All Lawful ms → are_lawful ms ≡ true
-of-Lawful ms h = of-All (λ (m : Match). is_lawful_slot_score m.score) ms
-    (All-weaker Lawful (λ (m : Match). IsTrue (is_lawful_slot_score m.score)) (λ m. score-lawful m.score) ms h)
-
-pub AllLawful-of : (stages : List (List Match)) → list_all are_lawful stages ≡ true → All (λ (stage : List Match). All Lawful stage) stages
-AllLawful-of stages h = All-weaker (λ (stage : List Match). IsTrue (are_lawful stage))
-    (λ (stage : List Match). All Lawful stage) Lawful-of stages (All-of are_lawful stages h)
+of-Lawful ms h = grind (arith, common_steps, of-All, All-weaker, score-lawful)
 
 pub of-AllLawful : (stages : List (List Match)) → All (λ (stage : List Match). All Lawful stage) stages → list_all are_lawful stages ≡ true
-of-AllLawful stages h = of-All are_lawful stages (All-weaker (λ (stage : List Match). All Lawful stage)
-    (λ (stage : List Match). IsTrue (are_lawful stage)) of-Lawful stages h)
+of-AllLawful stages h = grind (arith, common_steps, of-All, All-weaker, of-Lawful)
 
 -- ---- the whole
 
@@ -84,17 +74,7 @@ IsFirst count cut first = (length first ≡ cut / 2) × All (λ n. Contains (ran
 
 pub is-bracket : (count cut : ℕ) (stages : List (List Match)) (first : List Match) → 0 < cut → slice_get stages 0 ≡ Some first
     → IsFirst count cut first → list_all are_lawful stages ≡ true → FollowOn stages → IsBracket (range_with_len 1 count) cut stages
-is-bracket count cut stages first some at is lawful follows =
-    record {
-      cut_is_played = some;
-      first = first;
-      is_first = at;
-      slots = is.0;
-      known_players = is.1;
-      seated_once = is.2;
-      scores = AllLawful-of stages lawful;
-      follows = follows;
-    }
+is-bracket count cut stages first some at is lawful follows = grind (arith, common_steps)
 
 pub bracket-first : (count cut : ℕ) (stages : List (List Match)) (first : List Match) → slice_get stages 0 ≡ Some first
     → IsBracket (range_with_len 1 count) cut stages → IsFirst count cut first
@@ -103,5 +83,4 @@ bracket-first count cut stages first at h = subst (IsFirst count cut) (same_Some
 
 pub bracket-same : (known seen : List ℕ) (cut read : ℕ) (stages given : List (List Match)) → known ≡ seen → cut ≡ read → stages ≡ given
     → IsBracket known cut stages → IsBracket seen read given
-bracket-same known seen cut read stages given a b c h =
-    subst (λ (ks : List ℕ). IsBracket ks read given) a (subst (λ (n : ℕ). IsBracket known n given) b (subst (IsBracket known cut) c h))
+bracket-same known seen cut read stages given a b c h = grind (arith, common_steps)

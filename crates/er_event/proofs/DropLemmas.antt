@@ -1,19 +1,19 @@
 -- A player who drops keeps number and name, so the event stays sound once it has started.
+use Rattle.std.proofs.lemmas.Grind.{common_steps}
 use Rattle.std.proofs.Common.{◌≡◌, ◌≢◌, ℕ, zero, suc, ◌+◌, ◌-◌, ◌==◌, ◌<◌, ◌≤◌, Bool, true, false, cond, not, ◌&&◌, ◌⊎◌, inl, inr, List, []}
-use Rattle.std.proofs.Common.{◌∷◌, length, map, get_or, IsTrue, IsFalse, All, AllPairs, Contains, Option, Some, None, IfSome, Bor}
+use Rattle.std.proofs.Common.{◌∷◌, length, map, get_or, IsFalse, All, Contains, Option, Some, None, IfSome, Bor}
 use Rattle.std.proofs.Common.{option_map, unwrap_or, find, drop, refl, sym, ap, ap₂, subst, ◌∙◌, true≢false, arith, not-suc-le-zero}
 use Rattle.std.specs.List.{range_with_len, list_all, slice_get}
 use Rattle.std.specs.Slice.{IsItemAt}
 use Rattle.std.proofs.Math.ListN.{set, length-map}
 use Rattle.std.proofs.lemmas.Bool.Decides.{nat_tests}
-use Rattle.std.proofs.lemmas.List.Elements.{All-head, All-tail, All-cons, All-nil}
+use Rattle.std.proofs.lemmas.List.Elements.{All-head, All-tail, All-nil}
 use Rattle.std.proofs.lemmas.Option.{none-some, slice_get_past, slice_get_read}
 use Rattle.std.proofs.lemmas.List.FromFn.{length-range_with_len, get_or-range_with_len}
 use Rattle.er_event.specs.declared.events.Phase.{Phase}
 use Rattle.er_event.specs.declared.events.Phase.TheVariants.{Enrolling, Swiss, Playoff, Finished}
 use Rattle.er_event.specs.declared.players.Player.{Player}
 use Rattle.er_event.specs.Event.{EventValue}
-use Rattle.er_event.specs.Name.{is_lawful_name}
 use Rattle.er_event.specs.Sound.{numbers, names, ArePlayers, AreRounds, AreStages, IsSoundButForSeeds}
 use Rattle.er_event.specs.declared.changes.Change.TheVariants.{SetDropped}
 use Rattle.er_event.specs.Change.{dropped_at, with_dropped, with_phase, Fits}
@@ -44,27 +44,11 @@ Contains-numbered ps k numbered low high =
 
 pub numbered-within : (ps : List Player) (k : ℕ) → numbers ps ≡ range_with_len 1 (length ps) → Contains (numbers ps) k
     → (1 ≤ k) × (k ≤ length ps)
-numbered-within ps k numbered has =
-    let here : Contains (range_with_len 1 (length ps)) k = subst (λ (ns : List ℕ). Contains ns k) numbered has in
-    let len = length-range_with_len 1 (length ps) in
-    let below = here.1 in
-    let at = get_or-range_with_len 1 (length ps) here.0 k (omega arith) in
-    let is = here.2 in
-    (omega arith, omega arith)
+numbered-within ps k numbered has = grind (arith, common_steps, length-range_with_len, get_or-range_with_len)
 
 players-dropped : (e : EventValue) (k : ℕ) → ArePlayers e.phase e.players → e.phase ≢ Enrolling
     → ArePlayers e.phase (map (dropped_at k) e.players)
-players-dropped e k h started =
-    let len = length-map {A = Player} {B = Player} e.players (dropped_at k) in
-    let Apart : List ℕ → List ℕ → Type 0 = λ a b. a ≢ b in
-    record {
-      few = omega arith;
-      numbered = numbers-dropped k e.players ∙ (h.numbered ∙ ap (range_with_len 1) (sym len));
-      lawful = subst (λ (ns : List (List ℕ)). All (λ n. IsTrue (is_lawful_name n)) ns) (sym (names-dropped k e.players)) h.lawful;
-      distinct = subst (λ (ns : List (List ℕ)). AllPairs Apart ns) (sym (names-dropped k e.players)) h.distinct;
-      enrolling = λ phase. absurd (started phase);
-      started = λ phase. let enough = h.started phase in omega arith;
-    }
+players-dropped e k h started = grind (arith, common_steps, length-map, numbers-dropped, names-dropped)
 
 pub IsSound-dropped : (e : EventValue) (k : ℕ) → IsSoundButForSeeds e → e.phase ≢ Enrolling → IsSoundButForSeeds (with_dropped e k)
 IsSound-dropped e k h started =
@@ -90,9 +74,7 @@ dropped-is false p e = absurd (true≢false (sym e))
 pub some-dropped : (k : ℕ) (ps : List Player) → Contains (numbers ps) k
     → All (λ (p : Player). IsFalse p.dropped) (map (dropped_at k) ps) → ⊥
 some-dropped k [] (i, below, is) all = not-suc-le-zero below
-some-dropped k (p ∷ ps) (zero, below, is) all =
-    true≢false (sym (dropped-is (p.no == k) p (same_number p.no k is)) ∙ All-head (λ (q : Player). IsFalse q.dropped) (dropped_at k p)
-    (map (dropped_at k) ps) all)
+some-dropped k (p ∷ ps) (zero, below, is) all = grind (arith, common_steps, dropped-is, same_number, All-head)
 some-dropped k (p ∷ ps) (suc i, below, is) all =
     some-dropped k ps (i, omega arith, is) (All-tail (λ (q : Player). IsFalse q.dropped) (dropped_at k p) (map (dropped_at k) ps) all)
 
@@ -136,17 +118,7 @@ set-dropped (p ∷ ps) a (suc i) d below numbered =
 
 pub All-undropped : (ps : List Player) → list_all (λ (p : Player). not p.dropped) ps ≡ true → All (λ (p : Player). IsFalse p.dropped) ps
 All-undropped [] all = All-nil (λ (p : Player). IsFalse p.dropped)
-All-undropped (p ∷ ps) all =
-    let both = and_true (not p.dropped) (list_all (λ (q : Player). not q.dropped) ps) all in
-    All-cons (λ (q : Player). IsFalse q.dropped) p ps (not_true p.dropped both.0) (All-undropped ps both.1)
-  where
-    not_true : (b : Bool) → not b ≡ true → b ≡ false
-    not_true false e = refl
-    not_true true e = absurd (true≢false (sym e))
-
-    and_true : (a b : Bool) → (a && b) ≡ true → (a ≡ true) × (b ≡ true)
-    and_true true b e = (refl, e)
-    and_true false b e = absurd (true≢false (sym e))
+All-undropped (p ∷ ps) all = grind (arith, common_steps)
 
 pub undropped-All : (ps : List Player) → All (λ (p : Player). IsFalse p.dropped) ps → list_all (λ (p : Player). not p.dropped) ps ≡ true
 undropped-All [] all = refl
@@ -199,13 +171,8 @@ found-step false q p ps found rest is = let has = rest is in (suc has.0, omega (
 find-step : (b : Bool) (k n : ℕ) (q : Player) (qs : List Player) → (q.no == n) ≡ b → q.no ≡ k → k ≤ n
     → (k + 1 ≤ n → find (λ (p : Player). p.no == n) qs ≡ slice_get qs (n - (k + 1)))
     → cond b (Some q) (find (λ (p : Player). p.no == n) qs) ≡ slice_get (q ∷ qs) (n - k)
-find-step true k n q qs same is low later =
-    let e : n - k ≡ 0 = grind (arith, nat_tests) in
-    sym (ap (slice_get (q ∷ qs)) e)
-find-step false k n q qs other is low later =
-    let more : k + 1 ≤ n = grind (arith, nat_tests) in
-    let e : n - k ≡ suc (n - (k + 1)) = omega arith in
-    later more ∙ sym (ap (slice_get (q ∷ qs)) e)
+find-step true k n q qs same is low later = grind (arith, common_steps)
+find-step false k n q qs other is low later = grind (arith, common_steps)
 
 -- where players are numbered from k, the one of a number stands at its place
 pub find-numbered : (k : ℕ) (ps : List Player) (n : ℕ) → numbers ps ≡ range_with_len k (length ps) → k ≤ n
@@ -258,8 +225,7 @@ is-step false k q p found here rest is = rest is
 
 found-is : (k : ℕ) (ps : List Player) (p : Player) → find (λ (q : Player). q.no == k) ps ≡ Some p → p.no ≡ k
 found-is k [] p is = absurd (none-some p is)
-found-is k (q ∷ ps) p is = is-step (q.no == k) k q p (find (λ (q : Player). q.no == k) ps)
-    (λ same. grind (arith, nat_tests)) (found-is k ps p) is
+found-is k (q ∷ ps) p is = grind (arith, common_steps, is-step, nat_tests, found-is k ps p)
 
 pub found-has : (k : ℕ) (ps : List Player) (found : Option (Bor Player)) → option_map (λ (p : Bor Player). p.now) found ≡ find
     (λ (q : Player). q.no == k) ps → IfSome found (λ p. p.now.no ≡ k)

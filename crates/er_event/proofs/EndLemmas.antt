@@ -1,6 +1,7 @@
 -- A stage that is read with a new score, and when it may be the last.
+use Rattle.std.proofs.lemmas.Grind.{common_steps}
 use Rattle.std.proofs.Common.{◌≡◌, ◌↔◌, ℕ, zero, suc, ◌-◌, ◌<◌, ◌≤◌, ◌==◌, ◌||◌, Bool, true, false, cond, List, [], ◌∷◌, ◌++◌, length, take}
-use Rattle.std.proofs.Common.{drop, get_or, All, Option, Some, None, IsTrue, MatchOption, IsSome, is_some, option_map, Bor, refl, sym, ap}
+use Rattle.std.proofs.Common.{drop, get_or, All, Option, Some, None, IsTrue, is_some, option_map, Bor, refl, sym, ap}
 use Rattle.std.proofs.Common.{subst, ◌∙◌, true≢false, arith}
 use Rattle.std.specs.List.{slice_get, AllByRecursion}
 use Rattle.std.proofs.Math.ListN.{set}
@@ -16,10 +17,10 @@ use Rattle.er_event.specs.declared.events.Phase.TheVariants.{Finished}
 use Rattle.er_event.proofs.PlayoffLemmas.{in_playoff}
 use Rattle.er_event.specs.Event.{EventValue}
 use Rattle.er_event.specs.Round.{is_counted}
-use Rattle.er_event.specs.Bracket.{FollowOn, IsDecided, is_over, slot_at, slot_in}
+use Rattle.er_event.specs.Bracket.{FollowOn, is_over, slot_at, slot_in}
 use Rattle.er_event.specs.Sound.{IsSoundButForSeeds}
 use Rattle.er_event.specs.Change.{scored, scored_slot, stage_of, one_more, with_bracket_score, IsEnd}
-use Rattle.er_event.proofs.SlotLemmas.{Stands, winners-length, over-counted, last-after}
+use Rattle.er_event.proofs.SlotLemmas.{Stands, winners-length}
 use Rattle.er_event.proofs.BracketLemmas.{Lawful}
 use Rattle.er_event.proofs.ScoreLemmas.{slots-refl, within-get}
 use Rattle.er_event.proofs.SlotScoreLemmas.{FoundSlot, found-slot, over, all-at, new_stage, new_stage-is}
@@ -38,8 +39,7 @@ set-take (s ∷ stage) rest (suc at) m within = ap (λ (l : List Match). s ∷ l
 
 pub set-copy : (stage copied rest : List Match) (at : ℕ) (m : Match) → copied ≡ stage → at < length stage
     → take (length stage) (set (copied ++ rest) at m) ≡ set stage at m
-set-copy stage copied rest at m same within = subst (λ (c : List Match). take (length stage) (set (c ++ rest) at m) ≡ set stage at m)
-    (sym same) (set-take stage rest at m within)
+set-copy stage copied rest at m same within = grind (arith, common_steps, set, set-take)
 
 -- ---- how many slots a stage has
 
@@ -51,9 +51,7 @@ few (t ∷ more) s f h = let count = winners-length s t f.2 in (h, few more t f.
 few-slots : (stages : List (List Match)) (first : List Match) → slice_get stages 0 ≡ Some first → FollowOn stages → length first ≤ 4
     → All (λ (t : List Match). length t ≤ 4) stages
 few-slots [] first at f h = absurd (none-some first at)
-few-slots (s ∷ stages) first at f h = All-from_recursion
-    (λ (t : List Match). length t ≤ 4) (s ∷ stages)
-    (few stages s f (subst (λ (t : List Match). length t ≤ 4) (sym (same_Some s first at)) h))
+few-slots (s ∷ stages) first at f h = grind (arith, common_steps, All-from_recursion, few, same_Some)
 
 low-cut : (cut : ℕ) → (cut == 0 || cut == 2 || cut == 4 || cut == 8) ≡ true → cut ≤ 8
 low-cut cut h = grind (arith, nat_tests)
@@ -70,26 +68,14 @@ same-bools false b h = sym (is-false b (λ e. true≢false (sym (h.1 e))))
 
 module _ (stage : List Match) (over : Bool) where
   pub end-none : (IsTrue (is_counted stage) → length stage ≡ 1) → over ≡ is_over stage → IsEnd stage None over
-  end-none may same = record {
-    follows = may;
-    scores = All-from_recursion (λ (ms : List Match). All Lawful ms) [] tt;
-    decided = (λ yes. (over-counted stage).1 (sym same ∙ yes), λ dec. same ∙ (over-counted stage).0 dec);
-  }
+  end-none may same = grind (arith, common_steps)
 
   pub none-over : IsEnd stage None over → over ≡ is_over stage
-  none-over end = same-bools over (is_over stage)
-      (λ yes. (over-counted stage).0 (end.decided.0 yes), λ is. end.decided.1 ((over-counted stage).1 is))
+  none-over end = grind (arith, common_steps)
 
   module _ (next : List Match) where
-    after-next : IsDecided (stage ∷ next ∷ []) ≡ IsDecided (next ∷ [])
-    after-next = ap (λ (o : Option Match). MatchOption o ⊥ (λ (m : Match). IsSome m.score)) (last-after stage next [])
-
     pub end-some : Stands stage (Some next) → All Lawful next → IsEnd next None over → IsEnd stage (Some next) over
-    end-some stands lawful end = record {
-      follows = (stands.0, stands.1, stands.2, end.follows);
-      scores = All-from_recursion (λ (ms : List Match). All Lawful ms) (next ∷ []) (lawful, tt);
-      decided = subst (λ (T : Type 0). IsTrue over ↔ T) (sym after-next) end.decided;
-    }
+    end-some stands lawful end = grind (arith, common_steps)
 
     pub some-stands : IsEnd stage (Some next) over → Stands stage (Some next)
     some-stands end = let f = end.follows in (f.0, f.1, f.2)
@@ -98,11 +84,7 @@ module _ (stage : List Match) (over : Bool) where
     some-lawful end = (recursion_from_All (λ (ms : List Match). All Lawful ms) (next ∷ []) end.scores).0
 
     pub some-end : IsEnd stage (Some next) over → IsEnd next None over
-    some-end end = record {
-      follows = end.follows.3;
-      scores = All-from_recursion (λ (ms : List Match). All Lawful ms) [] tt;
-      decided = subst (λ (T : Type 0). IsTrue over ↔ T) after-next end.decided;
-    }
+    some-end end = grind (arith, common_steps)
 
 -- ---- the slot as it is read
 
@@ -159,9 +141,7 @@ module _ (e : EventValue) (stage slot : ℕ) (m : Match) (is : slot_at e stage s
       slot-within = let within = within-get old (slot - 1) m f.here in let count = ap length stage-is in omega arith
 
       pub slot-set : (score : Games) (new : List Match) → new ≡ set x (j - 1) (scored score m) → new ≡ new_stage e stage slot score m is h
-      slot-set score new written =
-          written ∙ (ap (λ (n : ℕ). set x (n - 1) (scored score m)) place
-          ∙ (ap (λ (t : List Match). set t (slot - 1) (scored score m)) stage-is ∙ sym (new_stage-is e stage slot score m is h)))
+      slot-set score new written = grind (arith, common_steps, set, stage-is, new_stage-is)
 
 pub beq-same : (a b : Bool) → beq a b ≡ true → a ≡ b
 beq-same true true h = refl
@@ -175,9 +155,7 @@ same-beq false b h = subst (λ (x : Bool). beq false x ≡ true) h refl
 
 pub later-read : (e : EventValue) (stage : ℕ) (stages : List (List Match)) → stages ≡ e.bracket.stages → (i : ℕ) → i ≡ stage
     → (l : List Match) → i < length stages → l ≡ get_or stages i l → slice_get e.bracket.stages stage ≡ Some l
-later-read e stage stages list i same l within is =
-    subst (λ (ss : List (List Match)). slice_get ss stage ≡ Some l) list
-    (subst (λ (n : ℕ). slice_get stages n ≡ Some l) same (slice_get_read stages (length stages) i l refl within is))
+later-read e stage stages list i same l within is = grind (arith, common_steps, slice_get_read)
 
 pub is-none : (o : Option (Bor (List Match))) → option_map (λ (n : Bor (List Match)). n.now) o ≡ None → is_some o ≡ true → ⊥
 is-none None none some = true≢false (sym some)
@@ -196,10 +174,7 @@ get-more (suc i) (y ∷ xs) ys x at = get-more i xs ys x at
 
 slot-of : (stages : List (List Match)) (stage slot : ℕ) (ms : List Match) (m : Match) → 1 ≤ stage → 1 ≤ slot
     → slice_get stages (stage - 1) ≡ Some ms → slice_get ms (slot - 1) ≡ Some m → slot_in stages stage slot ≡ Some m
-slot-of stages stage slot ms m a b at here =
-    let x : (stage == 0) ≡ false = grind (arith, nat_tests) in
-    let y : (slot == 0) ≡ false = grind (arith, nat_tests) in
-    rw (x, y, at) here
+slot-of stages stage slot ms m a b at here = grind (arith, common_steps)
 
 module _ (e : EventValue) (stage slot : ℕ) (m : Match) (is : slot_at e stage slot ≡ Some m) (more stages : List (List Match))
     (list : stages ≡ e.bracket.stages ++ more) where
@@ -215,13 +190,7 @@ module _ (e : EventValue) (stage slot : ℕ) (m : Match) (is : slot_at e stage s
 
   pub scored-more : (score : Games) → set stages (stage - 1) (scored_slot (stage_of stages stage) slot score) ≡ set e.bracket.stages
       (stage - 1) (scored_slot (stage_of e.bracket.stages stage) slot score) ++ more
-  scored-more score =
-      let within = within-get e.bracket.stages (stage - 1) (stage_of e.bracket.stages stage) g.at in
-      let same : stage_of (e.bracket.stages ++ more) stage ≡ stage_of e.bracket.stages stage =
-      get_or_from_slice_get (e.bracket.stages ++ more) (stage - 1) (stage_of e.bracket.stages stage) [] read-more in
-      ap (λ (ss : List (List Match)). set ss (stage - 1) (scored_slot (stage_of ss stage) slot score)) list
-      ∙ (ap (λ (t : List Match). set (e.bracket.stages ++ more) (stage - 1) (scored_slot t slot score)) same
-      ∙ set-append_left e.bracket.stages more (stage - 1) (scored_slot (stage_of e.bracket.stages stage) slot score) within)
+  scored-more score = grind (arith, common_steps, within-get, get_or_from_slice_get, read-more, set, set-append_left)
 
 pub written-slot : (e : EventValue) (stage slot : ℕ) (score : Games) (next : Option (List Match)) (finished : Bool) (m : Match)
     → slot_at e stage slot ≡ Some m

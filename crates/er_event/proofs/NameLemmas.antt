@@ -1,4 +1,5 @@
 -- When bytes are a lawful name, by the tests of its parts.
+use Rattle.std.proofs.lemmas.Grind.{common_steps}
 use Rattle.std.proofs.Common.{◌≡◌, ℕ, ◌++◌, take, drop, replicate, ap, subst, ◌∙◌, ◌-◌, ◌==◌, ◌≤◌, ◌<◌, true, false, ◌||◌, List, length}
 use Rattle.std.proofs.Common.{slice_index_or, IsTrue, IsOk, Result, Ok, Err, MatchResult, refl, sym, true≢false, arith}
 use Rattle.std.specs.List.{list_all}
@@ -11,9 +12,7 @@ use Rattle.er_event.specs.Name.{is_plain_byte, is_lawful_name, padded}
 
 pub is_lawful_name-parts : (bs : List ℕ) → 0 < length bs → length bs ≤ 60 → IsUtf8 bs → list_all is_plain_byte bs ≡ true
     → (slice_index_or bs 0 0 == 32 || slice_index_or bs (length bs - 1) 0 == 32) ≡ false → IsTrue (is_lawful_name bs)
-is_lawful_name-parts bs some few utf8 plain spaced =
-    let u = is_utf8-from_IsUtf8 bs utf8 in
-    grind (arith, nat_tests)
+is_lawful_name-parts bs some few utf8 plain spaced = grind (arith, common_steps, is_utf8-from_IsUtf8, nat_tests)
 
 pub is_lawful_name-utf8 : (bs : List ℕ) → IsTrue (is_lawful_name bs) → IsUtf8 bs
 is_lawful_name-utf8 bs h = IsUtf8-from_is_utf8 bs (grind (arith, nat_tests))

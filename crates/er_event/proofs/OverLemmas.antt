@@ -1,90 +1,37 @@
 -- What the matches of one player can come to at most.
-use Rattle.std.proofs.Common.{◌≡◌, ◌≢◌, ◌⊎◌, inl, inr, ℕ, suc, ◌+◌, ◌≤◌, ◌==◌, nat_lt, Bool, true, false, cond, if◌then◌else◌, List, []}
-use Rattle.std.proofs.Common.{◌∷◌, ◌++◌, length, get_or, flat_map, All, IfSome, IsTrue, Option, Some, None, refl, sym, ap, subst, ◌∙◌}
+use Rattle.std.proofs.lemmas.Grind.{common_steps}
+use Rattle.std.proofs.Common.{◌≡◌, ◌≢◌, ◌⊎◌, inl, inr, ℕ, suc, ◌+◌, ◌≤◌, Bool, true, false, if◌then◌else◌, List, []}
+use Rattle.std.proofs.Common.{◌∷◌, ◌++◌, length, flat_map, All, IfSome, Option, Some, None, refl, sym, ap, subst, ◌∙◌}
 use Rattle.std.proofs.Common.{arith}
 use Rattle.std.proofs.lemmas.Bool.{cases_eq}
-use Rattle.std.proofs.lemmas.Bool.Decides.{nat_tests}
 use Rattle.er_event.specs.declared.matches.Match.{Match}
 use Rattle.er_event.specs.declared.rounds.Round.{Round}
 use Rattle.er_event.specs.declared.scores.Games.{Games}
 use Rattle.er_event.specs.declared.totals.Totals.{Totals}
 use Rattle.er_event.specs.Event.{EventValue}
-use Rattle.er_event.specs.Lines.{Line, own, turned, as_second, lines_of_score, lines_of_match, counted_lines, lines_from}
+use Rattle.er_event.specs.Lines.{Line, own, lines_of_score, lines_of_match, counted_lines, lines_from}
 use Rattle.er_event.specs.Round.{is_counted}
-use Rattle.er_event.specs.Score.{is_swiss_score}
 use Rattle.er_event.specs.inside.Seen.{IsSeatedOnce, AreFew, AreOver}
 use Rattle.er_event.specs.Sound.{IsRound, IsSoundButForSeeds}
 use Rattle.er_event.specs.Tallies.{AreReadable}
-use Rattle.er_event.specs.Totals.{points_by, totals_of, totals, plus}
-use Rattle.er_event.proofs.TotalLemmas.{own-append, totals_of-append, absent-second, absent, apart_at, one_match}
+use Rattle.er_event.specs.Totals.{totals_of, totals, plus}
+use Rattle.er_event.proofs.TotalLemmas.{own-append, totals_of-append, absent, apart_at, one_match}
 
 -- no more than so many games of each kind
 abbrev HasFew : Match → Type 0
 HasFew m = IfSome m.score AreFew
 
-swiss-few : (s : Games) → IsTrue (is_swiss_score s) → AreFew s
-swiss-few s h = (grind (arith, nat_tests), grind (arith, nat_tests), grind (arith, nat_tests))
-
 round-few : (known : List ℕ) (ms : List Match) → IsRound known ms → All HasFew ms
-round-few known ms round k d below = by_score (get_or ms k d).score (round.scores k d below)
-  where
-    by_score : (o : Option Games) → IfSome o (λ s. IsTrue (is_swiss_score s)) → IfSome o AreFew
-    by_score None h = tt
-    by_score (Some s) h = swiss-few s h
+round-few known ms round k d below = grind (arith, common_steps)
 
 none-over : (n : ℕ) → AreOver n (totals_of [])
 none-over n = record { points = omega arith; rounds_are = omega arith; game_points = omega arith; games = omega arith }
-
-points-few : (g : Games) → points_by (Some g) ≤ 3
-points-few g = by_tests (nat_lt g.y g.x) (g.x == g.y)
-  where
-    by_tests : (won drawn : Bool) → (if won then 3 else if drawn then 1 else 0) ≤ 3
-    by_tests true drawn = omega arith
-    by_tests false true = omega arith
-    by_tests false false = omega arith
-
-line-over : (round player opponent : ℕ) (g : Games) → AreFew g
-    → AreOver 1 (totals_of (record { round = round; player = player; opponent = opponent; games = Some g } ∷ []))
-line-over round player opponent g (won, lost, drawn) =
-    let points = points-few g in
-    record {
-      points = omega (arith, points);
-      rounds_are = omega arith;
-      game_points = omega (arith, won, drawn);
-      games = omega (arith, won, lost, drawn);
-    }
-
--- the lines of one of the two
-own-second : (player round a b : ℕ) (s : Games) → AreFew s → AreOver 1 (totals_of (own player (as_second round a b s)))
-own-second player round a b s few = by_bye (b == 0)
-  where
-    line : Line
-    line = record { round = round; player = b; opponent = a; games = Some (turned s) }
-
-    by_player : (own_line : Bool) → AreOver 1 (totals_of (cond own_line (line ∷ []) []))
-    by_player true = line-over round b a (turned s) (few.1, few.0, few.2)
-    by_player false = none-over 1
-
-    by_bye : (alone : Bool) → AreOver 1 (totals_of (own player (if alone then [] else line ∷ [])))
-    by_bye true = none-over 1
-    by_bye false = by_player (b == player)
 
 -- a match gives a player one line at most
 score-over : (player round a b : ℕ) (o : Option Games) → IfSome o AreFew → a ≢ b
     → AreOver 1 (totals_of (own player (lines_of_score round a b o)))
 score-over player round a b None few apart = none-over 1
-score-over player round a b (Some s) few apart = by_first (a == player) refl
-  where
-    line : Line
-    line = record { round = round; player = a; opponent = b; games = Some s }
-
-    by_first : (own_line : Bool) → (a == player) ≡ own_line
-        → AreOver 1 (totals_of (cond own_line (line ∷ own player (as_second round a b s)) (own player (as_second round a b s))))
-    by_first false other = own-second player round a b s few
-    by_first true same =
-        let other : b ≢ player = λ is. apart (grind (arith, nat_tests)) in
-        let none : own player (as_second round a b s) ≡ [] = absent-second player round a b s other in
-        rw none (line-over round a b s few)
+score-over player round a b (Some s) few apart = grind (arith, common_steps)
 
 pub round-over : (player round : ℕ) (ms : List Match) → IsSeatedOnce ms → All HasFew ms
     → AreOver 1 (totals_of (own player (flat_map (lines_of_match round) ms)))
@@ -126,13 +73,7 @@ counted-over player round r once few = by_counted (is_counted r.matches)
     by_counted false = none-over 1
 
 plus-over : (n : ℕ) (t u : Totals) → AreOver 1 t → AreOver n u → AreOver (suc n) (plus t u)
-plus-over n t u one more =
-    record {
-      points = omega (arith, one.points, more.points);
-      rounds_are = omega (arith, one.rounds_are, more.rounds_are);
-      game_points = omega (arith, one.game_points, more.game_points);
-      games = omega (arith, one.games, more.games);
-    }
+plus-over n t u one more = grind (arith, common_steps)
 
 rounds-over : (player n : ℕ) (rounds : List Round) → All (λ (r : Round). IsSeatedOnce r.matches × All HasFew r.matches) rounds
     → AreOver (length rounds) (totals_of (own player (lines_from n rounds)))

@@ -1,11 +1,12 @@
 -- Rows of pairings, and the matches that they show.
+use Rattle.std.proofs.lemmas.Grind.{common_steps}
 use Rattle.std.proofs.Common.{◌≡◌, ℕ, suc, ◌+◌, ◌-◌, ◌==◌, ◌<◌, ◌≤◌, ℤ, pos, Bool, true, false, ◌&&◌, List, [], ◌∷◌, ◌++◌, length, take}
 use Rattle.std.proofs.Common.{drop, map, filter, not, get_or, Option, Some, None, Result, Ok, Err, MatchResult, All, IsTrue, IsFalse, ◌⊎◌}
 use Rattle.std.proofs.Common.{inl, inr, refl, sym, ap, ap₂, subst, ◌∙◌, true≢false, arith, append_assoc, append-nil, length-append}
 use Rattle.std.proofs.Math.Seq.{drop-cons, take-append_seam}
 use Rattle.std.proofs.lemmas.List.{take_more, take_all, map-append, length-drop}
 use Rattle.std.proofs.lemmas.List.Elements.{All-head, All-tail, All-push, All-cons, All-nil, filter-append}
-use Rattle.std.proofs.lemmas.Option.{none-some, same_Some}
+use Rattle.std.proofs.lemmas.Option.{none-some}
 use Rattle.std.specs.Ordering.{int_eq}
 use Rattle.std.specs.List.{prefix_len}
 use Rattle.er_event.specs.declared.rounds.Round.{Round}
@@ -14,14 +15,8 @@ use Rattle.er_event.specs.declared.rows.pairing.PairingRow.{PairingRow}
 use Rattle.er_event.specs.declared.scores.Games.{Games}
 use Rattle.er_event.specs.declared.matches.Match.{Match}
 use Rattle.er_event.specs.Round.{is_bye, numbered_from}
-use Rattle.er_event.specs.Rows.{pairing_row, by_key, keyed_round_rows, keyed_rows_from}
+use Rattle.er_event.specs.Rows.{pairing_row, keyed_round_rows, keyed_rows_from}
 use Rattle.er_event.specs.Pairings.{FitsRow, AreTables, FitRows, table_rows, is_of}
-
-pair_first : (a b c d : ℕ) → ◌≡◌ {A = ℕ × ℕ} (a, b) (c, d) → a ≡ c
-pair_first a b c d e = ap (λ (p : ℕ × ℕ). p.0) e
-
-pair_second : (a b c d : ℕ) → ◌≡◌ {A = ℕ × ℕ} (a, b) (c, d) → b ≡ d
-pair_second a b c d e = ap (λ (p : ℕ × ℕ). p.1) e
 
 pub match_same : (a b : ℕ) (score : Option Games) (m : Match) → a ≡ m.a → b ≡ m.b → score ≡ m.score
     → (let made : Match = record { a = a; b = b; score = score } in made ≡ m)
@@ -30,10 +25,7 @@ match_same a b score m x y z = rw (x, y, z)
 pub match_found : (players : Option (ℕ × ℕ)) (scored : Option (Option Games)) (a b : ℕ) (score : Option Games) (m : Match)
     → players ≡ Some (a, b) → scored ≡ Some score → players ≡ Some (m.a, m.b) → scored ≡ Some m.score
     → (let made : Match = record { a = a; b = b; score = score } in Some made ≡ Some m)
-match_found players scored a b score m players_are score_is players_as score_as =
-    let both = same_Some (a, b) (m.a, m.b) (sym players_are ∙ players_as) in
-    ap Some (match_same a b score m (pair_first a b m.a m.b both) (pair_second a b m.a m.b both)
-    (same_Some score m.score (sym score_is ∙ score_as)))
+match_found players scored a b score m players_are score_is players_as score_as = grind (arith, common_steps)
 
 pub never_none : {X : Type 0} {Y : Type 0} (o : Option X) (x : X) → o ≡ None → o ≡ Some x → Y
 never_none o x none some = absurd (none-some x (sym none ∙ some))
@@ -116,9 +108,7 @@ columns_equal a b e = subst (λ (c : PairingRow). same_columns a c ≡ true) e (
 
 pub numbered-push : (n : ℕ) (ms : List Match) (m : Match) → numbered_from n (ms ++ m ∷ []) ≡ numbered_from n ms ++ (n + length ms, m) ∷ []
 numbered-push n [] m = let e : n ≡ n + 0 = omega arith in ap (λ k. (k, m) ∷ []) e
-numbered-push n (k ∷ ms) m =
-    let e : (n + 1) + length ms ≡ n + length (k ∷ ms) = omega arith in
-    ap (λ l. (n, k) ∷ l) (numbered-push (n + 1) ms m) ∙ ap (λ i. (n, k) ∷ (numbered_from (n + 1) ms ++ (i, m) ∷ [])) e
+numbered-push n (k ∷ ms) m = grind (arith, common_steps, numbered-push (n + 1) ms m)
 
 -- the first of these rows is that of the first match
 pub first_table : (r n : ℕ) (row : PairingRow) (later : List PairingRow) (ms : List Match) → row ∷ later ≡ table_rows r n ms
@@ -139,11 +129,7 @@ module _ (r i : ℕ) (rows : List PairingRow) (below : i < length rows) where
 
   pub rows_more : (items : List Match) (m : Match) → length items ≡ i → take i rows ≡ table_rows r 1 items → row ≡ pairing_row r (i + 1, m)
       → take (i + 1) rows ≡ table_rows r 1 (items ++ m ∷ [])
-  rows_more items m count before here =
-      let at : i + 1 ≡ 1 + length items = omega arith in
-      take_more rows i nothing below ∙ (ap₂ (λ rs x. rs ++ x ∷ []) before (here ∙ ap (λ k. pairing_row r (k, m)) at)
-      ∙ (sym (map-append (pairing_row r) (numbered_from 1 items) ((1 + length items, m) ∷ []))
-      ∙ ap (map (pairing_row r)) (sym (numbered-push 1 items m))))
+  rows_more items m count before here = grind (arith, common_steps, take_more, map-append, numbered-push)
 
   -- the match that stands here
   pub here_shown : (items ms rest : List Match) → All FitsRow ms → AreTables ms → ms ≡ items ++ rest
@@ -174,9 +160,7 @@ module _ (r i : ℕ) (rows : List PairingRow) (below : i < length rows) where
 pub nothing_left : (r n i : ℕ) (rows : List PairingRow) (rest : List Match) → length rows ≤ i → drop i rows ≡ table_rows r n rest
     → rest ≡ []
 nothing_left r n i rows [] short e = refl
-nothing_left r n i rows (m ∷ rest) short e =
-    absurd (let len = length-drop i rows in let more : length (drop i rows) ≡ suc (length (table_rows r (n + 1) rest)) = ap length e
-    in omega arith)
+nothing_left r n i rows (m ∷ rest) short e = grind (arith, common_steps)
 
 -- ---- the rows of a round, in the order of their key
 
@@ -296,10 +280,7 @@ rest_rows rows = take_all (length rows - 1) (drop 1 rows) (let len = length-drop
 
 pub none_first : (r : ℕ) (rows : List PairingRow) (ms : List Match) → WithBye ms → rows ≡ keyed_round_rows r ms
     → (length rows == 0) ≡ true → ⊥
-none_first r rows ms w are none =
-    let some : length rows ≡ suc (length (table_rows r 1 w.tables)) = ap length (with_bye_rows r rows ms w are) in
-    let zero : length rows ≡ 0 = grind (arith, nat_tests) in
-    omega arith
+none_first r rows ms w are none = grind (arith, common_steps)
 
 pub some_rows : (rows : List PairingRow) → (length rows == 0) ≡ false → 1 ≤ length rows
 some_rows rows some = grind (arith, nat_tests)
@@ -313,15 +294,7 @@ row_of_round : (r : ℕ) (n : Numbered) → is_of r (pairing_row r n) ≡ true
 row_of_round r n = (Decides-int_eq (pos r) (pos r)).1 refl
 
 row_of_other : (r : ℕ) (n : Numbered) → is_of r (pairing_row (r + 1) n) ≡ false
-row_of_other r n = not_so (is_of r (pairing_row (r + 1) n))
-    (λ same. let e : r + 1 ≡ r = pos_same (r + 1) r ((Decides-int_eq (pos (r + 1)) (pos r)).0 same) in omega arith)
-  where
-    pos_same : (m n : ℕ) → pos m ≡ pos n → m ≡ n
-    pos_same m n e = cc
-
-    not_so : (b : Bool) → (b ≡ true → ⊥) → b ≡ false
-    not_so false h = refl
-    not_so true h = absurd (h refl)
+row_of_other r n = grind (arith, common_steps)
 
 prefix_rows : (r : ℕ) (ns : List Numbered) (ys : List PairingRow) → prefix_len (is_of r) ys ≡ 0
     → prefix_len (is_of r) (map (pairing_row r) ns ++ ys) ≡ length (map (pairing_row r) ns)
@@ -352,8 +325,7 @@ later_none r (s ∷ later) all =
 module _ (r : ℕ) (rows : List PairingRow) (ms : List Match) (later : List Round) (shown : FitRows ms) (all : All Shown later)
     (are : rows ≡ keyed_round_rows r ms ++ keyed_rows_from (r + 1) later) where
   pub count_is : prefix_len (is_of r) rows ≡ length (keyed_round_rows r ms)
-  count_is = ap (prefix_len (is_of r)) are ∙ prefix_rows r (by_key (numbered_from 1 ms)) (keyed_rows_from (r + 1) later)
-      (later_none r later all)
+  count_is = grind (arith, common_steps, are, prefix_rows, later_none)
 
   pub first_rows : (count : ℕ) → count ≡ prefix_len (is_of r) rows → take count rows ≡ keyed_round_rows r ms
   first_rows count is = ap₂ take (is ∙ count_is) are ∙ take-append_seam (keyed_round_rows r ms) (keyed_rows_from (r + 1) later)

@@ -1,5 +1,6 @@
 -- Rows, and the event that they are of.
-use Rattle.std.proofs.Common.{◌≡◌, ◌≢◌, ◌≤◌, ◌<◌, ◌+◌, ◌==◌, ℕ, ℤ, pos, Bool, true, false, suc, drop, ap₂, List, [], ◌∷◌, ◌++◌, length, map}
+use Rattle.std.proofs.lemmas.Grind.{common_steps}
+use Rattle.std.proofs.Common.{◌≡◌, ◌≢◌, ◌≤◌, ◌<◌, ◌+◌, ◌==◌, ℕ, ℤ, pos, true, false, suc, drop, List, [], ◌∷◌, ◌++◌, length, map}
 use Rattle.std.proofs.Common.{take, get_or, All, AllPairs, IsTrue, refl, sym, ap, subst, ◌∙◌, not-suc-le-zero, arith, length-take}
 use Rattle.std.specs.List.{range_with_len}
 use Rattle.std.specs.Str.{bytes_eq}
@@ -15,15 +16,13 @@ use Rattle.er_event.specs.declared.players.Player.{Player}
 use Rattle.er_event.specs.declared.rows.player.PlayerRow.{PlayerRow}
 use Rattle.er_event.proofs.PlayerLemmas.{range-push, has_name-none}
 use Rattle.er_event.specs.declared.events.Phase.{Phase}
-use Rattle.er_event.specs.declared.events.Phase.TheVariants.{Enrolling, Swiss, Playoff, Finished}
 use Rattle.er_event.specs.declared.players.TheConstants.{MAX_PLAYERS}
 use Rattle.er_event.specs.declared.rows.event.EventRow.{EventRow}
 use Rattle.er_event.specs.declared.commands.TheConstants.{MAX_SERIAL}
-use Rattle.er_event.specs.declared.events.TheConstants.{MAX_ROUNDS}
 use Rattle.er_event.specs.Event.{EventValue}
 use Rattle.er_event.specs.Name.{is_lawful_name}
-use Rattle.er_event.specs.Rows.{flag, phase_code, event_row, player_row}
-use Rattle.er_event.specs.Sound.{numbers, names, is_lawful_cut, IsSetUp, ArePlayers}
+use Rattle.er_event.specs.Rows.{phase_code, player_row}
+use Rattle.er_event.specs.Sound.{numbers, names, IsSetUp, ArePlayers}
 use Rattle.er_event.specs.Change.{has_name}
 use Rattle.er_event.specs.Parts.{IsEventRow}
 use Rattle.er_event.specs.inside.Reading.{IsSetUpAs, IsLawfulPlayer, Suits}
@@ -36,21 +35,10 @@ row_with id version serial name rounds cut phase =
 row_same : (row : EventRow) (i v s : ℤ) (n : List ℕ) (r c p : ℤ)
     → row.id ≡ i → row.version ≡ v → row.serial ≡ s → row.name ≡ n → row.rounds ≡ r → row.cut ≡ c → row.phase ≡ p
     → row ≡ row_with i v s n r c p
-row_same row i v s n r c p e0 e1 e2 e3 e4 e5 e6 =
-    subst (λ (x : ℤ). row ≡ row_with x v s n r c p) e0
-    (subst (λ (x : ℤ). row ≡ row_with row.id x s n r c p) e1
-    (subst (λ (x : ℤ). row ≡ row_with row.id row.version x n r c p) e2
-    (subst (λ (x : List ℕ). row ≡ row_with row.id row.version row.serial x r c p) e3
-    (subst (λ (x : ℤ). row ≡ row_with row.id row.version row.serial row.name x c p) e4
-    (subst (λ (x : ℤ). row ≡ row_with row.id row.version row.serial row.name row.rounds x p) e5
-    (subst (λ (x : ℤ). row ≡ row_with row.id row.version row.serial row.name row.rounds row.cut x) e6 refl))))))
+row_same row i v s n r c p e0 e1 e2 e3 e4 e5 e6 = grind (arith, common_steps)
 
 set_up_as : (s : Setup) (e : EventValue) → IsSetUp s.name s.rounds s.cut → IsSetUpAs s e → IsSetUp e.name e.rounds e.cut
-set_up_as s e h so = record {
-  name = subst (λ (n : List ℕ). IsTrue (is_lawful_name n)) (sym so.name) h.name;
-  rounds = subst (λ (n : ℕ). (1 ≤ n) × (n ≤ MAX_ROUNDS)) (sym so.rounds) h.rounds;
-  cut = subst (λ (n : ℕ). IsTrue (is_lawful_cut n)) (sym so.cut) h.cut;
-}
+set_up_as s e h so = grind (arith, common_steps)
 
 pub read_is : (row : EventRow) (s : Setup) (serial : ℕ) → row.id ≡ pos 1 → row.version ≡ pos 1 → row.serial ≡ pos serial → row.name ≡ s.name
     → row.rounds ≡ pos s.rounds → row.cut ≡ pos s.cut
@@ -97,11 +85,7 @@ number_at ps i p below is numbered =
 
 pub numbers-more : (ps : List Player) (i : ℕ) (p : Player) → i < length ps → p ≡ get_or ps i p → p.no ≡ i + 1
     → numbers (take i ps) ≡ range_with_len 1 i → numbers (take (i + 1) ps) ≡ range_with_len 1 (i + 1)
-numbers-more ps i p below is next before =
-    let more : take (i + 1) ps ≡ take i ps ++ p ∷ [] = take_more ps i p below ∙ ap (λ (q : Player). take i ps ++ q ∷ []) (sym is) in
-    let number : p.no ≡ 1 + i = omega arith in
-    ap numbers more ∙ (map-append (λ (q : Player). q.no) (take i ps) (p ∷ [])
-    ∙ (ap (λ ns. ns ++ p.no ∷ []) before ∙ (ap (λ k. range_with_len 1 i ++ k ∷ []) number ∙ sym (range-push 1 i))))
+numbers-more ps i p below is next before = grind (arith, common_steps, take_more, map-append, range-push)
 
 -- ---- names apart
 
@@ -146,76 +130,31 @@ plays phase players few numbered apart lawful suits = record {
   started = suits.started;
 }
 
-pos_same : (m n : ℕ) → pos m ≡ pos n → m ≡ n
-pos_same m n e = cc
-
-flag-same : (a b : Bool) → flag a ≡ flag b → a ≡ b
-flag-same true true e = refl
-flag-same false false e = refl
-flag-same true false e = absurd (let one : ◌≡◌ {A = ℕ} 1 0 = pos_same 1 0 e in omega arith)
-flag-same false true e = absurd (let one : ◌≡◌ {A = ℕ} 0 1 = pos_same 0 1 e in omega arith)
-
-player_same : (a b : Player) → a.no ≡ b.no → a.name ≡ b.name → a.dropped ≡ b.dropped → a ≡ b
-player_same a b number name dropped =
-    subst (λ (x : ℕ). (let q : Player = record { no = x; name = b.name; dropped = b.dropped } in a ≡ q)) number
-    (subst (λ (x : List ℕ). (let q : Player = record { no = a.no; name = x; dropped = b.dropped } in a ≡ q)) name
-    (subst (λ (x : Bool). (let q : Player = record { no = a.no; name = a.name; dropped = x } in a ≡ q)) dropped refl))
-
 player_row-same : (a b : Player) → player_row a ≡ player_row b → a ≡ b
-player_row-same a b e =
-    player_same a b (pos_same a.no b.no (ap (λ (r : PlayerRow). r.no) e)) (ap (λ (r : PlayerRow). r.name) e)
-    (flag-same a.dropped b.dropped (ap (λ (r : PlayerRow). r.dropped) e))
+player_row-same a b e = grind (arith, common_steps)
 
 -- the rows tell the players
 pub players-same : (xs ys : List Player) → map player_row xs ≡ map player_row ys → xs ≡ ys
 players-same [] [] e = refl
 players-same [] (y ∷ ys) e = absurd (let n : ◌≡◌ {A = ℕ} 0 (suc (length (map player_row ys))) = ap length e in omega arith)
 players-same (x ∷ xs) [] e = absurd (let n : ◌≡◌ {A = ℕ} (suc (length (map player_row xs))) 0 = ap length e in omega arith)
-players-same (x ∷ xs) (y ∷ ys) e =
-    ap₂ ◌∷◌ (player_row-same x y (ap (λ (rs : List PlayerRow). get_or rs 0 (player_row x)) e)) (players-same xs ys (ap (drop 1) e))
-
-phase-same : (p q : Phase) → phase_code p ≡ phase_code q → p ≡ q
-phase-same Enrolling Enrolling e = refl
-phase-same Swiss Swiss e = refl
-phase-same Playoff Playoff e = refl
-phase-same Finished Finished e = refl
-phase-same Enrolling Swiss e = absurd (omega arith)
-phase-same Enrolling Playoff e = absurd (omega arith)
-phase-same Enrolling Finished e = absurd (omega arith)
-phase-same Swiss Enrolling e = absurd (omega arith)
-phase-same Swiss Playoff e = absurd (omega arith)
-phase-same Swiss Finished e = absurd (omega arith)
-phase-same Playoff Enrolling e = absurd (omega arith)
-phase-same Playoff Swiss e = absurd (omega arith)
-phase-same Playoff Finished e = absurd (omega arith)
-phase-same Finished Enrolling e = absurd (omega arith)
-phase-same Finished Swiss e = absurd (omega arith)
-phase-same Finished Playoff e = absurd (omega arith)
+players-same (x ∷ xs) (y ∷ ys) e = grind (arith, common_steps, player_row-same, players-same xs ys (ap (drop 1) e))
 
 -- the row tells the number of rounds
 pub row_rounds : (rows : List EventRow) (e f : EventValue) → IsEventRow rows e → IsEventRow rows f → e.rounds ≡ f.rounds
-row_rounds rows e f one other =
-    let same : event_row 1 e one.serial ∷ [] ≡ event_row 1 f other.serial ∷ [] = sym one.row ∙ other.row in
-    pos_same e.rounds f.rounds (ap (λ (rs : List EventRow). (get_or rs 0 (event_row 1 e one.serial)).rounds) same)
+row_rounds rows e f one other = grind (arith, common_steps)
 
 -- the row tells how many play in the playoff
 pub row_cut : (rows : List EventRow) (e f : EventValue) → IsEventRow rows e → IsEventRow rows f → e.cut ≡ f.cut
-row_cut rows e f one other =
-    let same : event_row 1 e one.serial ∷ [] ≡ event_row 1 f other.serial ∷ [] = sym one.row ∙ other.row in
-    pos_same e.cut f.cut (ap (λ (rs : List EventRow). (get_or rs 0 (event_row 1 e one.serial)).cut) same)
+row_cut rows e f one other = grind (arith, common_steps)
 
 -- the row tells the name
 pub row_name : (rows : List EventRow) (e f : EventValue) → IsEventRow rows e → IsEventRow rows f → e.name ≡ f.name
-row_name rows e f one other =
-    let same : event_row 1 e one.serial ∷ [] ≡ event_row 1 f other.serial ∷ [] = sym one.row ∙ other.row in
-    ap (λ (rs : List EventRow). (get_or rs 0 (event_row 1 e one.serial)).name) same
+row_name rows e f one other = grind (arith, common_steps)
 
 -- the row tells the phase
 pub row_phase : (rows : List EventRow) (e f : EventValue) → IsEventRow rows e → IsEventRow rows f → e.phase ≡ f.phase
-row_phase rows e f one other =
-    let same : event_row 1 e one.serial ∷ [] ≡ event_row 1 f other.serial ∷ [] = sym one.row ∙ other.row in
-    phase-same e.phase f.phase (pos_same (phase_code e.phase) (phase_code f.phase)
-    (ap (λ (rs : List EventRow). (get_or rs 0 (event_row 1 e one.serial)).phase) same))
+row_phase rows e f one other = grind (arith, common_steps)
 
 pub lawful_players : (phase : Phase) (players : List Player) → ArePlayers phase players → All IsLawfulPlayer players
 lawful_players phase players h k d below =

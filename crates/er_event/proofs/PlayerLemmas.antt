@@ -1,6 +1,7 @@
 -- An event with one more player is sound exactly where there is room and the name is new.
+use Rattle.std.proofs.lemmas.Grind.{common_steps}
 use Rattle.std.proofs.Common.{◌≡◌, ◌≢◌, ℕ, ◌+◌, ◌<◌, Bool, true, false, List, [], ◌∷◌, ◌++◌, length, get_or, IsTrue, IsFalse, All, AllPairs}
-use Rattle.std.proofs.Common.{Contains, refl, sym, ap, ◌∙◌, subst, true≢false, zero, suc, ◌||◌, not, flat_map, not-suc-le-zero, arith}
+use Rattle.std.proofs.Common.{refl, sym, ap, ◌∙◌, subst, true≢false, zero, suc, ◌||◌, not, not-suc-le-zero, arith}
 use Rattle.std.proofs.Common.{length-append}
 use Rattle.std.specs.List.{range_with_len}
 use Rattle.std.specs.Str.{bytes_eq}
@@ -14,38 +15,16 @@ use Rattle.er_event.specs.declared.matches.Match.{Match}
 use Rattle.er_event.specs.declared.rounds.Round.{Round}
 use Rattle.er_event.specs.Event.{EventValue}
 use Rattle.er_event.specs.Name.{is_lawful_name}
-use Rattle.er_event.specs.Round.{is_bye, seats}
 use Rattle.er_event.specs.Sound.{numbers, names, IsRound, IsBracket, ArePlayers, AreRounds, AreStages, IsSoundButForSeeds}
 use Rattle.er_event.specs.Change.{has_name, new_player, with_player}
 
 -- more numbers are known
 IsRound-known : (known more : List ℕ) (matches : List Match) → IsRound known matches → IsRound (known ++ more) matches
-IsRound-known known more matches h = record {
-  some = h.some;
-  first_known = All-weaker (λ (m : Match). Contains known m.a) (λ (m : Match). Contains (known ++ more) m.a)
-      (λ m c. Contains-append_left known more m.a c) matches h.first_known;
-  second_known = All-weaker (λ (m : Match). IsFalse (is_bye m) → Contains known m.b)
-      (λ (m : Match). IsFalse (is_bye m) → Contains (known ++ more) m.b)
-      (λ m c seated. Contains-append_left known more m.b (c seated)) matches h.second_known;
-  seated_once = h.seated_once;
-  byes_won = h.byes_won;
-  scores = h.scores;
-  bye_last = h.bye_last;
-}
+IsRound-known known more matches h = grind (arith, common_steps, All-weaker, Contains-append_left)
 
 IsBracket-known : (known more : List ℕ) (cut : ℕ) (stages : List (List Match)) → IsBracket known cut stages
     → IsBracket (known ++ more) cut stages
-IsBracket-known known more cut stages h = record {
-  cut_is_played = h.cut_is_played;
-  first = h.first;
-  is_first = h.is_first;
-  slots = h.slots;
-  known_players = All-weaker (Contains known) (Contains (known ++ more))
-      (λ n c. Contains-append_left known more n c) (flat_map seats h.first) h.known_players;
-  seated_once = h.seated_once;
-  scores = h.scores;
-  follows = h.follows;
-}
+IsBracket-known known more cut stages h = grind (arith, common_steps, All-weaker, Contains-append_left)
 
 or_false : (a b : Bool) → (a || b) ≡ false → (a ≡ false) × (b ≡ false)
 or_false false false h = (refl, refl)
@@ -62,17 +41,13 @@ not_true-from true h = absurd (true≢false (sym h))
 
 pub range-push : (a n : ℕ) → range_with_len a (n + 1) ≡ range_with_len a n ++ (a + n) ∷ []
 range-push a zero = let e : a ≡ a + 0 = omega arith in ap (λ k. k ∷ []) e
-range-push a (suc n) =
-    let more : suc n + 1 ≡ suc (n + 1) = omega arith in
-    let last : (a + 1) + n ≡ a + suc n = omega arith in
-    ap (range_with_len a) more ∙ (ap (λ xs. a ∷ xs) (range-push (a + 1) n) ∙ ap (λ k. (a ∷ range_with_len (a + 1) n) ++ k ∷ []) last)
+range-push a (suc n) = grind (arith, common_steps, range-push (a + 1) n)
 
 -- nobody has the name that no player has
 pub has_name-none : (players : List Player) (name : List ℕ) → has_name players name ≡ false → (k : ℕ) (d : List ℕ)
     → k < length (names players) → get_or (names players) k d ≢ name
 has_name-none [] name none k d below same = absurd (not-suc-le-zero below)
-has_name-none (p ∷ ps) name none zero d below same =
-    true≢false (sym ((bytes_eq-Decides p.name name).1 same) ∙ (or_false (bytes_eq p.name name) (has_name ps name) none).0)
+has_name-none (p ∷ ps) name none zero d below same = grind (arith, common_steps, bytes_eq-Decides, or_false)
 has_name-none (p ∷ ps) name none (suc k) d below same =
     has_name-none ps name (or_false (bytes_eq p.name name) (has_name ps name) none).1 k d (omega arith) same
 
@@ -133,13 +108,7 @@ rounds-known phase limit known more rounds h = record {
 
 stages-known : (phase : Phase) (cut : ℕ) (known more : List ℕ) (stages : List (List Match)) → AreStages phase cut known stages
     → AreStages phase cut (known ++ more) stages
-stages-known phase cut known more stages h =
-    record {
-      none = h.none;
-      bracket = λ over. IsBracket-known known more cut stages (h.bracket over);
-      decided = h.decided;
-      undecided = h.undecided;
-    }
+stages-known phase cut known more stages h = grind (arith, common_steps, IsBracket-known)
 
 -- the event with one more player is sound
 pub IsSound-with : (e : EventValue) (name : List ℕ) → IsSoundButForSeeds e → IsTrue (is_lawful_name name) → length e.players < 512

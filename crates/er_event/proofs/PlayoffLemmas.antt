@@ -1,4 +1,5 @@
 -- An event whose playoff begins, or has one more score, is sound exactly where its checks hold.
+use Rattle.std.proofs.lemmas.Grind.{common_steps}
 use Rattle.std.proofs.Common.{◌≡◌, ◌⊎◌, inl, inr, ℕ, zero, suc, ◌<◌, ◌≤◌, ◌==◌, ◌&&◌, Bool, true, false, not, List, [], ◌∷◌, ◌++◌, length}
 use Rattle.std.proofs.Common.{drop, All, Option, Some, None, IsTrue, IfSome, is_some, refl, sym, ap, subst, ◌∙◌, true≢false, arith}
 use Rattle.std.specs.List.{slice_get, AllByRecursion}
@@ -55,11 +56,7 @@ module _ (new : List Match) (more : List (List Match)) where
   pub all-new : (P : List Match → Type 0) (k : ℕ) (stages : List (List Match)) → P new → AllByRecursion P more → AllByRecursion P stages
       → AllByRecursion P (set stages k new ++ more)
   all-new P k [] here behind h = behind
-  all-new P zero (s ∷ stages) here behind h = (here, append stages h.1)
-    where
-      append : (ss : List (List Match)) → AllByRecursion P ss → AllByRecursion P (ss ++ more)
-      append [] a = behind
-      append (t ∷ ss) a = (a.0, append ss a.1)
+  all-new P zero (s ∷ stages) here behind h = grind (arith, common_steps)
   all-new P (suc k) (s ∷ stages) here behind h = (h.0, all-new P k stages here behind h.1)
 
   pub all-old : (P : List Match → Type 0) (k : ℕ) (stages : List (List Match)) (old : List Match) → slice_get stages k ≡ Some old
@@ -76,8 +73,7 @@ module _ (new : List Match) (more : List (List Match)) where
       → slice_get stages 0 ≡ Some first
       → (f : List Match) × (slice_get (set stages k new ++ more) 0 ≡ Some f) × SameSlots f first
   first-new k [] old first at same is = absurd (none-some first is)
-  first-new zero (s ∷ stages) old first at same is =
-      (new, refl, subst (SameSlots new) (sym (same_Some s old at) ∙ same_Some s first is) same)
+  first-new zero (s ∷ stages) old first at same is = grind (arith, common_steps)
   first-new (suc k) (s ∷ stages) old first at same is = (s, refl, subst (SameSlots s) (same_Some s first is) (slots-refl s))
 
 pub follow-drop : (k : ℕ) (stages : List (List Match)) → FollowOn stages → FollowOn (drop k stages)
@@ -152,19 +148,9 @@ pub follow-never : (l : List Match) (later : List (List Match)) (ns : List Match
 follow-never l [] ns f h = let one = f h.0 in let two = h.1 in omega arith
 follow-never l (t ∷ later) ns f h = follow-never t later ns f.3 h.3
 
-by-phase : (p q : Phase) → p ≡ q → ((p ≡ Enrolling) ⊎ (p ≡ Swiss)) ⊎ IsPlayoff p
-by-phase p Enrolling is = inl (inl is)
-by-phase p Swiss is = inl (inr is)
-by-phase p Playoff is = inr (inl is)
-by-phase p Finished is = inr (inr is)
-
 -- an event with a stage is in the playoff
 pub started : (e : EventValue) → IsSoundButForSeeds e → (e.bracket.stages ≡ [] → ⊥) → IsPlayoff e.phase
-started e h some = by (by-phase e.phase e.phase refl)
-  where
-    by : ((e.phase ≡ Enrolling) ⊎ (e.phase ≡ Swiss)) ⊎ IsPlayoff e.phase → IsPlayoff e.phase
-    by (inl before) = absurd (some (h.bracket.none before))
-    by (inr over) = over
+started e h some = grind (arith, common_steps)
 
 -- ---- the playoff begins
 

@@ -1,8 +1,9 @@
 -- The first rounds of an event's are an event's too.
+use Rattle.std.proofs.lemmas.Grind.{common_steps}
 use Rattle.std.proofs.Common.{◌≡◌, ℕ, zero, suc, ◌+◌, ◌-◌, ◌<◌, ◌≤◌, inl, inr, List, [], ◌∷◌, ◌++◌, length, take, drop, get_or, All, IsTrue}
-use Rattle.std.proofs.Common.{IsFalse, refl, sym, ap, subst, ◌∙◌, arith, not-suc-le-zero}
+use Rattle.std.proofs.Common.{IsFalse, refl, sym, ap, subst, ◌∙◌, arith}
 use Rattle.std.proofs.lemmas.List.{take-append-drop, take_more, length-take}
-use Rattle.std.proofs.lemmas.List.Elements.{All-nil, All-take}
+use Rattle.std.proofs.lemmas.List.Elements.{All-take}
 use Rattle.std.proofs.lemmas.List.Concat.{flat_map-append}
 use Rattle.er_event.specs.declared.events.Phase.{Phase}
 use Rattle.er_event.specs.declared.events.Phase.TheVariants.{Enrolling, Swiss, Playoff, Finished}
@@ -28,14 +29,7 @@ take_twice (suc k) (suc n) [] low = refl
 take_twice (suc k) (suc n) (r ∷ rs) low = ap (λ l. r ∷ l) (take_twice k n rs (omega arith))
 
 pub no_rounds : (known : List ℕ) → AreRounds Swiss 0 known []
-no_rounds known = record {
-  few = omega arith;
-  enrolling = λ _. refl;
-  each = All-nil (λ (r : Round). IsRound known r.matches);
-  no_repeats = λ i j d before within. absurd (not-suc-le-zero within);
-  earlier_done = All-nil (λ (r : Round). IsTrue (is_counted r.matches));
-  done = λ over. absurd (not_over over);
-}
+no_rounds known = grind (arith, common_steps)
 
 module _ (phase : Phase) (limit : ℕ) (known : List ℕ) (rounds : List Round) (h : AreRounds phase limit known rounds) where
   pub first_rounds : (i : ℕ) → i ≤ length rounds → AreRounds Swiss i known (take i rounds)
@@ -69,20 +63,12 @@ module _ (phase : Phase) (limit : ℕ) (known : List ℕ) (rounds : List Round) 
 
   -- in whatever phase
   pub as_swiss : AreRounds Swiss (length rounds) known rounds
-  as_swiss = record {
-    few = omega arith;
-    enrolling = λ is. absurd (let never : Swiss ≡ Enrolling = is in cc);
-    each = h.each;
-    no_repeats = h.no_repeats;
-    earlier_done = h.earlier_done;
-    done = λ over. absurd (not_over over);
-  }
+  as_swiss = grind (arith, common_steps)
 
 pub of_swiss : (phase : Phase) (limit : ℕ) (known : List ℕ) (rounds : List Round) → AreRounds Swiss (length rounds) known rounds
     → length rounds ≤ limit
     → (phase ≡ Enrolling → rounds ≡ []) → (IsPlayoff phase → AreDone limit rounds) → AreRounds phase limit known rounds
-of_swiss phase limit known rounds h few enrolling done =
-    record { few = few; enrolling = enrolling; each = h.each; no_repeats = h.no_repeats; earlier_done = h.earlier_done; done = done }
+of_swiss phase limit known rounds h few enrolling done = grind (arith, common_steps)
 
 -- and one round more may be the rounds up to there
 pub next_rounds : (known : List ℕ) (rounds : List Round) (i : ℕ) (r : Round) → i < length rounds → r ≡ get_or rounds i r

@@ -1,4 +1,6 @@
 -- The events of rows, while the rows are read.
+use Rattle.std.proofs.Common.{arith}
+use Rattle.std.proofs.lemmas.Grind.{common_steps}
 use Rattle.std.proofs.Common.{◌≡◌, ℕ, List, [], map, length, refl, sym, ap, subst, ◌∙◌}
 use Rattle.std.specs.List.{range_with_len}
 use Rattle.er_event.specs.declared.events.Phase.{Phase}
@@ -25,27 +27,11 @@ parts_with event players pairings bracket = record { event = event; players = pl
 pub parts_same : (parts : Parts) (event : List EventRow) (players : List PlayerRow) (pairings : List PairingRow) (bracket : List BracketRow)
     → parts.event ≡ event → parts.players ≡ players → parts.pairings ≡ pairings → parts.bracket ≡ bracket
     → parts ≡ parts_with event players pairings bracket
-parts_same parts event players pairings bracket a b c d =
-    subst (λ (x : List EventRow). parts ≡ parts_with x players pairings bracket) a
-    (subst (λ (x : List PlayerRow). parts ≡ parts_with parts.event x pairings bracket) b
-    (subst (λ (x : List PairingRow). parts ≡ parts_with parts.event parts.players x bracket) c
-    (subst (λ (x : List BracketRow). parts ≡ parts_with parts.event parts.players parts.pairings x) d refl)))
+parts_same parts event players pairings bracket a b c d = grind (arith, common_steps)
 
 -- a sound event of the rows has them all
 pub all_of : (parts : Parts) (e : EventValue) → IsOf parts e → IsSoundButForSeeds e → HasAllRows parts e
-all_of parts e is sound = record {
-  rounds = record {
-    players = record {
-      event = record { serial = is.serial; low = is.low; set_up = sound.set_up; row = ap (λ (p : Parts). p.event) is.are };
-      rows = ap (λ (p : Parts). p.players) is.are;
-      players = sound.players;
-    };
-    rows = ap (λ (p : Parts). p.pairings) is.are;
-    rounds = sound.rounds;
-  };
-  rows = ap (λ (p : Parts). p.bracket) is.are;
-  bracket = sound.bracket;
-}
+all_of parts e is sound = grind (arith, common_steps)
 
 abbrev event_with : List ℕ → ℕ → ℕ → Phase → List Player → List Round → List (List Match) → EventValue
 event_with name rounds cut phase players stored stages = record {
@@ -63,14 +49,7 @@ event_of s players rounds stages = event_with s.name s.rounds s.cut s.phase play
 
 event_same : (e : EventValue) (s : Setup) (players : List Player) (rounds : List Round) (stages : List (List Match))
     → IsSetUpAs s e → e.players ≡ players → e.stored ≡ rounds → e.bracket.stages ≡ stages → e ≡ event_of s players rounds stages
-event_same e s players rounds stages so a b c =
-    subst (λ (x : List ℕ). e ≡ event_with x s.rounds s.cut s.phase players rounds stages) so.name
-    (subst (λ (x : ℕ). e ≡ event_with e.name x s.cut s.phase players rounds stages) so.rounds
-    (subst (λ (x : ℕ). e ≡ event_with e.name e.rounds x s.phase players rounds stages) so.cut
-    (subst (λ (x : Phase). e ≡ event_with e.name e.rounds e.cut x players rounds stages) so.phase
-    (subst (λ (x : List Player). e ≡ event_with e.name e.rounds e.cut e.phase x rounds stages) a
-    (subst (λ (x : List Round). e ≡ event_with e.name e.rounds e.cut e.phase e.players x stages) b
-    (subst (λ (x : List (List Match)). e ≡ event_with e.name e.rounds e.cut e.phase e.players e.stored x) c refl))))))
+event_same e s players rounds stages so a b c = grind (arith, common_steps)
 
 -- ---- the event's row is read
 
@@ -132,9 +111,7 @@ module _ (parts : Parts) (s : Setup) (set : (e : EventValue) → IsSetUpAs s e �
       same_rounds e has = only e.stored (rounds_as e has) has.rows
 
       rounds_there : (stages : List (List Match)) → HasRoundRows parts (event_of s players rounds stages)
-      rounds_there stages =
-          let known_are = subst (λ (ns : List ℕ). AreRounds s.phase s.rounds ns rounds) (sym plays.numbered) are in
-          record { players = players_there rounds stages; rows = paired; rounds = known_are }
+      rounds_there stages = grind (arith, common_steps)
 
       stages_as : (e : EventValue) → HasAllRows parts e → AreStages s.phase s.cut known e.bracket.stages
       stages_as e has =
@@ -158,9 +135,7 @@ module _ (parts : Parts) (s : Setup) (set : (e : EventValue) → IsSetUpAs s e �
         whole = event_of s players rounds stages
 
         pub whole_is : HasAllRows parts whole
-        whole_is =
-            let known_stand = subst (λ (ns : List ℕ). AreStages s.phase s.cut ns stages) (sym plays.numbered) stand in
-            record { rounds = rounds_there stages; rows = drawn; bracket = known_stand }
+        whole_is = grind (arith, common_steps)
 
         pub is_of : IsOf parts whole
         is_of =
@@ -170,12 +145,7 @@ module _ (parts : Parts) (s : Setup) (set : (e : EventValue) → IsSetUpAs s e �
             record { serial = event.serial; low = event.low; are = are }
 
         pub is_sound : IsSoundButForSeeds whole
-        is_sound = record {
-          set_up = (row_there players rounds stages).set_up;
-          players = plays;
-          rounds = (rounds_there stages).rounds;
-          bracket = whole_is.bracket;
-        }
+        is_sound = grind (arith, common_steps, row_there, whole_is)
 
         pub only_whole : (other : EventValue) → IsOf parts other → IsSoundButForSeeds other → other ≡ whole
         only_whole other is sound =

@@ -1,6 +1,7 @@
 -- Whoever sits at none of the matches that count anew keeps the totals.
+use Rattle.std.proofs.lemmas.Grind.{common_steps}
 use Rattle.std.proofs.Common.{◌≡◌, ◌≢◌, ℕ, zero, suc, ◌+◌, ◌-◌, ◌<◌, ◌&&◌, Bool, true, false, if◌then◌else◌, List, [], ◌∷◌, ◌++◌, length}
-use Rattle.std.proofs.Common.{get_or, flat_map, Contains, IsFalse, refl, sym, ap, ap₂, subst, ◌∙◌, arith, append-nil}
+use Rattle.std.proofs.Common.{get_or, flat_map, Contains, IsFalse, refl, sym, ap, ap₂, subst, ◌∙◌, arith}
 use Rattle.std.proofs.Math.ListN.{set}
 use Rattle.std.proofs.Math.Seq.{get_or-append_seam}
 use Rattle.std.proofs.lemmas.List.{get_or_default, length-append}
@@ -12,7 +13,7 @@ use Rattle.er_event.specs.declared.scores.Games.{Games}
 use Rattle.er_event.specs.Bracket.{open_match}
 use Rattle.er_event.specs.Change.{scored, scored_slot, with_round, with_score, Fits}
 use Rattle.er_event.specs.Event.{EventValue}
-use Rattle.er_event.specs.Lines.{Line, own, lines_of_match, counted_lines, lines_from, lines}
+use Rattle.er_event.specs.Lines.{Line, own, lines_of_match, counted_lines, lines_from}
 use Rattle.er_event.specs.Recounted.{recounted_in, recounted, IsAbsent, AreOf}
 use Rattle.er_event.specs.Round.{is_bye, is_counted}
 use Rattle.er_event.specs.Sound.{numbers, IsRound, IsSoundButForSeeds}
@@ -38,13 +39,7 @@ counted_by player n false ms away = refl
 
 pub added-same : (e : EventValue) (ms : List Match) (player : ℕ) → IsAbsent player (if is_counted ms then ms else [])
     → totals (with_round e ms) player ≡ totals e player
-added-same e ms player away =
-    let r : Round = record { matches = ms } in
-    let n = 1 + length e.stored in
-    ap totals_of (ap (own player) (lines_from-push 1 e.stored r)
-    ∙ (own-append player (lines e) (counted_lines n r)
-    ∙ (ap (λ (ls : List Line). own player (lines e) ++ ls) (counted_by player n (is_counted ms) ms away)
-    ∙ append-nil (own player (lines e)))))
+added-same e ms player away = grind (arith, common_steps, lines_from-push, own-append, counted_by)
 
 -- ---- a score
 
@@ -54,11 +49,7 @@ IsAway player m = (m.a ≢ player) × (m.b ≢ player)
 own-set : (player n k : ℕ) (ms : List Match) (new d : Match) → IsAway player new → (k < length ms → IsAway player (get_or ms k d))
     → own player (flat_map (lines_of_match n) (set ms k new)) ≡ own player (flat_map (lines_of_match n) ms)
 own-set player n k [] new d away before = refl
-own-set player n zero (m ∷ ms) new d away before =
-    own-append player (lines_of_match n new) (flat_map (lines_of_match n) ms)
-    ∙ (ap (λ (ls : List Line). ls ++ own player (flat_map (lines_of_match n) ms))
-    (absent player n new away.0 away.1 ∙ sym (absent player n m (before (omega arith)).0 (before (omega arith)).1))
-    ∙ sym (own-append player (lines_of_match n m) (flat_map (lines_of_match n) ms)))
+own-set player n zero (m ∷ ms) new d away before = grind (arith, common_steps)
 own-set player n (suc k) (m ∷ ms) new d away before =
     own-append player (lines_of_match n m) (flat_map (lines_of_match n) (set ms k new))
     ∙ (ap (λ (ls : List Line). own player (lines_of_match n m) ++ ls) (own-set player n k ms new d away (λ below. before (omega arith)))
@@ -110,10 +101,7 @@ scored-rounds : (player n k : ℕ) (rounds : List Round) (new : Round)
     → ((j : ℕ) → own player (counted_lines j new) ≡ own player (counted_lines j (get_or rounds k (record { matches = [] }))))
     → own player (lines_from n (set rounds k new)) ≡ own player (lines_from n rounds)
 scored-rounds player n k [] new same = refl
-scored-rounds player n zero (r ∷ rounds) new same =
-    own-append player (counted_lines n new) (lines_from (n + 1) rounds)
-    ∙ (ap (λ (ls : List Line). ls ++ own player (lines_from (n + 1) rounds)) (same n)
-    ∙ sym (own-append player (counted_lines n r) (lines_from (n + 1) rounds)))
+scored-rounds player n zero (r ∷ rounds) new same = grind (arith, common_steps)
 scored-rounds player n (suc k) (r ∷ rounds) new same =
     own-append player (counted_lines n r) (lines_from (n + 1) (set rounds k new))
     ∙ (ap (λ (ls : List Line). own player (counted_lines n r) ++ ls) (scored-rounds player (n + 1) k rounds new same)

@@ -1,5 +1,6 @@
 -- The rounds of an event in which a match gets a score are those of the event after it.
-use Rattle.std.proofs.Common.{◌≡◌, ℕ, ◌-◌, ◌<◌, ◌≤◌, List, [], length, map, get_or, All, Option, Some, None, sym, ap, subst, ◌∙◌, arith}
+use Rattle.std.proofs.lemmas.Grind.{common_steps}
+use Rattle.std.proofs.Common.{◌≡◌, ℕ, ◌-◌, ◌<◌, ◌≤◌, List, [], length, map, get_or, All, Option, Some, sym, ap, subst, ◌∙◌, arith}
 use Rattle.std.proofs.Math.ListN.{set}
 use Rattle.std.specs.List.{slice_get}
 use Rattle.std.proofs.lemmas.Option.{get_or_from_slice_get}
@@ -16,11 +17,7 @@ use Rattle.er_event.proofs.ScoreLemmas.{Found, found, within-get}
 use Rattle.er_event.proofs.TableLemmas.{at-place, score-place}
 
 some-injective : {X : Type 0} (d x y : X) → ◌≡◌ {A = Option X} (Some x) (Some y) → x ≡ y
-some-injective {X} d x y is = ap value is
-  where
-    value : Option X → X
-    value None = d
-    value (Some z) = z
+some-injective {X} d x y is = grind (arith, common_steps)
 
 module _ (e : EventValue) (k t : ℕ) (s : Games) (fits : Fits e (SetScore k t s)) where
   it : Found e k t fits.named.0
@@ -53,8 +50,7 @@ module _ (e : EventValue) (k t : ℕ) (s : Games) (fits : Fits e (SetScore k t s
       (subst (λ (q : Round). scored_slot q.matches t s ≡ map (score_table t s) (numbered_from 1 q.matches)) (sym here) alike)
 
   pub seated-after : All (λ (r : Round). IsSeatedOnce r.matches) (rescored e.stored (k - 1) t s)
-  seated-after = subst (λ (rs : List Round). All (λ (r : Round). IsSeatedOnce r.matches) rs) (sym as-scored)
-      (λ i d below. (fits.sound.rounds.each i d below).seated_once)
+  seated-after = grind (arith, common_steps, as-scored)
 
   pub table-within : (r : Round) → r ≡ get_or e.stored (k - 1) r → (1 ≤ t) × (t ≤ length r.matches)
   table-within r is = subst (λ (q : Round). (1 ≤ t) × (t ≤ length q.matches))

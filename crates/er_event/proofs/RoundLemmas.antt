@@ -1,10 +1,11 @@
 -- When matches are a round.
+use Rattle.std.proofs.lemmas.Grind.{common_steps}
 use Rattle.std.proofs.Common.{◌≡◌, ◌≢◌, ℕ, ◌-◌, ◌==◌, ◌≤◌, ◌&&◌, ◌||◌, nat_le, not, Bool, true, false, List, [], ◌∷◌, length, take}
 use Rattle.std.proofs.Common.{flat_map, All, AllPairs, Contains, Option, Some, None, IfSome, IsTrue, IsFalse, refl, sym, ap, subst}
 use Rattle.std.proofs.Common.{true≢false, arith}
 use Rattle.std.specs.List.{list_all, range_with_len}
 use Rattle.std.proofs.lemmas.Bool.Decides.{nat_tests}
-use Rattle.std.proofs.lemmas.List.Elements.{All-cons, All-nil, All-head, All-tail, All-weaker}
+use Rattle.std.proofs.lemmas.List.Elements.{All-nil, All-head, All-tail, All-weaker}
 use Rattle.std.proofs.lemmas.List.FromFn.{length-range_with_len, get_or-range_with_len}
 use Rattle.er_event.specs.declared.scores.Games.{Games}
 use Rattle.er_event.specs.declared.matches.Match.{Match}
@@ -15,11 +16,7 @@ use Rattle.er_event.specs.Sound.{IsRound}
 
 pub All-of : {X : Type 0} (p : X → Bool) (xs : List X) → list_all p xs ≡ true → All (λ x. IsTrue (p x)) xs
 All-of p [] e = All-nil (λ x. IsTrue (p x))
-All-of p (x ∷ xs) e = let both = and_true (p x) (list_all p xs) e in All-cons (λ y. IsTrue (p y)) x xs both.0 (All-of p xs both.1)
-  where
-    and_true : (a b : Bool) → (a && b) ≡ true → (a ≡ true) × (b ≡ true)
-    and_true true b h = (refl, h)
-    and_true false b h = absurd (true≢false (sym h))
+All-of p (x ∷ xs) e = grind (arith, common_steps)
 
 pub of-All : {X : Type 0} (p : X → Bool) (xs : List X) → All (λ x. IsTrue (p x)) xs → list_all p xs ≡ true
 of-All p [] h = refl
@@ -46,26 +43,12 @@ known_contains count k known =
     (k - 1, omega arith, omega arith)
 
 pub contains_known : (count k : ℕ) → Contains (range_with_len 1 count) k → is_known count k ≡ true
-contains_known count k has =
-    let len = length-range_with_len 1 count in
-    let below = has.1 in
-    let at = get_or-range_with_len 1 count has.0 k (omega arith) in
-    let is = has.2 in
-    let low : 1 ≤ k = omega arith in
-    let high : k ≤ count = omega arith in
-    grind (arith, nat_tests)
+contains_known count k has = grind (arith, common_steps, length-range_with_len, get_or-range_with_len, nat_tests)
 
 -- ---- one match
 
 bye_is : (s : Games) → is_bye_score s ≡ true → s ≡ bye_score
-bye_is s is =
-    let x : s.x ≡ 2 = grind (arith, nat_tests) in
-    let y : s.y ≡ 0 = grind (arith, nat_tests) in
-    let d : s.d ≡ 0 = grind (arith, nat_tests) in
-    games s.x s.y s.d x y d
-  where
-    games : (a b c : ℕ) → a ≡ 2 → b ≡ 0 → c ≡ 0 → (let g : Games = record { x = a; y = b; d = c } in g ≡ bye_score)
-    games a b c x y d = rw (x, y, d)
+bye_is s is = grind (arith, common_steps)
 
 score_won : (score : Option Games) → is_lawful_score true score ≡ true → score ≡ Some bye_score
 score_won None never = absurd (true≢false (sym never))
@@ -166,6 +149,4 @@ module _ (count : ℕ) where
   round_lawful ms h = each_lawful ms h.first_known h.second_known h.byes_won h.scores
 
   pub round_last : (ms : List Match) → IsRound (range_with_len 1 count) ms → list_all (λ m. not (is_bye m)) (take (length ms - 1) ms) ≡ true
-  round_last ms h = of-All (λ m. not (is_bye m)) (take (length ms - 1) ms)
-      (All-weaker (λ (m : Match). IsFalse (is_bye m)) (λ (m : Match). IsTrue (not (is_bye m)))
-      (λ m e. not_false (is_bye m) e) (take (length ms - 1) ms) h.bye_last)
+  round_last ms h = grind (arith, common_steps, of-All, All-weaker, not_false)

@@ -1,4 +1,5 @@
 -- The rows of rounds in turn.
+use Rattle.std.proofs.lemmas.Grind.{common_steps}
 use Rattle.std.proofs.Common.{◌≡◌, ℕ, suc, ◌+◌, ◌-◌, ◌<◌, ◌≤◌, List, [], ◌∷◌, ◌++◌, length, take, drop, All, refl, sym, ap, ap₂, subst, ◌∙◌}
 use Rattle.std.proofs.Common.{arith, append_assoc, append-nil, length-append}
 use Rattle.std.proofs.Math.Seq.{take-add, drop-append_seam, drop-drop}
@@ -17,11 +18,7 @@ Shown r = FitRows r.matches
 pub keyed-push : (n : ℕ) (rs : List Round) (r : Round)
     → keyed_rows_from n (rs ++ r ∷ []) ≡ keyed_rows_from n rs ++ keyed_round_rows (n + length rs) r.matches
 keyed-push n [] r = let e : n ≡ n + 0 = omega arith in append-nil (keyed_round_rows n r.matches) ∙ ap (λ k. keyed_round_rows k r.matches) e
-keyed-push n (s ∷ rs) r =
-    let e : (n + 1) + length rs ≡ n + length (s ∷ rs) = omega arith in
-    ap (λ l. keyed_round_rows n s.matches ++ l) (keyed-push (n + 1) rs r)
-    ∙ (sym (append_assoc (keyed_round_rows n s.matches) (keyed_rows_from (n + 1) rs) (keyed_round_rows ((n + 1) + length rs) r.matches))
-    ∙ ap (λ k. keyed_rows_from n (s ∷ rs) ++ keyed_round_rows k r.matches) e)
+keyed-push n (s ∷ rs) r = grind (arith, common_steps, keyed-push (n + 1) rs r)
 
 pub rest_of : (xs ys : List Round) → All Shown (xs ++ ys) → All Shown ys
 rest_of [] ys all = all

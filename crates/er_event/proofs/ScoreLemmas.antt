@@ -1,9 +1,9 @@
 -- An event with one score set anew is sound exactly where the score is lawful.
-use Rattle.std.proofs.Common.{◌≡◌, ◌≢◌, ℕ, zero, suc, ◌-◌, ◌==◌, ◌<◌, ◌≤◌, Bool, true, false, cond, List, [], ◌∷◌, ◌++◌, length, take, map}
+use Rattle.std.proofs.lemmas.Grind.{common_steps}
+use Rattle.std.proofs.Common.{◌≡◌, ◌≢◌, ℕ, zero, suc, ◌-◌, ◌==◌, ◌<◌, ◌≤◌, true, false, List, [], ◌∷◌, ◌++◌, length, take, map}
 use Rattle.std.proofs.Common.{flat_map, get_or, All, AllPairs, Contains, IsTrue, IsFalse, Option, Some, None, IfSome, Bor, option_map}
-use Rattle.std.proofs.Common.{is_some, refl, sym, ap, ap₂, subst, ◌∙◌, true≢false, arith}
+use Rattle.std.proofs.Common.{refl, sym, ap, ap₂, subst, ◌∙◌, true≢false, arith}
 use Rattle.std.specs.List.{slice_get, AllByRecursion}
-use Rattle.std.specs.Option.{option_and_then}
 use Rattle.std.proofs.Math.ListN.{set}
 use Rattle.std.proofs.lemmas.List.{length-set}
 use Rattle.std.proofs.lemmas.List.Elements.{All-from_recursion, recursion_from_All}
@@ -132,8 +132,7 @@ module _ (s : Games) (m : Match) (i : ℕ) (ms : List Match) (there : get_or ms 
       }
 
   counted-scored : is_counted ms ≡ true → is_counted new ≡ true
-  counted-scored all = of-All (λ (k : Match). is_some k.score) new
-      (kept (λ (k : Match). IsTrue (is_some k.score)) (λ _. refl) (All-of (λ (k : Match). is_some k.score) ms all))
+  counted-scored all = grind (arith, common_steps, of-All, kept, All-of)
 
   module _ (e : EventValue) (j : ℕ) (round : (get_or e.stored j (record { matches = new })).matches ≡ ms) where
     abbrev r : Round
@@ -192,18 +191,8 @@ pub record Found (e : EventValue) (k t : ℕ) (m : Match) : Type 0 where
   pub stored : slice_get e.stored (k - 1) ≡ Some round
   pub here : match_in round.matches t ≡ Some m
 
-found-round : (e : EventValue) (k t : ℕ) (m : Match) (o : Option Round) → slice_get e.stored (k - 1) ≡ o
-    → option_and_then (λ (q : Round). match_in q.matches t) o ≡ Some m → Found e k t m
-found-round e k t m None at h = absurd (none-some m h)
-found-round e k t m (Some q) at h = record { round = q; stored = at; here = h }
-
 pub found : (e : EventValue) (k t : ℕ) (m : Match) → match_at e k t ≡ Some m → Found e k t m
-found e k t m is = by_zero (k == 0) is
-  where
-    by_zero : (b : Bool) → cond b None (option_and_then (λ (q : Round). match_in q.matches t) (slice_get e.stored (k - 1))) ≡ Some m
-        → Found e k t m
-    by_zero true h = absurd (none-some m h)
-    by_zero false h = found-round e k t m (slice_get e.stored (k - 1)) refl h
+found e k t m is = grind (arith, common_steps)
 
 module _ (e : EventValue) (k t : ℕ) (s : Games) (m : Match) (is : match_at e k t ≡ Some m) (seat : is_bye m ≡ false) where
   abbrev f : Found e k t m

@@ -1,8 +1,9 @@
 -- Who sits where in a round.
+use Rattle.std.proofs.lemmas.Grind.{common_steps}
 use Rattle.std.proofs.Common.{◌≡◌, ◌≢◌, ℕ, ◌+◌, ◌<◌, Bool, true, false, ◌||◌, List, [], ◌∷◌, ◌++◌, length, get_or, take, drop, AllPairs}
-use Rattle.std.proofs.Common.{flat_map, refl, sym, ap, subst, ◌∙◌, true≢false, arith, append-nil}
+use Rattle.std.proofs.Common.{flat_map, refl, sym, ap, subst, ◌∙◌, true≢false, arith}
 use Rattle.std.specs.List.{list_any}
-use Rattle.std.proofs.lemmas.List.{take_more, take-append-drop}
+use Rattle.std.proofs.lemmas.List.{take-append-drop}
 use Rattle.std.proofs.lemmas.List.Concat.{flat_map-append}
 use Rattle.std.proofs.lemmas.Bool.Decides.{nat_tests}
 use Rattle.er_event.specs.declared.matches.Match.{Match}
@@ -17,12 +18,7 @@ abbrev all_seats : List Match → List ℕ
 all_seats matches = flat_map seats matches
 
 shares-none : (m n : Match) → shares_seat m n ≡ false → (m.a ≢ n.a) × (m.a ≢ n.b) × (m.b ≢ n.a) × (m.b ≢ n.b)
-shares-none m n none = (
-  λ e. grind (arith, nat_tests),
-  λ e. grind (arith, nat_tests),
-  λ e. grind (arith, nat_tests),
-  λ e. grind (arith, nat_tests),
-)
+shares-none m n none = grind (arith, common_steps)
 
 shares-some : (m n : Match) → shares_seat m n ≡ true → m.a ≢ n.a → m.a ≢ n.b → m.b ≢ n.a → m.b ≢ n.b → ⊥
 shares-some m n some a b c d = grind (arith, nat_tests)
@@ -62,9 +58,7 @@ sits_apart (n ∷ ms) m h = sits_apart ms m h.1.1
 
 module _ (ms : List Match) (i : ℕ) (m d : Match) (within : i < length ms) (here : get_or ms i d ≡ m) where
   seats-next : all_seats (take (i + 1) ms) ≡ all_seats (take i ms) ++ seats m
-  seats-next =
-      ap all_seats (take_more ms i d within) ∙ (flat_map-append seats (take i ms) (get_or ms i d ∷ [])
-      ∙ (ap (λ (n : Match). all_seats (take i ms) ++ (seats n ++ [])) here ∙ ap (λ s. all_seats (take i ms) ++ s) (append-nil (seats m))))
+  seats-next = grind (arith, common_steps)
 
   pub seats-more : AllPairs Apart (all_seats (take i ms)) → list_any (λ n. shares_seat n m) (take i ms) ≡ false → m.a ≢ m.b
       → AllPairs Apart (all_seats (take (i + 1) ms))

@@ -1,4 +1,5 @@
 -- The rounds of a sound event can be shown by rows.
+use Rattle.std.proofs.lemmas.Grind.{common_steps}
 use Rattle.std.proofs.Common.{◌≡◌, ℕ, ◌<◌, ◌≤◌, Bool, true, false, List, [], ◌∷◌, All, Contains, IsTrue, IsFalse, IfSome, refl, arith}
 use Rattle.std.specs.List.{range_with_len}
 use Rattle.std.proofs.lemmas.Bool.Decides.{nat_tests}
@@ -14,12 +15,7 @@ use Rattle.er_event.specs.Pairings.{FitsRow, FitRows}
 
 module _ (n : ℕ) (few : n ≤ 512) where
   pub below : (k : ℕ) → Contains (range_with_len 1 n) k → k < 65536
-  below k has =
-      let len = length-range_with_len 1 n in
-      let within = has.1 in
-      let at = get_or-range_with_len 1 n has.0 k (omega arith) in
-      let is = has.2 in
-      omega arith
+  below k has = grind (arith, common_steps, length-range_with_len, get_or-range_with_len)
 
   second_below : (m : Match) (bye : Bool) → is_bye m ≡ bye → (IsFalse (is_bye m) → Contains (range_with_len 1 n) m.b) → m.b < 65536
   second_below m true is known = let none : m.b ≡ 0 = grind (arith, nat_tests) in omega arith

@@ -1,12 +1,11 @@
 -- The slots of a next stage, and which stages follow on one another.
-use Rattle.std.proofs.Common.{◌≡◌, ◌↔◌, ℕ, zero, suc, ◌+◌, ◌*◌, ◌-◌, ◌/◌, ◌<◌, ◌≤◌, ◌==◌, ◌&&◌, Bool, true, false, List, [], ◌∷◌, length}
-use Rattle.std.proofs.Common.{drop, get_or, Option, Some, None, IsTrue, IsSome, is_some, MatchOption, refl, sym, ap, ap₂, subst, ◌∙◌}
+use Rattle.std.proofs.lemmas.Grind.{common_steps}
+use Rattle.std.proofs.Common.{◌≡◌, ◌↔◌, ℕ, zero, suc, ◌+◌, ◌*◌, ◌-◌, ◌/◌, ◌<◌, ◌≤◌, Bool, true, List, [], ◌∷◌, length}
+use Rattle.std.proofs.Common.{drop, get_or, Option, Some, None, IsTrue, refl, sym, ap, ap₂, subst, ◌∙◌}
 use Rattle.std.proofs.Common.{true≢false, arith}
 use Rattle.std.specs.List.{slice_get}
 use Rattle.std.proofs.lemmas.List.{drop_more, length-drop}
-use Rattle.std.proofs.lemmas.Bool.Decides.{nat_tests}
 use Rattle.er_event.specs.declared.matches.Match.{Match}
-use Rattle.er_event.specs.declared.scores.Games.{Games}
 use Rattle.er_event.specs.Round.{is_counted}
 use Rattle.er_event.specs.Bracket.{winner, next_stage, SameSlots, FollowOn, IsDecided, last_match, is_over}
 
@@ -37,11 +36,7 @@ module _ (ms ns : List Match) (half : length ns ≡ length ms / 2) (i : ℕ) whe
     ns-here = drop_more ns i n within ∙ ap (λ (k : Match). k ∷ drop (i + 1) ns) (sym there)
 
     ms-here : drop (2 * i) ms ≡ x ∷ y ∷ drop (2 * (i + 1)) ms
-    ms-here =
-        let more : 2 * i + 1 + 1 ≡ 2 * (i + 1) = omega arith in
-        drop_more ms (2 * i) x (omega arith) ∙ (ap (λ (k : Match). k ∷ drop (2 * i + 1) ms) (sym first)
-        ∙ ap (λ (ks : List Match). x ∷ ks) (drop_more ms (2 * i + 1) y (omega arith)
-        ∙ (ap (λ (k : Match). k ∷ drop (2 * i + 1 + 1) ms) (sym second) ∙ ap (λ (j : ℕ). y ∷ drop j ms) more)))
+    ms-here = grind (arith, common_steps)
 
     winners-here : Winners ms ns i ≡ (((n.a ≡ winner x) × (n.b ≡ winner y)) × Winners ms ns (i + 1))
     winners-here = ap₂ (λ (ks ls : List Match). SameSlots ks (next_stage ls)) ns-here ms-here
@@ -73,9 +68,7 @@ follow-split s (next ∷ more) = (λ h. ((h.0, h.1, h.2), h.3), λ h. (h.0.0, h.
 -- what a check of one stage says, at the stages that it read
 pub stands : (a s : List Match) (o p : Option (List Match)) (r t : Bool) → o ≡ p → a ≡ s → t ≡ r → (IsTrue r ↔ Stands a p)
     → IsTrue t ↔ Stands s o
-stands a s o p r t same read is h =
-    subst (λ (b : Bool). IsTrue b ↔ Stands s o) (sym is)
-    (subst (λ (q : Option (List Match)). IsTrue r ↔ Stands s q) (sym same) (subst (λ (ms : List Match). IsTrue r ↔ Stands ms p) read h))
+stands a s o p r t same read is h = grind (arith, common_steps)
 
 get-first : (stages : List (List Match)) (i : ℕ) → slice_get (drop i stages) 0 ≡ slice_get stages i
 get-first [] zero = refl
@@ -94,25 +87,10 @@ follow-here stages i s within is =
 
 -- ---- the last stage
 
-and-second : (a b : Bool) → (a && b) ≡ true → b ≡ true
-and-second true b h = h
-and-second false b h = absurd (true≢false (sym h))
-
-not-one : (k : ℕ) → (suc (suc k) == 1) ≡ true → ⊥
-not-one k h = grind (arith, nat_tests)
-
 pub over-counted : (stage : List Match) → IsDecided (stage ∷ []) ↔ (is_over stage ≡ true)
 over-counted [] = (λ h. absurd h, λ h. absurd (true≢false (sym h)))
-over-counted (m ∷ []) = one m.score
-  where
-    one : (o : Option Games) → IsSome o ↔ ((is_some o && true) && true ≡ true)
-    one None = (λ h. absurd (true≢false (sym h)), λ h. absurd (true≢false (sym h)))
-    one (Some s) = (λ _. refl, λ _. refl)
-over-counted (m ∷ n ∷ more) = (
-  λ h. absurd h,
-  λ h.
-      absurd (not-one (length more) (and-second (is_counted (m ∷ n ∷ more)) (suc (suc (length more)) == 1) h)),
-)
+over-counted (m ∷ []) = grind (arith, common_steps)
+over-counted (m ∷ n ∷ more) = grind (arith, common_steps)
 
 pub last-after : (stage next : List Match) (more : List (List Match)) → last_match (stage ∷ next ∷ more) ≡ last_match (next ∷ more)
 last-after [] next more = refl
@@ -129,9 +107,7 @@ last-at (s ∷ t ∷ more) (suc i) last end is = last-after s t more ∙ last-at
 
 pub decided-last : (stages : List (List Match)) (last : List Match) → 1 ≤ length stages → last ≡ get_or stages (length stages - 1) last
     → IsDecided stages ↔ (is_over last ≡ true)
-decided-last stages last some is =
-    subst (λ (o : Option Match). MatchOption o ⊥ (λ (m : Match). IsSome m.score) ↔ (is_over last ≡ true))
-    (sym (last-at stages (length stages - 1) last (omega arith) is)) (over-counted last)
+decided-last stages last some is = grind (arith, common_steps, last-at, over-counted)
 
 pub decided-none : (stages : List (List Match)) → length stages ≡ 0 → IsDecided stages → ⊥
 decided-none [] e h = h

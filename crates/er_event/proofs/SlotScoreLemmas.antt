@@ -1,7 +1,8 @@
 -- An event whose playoff has one more score is sound exactly where the changed stage fits what stands behind it.
+use Rattle.std.proofs.lemmas.Grind.{common_steps}
 use Rattle.std.proofs.Common.{◌≡◌, ◌↔◌, inl, inr, ℕ, zero, suc, ◌-◌, ◌<◌, ◌≤◌, ◌==◌, ◌||◌, ◌&&◌, nat_lt, Bool, true, false, cond, List, []}
 use Rattle.std.proofs.Common.{◌∷◌, ◌++◌, length, drop, get_or, All, AllPairs, Contains, Option, Some, None, IsTrue, IfSome, is_some}
-use Rattle.std.proofs.Common.{MatchOption, IsSome, option_map, Bor, refl, sym, ap, subst, ◌∙◌, true≢false, arith, append-nil}
+use Rattle.std.proofs.Common.{MatchOption, IsSome, option_map, Bor, refl, sym, ap, subst, ◌∙◌, true≢false, arith}
 use Rattle.std.specs.List.{slice_get, AllByRecursion}
 use Rattle.std.specs.Option.{option_and_then}
 use Rattle.std.proofs.Math.ListN.{set}
@@ -54,8 +55,7 @@ module _ (e : EventValue) (k : ℕ) (old new : List Match) (at : slice_get e.bra
     stages = set e.bracket.stages k new ++ more
 
     last-new : last_match stages ≡ last_match (new ∷ (later ++ more))
-    last-new = last-drop k stages (length-new new more k e.bracket.stages old at)
-        ∙ ap last_match (drop-new new more k e.bracket.stages old at)
+    last-new = grind (arith, common_steps, last-drop, length-new, bracket, at, drop-new)
 
     decided-new : IsDecided stages ≡ IsDecided (new ∷ (later ++ more))
     decided-new = ap (λ (o : Option Match). MatchOption o ⊥ (λ (m : Match). IsSome m.score)) last-new
@@ -238,15 +238,13 @@ module _ (e : EventValue) (stage slot : ℕ) (score : Games) (m : Match) (is : s
 
 module _ (old new l : List Match) (rest : List (List Match)) (f : FollowOn (old ∷ l ∷ rest)) where
   follows-later : Stands new (Some l) → FollowOn (new ∷ ((l ∷ rest) ++ []))
-  follows-later stands = subst (λ (ss : List (List Match)). FollowOn (new ∷ ss)) (sym (append-nil (l ∷ rest)))
-      ((follow-split new (l ∷ rest)).1 (stands, f.3))
+  follows-later stands = grind (arith, common_steps, follow-split)
 
   later-follows : FollowOn (new ∷ ((l ∷ rest) ++ [])) → Stands new (Some l)
   later-follows h = ((follow-split new ((l ∷ rest) ++ [])).0 h).0
 
   last-later : last_match (new ∷ ((l ∷ rest) ++ [])) ≡ last_match (old ∷ l ∷ rest)
-  last-later = ap (λ (ss : List (List Match)). last_match (new ∷ ss)) (append-nil (l ∷ rest))
-      ∙ (last-after new l rest ∙ sym (last-after old l rest))
+  last-later = grind (arith, common_steps, last-after)
 
   none-behind : (ns : List Match) → FollowOn (new ∷ ((l ∷ rest) ++ ns ∷ [])) → ⊥
   none-behind ns h = follow-never l rest ns f.3 ((follow-split new ((l ∷ rest) ++ ns ∷ [])).0 h).1
@@ -269,8 +267,7 @@ module _ (e : EventValue) (stage slot : ℕ) (score : Games) (m : Match) (is : s
   last-there = decided-old e (stage - 1) old old at (slots-refl old) h ∙ ap (λ (ss : List (List Match)). last_match (old ∷ ss)) there
 
   decided-there : IsDecided (new ∷ ((l ∷ rest) ++ [])) ≡ IsDecided e.bracket.stages
-  decided-there = ap (λ (o : Option Match). MatchOption o ⊥ (λ (m : Match). IsSome m.score))
-      (last-later old new l rest follow-there ∙ sym last-there)
+  decided-there = grind (arith, common_steps, last-later, last-there)
 
   module _ (finished : Bool) where
     abbrev q : Phase

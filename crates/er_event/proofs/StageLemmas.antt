@@ -1,4 +1,5 @@
 -- Rows of a bracket, and the matches that they show.
+use Rattle.std.proofs.lemmas.Grind.{common_steps}
 use Rattle.std.proofs.Common.{◌≡◌, ℕ, suc, ◌+◌, ◌-◌, ◌<◌, ◌≤◌, ℤ, pos, Bool, true, false, ◌&&◌, List, [], ◌∷◌, ◌++◌, length, take, drop}
 use Rattle.std.proofs.Common.{map, get_or, All, refl, sym, ap, ap₂, subst, ◌∙◌, arith, append_assoc, append-nil, length-append}
 use Rattle.std.proofs.Math.Seq.{drop-cons, take-append_seam, take-add, drop-append_seam, drop-drop}
@@ -9,7 +10,6 @@ use Rattle.std.specs.Ordering.{int_eq}
 use Rattle.std.specs.List.{prefix_len}
 use Rattle.er_event.specs.declared.rows.bracket.BracketRow.{BracketRow}
 use Rattle.er_event.specs.declared.matches.Match.{Match}
-use Rattle.er_event.specs.Round.{numbered_from}
 use Rattle.er_event.specs.Rows.{bracket_row, stage_rows, bracket_rows_from}
 use Rattle.er_event.specs.inside.Stages.{FitsSlotRow, FitStageRows, slot_rows, is_of_stage}
 use Rattle.er_event.proofs.PairingLemmas.{and_true, numbered-push}
@@ -96,11 +96,7 @@ module _ (r i : ℕ) (rows : List BracketRow) (below : i < length rows) where
 
   pub rows_more : (items : List Match) (m : Match) → length items ≡ i → take i rows ≡ slot_rows r 1 items → row ≡ bracket_row r (i + 1, m)
       → take (i + 1) rows ≡ slot_rows r 1 (items ++ m ∷ [])
-  rows_more items m count before here =
-      let at : i + 1 ≡ 1 + length items = omega arith in
-      take_more rows i nothing below ∙ (ap₂ (λ rs x. rs ++ x ∷ []) before (here ∙ ap (λ k. bracket_row r (k, m)) at)
-      ∙ (sym (map-append (bracket_row r) (numbered_from 1 items) ((1 + length items, m) ∷ []))
-      ∙ ap (map (bracket_row r)) (sym (numbered-push 1 items m))))
+  rows_more items m count before here = grind (arith, common_steps, take_more, map-append, numbered-push)
 
   -- the match that stands here
   pub here_shown : (items ms rest : List Match) → All FitsSlotRow ms → ms ≡ items ++ rest → drop i rows ≡ slot_rows r (i + 1) rest
@@ -122,9 +118,7 @@ module _ (r i : ℕ) (rows : List BracketRow) (below : i < length rows) where
 
 pub nothing_left : (r n i : ℕ) (rows : List BracketRow) (rest : List Match) → length rows ≤ i → drop i rows ≡ slot_rows r n rest → rest ≡ []
 nothing_left r n i rows [] short e = refl
-nothing_left r n i rows (m ∷ rest) short e =
-    absurd (let len = length-drop i rows in let more : length (drop i rows) ≡ suc (length (slot_rows r (n + 1) rest)) = ap length e in omega
-    arith)
+nothing_left r n i rows (m ∷ rest) short e = grind (arith, common_steps)
 
 -- ---- the stages in turn
 
@@ -132,15 +126,7 @@ row_of_stage : (r : ℕ) (n : ℕ × Match) → is_of_stage r (bracket_row r n) 
 row_of_stage r n = (Decides-int_eq (pos r) (pos r)).1 refl
 
 row_of_other : (r : ℕ) (n : ℕ × Match) → is_of_stage r (bracket_row (r + 1) n) ≡ false
-row_of_other r n = not_so (is_of_stage r (bracket_row (r + 1) n))
-    (λ same. let e : r + 1 ≡ r = pos_same (r + 1) r ((Decides-int_eq (pos (r + 1)) (pos r)).0 same) in omega arith)
-  where
-    pos_same : (m n : ℕ) → pos m ≡ pos n → m ≡ n
-    pos_same m n e = cc
-
-    not_so : (b : Bool) → (b ≡ true → ⊥) → b ≡ false
-    not_so false h = refl
-    not_so true h = absurd (h refl)
+row_of_other r n = grind (arith, common_steps)
 
 prefix_rows : (r : ℕ) (ns : List (ℕ × Match)) (ys : List BracketRow) → prefix_len (is_of_stage r) ys ≡ 0
     → prefix_len (is_of_stage r) (map (bracket_row r) ns ++ ys) ≡ length (map (bracket_row r) ns)
@@ -163,8 +149,7 @@ later_none r (s ∷ later) all =
 module _ (r : ℕ) (rows : List BracketRow) (ms : List Match) (later : List (List Match)) (shown : FitStageRows ms)
     (all : All FitStageRows later) (are : rows ≡ stage_rows r ms ++ bracket_rows_from (r + 1) later) where
   pub count_is : prefix_len (is_of_stage r) rows ≡ length (stage_rows r ms)
-  count_is = ap (prefix_len (is_of_stage r)) are ∙ prefix_rows r (numbered_from 1 ms) (bracket_rows_from (r + 1) later)
-      (later_none r later all)
+  count_is = grind (arith, common_steps, prefix_rows, later_none, all)
 
   pub first_rows : (count : ℕ) → count ≡ prefix_len (is_of_stage r) rows → take count rows ≡ stage_rows r ms
   first_rows count is = ap₂ take (is ∙ count_is) are ∙ take-append_seam (stage_rows r ms) (bracket_rows_from (r + 1) later)
@@ -179,11 +164,7 @@ module _ (r : ℕ) (rows : List BracketRow) (ms : List Match) (later : List (Lis
 stage-push : (n : ℕ) (rs : List (List Match)) (r : List Match)
     → bracket_rows_from n (rs ++ r ∷ []) ≡ bracket_rows_from n rs ++ stage_rows (n + length rs) r
 stage-push n [] r = let e : n ≡ n + 0 = omega arith in append-nil (stage_rows n r) ∙ ap (λ k. stage_rows k r) e
-stage-push n (s ∷ rs) r =
-    let e : (n + 1) + length rs ≡ n + length (s ∷ rs) = omega arith in
-    ap (λ l. stage_rows n s ++ l) (stage-push (n + 1) rs r)
-    ∙ (sym (append_assoc (stage_rows n s) (bracket_rows_from (n + 1) rs) (stage_rows ((n + 1) + length rs) r))
-    ∙ ap (λ k. bracket_rows_from n (s ∷ rs) ++ stage_rows k r) e)
+stage-push n (s ∷ rs) r = grind (arith, common_steps, stage-push (n + 1) rs r)
 
 pub rest_of : (xs ys : List (List Match)) → All FitStageRows (xs ++ ys) → All FitStageRows ys
 rest_of [] ys all = all

@@ -1,5 +1,6 @@
 -- The stages of a sound event can be shown by rows, and are few.
-use Rattle.std.proofs.Common.{◌≡◌, ℕ, ◌+◌, ◌*◌, ◌/◌, ◌<◌, ◌≤◌, nat_lt, cond, Bool, true, false, List, [], ◌∷◌, length, flat_map, All}
+use Rattle.std.proofs.lemmas.Grind.{common_steps}
+use Rattle.std.proofs.Common.{◌≡◌, ℕ, ◌+◌, ◌*◌, ◌/◌, ◌<◌, ◌≤◌, List, [], ◌∷◌, length, flat_map, All}
 use Rattle.std.proofs.Common.{Contains, IsTrue, IfSome, Option, Some, None, refl, sym, ap, subst, ◌∙◌, arith}
 use Rattle.std.specs.List.{range_with_len}
 use Rattle.std.proofs.lemmas.Bool.Decides.{nat_tests}
@@ -23,11 +24,7 @@ IsScored m = IfSome m.score (λ s. IsTrue (is_playoff_score s))
 
 winner_narrow : (m : Match) (score : Option Games) → IsNarrow m → winner_with m score < 65536
 winner_narrow m None narrow = omega arith
-winner_narrow m (Some s) narrow = by_test (nat_lt s.y s.x)
-  where
-    by_test : (b : Bool) → cond b m.a m.b < 65536
-    by_test true = narrow.0
-    by_test false = narrow.1
+winner_narrow m (Some s) narrow = grind (arith, common_steps)
 
 next_narrow : (ms : List Match) → All IsNarrow ms → All IsNarrow (next_stage ms)
 next_narrow [] all = All-nil IsNarrow
@@ -60,18 +57,11 @@ half (m ∷ n ∷ more) = let rest = half more in (omega arith, omega arith)
 
 all_shown : (ms : List Match) → All IsNarrow ms → All IsScored ms → All FitsSlotRow ms
 all_shown [] narrow scored = All-nil FitsSlotRow
-all_shown (m ∷ ms) narrow scored =
-    let here = All-head IsNarrow m ms narrow in
-    All-cons FitsSlotRow m ms (record { first = here.0; second = here.1; score = All-head IsScored m ms scored })
-    (all_shown ms (All-tail IsNarrow m ms narrow) (All-tail IsScored m ms scored))
+all_shown (m ∷ ms) narrow scored = grind (arith, common_steps)
 
 follow_shown : (s : List Match) (more : List (List Match)) → 0 < length s → All IsNarrow s → FollowOn (s ∷ more)
     → All (λ (ms : List Match). All IsScored ms) (s ∷ more) → All FitStageRows (s ∷ more)
-follow_shown s [] some narrow follows scores =
-    All-cons FitStageRows s [] (record {
-      some = some;
-      each = all_shown s narrow (All-head (λ (ms : List Match). All IsScored ms) s [] scores);
-    }) (All-nil FitStageRows)
+follow_shown s [] some narrow follows scores = grind (arith, common_steps)
 follow_shown s (next ∷ more) some narrow follows scores =
     let long = follows.1 in
     let count = same_length next (next_stage s) follows.2 in
@@ -87,13 +77,7 @@ follow_few : (s : List Match) (more : List (List Match)) → length s ≤ 4 → 
 follow_few s [] few follows = omega arith
 follow_few s (next ∷ []) few follows = omega arith
 follow_few s (next ∷ last ∷ []) few follows = omega arith
-follow_few s (next ∷ last ∷ one ∷ more) few follows =
-    let first = same_length next (next_stage s) follows.2 in
-    let second = same_length last (next_stage next) follows.3.2 in
-    let halved = half s in
-    let again = half next in
-    let long = follows.3.3.1 in
-    absurd (omega arith)
+follow_few s (next ∷ last ∷ one ∷ more) few follows = grind (arith, common_steps)
 
 all_seats : (n : ℕ) → n ≤ 512 → (ms : List Match) → All (λ no. Contains (range_with_len 1 n) no) (flat_map seats ms) → All IsNarrow ms
 all_seats n few [] known = All-nil IsNarrow

@@ -1,6 +1,7 @@
 -- The match of a table stands at the table's place, or is the bye at table 0.
+use Rattle.std.proofs.lemmas.Grind.{common_steps}
 use Rattle.std.proofs.Common.{◌≡◌, ◌≢◌, ℕ, zero, suc, ◌+◌, ◌-◌, ◌==◌, ◌<◌, ◌≤◌, Bool, true, false, cond, List, [], ◌∷◌, length, map, get_or}
-use Rattle.std.proofs.Common.{Option, Some, None, option_map, unwrap_or, find, refl, sym, ap, ap₂, subst, ◌∙◌, true≢false, arith}
+use Rattle.std.proofs.Common.{Option, Some, None, option_map, unwrap_or, find, refl, sym, ap, ap₂, ◌∙◌, true≢false, arith}
 use Rattle.std.specs.List.{slice_get}
 use Rattle.std.proofs.Math.ListN.{set}
 use Rattle.std.proofs.lemmas.Bool.Decides.{nat_tests}
@@ -37,9 +38,7 @@ module _ (n t : ℕ) (m : Match) where
 -- no table of these has a lower number, other than 0
 none-below : (n t : ℕ) (ms : List Match) → 1 ≤ t → t < n → found_in n t ms ≡ None
 none-below n t [] some below = refl
-none-below n t (m ∷ ms) some below =
-    skipped n t m (is_at t (n, m)) (find (is_at t) (numbered_from (n + 1) ms)) (not-at (is_bye m) n t (λ _. omega arith) (λ _. omega arith))
-    ∙ none-below (n + 1) t ms some (omega arith)
+none-below n t (m ∷ ms) some below = grind (arith, common_steps, skipped, not-at, none-below (n + 1) t ms some (omega arith))
 
 here : (n : ℕ) (m : Match) (ms : List Match) (b : Bool) → b ≡ is_bye m → 1 ≤ n
     → option_map (λ (found : ℕ × Match). found.1) (cond (cond b 0 n == n) (Some (n, m)) (find (is_at n) (numbered_from (n + 1) ms)))
@@ -51,9 +50,7 @@ here n m ms false is low = taken n n m (n == n) (find (is_at n) (numbered_from (
 found_at : (n i t : ℕ) (ms : List Match) → 1 ≤ n → t ≡ n + i → found_in n t ms ≡ seated (slice_get ms i)
 found_at n i t [] low is = refl
 found_at n zero t (m ∷ ms) low is = ap (λ k. found_in n k (m ∷ ms)) (let e : t ≡ n = omega arith in e) ∙ here n m ms (is_bye m) refl low
-found_at n (suc i) t (m ∷ ms) low is =
-    skipped n t m (is_at t (n, m)) (find (is_at t) (numbered_from (n + 1) ms)) (not-at (is_bye m) n t (λ _. omega arith) (λ _. omega arith))
-    ∙ found_at (n + 1) i t ms (omega arith) (omega arith)
+found_at n (suc i) t (m ∷ ms) low is = grind (arith, common_steps, skipped, not-at, found_at (n + 1) i t ms (omega arith) (omega arith))
 
 pub match_in-place : (ms : List Match) (t : ℕ) → 1 ≤ t → match_in ms t ≡ seated (slice_get ms (t - 1))
 match_in-place ms t low = found_at 1 (t - 1) t ms (omega arith) (omega arith)
@@ -66,8 +63,7 @@ step_bye n m more later false low same = skipped n 0 m (n == 0) more (grind (ari
 
 found_bye : (n : ℕ) (ms : List Match) → 1 ≤ n → found_in n 0 ms ≡ find (λ (m : Match). m.b == 0) ms
 found_bye n [] low = refl
-found_bye n (m ∷ ms) low = step_bye n m (find (is_at 0) (numbered_from (n + 1) ms)) (find (λ (k : Match). k.b == 0) ms) (is_bye m) low
-    (found_bye (n + 1) ms (omega arith))
+found_bye n (m ∷ ms) low = grind (arith, common_steps, step_bye, found_bye (n + 1) ms (omega arith))
 
 pub match_in-bye : (ms : List Match) → match_in ms 0 ≡ find (λ (m : Match). m.b == 0) ms
 match_in-bye ms = found_bye 1 ms (omega arith)
@@ -76,11 +72,7 @@ match_in-bye ms = found_bye 1 ms (omega arith)
 
 seated-is : (found : Option Match) (m : Match) → seated found ≡ Some m → found ≡ Some m
 seated-is None m is = absurd (none-some m is)
-seated-is (Some n) m is = by_bye (is_bye n) is
-  where
-    by_bye : (b : Bool) → cond b None (Some n) ≡ Some m → Some n ≡ Some m
-    by_bye true e = absurd (none-some m e)
-    by_bye false e = e
+seated-is (Some n) m is = grind (arith, common_steps)
 
 found-bye : (ms : List Match) (m : Match) → find (λ (k : Match). k.b == 0) ms ≡ Some m → is_bye m ≡ true
 found-bye [] m is = absurd (none-some m is)
@@ -107,8 +99,7 @@ module _ (t : ℕ) (s : Games) where
 
   untouched : (n : ℕ) (ms : List Match) → 1 ≤ t → t < n → map (score_table t s) (numbered_from n ms) ≡ ms
   untouched n [] some below = refl
-  untouched n (m ∷ ms) some below = ap₂ ◌∷◌ (kept m (is_at t (n, m)) (not-at (is_bye m) n t (λ _. omega arith) (λ _. omega arith)))
-      (untouched (n + 1) ms some (omega arith))
+  untouched n (m ∷ ms) some below = grind (arith, common_steps, kept, not-at, untouched (n + 1) ms some (omega arith))
 
 is_at-own : (n : ℕ) (m : Match) → is_bye m ≡ false → is_at n (n, m) ≡ true
 is_at-own n m seat = rw seat (at-here n)
@@ -116,31 +107,20 @@ is_at-own n m seat = rw seat (at-here n)
 score-from : (s : Games) (n i t : ℕ) (ms : List Match) (m : Match) → 1 ≤ n → t ≡ n + i → slice_get ms i ≡ Some m → is_bye m ≡ false
     → map (score_table t s) (numbered_from n ms) ≡ set ms i (scored s m)
 score-from s n i t [] m low at is seat = absurd (none-some m is)
-score-from s n zero t (k ∷ ms) m low at is seat =
-    let same : k ≡ m = ap (λ (o : Option Match). unwrap_or o k) is in
-    let here : n ≡ t = omega arith in
-    ap₂ ◌∷◌ (changed t s k (is_at t (n, k)) (subst (λ j. is_at j (n, k) ≡ true) here (is_at-own n k (ap is_bye same ∙ seat)))
-    ∙ ap (scored s) same) (untouched t s (n + 1) ms (omega arith) (omega arith))
+score-from s n zero t (k ∷ ms) m low at is seat = grind (arith, common_steps, here, changed, is_at-own, untouched)
 score-from s n (suc i) t (k ∷ ms) m low at is seat =
     ap₂ ◌∷◌ (kept t s k (is_at t (n, k)) (not-at (is_bye k) n t (λ _. omega arith) (λ _. omega arith)))
     (score-from s (n + 1) i t ms m (omega arith) (omega arith) is seat)
 
 pub score-place : (s : Games) (t : ℕ) (ms : List Match) (m : Match) → match_in ms t ≡ Some m → is_bye m ≡ false
     → map (score_table t s) (numbered_from 1 ms) ≡ set ms (t - 1) (scored s m)
-score-place s t ms m is seat =
-    let at = at-place ms t m is seat in
-    let low = at.0 in
-    score-from s 1 (t - 1) t ms m (omega arith) (omega arith) at.1 seat
+score-place s t ms m is seat = grind (arith, common_steps, at-place, score-from)
 
 -- ---- the read of a place
 
 module _ (ms : List Match) (t at : ℕ) (same : at ≡ t) (some : t ≢ 0) where
   table_low : 1 ≤ t
-  table_low = by_zero t some
-    where
-      by_zero : (k : ℕ) → k ≢ 0 → 1 ≤ k
-      by_zero zero not = absurd (not refl)
-      by_zero (suc k) not = omega arith
+  table_low = grind (arith, common_steps)
 
   place-is : match_in ms t ≡ seated (slice_get ms (at - 1))
   place-is = match_in-place ms t table_low ∙ ap (λ k. seated (slice_get ms (k - 1))) (sym same)

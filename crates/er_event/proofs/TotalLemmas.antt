@@ -1,20 +1,19 @@
 -- Where nobody sits twice, a player has the line of one match of a round alone; the rounds add up.
-use Rattle.std.proofs.Common.{◌≡◌, ◌≢◌, ◌⊎◌, inl, inr, ℕ, zero, suc, ◌+◌, ◌-◌, ◌<◌, ◌≤◌, ◌==◌, Bool, true, false, cond, if◌then◌else◌, List}
+use Rattle.std.proofs.lemmas.Grind.{common_steps}
+use Rattle.std.proofs.Common.{◌≡◌, ◌≢◌, ◌⊎◌, inl, inr, ℕ, zero, suc, ◌+◌, ◌-◌, ◌<◌, ◌≤◌, ◌==◌, List}
 use Rattle.std.proofs.Common.{[], ◌∷◌, ◌++◌, length, take, get_or, flat_map, All, Option, Some, None, refl, sym, ap, ap₂, subst, ◌∙◌, arith}
-use Rattle.std.proofs.Common.{not-suc-le-zero, append_assoc, append-nil}
-use Rattle.std.proofs.lemmas.Bool.Decides.{nat_tests}
-use Rattle.std.proofs.lemmas.List.{take_more, take_all, length-append, length-set, get_or_default, get_or-set_other}
+use Rattle.std.proofs.Common.{not-suc-le-zero, append-nil}
+use Rattle.std.proofs.lemmas.List.{take_more, length-set, get_or_default, get_or-set_other}
 use Rattle.std.proofs.lemmas.List.Elements.{filter-append, All-get_or}
-use Rattle.std.proofs.lemmas.List.Sums.{sum_by-append}
 use Rattle.er_event.specs.declared.matches.Match.{Match}
 use Rattle.er_event.specs.declared.rounds.Round.{Round}
 use Rattle.er_event.specs.declared.scores.Games.{Games}
 use Rattle.er_event.specs.declared.totals.Totals.{Totals}
 use Rattle.er_event.specs.Bracket.{open_match}
 use Rattle.er_event.specs.Change.{scored, scored_slot}
-use Rattle.er_event.specs.Lines.{Line, own, turned, as_second, lines_of_score, lines_of_match, counted_lines, lines_from}
+use Rattle.er_event.specs.Lines.{Line, own, lines_of_score, lines_of_match, counted_lines, lines_from}
 use Rattle.er_event.specs.Round.{seats}
-use Rattle.er_event.specs.Totals.{points_of, game_points_of, games_of, totals_of, totals_of_games, plus}
+use Rattle.er_event.specs.Totals.{totals_of, totals_of_games, plus}
 use Rattle.er_event.proofs.ScoreLemmas.{set-All}
 use Rattle.er_event.specs.inside.Seen.{IsSeatedOnce, AreOver, rescored}
 
@@ -25,27 +24,11 @@ pub own-append : (player : ℕ) (xs ys : List Line) → own player (xs ++ ys) �
 own-append player xs ys = filter-append (λ (l : Line). l.player == player) xs ys
 
 pub totals_of-append : (xs ys : List Line) → totals_of (xs ++ ys) ≡ plus (totals_of xs) (totals_of ys)
-totals_of-append xs ys =
-    rw (sum_by-append points_of xs ys, length-append xs ys, sum_by-append game_points_of xs ys, sum_by-append games_of xs ys) refl
-
-other_line : (player : ℕ) (l : Line) (rest : List Line) → l.player ≢ player → own player (l ∷ rest) ≡ own player rest
-other_line player l rest other =
-    let no : (l.player == player) ≡ false = grind (arith, nat_tests, other) in
-    ap (λ (b : Bool). cond b (l ∷ own player rest) (own player rest)) no
-
-pub absent-second : (player round a b : ℕ) (s : Games) → b ≢ player → own player (as_second round a b s) ≡ []
-absent-second player round a b s other = by_test (b == 0)
-  where
-    by_test : (test : Bool) → own player (if test then [] else record { round = round; player = b; opponent = a; games = Some (turned s) }
-        ∷ []) ≡ []
-    by_test true = refl
-    by_test false = other_line player (record { round = round; player = b; opponent = a; games = Some (turned s) }) [] other
+totals_of-append xs ys = grind (arith, common_steps)
 
 absent_score : (player round a b : ℕ) (score : Option Games) → a ≢ player → b ≢ player → own player (lines_of_score round a b score) ≡ []
 absent_score player round a b None first second = refl
-absent_score player round a b (Some s) first second =
-    other_line player (record { round = round; player = a; opponent = b; games = Some s }) (as_second round a b s) first
-    ∙ absent-second player round a b s second
+absent_score player round a b (Some s) first second = grind (arith, common_steps)
 
 pub absent : (player round : ℕ) (m : Match) → m.a ≢ player → m.b ≢ player → own player (lines_of_match round m) ≡ []
 absent player round m first second = absent_score player round m.a m.b m.score first second
@@ -102,8 +85,7 @@ one_match (n ∷ rest) once (suc k) m player below is sits round =
 -- nor in any
 pub own-all : (player : ℕ) (matches : List Match) (i round : ℕ) → length matches ≤ i
     → own player (flat_map (lines_of_match round) (take i matches)) ≡ [] → own player (flat_map (lines_of_match round) matches) ≡ []
-own-all player matches i round over none = sym (ap (λ (ms : List Match). own player (flat_map (lines_of_match round) ms))
-    (take_all i matches over)) ∙ none
+own-all player matches i round over none = grind (arith, common_steps)
 
 pub slot-length : (matches : List Match) (table : ℕ) (score : Games) → length (scored_slot matches table score) ≡ length matches
 slot-length matches table score = length-set matches (table - 1) (scored score (get_or matches (table - 1) (open_match 0 0)))
@@ -113,11 +95,7 @@ slot-length matches table score = length-set matches (table - 1) (scored score (
 pub lines_from-push : (n : ℕ) (rs : List Round) (r : Round)
     → lines_from n (rs ++ r ∷ []) ≡ lines_from n rs ++ counted_lines (n + length rs) r
 lines_from-push n [] r = append-nil (counted_lines n r) ∙ ap (λ (k : ℕ). counted_lines k r) (omega arith)
-lines_from-push n (first ∷ rs) r =
-    let next : n + 1 + length rs ≡ n + suc (length rs) = omega arith in
-    ap (λ (ls : List Line). counted_lines n first ++ ls)
-    (lines_from-push (n + 1) rs r ∙ ap (λ (k : ℕ). lines_from (n + 1) rs ++ counted_lines k r) next)
-    ∙ sym (append_assoc (counted_lines n first) (lines_from (n + 1) rs) (counted_lines (n + suc (length rs)) r))
+lines_from-push n (first ∷ rs) r = grind (arith, common_steps, lines_from-push (n + 1) rs r)
 
 own-more : (player : ℕ) (rounds : List Round) (i : ℕ) (r : Round) → i < length rounds → r ≡ get_or rounds i r
     → own player (lines_from 1 (take (i + 1) rounds)) ≡ own player (lines_from 1 (take i rounds)) ++ own player
@@ -152,8 +130,7 @@ totals-same player rounds i r totals below is before value =
     sym (plus-none totals) ∙ totals-more player rounds i r totals None below is before value
 
 pub over-more : (i : ℕ) (t : Totals) → AreOver i t → AreOver (i + 1) t
-over-more i t over = let a = over.points in let b = over.rounds_are in let c = over.game_points in let d = over.games in
-    record { points = omega arith; rounds_are = omega arith; game_points = omega arith; games = omega arith }
+over-more i t over = grind (arith, common_steps)
 
 -- ---- a score set anew
 
