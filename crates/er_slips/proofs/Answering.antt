@@ -1,4 +1,5 @@
 -- What the desk answers, and how serving an input ends.
+use Rattle.std.proofs.lemmas.Grind.{common_steps}
 use Rattle.std.proofs.Common.{◌≡◌, ◌⊎◌, inl, inr, ℕ, ◌==◌, false, true≢false, arith, List, [], ◌∷◌, Option, Some, None, Result, Ok, Err}
 use Rattle.std.proofs.Common.{IsTrue, IsFalse, IfOk, IfErr, OnOk, IfSome, MatchResult, Vec, Global, is_ok, refl, sym, ap, subst, ◌∙◌}
 use Rattle.std.specs.Io.KnownBytes.{Keeps}
@@ -34,7 +35,6 @@ use Rattle.er_slips.specs.declared.serve.Served.TheVariants.{Answered, ReadFault
 use Rattle.er_slips.specs.Request.{Asks, TellsAsked}
 use Rattle.er_slips.specs.Answer.{AnswerValue, answer_value, fault_answer, refusal_answer, slip_answer, text_answer, status_of}
 use Rattle.er_slips.specs.Whole.{ShowsPairings, row_answer, reply_answer, IsAnswered, submitted, IsAnswerUnless503}
-use Rattle.er_store.specs.Fault.{IsReadFault}
 use Rattle.er_store.specs.Slip.{FindsSlip}
 use Rattle.er_slips.specs.Serving.{IsRowsAnswer, IsSlipAnswer, AnswersRequest, IsServed, IsUnserved, Writes, EndsServing, IsWritten}
 
@@ -117,8 +117,7 @@ written-unread Runs Stood (Some xs) before = λ runs stood. keeps before
 pub ends-unserved : (Stood : Type 0) (input : Option (List ℕ)) (old : Standing) (before after : Option (List ℕ)) (answer : AnswerValue)
     (served : Served)
     → answer ≡ refusal_answer Memory → Writes before after served answer → EndsServing Stood input old old before after served
-ends-unserved Stood input old before after answer served is wrote =
-    ends Stood input old old before after answer served wrote (inr (is, refl))
+ends-unserved Stood input old before after answer served is wrote = grind (arith, common_steps)
 
 -- ---- the answer of a desk that runs, over tables that stand
 
@@ -140,11 +139,6 @@ module _ (old new : Standing) (input : List ℕ) (answer : AnswerValue) (runs : 
   shown-by asked Shows is to (inl (running, inr memory)) = hindered Memory refl memory
   shown-by asked Shows is to (inr (stopped, e)) = runs-on stopped
 
-  fault-status : (why : Refusal) → IsReadFault why → status_of why ≡ 503
-  fault-status why (inl (inl e)) = rw e refl
-  fault-status why (inl (inr e)) = rw e refl
-  fault-status why (inr e) = rw e refl
-
   slip-by : (round table : ℕ) (read : Result SlipRow Refusal) → Asks input (Ok (Slip round table)) → ReadsSlip old read new
       → FindsSlip old.event round table read
       → IsSlipAnswer read answer → IsAnswerUnless503 old.event old.serial input answer
@@ -154,9 +148,7 @@ module _ (old new : Standing) (input : List ℕ) (answer : AnswerValue) (runs : 
   slip-by round table (Err why) is (inl (running, same, inr none)) found e =
       let no-match : why ≡ NoSuchMatch = cc in
       exact (Ok (Slip round table)) is (e ∙ ap refusal_answer no-match ∙ ap row_answer (sym (found no-match)))
-  slip-by round table (Err why) is (inr (inl (running, same, other, fault, f))) found e =
-      let which : why ≡ other = cc in
-      hindered other (fault-status other fault) (e ∙ ap refusal_answer which)
+  slip-by round table (Err why) is (inr (inl (running, same, other, fault, f))) found e = grind (arith, common_steps)
   slip-by round table (Err why) is (inr (inr (stopped, same, f))) found e = runs-on stopped
 
   rows-by : (read : Result (Vec Row Global) Refusal) → Asks input (Ok Standings) → ReadsRows old read new
@@ -169,11 +161,8 @@ module _ (old new : Standing) (input : List ℕ) (answer : AnswerValue) (runs : 
   )
   rows-by (Ok rows) is reads are (inr memory) = hindered Memory refl memory
   rows-by (Err why) is (inl (running, same, inl ok)) are e = absurd (true≢false (sym ok))
-  rows-by (Err why) is (inl (running, same, inr memory)) are e =
-      hindered Memory refl (let which : why ≡ Memory = cc in e ∙ ap refusal_answer which)
-  rows-by (Err why) is (inr (inl (running, same, other, fault, f))) are e =
-      let which : why ≡ other = cc in
-      hindered other (fault-status other fault) (e ∙ ap refusal_answer which)
+  rows-by (Err why) is (inl (running, same, inr memory)) are e = grind (arith, common_steps)
+  rows-by (Err why) is (inr (inl (running, same, other, fault, f))) are e = grind (arith, common_steps)
   rows-by (Err why) is (inr (inr (stopped, same, f))) are e = runs-on stopped
 
   reply-by : (round table : ℕ) (score : Games) (reply : Reply) → Asks input (Ok (Report round table score))
@@ -192,8 +181,7 @@ module _ (old new : Standing) (input : List ℕ) (answer : AnswerValue) (runs : 
           → IsAnswerUnless503 old.event old.serial input answer
       by (inl memory) = hindered Memory refl (e ∙ ap reply_answer it.answered ∙ ap refusal_answer memory)
       by (inr due) = exact (Ok (Report round table score)) is (Err it.why, due, e ∙ ap reply_answer it.answered)
-  reply-by round table score reply is (inr (inr (inl it))) e =
-      hindered it.why (fault-status it.why (inl it.fault)) (e ∙ ap reply_answer it.answered)
+  reply-by round table score reply is (inr (inr (inl it))) e = grind (arith, common_steps)
   reply-by round table score reply is (inr (inr (inr it))) e = runs-on it.was_stopped
 
   answered-by : (Stood : Type 0) → Stood → (asked : Result Asked Fault) → Asks input asked → AnswersRequest Stood old asked answer new
@@ -237,15 +225,11 @@ module _ {S : Type 0} (g : Ghosts S) (old new : Desk S g) where
       → ShowsOwn g old → LeavesJust (state g old) (point_of (standing old)) → IsFalse (standing new).stopped
       → LeavesJust (state g new) (point_of (standing new))
   replied-leaves (Ok receipt) acknowledged same shows before runs = acknowledged shows
-  replied-leaves (Err why) acknowledged same shows before runs =
-      subst (λ (d : Desk S g). LeavesJust (state g d) (point_of (standing d))) (sym (same runs)) before
+  replied-leaves (Err why) acknowledged same shows before runs = grind (arith, common_steps)
 
   -- after reading, the desk stands where it stood
   pub read-leaves : {A : Type 0} (passing : Refusal) (read : Result A Refusal) → Reads passing (standing old) read (standing new)
       → LeavesJust (state g new) (point_of (standing old)) → LeavesJust (state g new) (point_of (standing new))
-  read-leaves passing read (inl (running, same, e)) leaves =
-      subst (λ (s : Standing). LeavesJust (state g new) (point_of s)) (sym same) leaves
-  read-leaves passing read (inr (inl (running, same, why, fault, e))) leaves =
-      subst (λ (s : Standing). LeavesJust (state g new) (point_of s)) (sym same) leaves
-  read-leaves passing read (inr (inr (stopped, same, e))) leaves =
-      subst (λ (s : Standing). LeavesJust (state g new) (point_of s)) (sym same) leaves
+  read-leaves passing read (inl (running, same, e)) leaves = grind (arith, common_steps)
+  read-leaves passing read (inr (inl (running, same, why, fault, e))) leaves = grind (arith, common_steps)
+  read-leaves passing read (inr (inr (stopped, same, e))) leaves = grind (arith, common_steps)

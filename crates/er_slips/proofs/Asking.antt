@@ -1,4 +1,5 @@
 -- What a head asks for, read from its spans, and the body behind it.
+use Rattle.std.proofs.lemmas.Grind.{common_steps}
 use Rattle.std.proofs.Common.{◌≡◌, ℕ, ◌+◌, ◌-◌, ◌<◌, ◌≤◌, ◌==◌, Bool, true, false, List, [], ◌∷◌, ◌++◌, length, take, drop, get_or, All}
 use Rattle.std.proofs.Common.{slice_range, Option, Some, None, Result, Ok, Err, IfSome, refl, sym, ap, subst, ◌∙◌, arith, length-append}
 use Rattle.std.proofs.Common.{length-drop, append-nil}
@@ -90,12 +91,7 @@ module _ (input after : Option (List ℕ)) (bytes : List ℕ) (headers : List He
   asks-next (Ok n) u t e = absurd (cc)
   asks-next (Err (unasked.Refused fault)) u t e = let is : unasked.Refused fault ≡ u =
       cc in subst (λ v. IfSome input (λ xs. TellsAsked xs (Err v))) is (asks-fault fault t)
-  asks-next (Err unasked.Memory) u t e = let is : unasked.Memory ≡ u =
-      cc in subst (λ v. IfSome input (λ xs. TellsAsked xs (Err v))) is (free input)
-    where
-      free : (i : Option (List ℕ)) → IfSome i (λ xs. Unit {0})
-      free None = tt
-      free (Some xs) = tt
+  asks-next (Err unasked.Memory) u t e = grind (arith, common_steps)
   asks-next (Err unasked.Unread) u t e = absurd t
 
   -- ---- with a body
@@ -162,8 +158,7 @@ few-bytes n xs le = omega (arith, length-take n xs)
 
 pub head-fits : (bytes : List ℕ) (headers : List HeaderSpan) (spans : RequestSpans) (n : ℕ) (xs : List ℕ) → bytes ≡ take n xs
     → ShowsHead bytes headers spans → spans.len ≤ n
-head-fits bytes headers spans n xs e shows = let size =
-    ap (λ (t : List ℕ). length t) e in omega (arith, shows.within.section.len_fits, size, length-take n xs)
+head-fits bytes headers spans n xs e shows = grind (arith, common_steps)
 
 pub shows-of : (h : Head) (spans : RequestSpans) (P : RequestSpans → Type 0) → h ≡ Found spans → IfFound h P → P spans
 shows-of h spans P e p = subst (λ k. IfFound k P) e p

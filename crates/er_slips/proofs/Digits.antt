@@ -1,5 +1,6 @@
 -- What a few digits are.
-use Rattle.std.proofs.Common.{◌≡◌, ℕ, ◌^◌, ◌<◌, ◌≤◌, true, List, length, Some, None, Result, Ok, Err, refl, sym, ap, ◌∙◌, arith, rules}
+use Rattle.std.proofs.lemmas.Grind.{common_steps}
+use Rattle.std.proofs.Common.{◌≡◌, ℕ, ◌^◌, ◌<◌, ◌≤◌, true, List, length, None, Result, Ok, Err, sym, arith, rules}
 use Rattle.std.specs.Char.{is_ascii_digit}
 use Rattle.std.specs.List.{list_all}
 use Rattle.std.specs.Str.{IsUtf8}
@@ -24,9 +25,6 @@ module _ (word : List ℕ) (all : list_all is_ascii_digit word ≡ true) where
   text-of-digits = IsUtf8-from_ascii word (IsAscii-from_digits word (IsNumeralModel.to numerals word all))
 
   module _ (short : length word ≤ 3) where
-    read-yes : 0 < length word → number_of word ≡ Some (digits_value 10 word)
-    read-yes some = grind (arith, nat_tests)
-
     read-none : ¬ (0 < length word) → number_of word ≡ None
     read-none empty = grind (arith, nat_tests)
 
@@ -35,40 +33,24 @@ module _ (word : List ℕ) (all : list_all is_ascii_digit word ≡ true) where
 
     -- what `parse` gives of at most three digits
     pub number_of-parsed : {E : Type 0} (r : Result ℕ E) → ParsesUnsigned 16 10 word r → result_ok r ≡ number_of word
-    number_of-parsed {E} (Ok n) parsed =
-        let read : ((0 < length word) × (digits_value 10 word < 2 ^ 16)) × (n ≡ digits_value 10 word) =
-        parse_digits numerals {E = E} 16 word (Ok n) parsed all in
-        ap Some read.1 ∙ sym (read-yes read.0.0)
+    number_of-parsed {E} (Ok n) parsed = grind (arith, common_steps)
     number_of-parsed {E} (Err e) parsed =
         let unread : ¬ ((0 < length word) × (digits_value 10 word < 2 ^ 16)) = parse_digits numerals {E = E} 16 word (Err e) parsed all in
         sym (read-none (λ some. unread (some, fits)))
 
   module _ (some : 0 < length word) where
-    length-yes : digits_value 10 word ≤ MAX_BODY → length_of word ≡ Ok (digits_value 10 word)
-    length-yes small = grind (arith, nat_tests)
-
     length-large : MAX_BODY < digits_value 10 word → length_of word ≡ Err TooLarge
     length-large large = grind (arith, nat_tests)
 
     -- what `parse` gives of any number of digits
     pub length_of-read : {E : Type 0} (r : Result ℕ E) → ParsesUnsigned 64 10 word r → (n : ℕ) → r ≡ Ok n → n ≤ MAX_BODY
         → length_of word ≡ Ok n
-    length_of-read {E} (Ok m) parsed n e small =
-        let read : ((0 < length word) × (digits_value 10 word < 2 ^ 64)) × (m ≡ digits_value 10 word) =
-        parse_digits numerals {E = E} 64 word (Ok m) parsed all in
-        let same : m ≡ n = cc in
-        length-yes (omega (arith, read.1, same)) ∙ ap Ok (sym read.1 ∙ same)
-    length_of-read {E} (Err f) parsed n e small = absurd (apart f n e)
-      where
-        apart : (f : E) (n : ℕ) → Err f ≡ Ok n → ⊥
-        apart f n e = absurd (cc)
+    length_of-read {E} (Ok m) parsed n e small = grind (arith, common_steps)
+    length_of-read {E} (Err f) parsed n e small = grind (arith, common_steps)
 
     pub length_of-large : {E : Type 0} (r : Result ℕ E) → ParsesUnsigned 64 10 word r → ((n : ℕ) → r ≡ Ok n → MAX_BODY < n)
         → length_of word ≡ Err TooLarge
-    length_of-large {E} (Ok m) parsed large =
-        let read : ((0 < length word) × (digits_value 10 word < 2 ^ 64)) × (m ≡ digits_value 10 word) =
-        parse_digits numerals {E = E} 64 word (Ok m) parsed all in
-        length-large (omega (arith, read.1, large m refl))
+    length_of-large {E} (Ok m) parsed large = grind (arith, common_steps)
     length_of-large {E} (Err f) parsed large =
         let unread : ¬ ((0 < length word) × (digits_value 10 word < 2 ^ 64)) = parse_digits numerals {E = E} 64 word (Err f) parsed all in
         let wide : ¬ (digits_value 10 word < 2 ^ 64) = λ small. unread (some, small) in

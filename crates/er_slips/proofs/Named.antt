@@ -1,13 +1,13 @@
 -- The fields of a head, one at a time.
+use Rattle.std.proofs.lemmas.Grind.{common_steps}
 use Rattle.std.proofs.Common.{◌≡◌, ℕ, ◌+◌, ◌<◌, Bool, true, false, ◌||◌, Bor, List, [], ◌∷◌, ◌++◌, codes, take, drop, length, map, filter}
 use Rattle.std.proofs.Common.{get_or, Option, Some, None, Err, refl, sym, ap, ◌∙◌, arith, take-append-drop, if◌then◌else◌}
 use Rattle.std.specs.List.{list_any}
-use Rattle.std.proofs.lemmas.List.{take_more, get_or-map, length-map}
+use Rattle.std.proofs.lemmas.List.{get_or-map}
 use Rattle.std.specs.Option.{is_some}
 use Rattle.httparse.specs.Spans.{header_bytes}
 use Rattle.httparse.specs.declared.spans.HeaderSpan.{HeaderSpan}
-use Rattle.std.proofs.lemmas.List.Elements.{filter-append, filter_more}
-use Rattle.std.proofs.lemmas.List.Folds.{list_any-append}
+use Rattle.std.proofs.lemmas.List.Elements.{filter-append}
 use Rattle.er_slips.specs.declared.request.asked.Fault.TheVariants.{BadRequest}
 use Rattle.er_slips.specs.Request.{HeadField, is_named, only_length, body_length}
 
@@ -24,18 +24,11 @@ HasFound fields (Some value) = (name : List ℕ) × (filter counted fields ≡ (
 
 filter-at : (fields : List HeadField) (i : ℕ) (field : HeadField) → i < length fields → field ≡ get_or fields i field
     → filter counted (take (i + 1) fields) ≡ filter counted (take i fields) ++ filter counted (field ∷ [])
-filter-at fields i field below is = filter_more counted fields i field below ∙ ap
-    (λ f. filter counted (take i fields) ++ filter counted (f ∷ [])) (sym is)
+filter-at fields i field below is = grind (arith, common_steps)
 
 any-at : (fields : List HeadField) (i : ℕ) (field : HeadField) → i < length fields → field ≡ get_or fields i field
     → list_any refused (take (i + 1) fields) ≡ (list_any refused (take i fields) || (refused field || false))
-any-at fields i field below is =
-    ap (list_any refused) (take_more fields i field below) ∙ list_any-append refused (take i fields) (get_or fields i field ∷ [])
-    ∙ ap (λ f. list_any refused (take i fields) || (refused f || false)) (sym is)
-
-or-true : (b : Bool) → (b || (true || false)) ≡ true
-or-true true = refl
-or-true false = refl
+any-at fields i field below is = grind (arith, common_steps)
 
 whole : (fields : List HeadField) (i : ℕ) → take i fields ++ drop i fields ≡ fields
 whole fields i = take-append-drop i fields
@@ -61,13 +54,7 @@ found-new fields i field value below is so same so_far =
 -- the answers
 pub refused-at : (fields : List HeadField) (i : ℕ) (field : HeadField) → i < length fields → field ≡ get_or fields i field
     → refused field ≡ true → body_length fields ≡ Err BadRequest
-refused-at fields i field below is so =
-    let any : list_any refused fields ≡ true =
-    let front : list_any refused (take (i + 1) fields) ≡ true =
-    any-at fields i field below is ∙ rw so (or-true (list_any refused (take i fields))) in
-    ap (list_any refused) (sym (whole fields (i + 1))) ∙ list_any-append refused (take (i + 1) fields) (drop (i + 1) fields)
-    ∙ ap (λ b. b || list_any refused (drop (i + 1) fields)) front in
-    rw any refl
+refused-at fields i field below is so = grind (arith, common_steps)
 
 second : (b : Bool) (v w : HeadField) (rest : List HeadField) → (if b then Err BadRequest else only_length (v ∷ w ∷ rest)) ≡ Err BadRequest
 second true v w rest = refl
@@ -103,8 +90,7 @@ no_header = record { name = record { start = 0; end = 0 }; value = record { star
 
 module _ (bytes : List ℕ) (headers : List HeaderSpan) (i : ℕ) (below : i < length headers) where
   pub field-below : i < length (map (header_bytes bytes) headers)
-  field-below = let same : length (map (header_bytes bytes) headers) ≡ length headers =
-      length-map headers (header_bytes bytes) in omega arith
+  field-below = grind (arith, common_steps)
 
   pub field-is : header_bytes bytes (get_or headers i no_header) ≡ get_or (map (header_bytes bytes) headers) i
       (header_bytes bytes (get_or headers i no_header))

@@ -1,4 +1,5 @@
 -- Which route a path has, in plain words.
+use Rattle.std.proofs.lemmas.Grind.{common_steps}
 use Rattle.std.proofs.Common.{◌≡◌, ◌≢◌, ℕ, zero, suc, ◌-◌, ◌<◌, Bool, true, false, cond, not, ◌&&◌, ◌||◌, List, [], ◌∷◌, ◌++◌, codes, drop}
 use Rattle.std.proofs.Common.{length, get_or, Option, Some, None, refl, sym, ap, ap₂, ◌∙◌, arith, nat_eq, ◌==◌, ltb, append-nil}
 use Rattle.std.proofs.Common.{length-append, lit<, Fits, w8}
@@ -27,9 +28,7 @@ true_false e = absurd (cc)
 no_slash_by : (v : Bool) (b : ℕ) (p : List ℕ) → (b == 47) ≡ v → (has_slash p ≡ false → IsWhole p) → has_slash (b ∷ p) ≡ false
     → IsWhole (b ∷ p)
 no_slash_by true b p q later e = let bad : true ≡ false = rw q at e in absurd (true_false bad)
-no_slash_by false b p q later e =
-    let ih = later (rw q at e) in
-    rw q (ih.0, ap (λ t. b ∷ t) ih.1, ap (λ t. b ∷ t) ih.2)
+no_slash_by false b p q later e = grind (arith, common_steps)
 
 no_slash : (p : List ℕ) → has_slash p ≡ false → IsWhole p
 no_slash [] e = (refl, refl, refl)
@@ -39,12 +38,8 @@ abbrev IsCut : List ℕ → Type 0
 IsCut p = (segment p ≡ before p ++ 47 ∷ []) × (p ≡ before p ++ after p) × (is_empty (after p) ≡ false)
 
 with_slash_by : (v : Bool) (b : ℕ) (p : List ℕ) → (b == 47) ≡ v → (has_slash p ≡ true → IsCut p) → has_slash (b ∷ p) ≡ true → IsCut (b ∷ p)
-with_slash_by true b p q later e =
-    let is : b ≡ 47 = grind (arith, nat_tests) in
-    rw q (ap (λ x. x ∷ []) is, refl, refl)
-with_slash_by false b p q later e =
-    let ih = later (rw q at e) in
-    rw q (ap (λ t. b ∷ t) ih.0, ap (λ t. b ∷ t) ih.1, ih.2)
+with_slash_by true b p q later e = grind (arith, common_steps)
+with_slash_by false b p q later e = grind (arith, common_steps)
 
 with_slash : (p : List ℕ) → has_slash p ≡ true → IsCut p
 with_slash [] e = absurd (true_false (sym e))
@@ -204,15 +199,8 @@ longest_is seg = refl
 abbrev rounds_from : List ℕ → List ℕ → Option ℕ
 rounds_from b a = cond (is_empty b) None (cond (is_empty a) (Some 1) (after_round a))
 
-length_cut : (u : List ℕ) → length (u ++ 47 ∷ []) - 1 ≡ length u
-length_cut u = omega (arith, length-append u (47 ∷ []))
-
 kid_rest : (c : ℕ) (p : List ℕ) → IsCut (c ∷ p) → drop (length (segment (c ∷ p)) - 1) (c ∷ p) ≡ after (c ∷ p)
-kid_rest c p cut =
-    ap (λ (s : List ℕ). drop (length s - 1) (c ∷ p)) cut.0
-    ∙ ap (λ (k : ℕ). drop k (c ∷ p)) (length_cut (before (c ∷ p)))
-    ∙ ap (λ (t : List ℕ). drop (length (before (c ∷ p))) t) cut.1
-    ∙ drop_front (before (c ∷ p)) (after (c ∷ p))
+kid_rest c p cut = grind (arith, common_steps)
 
 longest_slash : (v : Bool) (c : ℕ) (p : List ℕ) → is_empty (before (c ∷ p)) ≡ v → IsCut (c ∷ p)
     → longest_suffix (segment (c ∷ p)) (rows_of (tables ∷ [])) ≡ cond (not v) (47 ∷ []) []
@@ -221,8 +209,7 @@ longest_slash v c p q cut =
 
 rounds_slash : (v : Bool) (c : ℕ) (p : List ℕ) → is_empty (before (c ∷ p)) ≡ v → IsCut (c ∷ p)
     → in_rounds (c ∷ p) ≡ cond v None (after_round (after (c ∷ p)))
-rounds_slash v c p q cut =
-    ap₂ (λ (b a : Bool). cond b None (cond a (Some 1) (after_round (after (c ∷ p))))) q cut.2
+rounds_slash v c p q cut = grind (arith, common_steps)
 
 slash_by : (v : Bool) (c : ℕ) (p : List ℕ) → is_empty (before (c ∷ p)) ≡ v → IsCut (c ∷ p) → has_slash (c ∷ p) ≡ true → IsText (c ∷ p)
     → after_param (rows_of (tables ∷ []) ++ ends (Some 1)) (c ∷ p) ≡ in_rounds (c ∷ p)
