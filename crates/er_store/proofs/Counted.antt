@@ -1,31 +1,16 @@
 -- The rows of an event's matches, less those of an open round, are its meetings.
-use Rattle.std.proofs.Common.{◌≡◌, ◌≢◌, ℕ, ℤ, pos, suc, ◌+◌, ◌-◌, ◌≤◌, min, max, Bool, true, false, not, cond, ◌&&◌, if◌then◌else◌, List, [], ◌∷◌, ◌++◌, map, filter, find, take, length, Option, Some, None, option_map, is_some, All, IsTrue, refl, sym, ap, ap₂, subst, ◌∙◌, arith, append-nil, true≢false}
-use Rattle.std.specs.Prelude.{⊤}
-use Rattle.std.specs.List.{AllByRecursion}
-use Rattle.std.specs.Option.{option_or}
-use Rattle.std.specs.Ordering.{int_eq}
-use Rattle.std.proofs.lemmas.Bool.Decides.{nat_tests, Decides-int_eq}
-use Rattle.std.proofs.lemmas.List.{map-append}
-use Rattle.std.proofs.lemmas.List.Elements.{filter-append, All-from_recursion}
-use Rattle.std.proofs.lemmas.List.Folds.{find-append}
-use Rattle.sqlite_keyed.proofs.ListLemmas.{all-append}
-use Rattle.er_event.specs.declared.matches.Match.{Match}
-use Rattle.er_event.specs.declared.rounds.Round.{Round}
-use Rattle.er_event.specs.declared.rows.tally.TallyRow.{TallyRow}
-use Rattle.er_event.specs.declared.scores.Games.{Games}
-use Rattle.er_event.specs.declared.tallies.Meeting.{Meeting}
-use Rattle.er_event.specs.declared.totals.Totals.{Totals}
-use Rattle.er_event.specs.Event.{EventValue}
-use Rattle.er_event.specs.Round.{is_bye, is_counted, numbered_from}
-use Rattle.er_event.specs.Rows.{tally_row}
-use Rattle.er_event.specs.Score.{bye_score}
-use Rattle.er_event.specs.Sound.{numbers, IsSoundButForSeeds}
-use Rattle.er_event.specs.Tallies.{counted_matches, meeting_by, meetings}
-use Rattle.er_event.specs.Totals.{totals}
-use Rattle.er_store.specs.declared.rows.MeetingRow.{MeetingRow}
-use Rattle.er_store.proofs.Exact.{map-same}
-use Rattle.er_store.proofs.Joined.{IsMatch, all_matches, some_number}
-use Rattle.er_store.specs.inside.Meetings.{meeting_row, meetings_from, meeting_rows, open_round, is_over, counted_rows, sides_in, sides_of}
+use Rattle.er_store.proofs.Names.{◌≡◌, ◌≢◌, ℕ, ℤ, pos, suc, ◌+◌, ◌-◌, ◌≤◌, min, max, Bool, true, false, not, cond, if◌then◌else◌}
+use Rattle.er_store.proofs.Names.{List, [], ◌∷◌, ◌++◌, map, filter, find, take, length, Option, Some, None, option_map, All}
+use Rattle.er_store.proofs.Names.{IsTrue, refl, sym, ap, ap₂, subst, ◌∙◌, arith, append-nil, true≢false, AllByRecursion, nat_tests}
+use Rattle.er_store.proofs.Names.{map-append, filter-append, All-from_recursion, all-append, all-map, filter_none, Match, Round}
+use Rattle.er_store.proofs.Names.{TallyRow, Totals, EventValue, is_bye, numbered_from, bye_score, numbers}
+use Rattle.er_store.proofs.Names.{IsSoundButForSeeds, meetings, totals, MeetingRow, meeting_row, meetings_from, meeting_rows}
+use Rattle.er_store.proofs.Names.{is_over, counted_rows, sides_in, sides_of, filter_all}
+use Rattle.std.specs.{Prelude.⊤, Option.option_or, Ordering.int_eq}
+use Rattle.std.proofs.{lemmas.Bool.Decides.Decides-int_eq, lemmas.List.Folds.find-append}
+use Rattle.er_event.specs.{declared.tallies.Meeting.Meeting, Round.is_counted, Tallies.counted_matches, Tallies.meeting_by}
+use Rattle.er_store.proofs.{Exact.map-same, Joined.IsMatch, Joined.all_matches, Joined.some_number}
+use Rattle.er_store.specs.inside.Meetings.{open_round}
 
 abbrev is_open : MeetingRow → Bool
 is_open row = int_eq row.done (pos 0)
@@ -41,84 +26,59 @@ is_pair_at n = is_pair n.1
 abbrev pub IsWon : Match → Type 0
 IsWon m = IsTrue (is_bye m) → m.score ≡ Some bye_score
 
+-- the pairs among these matches, each with its number
+abbrev pub pairs_from : ℕ → List Match → List (ℕ × Match)
+pairs_from j ms = filter is_pair_at (numbered_from j ms)
+
 int-same : (z : ℤ) → int_eq z z ≡ true
 int-same z = (Decides-int_eq z z).1 refl
 
 int-apart : (a b : ℕ) → a ≢ b → int_eq (pos a) (pos b) ≡ false
-int-apart a b apart = by_test (int_eq (pos a) (pos b)) refl
-  where
-    pos-same : (x y : ℕ) → pos x ≡ pos y → x ≡ y
-    pos-same x y same = cc
-
-    by_test : (test : Bool) → int_eq (pos a) (pos b) ≡ test → test ≡ false
-    by_test true is = absurd (apart (pos-same a b ((Decides-int_eq (pos a) (pos b)).0 is)))
-    by_test false is = refl
+int-apart a b apart = grind (arith, nat_tests)
 
 module _ (come_to : ℕ → Totals) where
   abbrev pub rows_of : ℕ → ℕ → List Match → List MeetingRow
-  rows_of k j ms = map (meeting_row come_to k) (filter is_pair_at (numbered_from j ms))
+  rows_of k j ms = map (meeting_row come_to k) (pairs_from j ms)
+
+  -- the two sides of each pair
+  abbrev met : List Match → List (TallyRow × TallyRow)
+  met ms = map sides_of (map (meeting_by come_to) (filter is_pair ms))
+
+  met-append : (xs ys : List Match) → met (xs ++ ys) ≡ met xs ++ met ys
+  met-append xs ys =
+      ap (λ (all : List Match). map sides_of (map (meeting_by come_to) all)) (filter-append is_pair xs ys)
+      ∙ (ap (map sides_of) (map-append (meeting_by come_to) (filter is_pair xs) (filter is_pair ys))
+      ∙ map-append sides_of (map (meeting_by come_to) (filter is_pair xs)) (map (meeting_by come_to) (filter is_pair ys)))
 
   -- ---- the rows of one round
 
-  same-sides : (k j : ℕ) (ms : List Match) → map sides_in (rows_of k j ms) ≡ map sides_of (map (meeting_by come_to) (filter is_pair ms))
+  same-sides : (k j : ℕ) (ms : List Match) → map sides_in (rows_of k j ms) ≡ met ms
   same-sides k j [] = refl
-  same-sides k j (m ∷ ms) = by_test (is_pair m) (same-sides k (j + 1) ms)
-    where
-      by_test : (test : Bool) → map sides_in (rows_of k (j + 1) ms) ≡ map sides_of (map (meeting_by come_to) (filter is_pair ms))
-          → map sides_in (map (meeting_row come_to k) (cond test ((j, m) ∷ filter is_pair_at (numbered_from (j + 1) ms)) (filter is_pair_at (numbered_from (j + 1) ms))))
-          ≡ map sides_of (map (meeting_by come_to) (cond test (m ∷ filter is_pair ms) (filter is_pair ms)))
-      by_test true more = ap (λ (rest : List (TallyRow × TallyRow)). sides_of (meeting_by come_to m) ∷ rest) more
-      by_test false more = more
+  same-sides k j (m ∷ ms) = grind (arith, nat_tests, same-sides k (j + 1) ms)
 
   -- no row of a complete round is open
   none-open : (k j : ℕ) (ms : List Match) → is_counted ms ≡ true → find is_open (rows_of k j ms) ≡ None
   none-open k j [] counted = refl
-  none-open k j (m ∷ ms) counted = by_score m.score refl counted (λ rest. none-open k (j + 1) ms rest)
-    where
-      by_test : (test : Bool) → is_some m.score ≡ true → find is_open (rows_of k (j + 1) ms) ≡ None
-          → find is_open (map (meeting_row come_to k) (cond test ((j, m) ∷ filter is_pair_at (numbered_from (j + 1) ms)) (filter is_pair_at (numbered_from (j + 1) ms)))) ≡ None
-      by_test true scored more = rw scored more
-      by_test false scored more = more
-
-      by_score : (o : Option Games) → m.score ≡ o → (is_some o && is_counted ms) ≡ true → (is_counted ms ≡ true → find is_open (rows_of k (j + 1) ms) ≡ None) → find is_open (rows_of k j (m ∷ ms)) ≡ None
-      by_score (Some s) is rest more = by_test (is_pair m) (ap is_some is) (more rest)
-      by_score None is rest more = absurd (true≢false (sym rest))
+  none-open k j (m ∷ ms) counted = grind (arith, nat_tests, none-open k (j + 1) ms)
 
   -- a row of an open one is
-  some-open : (k j : ℕ) (ms : List Match) → is_counted ms ≡ false → All IsWon ms → option_map (λ (r : MeetingRow). r.round) (find is_open (rows_of k j ms)) ≡ Some (pos k)
+  some-open : (k j : ℕ) (ms : List Match) → is_counted ms ≡ false → All IsWon ms → open_round (rows_of k j ms) ≡ Some (pos k)
   some-open k j [] counted won = absurd (true≢false counted)
-  some-open k j (m ∷ ms) counted won = by_score m.score refl counted (λ rest. some-open k (j + 1) ms rest (λ i d below. won (suc i) d (omega arith)))
-    where
-      later : (test : Bool) → is_some m.score ≡ true → option_map (λ (r : MeetingRow). r.round) (find is_open (rows_of k (j + 1) ms)) ≡ Some (pos k)
-          → option_map (λ (r : MeetingRow). r.round) (find is_open (map (meeting_row come_to k) (cond test ((j, m) ∷ filter is_pair_at (numbered_from (j + 1) ms)) (filter is_pair_at (numbered_from (j + 1) ms))))) ≡ Some (pos k)
-      later true scored more = rw scored more
-      later false scored more = more
-
-      here : (alone : Bool) → is_bye m ≡ alone → m.score ≡ None
-          → option_map (λ (r : MeetingRow). r.round) (find is_open (map (meeting_row come_to k) (cond (not alone) ((j, m) ∷ filter is_pair_at (numbered_from (j + 1) ms)) (filter is_pair_at (numbered_from (j + 1) ms))))) ≡ Some (pos k)
-      here true is none = absurd (let score = won 0 m (omega arith) is in let both : ◌≡◌ {A = Option Games} None (Some bye_score) = sym none ∙ score in cc)
-      here false is none = rw (ap is_some none) refl
-
-      by_score : (o : Option Games) → m.score ≡ o → (is_some o && is_counted ms) ≡ false
-          → (is_counted ms ≡ false → option_map (λ (r : MeetingRow). r.round) (find is_open (rows_of k (j + 1) ms)) ≡ Some (pos k))
-          → option_map (λ (r : MeetingRow). r.round) (find is_open (rows_of k j (m ∷ ms))) ≡ Some (pos k)
-      by_score (Some s) is rest more = later (is_pair m) (ap is_some is) (more rest)
-      by_score None is rest more = here (is_bye m) refl is
+  some-open k j (m ∷ ms) counted won =
+      let own = won 0 m (omega arith) in
+      let more = λ (rest : is_counted ms ≡ false). some-open k (j + 1) ms rest (λ i d below. won (suc i) d (omega arith)) in
+      grind (arith, nat_tests, own, more)
 
   -- the rows of another round than the open one stay, and its own go
   others-stay : (k o j : ℕ) (ms : List Match) → k ≢ o → filter (is_over (Some (pos o))) (rows_of k j ms) ≡ rows_of k j ms
-  others-stay k o j ms apart = stay (filter is_pair_at (numbered_from j ms))
-    where
-      stay : (ns : List (ℕ × Match)) → filter (is_over (Some (pos o))) (map (meeting_row come_to k) ns) ≡ map (meeting_row come_to k) ns
-      stay [] = refl
-      stay (n ∷ ns) = rw (int-apart k o apart) (ap (λ (rest : List MeetingRow). meeting_row come_to k n ∷ rest) (stay ns))
+  others-stay k o j ms apart =
+      filter_all (is_over (Some (pos o))) (rows_of k j ms)
+      (all-map (λ r. is_over (Some (pos o)) r ≡ true) (meeting_row come_to k) (λ n. ap not (int-apart k o apart)) (pairs_from j ms))
 
   own-go : (k j : ℕ) (ms : List Match) → filter (is_over (Some (pos k))) (rows_of k j ms) ≡ []
-  own-go k j ms = go (filter is_pair_at (numbered_from j ms))
-    where
-      go : (ns : List (ℕ × Match)) → filter (is_over (Some (pos k))) (map (meeting_row come_to k) ns) ≡ []
-      go [] = refl
-      go (n ∷ ns) = rw (int-same (pos k)) (go ns)
+  own-go k j ms =
+      filter_none (is_over (Some (pos k))) (rows_of k j ms)
+      (all-map (λ r. is_over (Some (pos k)) r ≡ false) (meeting_row come_to k) (λ n. ap not (int-same (pos k))) (pairs_from j ms))
 
   all-stay : (rows : List MeetingRow) → filter (is_over None) rows ≡ rows
   all-stay [] = refl
@@ -133,7 +93,7 @@ module _ (come_to : ℕ → Totals) where
 
   record AreCounted (k : ℕ) (rounds : List Round) : Type 0 where
     from : IsFrom k (open_round (meetings_from come_to k rounds))
-    same : map sides_in (counted_rows (meetings_from come_to k rounds)) ≡ map sides_of (map (meeting_by come_to) (filter is_pair (counted_matches rounds)))
+    same : map sides_in (counted_rows (meetings_from come_to k rounds)) ≡ met (counted_matches rounds)
 
   none-counted : (k : ℕ) → AreCounted k []
   none-counted k = record { from = tt; same = refl }
@@ -146,7 +106,8 @@ module _ (come_to : ℕ → Totals) where
   stays k j ms None from = all-stay (rows_of k j ms)
   stays k j ms (Some z) from =
       let high = from.2 in
-      subst (λ (y : ℤ). filter (is_over (Some y)) (rows_of k j ms) ≡ rows_of k j ms) (sym from.1) (others-stay k from.0 j ms (λ same. absurd (omega arith)))
+      subst (λ (y : ℤ). filter (is_over (Some y)) (rows_of k j ms) ≡ rows_of k j ms) (sym from.1)
+      (others-stay k from.0 j ms (λ same. absurd (omega arith)))
 
   -- a complete round before those that are counted
   one-more : (k : ℕ) (r : Round) (later : List Round) → is_counted r.matches ≡ true → AreCounted (k + 1) later → AreCounted k (r ∷ later)
@@ -154,21 +115,18 @@ module _ (come_to : ℕ → Totals) where
       let front = rows_of k 1 r.matches in
       let back = meetings_from come_to (k + 1) later in
       let opens : open_round (front ++ back) ≡ open_round back =
-      ap (option_map (λ (row : MeetingRow). row.round)) (find-append is_open front back ∙ ap (λ (o : Option MeetingRow). option_or o (find is_open back)) (none-open k 1 r.matches counted)) in
+      ap (option_map (λ (row : MeetingRow). row.round)) (find-append is_open front back
+      ∙ ap (λ (o : Option MeetingRow). option_or o (find is_open back)) (none-open k 1 r.matches counted)) in
       let rows : counted_rows (front ++ back) ≡ front ++ counted_rows back =
-      ap (λ (o : Option ℤ). filter (is_over o) (front ++ back)) opens
-      ∙ (filter-append (is_over (open_round back)) front back
+      ap (λ (o : Option ℤ). filter (is_over o) (front ++ back)) opens ∙ (filter-append (is_over (open_round back)) front back
       ∙ ap (λ (rs : List MeetingRow). rs ++ counted_rows back) (stays k 1 r.matches (open_round back) rest.from)) in
-      let ms : counted_matches (r ∷ later) ≡ r.matches ++ counted_matches later = ap (λ (b : Bool). (if b then r.matches else []) ++ counted_matches later) counted in
-      let pairs : map sides_of (map (meeting_by come_to) (filter is_pair (counted_matches (r ∷ later))))
-      ≡ map sides_of (map (meeting_by come_to) (filter is_pair r.matches)) ++ map sides_of (map (meeting_by come_to) (filter is_pair (counted_matches later))) =
-      ap (λ (all : List Match). map sides_of (map (meeting_by come_to) (filter is_pair all))) ms
-      ∙ (ap (λ (all : List Match). map sides_of (map (meeting_by come_to) all)) (filter-append is_pair r.matches (counted_matches later))
-      ∙ (ap (map sides_of) (map-append (meeting_by come_to) (filter is_pair r.matches) (filter is_pair (counted_matches later)))
-      ∙ map-append sides_of (map (meeting_by come_to) (filter is_pair r.matches)) (map (meeting_by come_to) (filter is_pair (counted_matches later))))) in
+      let pairs : met (counted_matches (r ∷ later)) ≡ met r.matches ++ met (counted_matches later) =
+      ap (λ (b : Bool). met ((if b then r.matches else []) ++ counted_matches later)) counted
+      ∙ met-append r.matches (counted_matches later) in
       record {
         from = subst (IsFrom k) (sym opens) (later-from k (open_round back) rest.from);
-        same = ap (map sides_in) rows ∙ (map-append sides_in front (counted_rows back) ∙ (ap₂ ◌++◌ (same-sides k 1 r.matches) rest.same ∙ sym pairs));
+        same = ap (map sides_in) rows ∙ (map-append sides_in front (counted_rows back)
+            ∙ (ap₂ ◌++◌ (same-sides k 1 r.matches) rest.same ∙ sym pairs));
       }
 
   -- an open one is the last
@@ -181,7 +139,7 @@ module _ (come_to : ℕ → Totals) where
       let no_match : counted_matches (r ∷ []) ≡ [] = ap (λ (b : Bool). (if b then r.matches else []) ++ []) counted in
       record {
         from = subst (IsFrom k) (sym (ap open_round bare ∙ opens)) (k, refl, omega arith);
-        same = ap (λ (rs : List MeetingRow). map sides_in (counted_rows rs)) bare ∙ (ap (map sides_in) none ∙ sym (ap (λ (all : List Match). map sides_of (map (meeting_by come_to) (filter is_pair all))) no_match));
+        same = ap (λ (rs : List MeetingRow). map sides_in (counted_rows rs)) bare ∙ (ap (map sides_in) none ∙ sym (ap met no_match));
       }
 
   last-counted : (k : ℕ) (r : Round) → All IsWon r.matches → AreCounted k (r ∷ [])
@@ -191,45 +149,38 @@ module _ (come_to : ℕ → Totals) where
       by_test true counted = one-more k r [] counted (none-counted (k + 1))
       by_test false counted = last-open k r counted won
 
-  rounds-counted : (k : ℕ) (rounds : List Round) → All (λ (r : Round). All IsWon r.matches) rounds → All (λ (r : Round). IsTrue (is_counted r.matches)) (take (length rounds - 1) rounds)
-      → AreCounted k rounds
+  rounds-counted : (k : ℕ) (rounds : List Round) → All (λ (r : Round). All IsWon r.matches) rounds
+      → All (λ (r : Round). IsTrue (is_counted r.matches)) (take (length rounds - 1) rounds) → AreCounted k rounds
   rounds-counted k [] won earlier = none-counted k
   rounds-counted k (r ∷ []) won earlier = last-counted k r (won 0 r (omega arith))
   rounds-counted k (r ∷ s ∷ later) won earlier =
       let Done : Round → Type 0 = λ (q : Round). IsTrue (is_counted q.matches) in
       let one : length (r ∷ s ∷ later) - 1 ≡ suc (length (s ∷ later) - 1) = omega arith in
-      let all : All Done (r ∷ take (length (s ∷ later) - 1) (s ∷ later)) = subst (λ (n : ℕ). All Done (take n (r ∷ s ∷ later))) one earlier in
-      one-more k r (s ∷ later) (all 0 r (omega arith)) (rounds-counted (k + 1) (s ∷ later) (λ i d below. won (suc i) d (omega arith)) (λ i d below. all (suc i) d (omega arith)))
+      let all : All Done (r ∷ take (length (s ∷ later) - 1) (s ∷ later)) =
+      subst (λ (n : ℕ). All Done (take n (r ∷ s ∷ later))) one earlier in
+      one-more k r (s ∷ later) (all 0 r (omega arith))
+      (rounds-counted (k + 1) (s ∷ later) (λ i d below. won (suc i) d (omega arith)) (λ i d below. all (suc i) d (omega arith)))
 
 -- ---- the event
 
 pub meetings-counted : (e : EventValue) → IsSoundButForSeeds e → map sides_in (counted_rows (meeting_rows e)) ≡ map sides_of (meetings e)
-meetings-counted e sound = (rounds-counted (totals e) 1 e.stored (λ i d below. (sound.rounds.each i d below).byes_won) sound.rounds.earlier_done).same
+meetings-counted e sound = (rounds-counted (totals e) 1 e.stored
+    (λ i d below. (sound.rounds.each i d below).byes_won) sound.rounds.earlier_done).same
 
-pos-back : (a b : ℕ) → pos a ≡ pos b → a ≡ b
-pos-back a b same = cc
+abbrev nat_of : ℤ → ℕ
+nat_of (pos n) = n
+nat_of _ = 0
 
-tally-back : (a b : ℕ) (t u : Totals) → tally_row a t ≡ tally_row b u → (a ≡ b) × (t ≡ u)
-tally-back a b t u same =
-    let points = pos-back t.points u.points (ap (λ (r : TallyRow). r.points) same) in
-    let rounds = pos-back t.rounds u.rounds (ap (λ (r : TallyRow). r.rounds) same) in
-    let game_points = pos-back t.game_points u.game_points (ap (λ (r : TallyRow). r.gamepoints) same) in
-    let games = pos-back t.games u.games (ap (λ (r : TallyRow). r.games) same) in
-    let fields : ◌≡◌ {A = Totals} (record { points = t.points; rounds = t.rounds; game_points = t.game_points; games = t.games })
-    (record { points = u.points; rounds = u.rounds; game_points = u.game_points; games = u.games }) = cc in
-    (pos-back a b (ap (λ (r : TallyRow). r.no) same), fields)
+abbrev totals_of : TallyRow → Totals
+totals_of r =
+    record { points = nat_of r.points; rounds = nat_of r.rounds; game_points = nat_of r.gamepoints; games = nat_of r.games }
+
+-- the meeting of two sides
+abbrev of_sides : TallyRow × TallyRow → Meeting
+of_sides s = record { lo = nat_of s.0.no; hi = nat_of s.1.no; lo_totals = totals_of s.0; hi_totals = totals_of s.1 }
 
 sides-back : (m n : Meeting) → sides_of m ≡ sides_of n → m ≡ n
-sides-back m n same =
-    let lo = tally-back m.lo n.lo m.lo_totals n.lo_totals (ap (λ (s : TallyRow × TallyRow). s.0) same) in
-    let hi = tally-back m.hi n.hi m.hi_totals n.hi_totals (ap (λ (s : TallyRow × TallyRow). s.1) same) in
-    let lo_no = lo.0 in
-    let lo_totals = lo.1 in
-    let hi_no = hi.0 in
-    let hi_totals = hi.1 in
-    let fields : ◌≡◌ {A = Meeting} (record { lo = m.lo; hi = m.hi; lo_totals = m.lo_totals; hi_totals = m.hi_totals })
-    (record { lo = n.lo; hi = n.hi; lo_totals = n.lo_totals; hi_totals = n.hi_totals }) = cc in
-    fields
+sides-back m n same = ap of_sides same
 
 pub meetings-same : (xs ys : List Meeting) → map sides_of xs ≡ map sides_of ys → xs ≡ ys
 meetings-same = map-same sides_of sides-back
@@ -252,19 +203,23 @@ module _ (e : EventValue) (sound : IsSoundButForSeeds e) where
       let b_high = second.1 in
       record { it = m; low = grind (arith, nat_tests); high = grind (arith, nat_tests); sides = refl }
 
-  round-shows : (k j : ℕ) (ms : List Match) → All (IsMatch (numbers e.players)) ms → AllByRecursion (IsMeetingRow e) (rows_of (totals e) k j ms)
+  round-shows : (k j : ℕ) (ms : List Match) → All (IsMatch (numbers e.players)) ms
+      → AllByRecursion (IsMeetingRow e) (rows_of (totals e) k j ms)
   round-shows k j [] are = tt
   round-shows k j (m ∷ ms) are = by_bye (is_bye m) refl (round-shows k (j + 1) ms (λ i d below. are (suc i) d (omega arith)))
     where
       by_bye : (alone : Bool) → is_bye m ≡ alone → AllByRecursion (IsMeetingRow e) (rows_of (totals e) k (j + 1) ms)
-          → AllByRecursion (IsMeetingRow e) (map (meeting_row (totals e) k) (cond (not alone) ((j, m) ∷ filter is_pair_at (numbered_from (j + 1) ms)) (filter is_pair_at (numbered_from (j + 1) ms))))
+          → AllByRecursion (IsMeetingRow e)
+          (map (meeting_row (totals e) k) (cond (not alone) ((j, m) ∷ pairs_from (j + 1) ms) (pairs_from (j + 1) ms)))
       by_bye true is more = more
       by_bye false is more = (pair-row k j m (are 0 m (omega arith)) is, more)
 
-  rounds-show : (k : ℕ) (rounds : List Round) → All (λ (r : Round). All (IsMatch (numbers e.players)) r.matches) rounds → AllByRecursion (IsMeetingRow e) (meetings_from (totals e) k rounds)
+  rounds-show : (k : ℕ) (rounds : List Round) → All (λ (r : Round). All (IsMatch (numbers e.players)) r.matches) rounds
+      → AllByRecursion (IsMeetingRow e) (meetings_from (totals e) k rounds)
   rounds-show k [] are = tt
   rounds-show k (r ∷ later) are =
-      all-append (IsMeetingRow e) (rows_of (totals e) k 1 r.matches) (meetings_from (totals e) (k + 1) later) (round-shows k 1 r.matches (are 0 r (omega arith))) (rounds-show (k + 1) later (λ i d below. are (suc i) d (omega arith)))
+      all-append (IsMeetingRow e) (rows_of (totals e) k 1 r.matches) (meetings_from (totals e) (k + 1) later)
+      (round-shows k 1 r.matches (are 0 r (omega arith))) (rounds-show (k + 1) later (λ i d below. are (suc i) d (omega arith)))
 
   pub all-show : All (IsMeetingRow e) (meeting_rows e)
   all-show = All-from_recursion (IsMeetingRow e) (meeting_rows e) (rounds-show 1 e.stored (all_matches e sound))

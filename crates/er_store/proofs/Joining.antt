@@ -1,19 +1,9 @@
 -- What the join of a slip reads of tables that stand for an event.
-use Rattle.std.proofs.Common.{◌≡◌, Bool, true, false, ◌&&◌, cond, if◌then◌else◌, List, [], ◌∷◌, ◌++◌, map, filter, flat_map, refl, ap, ap₂, subst, ◌∙◌, arith}
-use Rattle.std.specs.List.{list_all}
-use Rattle.std.specs.List.Sorted.{IsPermutation}
+use Rattle.er_store.proofs.Names.{◌≡◌, Bool, true, false, ◌&&◌, cond, if◌then◌else◌, List, [], ◌∷◌, ◌++◌, map, filter, flat_map, refl, ap}
+use Rattle.er_store.proofs.Names.{ap₂, subst, ◌∙◌, arith, list_all, IsPermutation, Binary, Value, Row, column, is_true, Env, eval_all}
+use Rattle.er_store.proofs.Names.{holds, IsAnswer, Output, output, page, or_nulls, overlay, Trees, one_permutation, Compare, Eq}
 use Rattle.std.proofs.lemmas.List.Sorted.{length_permutation}
-use Rattle.sqlite.specs.Collation.TheVariants.{Binary}
-use Rattle.sqlite.specs.declared.types.Value.{Value}
-use Rattle.sqlite.specs.Order.{Row, column}
-use Rattle.sqlite.specs.Ops.{binary, is_true}
-use Rattle.sqlite.specs.Term.{Env, eval_all, holds}
-use Rattle.sqlite.specs.Query.{IsAnswer, Output, output, page, or_nulls}
-use Rattle.sqlite.specs.Program.{overlay}
-use Rattle.sqlite.specs.Tree.{Trees}
-use Rattle.sqlite.proofs.Callers.{one_permutation}
-use Rattle.sqlite_sql.specs.declared.ops.BinaryOp.TheVariants.{Compare}
-use Rattle.sqlite_sql.specs.declared.ops.CompareOp.TheVariants.{Eq}
+use Rattle.sqlite.specs.Ops.{binary}
 use Rattle.er_store.proofs.Meaning.{slip_query, slip_terms, score_tests}
 
 -- ---- the rows that are joined, where the test looks at the first alone
@@ -49,7 +39,8 @@ module _ (test : Row → Bool) (lows : Row → List Row) (highs : Row → List R
       by_test true more = ap (λ es. beside p ++ es) more
       by_test false more = ap₂ (λ (xs ys : List Env). xs ++ ys) (nothing_at_all (highs p) (lows p)) more
 
-  pub joined_one : (rows : List Row) (p l h : Row) → filter test rows ≡ p ∷ [] → lows p ≡ l ∷ [] → highs p ≡ h ∷ [] → flat_map (λ q. tested (test q) q) rows ≡ (params ∷ p ∷ l ∷ h ∷ []) ∷ []
+  pub joined_one : (rows : List Row) (p l h : Row) → filter test rows ≡ p ∷ [] → lows p ≡ l ∷ [] → highs p ≡ h ∷ []
+      → flat_map (λ q. tested (test q) q) rows ≡ (params ∷ p ∷ l ∷ h ∷ []) ∷ []
   joined_one rows p l h one low high =
       joined rows ∙ (ap (flat_map beside) one
       ∙ ap₂ (λ (ls hs : List Row). flat_map (λ x. flat_map (λ y. (params ∷ p ∷ x ∷ y ∷ []) ∷ []) hs) ls ++ []) low high)
@@ -63,11 +54,13 @@ numbered_as n rows = or_nulls (filter (λ r. is_true (binary (Compare Eq Binary)
 abbrev pub asks : Row → Row → Bool
 asks params p = list_all (holds (params ∷ p ∷ [])) score_tests
 
-pub slip_one : (db : Trees) (params p l h : Row) (rows : List Row) → filter (asks params) (db 3) ≡ p ∷ [] → numbered_as (column p 3) (db 1) ≡ l ∷ [] → numbered_as (column p 4) (db 1) ≡ h ∷ []
+pub slip_one : (db : Trees) (params p l h : Row) (rows : List Row) → filter (asks params) (db 3) ≡ p ∷ []
+    → numbered_as (column p 3) (db 1) ≡ l ∷ [] → numbered_as (column p 4) (db 1) ≡ h ∷ []
     → IsAnswer slip_query (overlay db []) params rows → rows ≡ eval_all slip_terms (params ∷ p ∷ l ∷ h ∷ []) ∷ []
 slip_one db params p l h rows one low high a =
     let e : Env = params ∷ p ∷ l ∷ h ∷ [] in
-    let staged : a.staged ≡ e ∷ [] = a.grouped ∙ joined_one (asks params) (λ r. numbered_as (column r 3) (db 1)) (λ r. numbered_as (column r 4) (db 1)) params (db 3) p l h one low high in
+    let staged : a.staged ≡ e ∷ [] = a.grouped ∙ joined_one (asks params) (λ r. numbered_as (column r 3) (db 1))
+    (λ r. numbered_as (column r 4) (db 1)) params (db 3) p l h one low high in
     let o : Output = ([], eval_all slip_terms e) in
     let kept : a.kept ≡ o ∷ [] = a.distinct ∙ ap (map (output slip_query)) staged in
     let ordered = one_permutation o a.ordered (subst (λ k. IsPermutation k a.ordered) kept a.same) in
@@ -77,11 +70,13 @@ pub none_permuted : {X : Type 0} (ys : List X) → IsPermutation [] ys → ys �
 none_permuted [] same = refl
 none_permuted (y ∷ ys) same = absurd (let len = length_permutation [] (y ∷ ys) same in omega (arith, len))
 
-pub slip_none : (db : Trees) (params : Row) (rows : List Row) → filter (asks params) (db 3) ≡ [] → IsAnswer slip_query (overlay db []) params rows → rows ≡ []
+pub slip_none : (db : Trees) (params : Row) (rows : List Row) → filter (asks params) (db 3) ≡ []
+    → IsAnswer slip_query (overlay db []) params rows → rows ≡ []
 slip_none db params rows none a =
     let lows : Row → List Row = λ r. numbered_as (column r 3) (db 1) in
     let highs : Row → List Row = λ r. numbered_as (column r 4) (db 1) in
-    let staged : a.staged ≡ [] = a.grouped ∙ (joined (asks params) lows highs params (db 3) ∙ ap (flat_map (beside (asks params) lows highs params)) none) in
+    let staged : a.staged ≡ [] = a.grouped
+    ∙ (joined (asks params) lows highs params (db 3) ∙ ap (flat_map (beside (asks params) lows highs params)) none) in
     let kept : a.kept ≡ [] = a.distinct ∙ ap (map (output slip_query)) staged in
     let ordered = none_permuted a.ordered (subst (λ k. IsPermutation k a.ordered) kept a.same) in
     a.shown ∙ ap (λ xs. page slip_query params (map (λ (q : Output). q.1) xs)) ordered

@@ -1,3 +1,4 @@
+mod Names
 mod Meaning
 mod Values
 mod Inserts
@@ -11,11 +12,14 @@ mod StageLemmas
 mod Where
 mod Picking
 mod Dropping
-mod PickingTotals
+mod Swaps
+mod Grouped
+mod Rising
 mod Totalling
 mod Recounting
 mod PickingTable
 mod Alone
+mod Choosing
 mod SlipLemmas
 mod Joining
 mod Joined

@@ -1,22 +1,13 @@
 -- What the rows of a sound event tell.
-use Rattle.std.proofs.Common.{◌≡◌, ◌≤◌, inl, inr, ℕ, List, ap, subst}
-use Rattle.std.proofs.lemmas.List.Sorted.{IsPermutation-sym, IsPermutation-trans}
-use Rattle.sqlite.specs.Effect.{Database}
-use Rattle.er_event.specs.declared.events.parts.Parts.{Parts}
-use Rattle.er_event.specs.declared.refusals.Place.{Place}
-use Rattle.er_event.specs.declared.refusals.Place.TheVariants.{EventTable, PlayerTable, PairingTable, BracketTable, TallyTable}
-use Rattle.er_event.specs.declared.rows.tally.TallyRow.{TallyRow}
-use Rattle.er_event.specs.Event.{EventValue}
-use Rattle.er_event.specs.Rows.{tally_rows}
-use Rattle.er_event.specs.Parts.{HasRoundRows, IsFirstFault, parts_of}
-use Rattle.er_event.specs.Sound.{IsSoundButForSeeds}
-use Rattle.std.specs.List.Sorted.{IsPermutation}
-use Rattle.er_store.specs.Standing.{rows_in, rows_with}
-use Rattle.er_store.specs.Loading.{ListsParts, ListsTallies, ShowsEvent}
-use Rattle.er_store.specs.Damage.{IsRowFault}
+use Rattle.er_store.proofs.Names.{◌≡◌, ◌≤◌, inl, inr, ℕ, List, ap, subst, IsPermutation-sym, IsPermutation-trans, Database, Parts, Place}
+use Rattle.er_store.proofs.Names.{EventTable, PlayerTable, PairingTable, BracketTable, TallyTable, TallyRow, EventValue, tally_rows}
+use Rattle.er_store.proofs.Names.{parts_of, IsSoundButForSeeds, IsPermutation, rows_in, rows_with, ShowsEvent, IsRowFault}
+use Rattle.er_event.specs.Parts.{HasRoundRows, IsFirstFault}
+use Rattle.er_store.specs.Loading.{ListsParts, ListsTallies}
 use Rattle.er_store.proofs.Keyed.{keyed_permutes}
 
-pub no_fault : (parts : Parts) (e : EventValue) (s : ℕ) → s ≤ 999999 → IsSoundButForSeeds e → parts ≡ parts_of e s → (place : Place) → IsFirstFault parts place → ⊥
+pub no_fault : (parts : Parts) (e : EventValue) (s : ℕ) → s ≤ 999999 → IsSoundButForSeeds e → parts ≡ parts_of e s → (place : Place)
+    → IsFirstFault parts place → ⊥
 no_fault parts e s low sound are = at_fault
   where
     rounds : HasRoundRows parts e
@@ -44,7 +35,8 @@ no_row_fault parts e s low sound are rows counted place (inl fault) = no_fault p
 no_row_fault parts e s low sound are rows counted place (inr totals) = totals.1.other e s low are sound counted
 
 -- in any order, they are the rows that the tables show
-pub shows_event : (db : Database) (parts : Parts) (e : EventValue) (s : ℕ) → s ≤ 999999 → IsSoundButForSeeds e → parts ≡ parts_of e s → ListsParts db parts → (rows : List TallyRow) → rows ≡ tally_rows e → ListsTallies db rows → ShowsEvent db e s
+pub shows_event : (db : Database) (parts : Parts) (e : EventValue) (s : ℕ) → s ≤ 999999 → IsSoundButForSeeds e → parts ≡ parts_of e s
+    → ListsParts db parts → (rows : List TallyRow) → rows ≡ tally_rows e → ListsTallies db rows → ShowsEvent db e s
 shows_event db parts e s low sound are lists rows counted totals =
     record { low = low; sound = sound; rows = all }
   where

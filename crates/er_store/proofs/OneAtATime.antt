@@ -1,71 +1,61 @@
 -- Rows that are read one at a time, of a statement that begins with SELECT.
-use Rattle.std.proofs.Common.{◌≡◌, inl, inr, ℕ, ◌≤◌, List, [], ◌∷◌, ◌++◌, map, IsSome, true, Result, Ok, Err, refl, sym, ap, subst, ◌∙◌, arith}
-use Rattle.sqlite.specs.declared.error.Error.{Error}
-use Rattle.sqlite.specs.Clock.{timed}
-use Rattle.sqlite.specs.Command.TheVariants.{Select}
-use Rattle.sqlite.specs.Given.{Returns, HasGiven, HasBegun}
-use Rattle.sqlite.specs.Held.{Held, state}
-use Rattle.sqlite.specs.Listing.{understood}
-use Rattle.sqlite.specs.Order.{Row}
-use Rattle.sqlite.specs.Query.{Query}
-use Rattle.sqlite.specs.Schema.{Schema}
-use Rattle.sqlite.specs.State.{State, IsUnchanged, Survives, HasCause, Shown}
-use Rattle.sqlite.specs.Tree.{Trees}
-use Rattle.sqlite.proofs.Callers.{command_of, EndsIn, begins_shown, given_begin, unchanged_then}
-use Rattle.sqlite_trees.specs.declared.error.StoreError.{StoreError}
-use Rattle.sqlite_trees.specs.declared.error.StoreError.TheVariants.{OutOfMemory, Io, Corrupt, Full, Broken, Unstorable}
-use Rattle.sqlite_trees.specs.declared.store.Store.{Ghosts}
-use Rattle.sqlite_schema.specs.declared.command.Command.{Command}
-use Rattle.sqlite_resolve.specs.Compile.{first}
-use Rattle.sqlite_resolve.specs.declared.compiled.Compiled.{Compiled}
-use Rattle.sqlite_resolve.specs.declared.error.CompileError.{CompileError}
-use Rattle.er_store.specs.Reading.{IsReadRefused}
-use Rattle.er_store.specs.inside.Queries.{Selects}
-use Rattle.er_store.specs.inside.Lookup.{begins_select}
+use Rattle.er_store.proofs.Names.{◌≡◌, inl, inr, ℕ, ◌≤◌, List, [], ◌∷◌, ◌++◌, map, IsSome, true, Result, Ok, Err, refl, sym, ap, subst, ◌∙◌}
+use Rattle.er_store.proofs.Names.{arith, Error, timed, Select, HasGiven, Held, state, Row, Query, Schema, State, IsUnchanged, Survives}
+use Rattle.er_store.proofs.Names.{Trees, command_of, unchanged_then, StoreError, OutOfMemory, Ghosts, Command, first, Compiled}
+use Rattle.er_store.proofs.Names.{CompileError, IsReadRefused, Selects, begins_select}
+use Rattle.sqlite.specs.{Given.Returns, Given.HasBegun, Listing.understood, State.HasCause, State.Shown}
+use Rattle.sqlite.proofs.Callers.{EndsIn, begins_shown, given_begin}
+use Rattle.sqlite_trees.specs.declared.error.StoreError.TheVariants.{Broken, Unstorable}
 use Rattle.er_store.proofs.Selecting.{never_returns}
 
 -- ---- the query begins
 
-shows-none : (sql : List ℕ) (schema : Schema) → begins_select (first sql) ≡ true → (r : Result Compiled CompileError) → understood schema sql ≡ r → Returns r → ⊥
+shows-none : (sql : List ℕ) (schema : Schema) → begins_select (first sql) ≡ true → (r : Result Compiled CompileError)
+    → understood schema sql ≡ r → Returns r → ⊥
 shows-none sql schema select (Ok c) is some = let none = never_returns schema sql c select is in absurd (let both = rw none at some in cc)
 shows-none sql schema select (Err e) is some = absurd some
 
-pub begun-select : {S : Type 0} (g : Ghosts S) (sql : List ℕ) (params : Row) (old new : Held S) → begins_select (first sql) ≡ true → HasBegun g sql params old new
-    → HasGiven g sql params new [] × IsUnchanged (state g old) (state g new)
+pub begun-select : {S : Type 0} (g : Ghosts S) (sql : List ℕ) (params : Row) (old new : Held S) → begins_select (first sql) ≡ true
+    → HasBegun g sql params old new → HasGiven g sql params new [] × IsUnchanged (state g old) (state g new)
 begun-select g sql params old new select (inl begun) = begun
 begun-select g sql params old new select (inr shown) = absurd (shows-none sql old.schema select (understood old.schema sql) refl shown.0)
 
 -- ---- a row of the answer
 
-pub row-among : {T : Type 0} (columns : T → Row) (given tail : List Row) (row : Row) (all : List T) → (given ++ row ∷ []) ++ tail ≡ map columns all → (r : T) × (row ≡ columns r)
+pub row-among : {T : Type 0} (columns : T → Row) (given tail : List Row) (row : Row) (all : List T)
+    → (given ++ row ∷ []) ++ tail ≡ map columns all → (r : T) × (row ≡ columns r)
 row-among columns [] tail row [] same = absurd (cc)
 row-among columns [] tail row (r ∷ all) same = let here : row ≡ columns r = cc in (r, here)
 row-among columns (x ∷ given) tail row [] same = absurd (cc)
-row-among columns (x ∷ given) tail row (r ∷ all) same = let rest : (given ++ row ∷ []) ++ tail ≡ map columns all = cc in row-among columns given tail row all rest
+row-among columns (x ∷ given) tail row (r ∷ all) same = let rest : (given ++ row ∷ []) ++ tail ≡ map columns all = cc in
+    row-among columns given tail row all rest
 
 -- the rows so far begin an answer, as the statement has no recursion
-pub given-shown : {S : Type 0} (g : Ghosts S) (sql : List ℕ) (q : Query) (now : Held S) (given : List Row) → Selects sql q now.schema → IsUnchanged (state g now) (state g now) → HasGiven g sql [] now given
+pub given-shown : {S : Type 0} (g : Ghosts S) (sql : List ℕ) (q : Query) (now : Held S) (given : List Row) → Selects sql q now.schema
+    → IsUnchanged (state g now) (state g now) → HasGiven g sql [] now given
     → (tail : List Row) × Shown sql [] (state g now) (state g now) (given ++ tail)
 given-shown g sql q now given it same has =
-    begins_shown sql [] (state g now) (state g now) given (given_begin g sql [] now given has) same
-    (λ c db s source.
+    begins_shown sql [] (state g now) (state g now) given (given_begin g sql [] now given has) same (λ c db s source.
     let kind : c.command ≡ Select (record { lets = []; body = q }) it.names = ap command_of (sym s.is) ∙ it.is in
     subst (λ (k : Command). EndsIn k db (timed [] c.formats s.now)) (sym kind) tt)
 
 -- ---- a refusal after an unchanged start
 
 pub unchanged-refl : (a b : State) → IsUnchanged a b → IsUnchanged b b
-unchanged-refl a b same = (record { was_open = same.0.is_open; is_open = same.0.is_open; now_is = refl; committed_is = refl; mode = refl }, record { changes = refl; last_rowid = refl }, refl)
+unchanged-refl a b same = (
+  record { was_open = same.0.is_open; is_open = same.0.is_open; now_is = refl; committed_is = refl; mode = refl },
+  record { changes = refl; last_rowid = refl },
+  refl,
+)
 
 cause-after : (a b c : State) → a.faults ≤ b.faults → IsUnchanged a b → (cause : StoreError) → HasCause b c ⊥ cause → HasCause a c ⊥ cause
 cause-after a b c fewer same OutOfMemory why = tt
-cause-after a b c fewer same Io why = omega (arith, fewer, why)
-cause-after a b c fewer same Corrupt why = omega (arith, fewer, why)
-cause-after a b c fewer same Full why = omega (arith, fewer, why)
 cause-after a b c fewer same Broken why = absurd (let open_now = same.0.is_open in cc)
 cause-after a b c fewer same Unstorable why = why
+cause-after a b c fewer same _ why = omega (arith, fewer, why)
 
-pub refused-after : (a b c : State) (P : Trees → Type 0) (e : Error) → IsUnchanged a b → Survives a b P → IsReadRefused b c e → IsReadRefused a c e
+pub refused-after : (a b c : State) (P : Trees → Type 0) (e : Error) → IsUnchanged a b → Survives a b P → IsReadRefused b c e
+    → IsReadRefused a c e
 refused-after a b c P e same survives (inl fails) =
     let back = fails.3 in
     inl (
@@ -81,4 +71,5 @@ refused-after a b c P e same survives (inl fails) =
       },
       fails.4,
     )
-refused-after a b c P e same survives (inr stopped) = inr (stopped.0, subst IsSome survives.limit stopped.1, unchanged_then a b c same stopped.2)
+refused-after a b c P e same survives (inr stopped) =
+    inr (stopped.0, subst IsSome survives.limit stopped.1, unchanged_then a b c same stopped.2)

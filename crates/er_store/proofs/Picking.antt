@@ -1,32 +1,18 @@
--- How a WHERE picks the one player of a number.
-use Rattle.std.proofs.Common.{◌≡◌, ◌≢◌, ℕ, zero, suc, ◌+◌, ◌<◌, ◌==◌, pos, Bool, true, false, not, ◌&&◌, cond, List, [], ◌∷◌, ◌++◌, map, filter, length, get_or, Some, Contains, refl, sym, ap, ap₂, subst, ◌∙◌, true≢false, not-suc-le-zero, arith}
-use Rattle.std.specs.Ordering.{is_eq}
-use Rattle.std.specs.List.{range_with_len}
-use Rattle.std.specs.List.Sorted.{IsPermutation}
-use Rattle.std.proofs.lemmas.List.Sorted.{IsPermutation-cons, IsPermutation-to_front}
-use Rattle.std.proofs.lemmas.List.FromFn.{length-range_with_len, get_or-range_with_len}
-use Rattle.std.proofs.lemmas.Bool.Decides.{nat_tests}
-use Rattle.sqlite.specs.Collation.TheVariants.{Binary}
-use Rattle.sqlite.specs.Order.{Row, column, value_cmp}
-use Rattle.sqlite.specs.Ops.{binary, is_true, from_truth}
-use Rattle.sqlite_value.proofs.OrderLemmas.{value_cmp-Int}
-use Rattle.sqlite_sql.specs.declared.ops.BinaryOp.TheVariants.{Compare}
-use Rattle.sqlite_sql.specs.declared.ops.CompareOp.TheVariants.{Eq}
-use Rattle.er_event.specs.declared.players.Player.{Player}
-use Rattle.er_event.specs.Rows.{player_row}
-use Rattle.er_event.specs.Sound.{numbers}
-use Rattle.er_event.specs.Change.{dropped_at}
-use Rattle.er_store.specs.Rows.{number, player_columns}
+-- How a WHERE picks the one row of a player, among rows that the players' numbers lead.
+use Rattle.er_store.proofs.Names.{number, player_columns, filter, List, Contains, zero, cond, Bool, drop, refl, subst, ap₂, pos, false}
+use Rattle.er_store.proofs.Names.{length, map, ℕ, arith, Some, not-suc-le-zero, true, suc, not, get_or, sym, ap, ◌-◌, ◌≤◌, ◌+◌, [], ◌∙◌}
+use Rattle.er_store.proofs.Names.{◌++◌, ◌≡◌, ◌≢◌, ◌==◌, ◌∷◌, ◌<◌, ◌&&◌, length-map, get_or-range_with_len, length-range_with_len, ne_eqb}
+use Rattle.er_store.proofs.Names.{nat_tests, range_with_len, IsPermutation, is_eq, dropped_at, numbers, Player, player_row, value_cmp-Int}
+use Rattle.er_store.proofs.Names.{is_true, from_truth, Row, column, Binary, Null, Value, Eq, Compare, map-map, filter_none}
+use Rattle.er_store.proofs.Swaps.{swaps-before, swaps-as, None_of, swaps-alone, swaps-replaced, Swaps}
+use Rattle.sqlite.specs.{Ops.binary, Order.value_cmp}
 
--- the test of the WHERE, and that of the rowid
+-- the test of the WHERE
 abbrev pub picks : ℕ → Row → Bool
 picks n row = is_true (binary (Compare Eq Binary) (column row 0) (number n)) && true
 
-abbrev pub is_number : ℕ → Row → Bool
-is_number n row = is_eq (value_cmp (column row 0) (number n))
-
 abbrev pub is_another : ℕ → Row → Bool
-is_another n row = not (is_number n row)
+is_another n row = not (picks n row)
 
 abbrev pub row_of : Player → Row
 row_of p = player_columns (player_row p)
@@ -34,132 +20,141 @@ row_of p = player_columns (player_row p)
 abbrev pub rows_of : List Player → List Row
 rows_of players = map player_columns (map player_row players)
 
-abbrev pub dropped : Player → Player
-dropped p = record p { dropped = true }
+-- ---- the test, of a player's row
 
--- ---- the tests, of a player's row
-
-said : (b : Bool) → (is_true (from_truth (Some b)) && true) ≡ b
-said true = refl
-said false = refl
-
-pub is_number-same : (n k : ℕ) → n ≡ k → is_eq (value_cmp (number n) (number k)) ≡ true
-is_number-same n k same = ap is_eq (value_cmp-Int (pos n) (pos k)) ∙ grind (arith, nat_tests)
-
-pub is_number-other : (n k : ℕ) → n ≢ k → is_eq (value_cmp (number n) (number k)) ≡ false
-is_number-other n k apart = ap is_eq (value_cmp-Int (pos n) (pos k)) ∙ grind (arith, nat_tests)
-
-pub picks-is : (k : ℕ) (p : Player) → picks k (row_of p) ≡ is_number k (row_of p)
-unfolding binary
-picks-is k p = said (is_eq (value_cmp (number p.no) (number k)))
+pub numbers_equal : (n k : ℕ) → is_eq (value_cmp (number n) (number k)) ≡ (n == k)
+numbers_equal n k = ap is_eq (value_cmp-Int (pos n) (pos k)) ∙ grind (arith, nat_tests)
 
 pub same_number : (n k : ℕ) → n ≡ k → (n == k) ≡ true
 same_number n k e = grind (arith, nat_tests)
 
-other_number : (n k : ℕ) → n ≢ k → (n == k) ≡ false
-other_number n k e = grind (arith, nat_tests)
+-- it compares the first column
+pub picks-compares : (n : ℕ) (row : Row) → picks n row ≡ is_eq (value_cmp (column row 0) (number n))
+unfolding binary value_cmp
+picks-compares n row = by_value (column row 0)
+  where
+    said : (b : Bool) → (is_true (from_truth (Some b)) && true) ≡ b
+    said true = refl
+    said false = refl
 
-kept_when : (b : Bool) (p : Player) → b ≡ false → cond b (dropped p) p ≡ p
-kept_when false p e = refl
-kept_when true p e = absurd (true≢false e)
+    by_value : (v : Value) → (is_true (binary (Compare Eq Binary) v (number n)) && true) ≡ is_eq (value_cmp v (number n))
+    by_value Null = refl
+    by_value v = said (is_eq (value_cmp v (number n)))
 
-set_when : (b : Bool) (p : Player) → b ≡ true → cond b (dropped p) p ≡ dropped p
-set_when true p e = refl
-set_when false p e = absurd (true≢false (sym e))
+pub picks-number : (k n : ℕ) (row : Row) → column row 0 ≡ number n → picks k row ≡ (n == k)
+picks-number k n row is = picks-compares k row ∙ (ap (λ v. is_eq (value_cmp v (number k))) is ∙ numbers_equal n k)
 
-filter-yes : (test : Row → Bool) (r : Row) (rows : List Row) → test r ≡ true → filter test (r ∷ rows) ≡ r ∷ filter test rows
-filter-yes test r rows holds = rw holds
+-- ---- players who are numbered
 
-filter-none : (test : Row → Bool) (r : Row) (rows : List Row) → test r ≡ false → filter test (r ∷ rows) ≡ filter test rows
-filter-none test r rows fails = rw fails
-
--- ---- among players who are numbered
-
-pub first_number : (p : Player) (ps : List Player) (a : ℕ) → numbers (p ∷ ps) ≡ range_with_len a (length (p ∷ ps)) → (p.no ≡ a) × (numbers ps ≡ range_with_len (a + 1) (length ps))
+pub first_number : (p : Player) (ps : List Player) (a : ℕ) → numbers (p ∷ ps) ≡ range_with_len a (length (p ∷ ps))
+    → (p.no ≡ a) × (numbers ps ≡ range_with_len (a + 1) (length ps))
 first_number p ps a e = (ap (λ (ns : List ℕ). get_or ns 0 0) e, ap (Rattle.std.specs.Prelude.drop 1) e)
 
--- a number below them all picks none
-pub record PicksNone (k : ℕ) (players : List Player) : Type 0 where
-  pub none : filter (picks k) (rows_of players) ≡ []
-  pub others : filter (is_another k) (rows_of players) ≡ rows_of players
-  pub stay : map (dropped_at k) players ≡ players
+pub within : (n k : ℕ) → Contains (range_with_len 1 n) k → (1 ≤ k) × (k ≤ n)
+within n k has =
+    let len = length-range_with_len 1 n in
+    let below = has.1 in
+    let at = get_or-range_with_len 1 n has.0 k (omega arith) in
+    let is = has.2 in
+    (omega arith, omega arith)
 
-pub picks_none : (k a : ℕ) (ps : List Player) → k < a → numbers ps ≡ range_with_len a (length ps) → PicksNone k ps
-picks_none k a [] low numbered = record { none = refl; others = refl; stay = refl }
-picks_none k a (p ∷ ps) low numbered =
-    let both = first_number p ps a numbered in
-    let apart : p.no ≢ k = λ e. absurd (omega (arith, both.0)) in
-    let other = is_number-other p.no k apart in
-    let more = picks_none k (a + 1) ps (omega arith) both.1 in
-    record {
-      none = filter-none (picks k) (row_of p) (rows_of ps) (picks-is k p ∙ other) ∙ more.none;
-      others = filter-yes (is_another k) (row_of p) (rows_of ps) (ap not other) ∙ ap (λ rows. row_of p ∷ rows) more.others;
-      stay = ap₂ ◌∷◌ (kept_when (p.no == k) p (other_number p.no k apart)) more.stay;
-    }
+-- a row for each player, before and after, which changes for one number alone
+pub record AreRowsBy (before after : Player → Row) (k : ℕ) : Type 0 where
+  pub numbered : (p : Player) → column (before p) 0 ≡ number p.no
+  pub others : (p : Player) → p.no ≢ k → after p ≡ before p
 
--- the number picks this player alone, and the rows of the others with the dropped player's are those after the drop
-pub record Picks (k : ℕ) (players : List Player) : Type 0 where
+-- the number picks one player's row alone, and the rows of the others with the new one are those after
+pub record PicksRow (k : ℕ) (before after : Player → Row) (old new : List Row) : Type 0 where
   pub it : Player
   pub is : it.no ≡ k
-  pub alone : filter (picks k) (rows_of players) ≡ row_of it ∷ []
-  pub replaced : IsPermutation (filter (is_another k) (rows_of players) ++ row_of (dropped it) ∷ []) (rows_of (map (dropped_at k) players))
+  pub alone : filter (picks k) old ≡ before it ∷ []
+  pub replaced : IsPermutation (filter (is_another k) old ++ after it ∷ []) new
 
-picks_at : (ps : List Player) (a i k : ℕ) → k ≡ a + i → i < length ps → numbers ps ≡ range_with_len a (length ps) → Picks k ps
-picks_at [] a i k at below numbered = absurd (not-suc-le-zero below)
-picks_at (p ∷ ps) a zero k at below numbered =
-    let both = first_number p ps a numbered in
-    let is : p.no ≡ k = omega (arith, both.0) in
-    let same = is_number-same p.no k is in
-    let more = picks_none k (a + 1) ps (omega arith) both.1 in
-    let others = filter-none (is_another k) (row_of p) (rows_of ps) (ap not same) ∙ more.others in
-    let all = ap₂ (λ (q : Player) (qs : List Player). row_of q ∷ rows_of qs) (set_when (p.no == k) p (same_number p.no k is)) more.stay in
-    record {
-      it = p;
-      is = is;
-      alone = filter-yes (picks k) (row_of p) (rows_of ps) (picks-is k p ∙ same) ∙ ap (λ rows. row_of p ∷ rows) more.none;
-      replaced = subst (λ rows. IsPermutation (rows ++ row_of (dropped p) ∷ []) (rows_of (map (dropped_at k) (p ∷ ps)))) (sym others)
-          (subst (IsPermutation (rows_of ps ++ row_of (dropped p) ∷ [])) (sym all) (IsPermutation-to_front (rows_of ps) (row_of (dropped p))));
-    }
-picks_at (p ∷ ps) a (suc i) k at below numbered =
-    let both = first_number p ps a numbered in
-    let apart : p.no ≢ k = λ e. absurd (omega (arith, both.0)) in
-    let other = is_number-other p.no k apart in
-    let more = picks_at ps (a + 1) i k (omega arith) (omega arith) both.1 in
-    let others = filter-yes (is_another k) (row_of p) (rows_of ps) (ap not other) in
-    let stays = kept_when (p.no == k) p (other_number p.no k apart) in
-    record {
-      it = more.it;
-      is = more.is;
-      alone = filter-none (picks k) (row_of p) (rows_of ps) (picks-is k p ∙ other) ∙ more.alone;
-      replaced = subst (λ rows. IsPermutation (rows ++ row_of (dropped more.it) ∷ []) (rows_of (map (dropped_at k) (p ∷ ps)))) (sym others)
-          (subst (λ (q : Player). IsPermutation (row_of p ∷ filter (is_another k) (rows_of ps) ++ row_of (dropped more.it) ∷ []) (row_of q ∷ rows_of (map (dropped_at k) ps))) (sym stays)
-          (IsPermutation-cons (row_of p) (filter (is_another k) (rows_of ps) ++ row_of (dropped more.it) ∷ []) (rows_of (map (dropped_at k) ps)) more.replaced));
-    }
+module _ (before after : Player → Row) (k : ℕ) (are : AreRowsBy before after k) where
+  told : (p : Player) (b : Bool) → (p.no == k) ≡ b → picks k (before p) ≡ b
+  told p b is = picks-number k p.no (before p) (are.numbered p) ∙ is
 
--- one of them is picked by number
-pub picks_one : (ps : List Player) (k : ℕ) → numbers ps ≡ range_with_len 1 (length ps) → Contains (numbers ps) k → Picks k ps
+  -- a number below them all picks none
+  none_below : (a : ℕ) (ps : List Player) → k < a → numbers ps ≡ range_with_len a (length ps)
+      → None_of (picks k) (map before ps) × (map after ps ≡ map before ps)
+  none_below a [] low numbered = (tt, refl)
+  none_below a (p ∷ ps) low numbered =
+      let both = first_number p ps a numbered in
+      let apart : p.no ≢ k = λ e. absurd (omega (arith, both.0)) in
+      let more = none_below (a + 1) ps (omega arith) both.1 in
+      ((told p false (ne_eqb p.no k apart), more.0), ap₂ ◌∷◌ (are.others p apart) more.1)
+
+  swaps_at : (ps : List Player) (a i : ℕ) → k ≡ a + i → i < length ps → numbers ps ≡ range_with_len a (length ps)
+      → (it : Player) × (it.no ≡ k) × Swaps (picks k) (map before ps) (map after ps) (before it) (after it)
+  swaps_at [] a i at below numbered = absurd (not-suc-le-zero below)
+  swaps_at (p ∷ ps) a zero at below numbered =
+      let both = first_number p ps a numbered in
+      let is : p.no ≡ k = omega (arith, both.0) in
+      let more = none_below (a + 1) ps (omega arith) both.1 in (
+        p,
+        is,
+        record {
+          before = [];
+          after = map before ps;
+          was = refl;
+          is = ap (λ rows. after p ∷ rows) more.1;
+          picked = told p true (grind (arith, nat_tests));
+          none_before = tt;
+          none_after = more.0;
+        },
+      )
+  swaps_at (p ∷ ps) a (suc i) at below numbered =
+      let both = first_number p ps a numbered in
+      let apart : p.no ≢ k = λ e. absurd (omega (arith, both.0)) in
+      let more = swaps_at ps (a + 1) i (omega arith) (omega arith) both.1 in (
+        more.0,
+        more.1,
+        swaps-as (picks k) refl (ap (λ row. row ∷ map after ps) (are.others p apart))
+            (swaps-before (picks k) (before p ∷ []) (told p false (ne_eqb p.no k apart), tt) more.2),
+      )
+
+  -- one of them is picked by number
+  pub picks_row : (ps : List Player) → numbers ps ≡ range_with_len 1 (length ps) → Contains (numbers ps) k
+      → {old new : List Row} → old ≡ map before ps → new ≡ map after ps → PicksRow k before after old new
+  picks_row ps numbered known was is =
+      let here = within (length ps) k (subst (λ (ns : List ℕ). Contains ns k) numbered known) in
+      let low = here.0 in
+      let high = here.1 in
+      let it = swaps_at ps 1 (k - 1) (omega arith) (omega arith) numbered in
+      let swaps = swaps-as (picks k) was is it.2 in
+      record { it = it.0; is = it.1; alone = swaps-alone (picks k) swaps; replaced = swaps-replaced (picks k) swaps }
+
+-- ---- one of them is dropped
+
+are_dropped : (k : ℕ) → AreRowsBy row_of (λ p. row_of (dropped_at k p)) k
+are_dropped k = record {
+  numbered = λ p. refl;
+  others = λ p apart. ap (λ (b : Bool). row_of (cond b (record p { dropped = true }) p)) (ne_eqb p.no k apart);
+}
+
+-- no player has a number below 1
+pub picks_none : (ps : List Player) (k : ℕ) → k < 1 → numbers ps ≡ range_with_len 1 (length ps) → filter (picks k) (rows_of ps) ≡ []
+picks_none ps k low numbered =
+    ap (filter (picks k)) (map-map player_columns player_row ps)
+    ∙ filter_none (picks k) (map row_of ps) (none_below row_of (λ p. row_of (dropped_at k p)) k (are_dropped k) 1 ps low numbered).0
+
+pub picks_one : (ps : List Player) (k : ℕ) → numbers ps ≡ range_with_len 1 (length ps) → Contains (numbers ps) k
+    → PicksRow k row_of (λ p. row_of (dropped_at k p)) (rows_of ps) (rows_of (map (dropped_at k) ps))
 picks_one ps k numbered known =
-    let here : Contains (range_with_len 1 (length ps)) k = subst (λ (ns : List ℕ). Contains ns k) numbered known in
-    let len = length-range_with_len 1 (length ps) in
-    let below = here.1 in
-    let at = get_or-range_with_len 1 (length ps) here.0 k (omega arith) in
-    let is = here.2 in
-    picks_at ps 1 here.0 k (omega arith) (omega arith) numbered
+    picks_row row_of (λ p. row_of (dropped_at k p)) k (are_dropped k) ps numbered known (map-map player_columns player_row ps)
+    (ap (map player_columns) (map-map player_row (dropped_at k) ps) ∙ map-map player_columns (λ p. player_row (dropped_at k p)) ps)
 
 -- ---- what a drop leaves
 
-no-dropped_at : (b : Bool) (p : Player) → (cond b (dropped p) p).no ≡ p.no
-no-dropped_at true p = refl
-no-dropped_at false p = refl
-
 pub numbers-dropped_at : (k : ℕ) (ps : List Player) → numbers (map (dropped_at k) ps) ≡ numbers ps
 numbers-dropped_at k [] = refl
-numbers-dropped_at k (p ∷ ps) = ap₂ ◌∷◌ (no-dropped_at (p.no == k) p) (numbers-dropped_at k ps)
-
-length-dropped_at : (k : ℕ) (ps : List Player) → length (map (dropped_at k) ps) ≡ length ps
-length-dropped_at k [] = refl
-length-dropped_at k (p ∷ ps) = ap suc (length-dropped_at k ps)
+numbers-dropped_at k (p ∷ ps) = ap₂ ◌∷◌ (same (p.no == k)) (numbers-dropped_at k ps)
+  where
+    same : (b : Bool) → (cond b (record p { dropped = true }) p).no ≡ p.no
+    same true = refl
+    same false = refl
 
 -- who is numbered after the drop was so before
-pub numbered_before : (k : ℕ) (ps : List Player) → numbers (map (dropped_at k) ps) ≡ range_with_len 1 (length (map (dropped_at k) ps)) → numbers ps ≡ range_with_len 1 (length ps)
-numbered_before k ps numbered = sym (numbers-dropped_at k ps) ∙ (numbered ∙ ap (range_with_len 1) (length-dropped_at k ps))
+pub numbered_before : (k : ℕ) (ps : List Player)
+    → numbers (map (dropped_at k) ps) ≡ range_with_len 1 (length (map (dropped_at k) ps)) → numbers ps ≡ range_with_len 1 (length ps)
+numbered_before k ps numbered = sym (numbers-dropped_at k ps) ∙ (numbered ∙ ap (range_with_len 1) (length-map ps (dropped_at k)))

@@ -1,21 +1,14 @@
 -- How a WHERE picks the one match of a stage and a slot.
-use Rattle.std.proofs.Common.{◌≡◌, ◌≢◌, ℕ, zero, suc, ◌+◌, ◌-◌, ◌<◌, ◌≤◌, ◌==◌, Bool, true, false, ◌&&◌, ◌||◌, cond, List, [], ◌∷◌, ◌++◌, map, filter, Option, Some, None, unwrap_or, slice_get, get_or, refl, sym, ap, ap₂, subst, ◌∙◌, arith}
-use Rattle.std.specs.Option.{option_and_then}
-use Rattle.std.specs.List.Sorted.{IsPermutation}
-use Rattle.std.proofs.Math.ListN.{set}
-use Rattle.std.proofs.lemmas.Option.{none-some, get_or_from_slice_get}
-use Rattle.std.proofs.lemmas.Bool.Decides.{nat_tests}
-use Rattle.sqlite_trees.proofs.ListLemmas.{all-append}
-use Rattle.er_event.specs.declared.scores.Games.{Games}
-use Rattle.er_event.specs.declared.matches.Match.{Match}
-use Rattle.er_event.specs.declared.rows.bracket.BracketRow.{BracketRow}
-use Rattle.er_event.specs.Event.{EventValue}
-use Rattle.er_event.specs.Round.{numbered_from}
-use Rattle.er_event.specs.Bracket.{open_match, slot_in, slot_at}
-use Rattle.er_event.specs.Change.{scored, stage_of, scored_slot, with_slot_score}
-use Rattle.er_event.specs.Rows.{bracket_row, stage_rows, bracket_rows_from, bracket_rows}
-use Rattle.er_store.specs.Rows.{bracket_columns}
-use Rattle.er_store.proofs.PickingTable.{picks_table, is_elsewhere, equal, None_of, Swaps, swaps-before, swaps-after, picked-alone, picked-replaced}
+use Rattle.er_store.proofs.Names.{◌≡◌, ◌≢◌, ℕ, zero, suc, ◌+◌, ◌-◌, ◌<◌, ◌≤◌, ◌==◌, Bool, true, false, ◌&&◌, ◌||◌, cond, List, [], ◌∷◌}
+use Rattle.er_store.proofs.Names.{◌++◌, map, filter, Option, Some, None, unwrap_or, slice_get, get_or, refl, sym, ap, ap₂, subst, ◌∙◌}
+use Rattle.er_store.proofs.Names.{arith, option_and_then, IsPermutation, set, and-true, none-some, get_or_from_slice_get}
+use Rattle.er_store.proofs.Names.{option_and_then_some, nat_tests, ne_eqb, Games, Match, BracketRow, EventValue, numbered_from, slot_at}
+use Rattle.er_store.proofs.Names.{scored, with_slot_score, bracket_row, stage_rows, bracket_rows_from, bracket_rows, bracket_columns}
+use Rattle.er_store.proofs.Names.{all-map}
+use Rattle.er_event.specs.{Bracket.open_match, Bracket.slot_in, Change.stage_of, Change.scored_slot}
+use Rattle.er_store.proofs.{PickingTable.picks_table, PickingTable.is_elsewhere, PickingTable.equal, Swaps.swaps-before, Swaps.swaps-as}
+use Rattle.er_store.proofs.{Swaps.picked-alone, Swaps.None_of, Swaps.picked-replaced, Swaps.Swaps, Picking.same_number}
+use Rattle.er_store.proofs.{Grouped.bracket_rows_are, Grouped.swaps-from}
 
 -- ---- the test, of a match's row
 
@@ -23,14 +16,10 @@ picks-row : (k t j : ℕ) (n : ℕ × Match) → picks_table k t (bracket_column
 picks-row k t j n = ap₂ (λ a b. a && (b && true)) (equal j k) (equal n.0 t)
 
 other_stage : (k t j : ℕ) (n : ℕ × Match) → j ≢ k → picks_table k t (bracket_columns (bracket_row j n)) ≡ false
-other_stage k t j n apart = picks-row k t j n ∙ ap (λ b. b && ((n.0 == t) && true)) (let not : (j == k) ≡ false = grind (arith, nat_tests) in not)
+other_stage k t j n apart = picks-row k t j n ∙ ap (λ b. b && ((n.0 == t) && true)) (ne_eqb j k apart)
 
 own_stage : (k t i : ℕ) (m : Match) (b : Bool) → (i == t) ≡ b → picks_table k t (bracket_columns (bracket_row k (i, m))) ≡ b
-own_stage k t i m b at = picks-row k t k (i, m) ∙ (ap₂ (λ a c. a && (c && true)) (let same : (k == k) ≡ true = grind (arith, nat_tests) in same) at ∙ and_true b)
-  where
-    and_true : (c : Bool) → (c && true) ≡ c
-    and_true true = refl
-    and_true false = refl
+own_stage k t i m b at = picks-row k t k (i, m) ∙ (ap₂ (λ a c. a && (c && true)) (same_number k k refl) at ∙ and-true b)
 
 -- ---- the matches of a stage
 
@@ -47,7 +36,8 @@ module _ (k t : ℕ) (s : Games) where
   later-none n (m ∷ ms) low = (own_stage k t n m false (grind (arith, nat_tests)), later-none (n + 1) ms (omega arith))
 
   -- the row of the slot gets the score
-  swaps-slot : (n i : ℕ) (ms : List Match) (m : Match) → t ≡ n + i → slice_get ms i ≡ Some m → Swaps test (rows n ms) (rows n (set ms i (scored s m))) (bracket_row k (t, m)) (bracket_row k (t, scored s m))
+  swaps-slot : (n i : ℕ) (ms : List Match) (m : Match) → t ≡ n + i → slice_get ms i ≡ Some m
+      → Swaps test (rows n ms) (rows n (set ms i (scored s m))) (bracket_row k (t, m)) (bracket_row k (t, scored s m))
   swaps-slot n i [] m at is = absurd (none-some m is)
   swaps-slot n zero (x ∷ ms) m at is =
       let same : x ≡ m = ap (λ (o : Option Match). unwrap_or o x) is in
@@ -62,31 +52,12 @@ module _ (k t : ℕ) (s : Games) where
         none_after = later-none (n + 1) ms (omega arith);
       }
   swaps-slot n (suc i) (x ∷ ms) m at is =
-      swaps-before test (bracket_row k (n, x) ∷ []) (rows (n + 1) ms) (rows (n + 1) (set ms i (scored s m))) (bracket_row k (t, m)) (bracket_row k (t, scored s m))
-      (own_stage k t n x false (grind (arith, nat_tests)), tt) (swaps-slot (n + 1) i ms m (omega arith) is)
+      swaps-before test (bracket_row k (n, x) ∷ []) (own_stage k t n x false (grind (arith, nat_tests)), tt)
+      (swaps-slot (n + 1) i ms m (omega arith) is)
 
-  -- ---- the stages
-
-  none-of_stage : (j : ℕ) (numbered : List (ℕ × Match)) → j ≢ k → None_of test (map (bracket_row j) numbered)
-  none-of_stage j [] apart = tt
-  none-of_stage j (n ∷ numbered) apart = (other_stage k t j n apart, none-of_stage j numbered apart)
-
-  none-of_later : (j : ℕ) (stages : List (List Match)) → k < j → None_of test (bracket_rows_from j stages)
-  none-of_later j [] low = tt
-  none-of_later j (ms ∷ stages) low =
-      all-append (λ x. test x ≡ false) (stage_rows j ms) (bracket_rows_from (j + 1) stages) (none-of_stage j (numbered_from 1 ms) (λ same. absurd (omega arith))) (none-of_later (j + 1) stages (omega arith))
-
-  swaps-stages : (j i : ℕ) (stages : List (List Match)) (q new : List Match) (row other : BracketRow) → k ≡ j + i → slice_get stages i ≡ Some q → Swaps test (stage_rows k q) (stage_rows k new) row other
-      → Swaps test (bracket_rows_from j stages) (bracket_rows_from j (set stages i new)) row other
-  swaps-stages j i [] q new row other at is swaps = absurd (none-some q is)
-  swaps-stages j zero (ms ∷ stages) q new row other at is swaps =
-      let same : ms ≡ q = ap (λ (o : Option (List Match)). unwrap_or o ms) is in
-      let here : k ≡ j = omega arith in
-      let first = subst (λ n. Swaps test (stage_rows n ms) (stage_rows n new) row other) here (subst (λ (p : List Match). Swaps test (stage_rows k p) (stage_rows k new) row other) (sym same) swaps) in
-      swaps-after test (bracket_rows_from (j + 1) stages) (stage_rows j ms) (stage_rows j new) row other (none-of_later (j + 1) stages (omega arith)) first
-  swaps-stages j (suc i) (ms ∷ stages) q new row other at is swaps =
-      swaps-before test (stage_rows j ms) (bracket_rows_from (j + 1) stages) (bracket_rows_from (j + 1) (set stages i new)) row other
-      (none-of_stage j (numbered_from 1 ms) (λ same. absurd (omega arith))) (swaps-stages (j + 1) i stages q new row other (omega arith) is swaps)
+  -- the rows of another stage are not picked
+  none-elsewhere : (j : ℕ) (ms : List Match) → j ≢ k → None_of test (stage_rows j ms)
+  none-elsewhere j ms apart = all-map (λ x. test x ≡ false) (bracket_row j) (λ n. other_stage k t j n apart) (numbered_from 1 ms)
 
 -- ---- the event
 
@@ -101,19 +72,22 @@ record Stored (stages : List (List Match)) (k t : ℕ) (m : Match) : Type 0 wher
 stored_at : (stages : List (List Match)) (k t : ℕ) (m : Match) → slot_in stages k t ≡ Some m → Stored stages k t m
 stored_at stages k t m found = by_zero (k == 0) (t == 0) refl refl found
   where
-    by_stage : (o : Option (List Match)) → slice_get stages (k - 1) ≡ o → 1 ≤ k → 1 ≤ t → option_and_then (λ (ms : List Match). slice_get ms (t - 1)) o ≡ Some m → Stored stages k t m
-    by_stage None is low some h = absurd (none-some m h)
-    by_stage (Some q) is low some h = record { low_stage = low; low_slot = some; stage = q; is = is; here = h }
-
-    by_zero : (a b : Bool) → (k == 0) ≡ a → (t == 0) ≡ b → cond (a || b) None (option_and_then (λ (ms : List Match). slice_get ms (t - 1)) (slice_get stages (k - 1))) ≡ Some m → Stored stages k t m
+    by_zero : (a b : Bool) → (k == 0) ≡ a → (t == 0) ≡ b
+        → cond (a || b) None (option_and_then (λ (ms : List Match). slice_get ms (t - 1)) (slice_get stages (k - 1))) ≡ Some m
+        → Stored stages k t m
     by_zero true b is at h = absurd (none-some m h)
     by_zero false true is at h = absurd (none-some m h)
-    by_zero false false is at h = by_stage (slice_get stages (k - 1)) refl (let apart : k ≢ 0 = grind (arith, nat_tests) in omega (arith, apart)) (let apart : t ≢ 0 = grind (arith, nat_tests) in omega (arith, apart)) h
+    by_zero false false is at h = option_and_then_some (λ (ms : List Match). slice_get ms (t - 1)) (slice_get stages (k - 1)) m h
+        (λ ms own here.
+        let some_stage : k ≢ 0 = grind (arith, nat_tests) in
+        let some_slot : t ≢ 0 = grind (arith, nat_tests) in
+        record { low_stage = omega (arith, some_stage); low_slot = omega (arith, some_slot); stage = ms; is = own; here = here })
 
 -- The stage and the slot pick one row. The rows of the others with that of the scored match are those after the change.
 pub record PicksSlot (e : EventValue) (k t : ℕ) (s : Games) (m : Match) : Type 0 where
   pub alone : filter (picks_table k t) (map bracket_columns (bracket_rows e)) ≡ bracket_columns (bracket_row k (t, m)) ∷ []
-  pub replaced : IsPermutation (filter (is_elsewhere k t) (map bracket_columns (bracket_rows e)) ++ bracket_columns (bracket_row k (t, scored s m)) ∷ []) (map bracket_columns (bracket_rows (with_slot_score e k t s)))
+  pub replaced : IsPermutation (filter (is_elsewhere k t) (map bracket_columns (bracket_rows e))
+      ++ bracket_columns (bracket_row k (t, scored s m)) ∷ []) (map bracket_columns (bracket_rows (with_slot_score e k t s)))
 
 pub picks_one_slot : (e : EventValue) (k t : ℕ) (s : Games) (m : Match) → slot_at e k t ≡ Some m → PicksSlot e k t s m
 picks_one_slot e k t s m found =
@@ -122,16 +96,17 @@ picks_one_slot e k t s m found =
     let low_stage = f.low_stage in
     let low_slot = f.low_slot in
     let new = set f.stage (t - 1) (scored s m) in
-    let row = bracket_row k (t, m) in
     let other = bracket_row k (t, scored s m) in
     let slot = swaps-slot k t s 1 (t - 1) f.stage m (omega arith) f.here in
-    let all = swaps-stages k t s 1 (k - 1) stages f.stage new row other (omega arith) f.is slot in
+    let swaps = swaps-from stage_rows (test k t s) k (none-elsewhere k t s) 1 (k - 1) stages f.stage new (omega arith) f.is slot in
+    let all = swaps-as (test k t s) (bracket_rows_are 1 stages) (bracket_rows_are 1 (set stages (k - 1) new)) swaps in
     let stage : stage_of stages k ≡ f.stage = get_or_from_slice_get stages (k - 1) f.stage [] f.is in
     let match : get_or f.stage (t - 1) (open_match 0 0) ≡ m = get_or_from_slice_get f.stage (t - 1) m (open_match 0 0) f.here in
     let put : List Match → List BracketRow = λ ms. bracket_rows_from 1 (set stages (k - 1) ms) in
-    let after : bracket_rows (with_slot_score e k t s) ≡ put new = ap (λ (q : List Match). put (scored_slot q t s)) stage ∙ ap (λ (x : Match). put (set f.stage (t - 1) (scored s x))) match in
+    let after : bracket_rows (with_slot_score e k t s) ≡ put new = ap (λ (q : List Match). put (scored_slot q t s)) stage
+    ∙ ap (λ (x : Match). put (set f.stage (t - 1) (scored s x))) match in
     record {
-      alone = picked-alone bracket_columns (picks_table k t) (bracket_rows e) (put new) row other all;
-      replaced = subst (λ rs. IsPermutation (filter (is_elsewhere k t) (map bracket_columns (bracket_rows e)) ++ bracket_columns other ∷ []) (map bracket_columns rs)) (sym after)
-          (picked-replaced bracket_columns (picks_table k t) (bracket_rows e) (put new) row other all);
+      alone = picked-alone bracket_columns (picks_table k t) all;
+      replaced = subst (λ rs. IsPermutation (filter (is_elsewhere k t) (map bracket_columns (bracket_rows e)) ++ bracket_columns other ∷ [])
+          (map bracket_columns rs)) (sym after) (picked-replaced bracket_columns (picks_table k t) all);
     }

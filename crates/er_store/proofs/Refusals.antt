@@ -1,24 +1,16 @@
 -- Why a read of the tables is refused.
-use Rattle.std.proofs.Common.{◌≡◌, inl, inr, ℕ, List, [], ◌∷◌, length, Ok, IsSome, sym, ap, subst, subst₂, ◌∙◌, append-nil}
-use Rattle.sqlite.specs.Order.{Row}
-use Rattle.sqlite.specs.Query.{Query}
-use Rattle.sqlite.specs.Program.{ProgramOverflows}
-use Rattle.sqlite.specs.Clock.{timed}
-use Rattle.sqlite.specs.Command.TheVariants.{Select}
-use Rattle.sqlite.specs.Effect.{RefusesToRead, RefusesQuery}
-use Rattle.sqlite.specs.Tree.{Trees}
-use Rattle.sqlite.specs.declared.error.Error.{Error}
-use Rattle.sqlite.specs.declared.error.Error.TheVariants.{SqliteFailure}
-use Rattle.sqlite.specs.declared.error.ErrorCode.TheVariants.{OperationInterrupted}
-use Rattle.sqlite.specs.Listing.{understood, IsSourceOf}
-use Rattle.sqlite.specs.State.{State, FailsToQuery, FailsToShow, IsNotRun, IsNoStatement}
-use Rattle.sqlite.proofs.Callers.{IsPlain, command_of}
-use Rattle.er_store.specs.Reading.{IsReadRefused}
+use Rattle.er_store.proofs.Names.{◌≡◌, inl, inr, ℕ, List, [], ◌∷◌, length, Ok, IsSome, sym, ap, subst, ◌∙◌, append-nil, refl, Row, Query}
+use Rattle.er_store.proofs.Names.{IsAnswer, overlay, timed, Select, RefusesToRead, Trees, Error, SqliteFailure, OperationInterrupted, Null}
+use Rattle.er_store.proofs.Names.{State, FailsToShow, IsPlain, command_of, IsReadRefused, Takes, Selects, SelectsWith, table_query}
+use Rattle.std.proofs.Common.{subst₂}
+use Rattle.sqlite.specs.{Program.ProgramOverflows, Effect.RefusesQuery, Listing.understood, Listing.IsSourceOf, State.FailsToQuery}
+use Rattle.sqlite.specs.{State.IsNotRun, State.IsNoStatement, State.Shown}
+use Rattle.sqlite.proofs.Callers.{reads_as}
 use Rattle.er_store.proofs.Meaning.{meeting_query, slip_query}
-use Rattle.er_store.specs.inside.Queries.{Takes, Selects, SelectsWith, table_query}
 
 -- a text that is one statement, with as many parameters as are given, is a statement
-is_statement : (old : State) (sql : List ℕ) (params : Row) (e : Error) → IsPlain (understood old.now.schema sql) → Takes (length params) sql (understood old.now.schema sql) → ¬ IsNoStatement old sql params e
+is_statement : (old : State) (sql : List ℕ) (params : Row) (e : Error) → IsPlain (understood old.now.schema sql)
+    → Takes (length params) sql (understood old.now.schema sql) → ¬ IsNoStatement old sql params e
 is_statement old sql params e plain takes (inl fault) = rw fault.1 at plain
 is_statement old sql params e plain takes (inr (c, is, why)) =
     let t : Takes (length params) sql (Ok c) = subst (Takes (length params) sql) is takes in
@@ -34,8 +26,17 @@ sums_nothing : (trees : Trees) (tree : ℕ) (places keys : List ℕ) → ¬ Prog
 sums_nothing trees tree places keys (inl sum) = sum
 sums_nothing trees tree places keys (inr fold) = fold.4
 
-module _ (q : Query) (params : Row) (sums : (trees : Trees) → ¬ ProgramOverflows trees params [] [] q) (sql : List ℕ) (old new : State) (e : Error) (it : SelectsWith params sql q old.now.schema) where
-  only_limit : RefusesQuery old.step_limit old.now (record { lets = []; body = q }) params e → (e ≡ SqliteFailure OperationInterrupted) × IsSome old.step_limit
+-- what is shown is an answer of the query
+pub answers : {sql : List ℕ} {params : Row} {q : Query} (old new : State) {rows : List Row} → SelectsWith params sql q old.now.schema
+    → Shown sql params old new rows → IsAnswer q (overlay old.now.trees []) params rows
+answers {sql} {params} {q} old new {rows} it h =
+    let command = Select (record { lets = []; body = q }) it.names in
+    (reads_as sql params old new old.now.schema refl command it.is it.plain it.unlisted rows h).answer Null
+
+module _ (q : Query) (params : Row) (sums : (trees : Trees) → ¬ ProgramOverflows trees params [] [] q) {sql : List ℕ} (old new : State)
+    (e : Error) (it : SelectsWith params sql q old.now.schema) where
+  only_limit : RefusesQuery old.step_limit old.now (record { lets = []; body = q }) params e
+      → (e ≡ SqliteFailure OperationInterrupted) × IsSome old.step_limit
   only_limit (inl kind) = let never = kind.1 in let typed = it.typed in absurd (cc)
   only_limit (inr (inl big)) = absurd (sums old.now.trees big.1)
   only_limit (inr (inr stopped)) = stopped
@@ -55,21 +56,25 @@ module _ (q : Query) (params : Row) (sums : (trees : Trees) → ¬ ProgramOverfl
       let stopped = only_limit (subst₂ (λ k d. RefusesToRead old.step_limit k d params e) kind db why) in
       inr (stopped.0, stopped.1, failed.3)
 
-pub read_refused : (tree : ℕ) (places keys sql : List ℕ) (old new : State) (e : Error) → Selects sql (table_query tree places keys) old.now.schema → FailsToQuery sql [] old new e → IsReadRefused old new e
-read_refused tree places keys sql old new e it = query_refused (table_query tree places keys) [] (λ trees. sums_nothing trees tree places keys) sql old new e it
+pub read_refused : (tree : ℕ) (places keys : List ℕ) {sql : List ℕ} (old new : State) (e : Error)
+    → Selects sql (table_query tree places keys) old.now.schema → FailsToQuery sql [] old new e → IsReadRefused old new e
+read_refused tree places keys old new e =
+    query_refused (table_query tree places keys) [] (λ trees. sums_nothing trees tree places keys) old new e
 
 -- nor does that of a slip
 slip_sums : (params : Row) (trees : Trees) → ¬ ProgramOverflows trees params [] [] slip_query
 slip_sums params trees (inl sum) = sum
 slip_sums params trees (inr fold) = fold.4.4.4
 
+pub slip_refused : (params : Row) {sql : List ℕ} (old new : State) (e : Error)
+    → SelectsWith params sql slip_query old.now.schema → FailsToQuery sql params old new e → IsReadRefused old new e
+slip_refused params old new e = query_refused slip_query params (slip_sums params) old new e
+
 -- nor that of the meetings
 meeting_sums : (trees : Trees) → ¬ ProgramOverflows trees [] [] [] meeting_query
 meeting_sums trees (inl sum) = sum
 meeting_sums trees (inr fold) = fold.4.4.4
 
-pub meetings_refused : (sql : List ℕ) (old new : State) (e : Error) → Selects sql meeting_query old.now.schema → FailsToQuery sql [] old new e → IsReadRefused old new e
-meetings_refused sql old new e it = query_refused meeting_query [] meeting_sums sql old new e it
-
-pub slip_refused : (sql : List ℕ) (params : Row) (old new : State) (e : Error) → SelectsWith params sql slip_query old.now.schema → FailsToQuery sql params old new e → IsReadRefused old new e
-slip_refused sql params old new e it = query_refused slip_query params (slip_sums params) sql old new e it
+pub meetings_refused : {sql : List ℕ} (old new : State) (e : Error)
+    → Selects sql meeting_query old.now.schema → FailsToQuery sql [] old new e → IsReadRefused old new e
+meetings_refused old new e = query_refused meeting_query [] meeting_sums old new e

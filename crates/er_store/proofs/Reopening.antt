@@ -1,15 +1,8 @@
 -- What a crash leaves stands for the event again where it is opened.
-use Rattle.std.proofs.Common.{◌≡◌, ℕ, ◌+◌, pos, List, [], ◌∷◌, refl, sym, ap, ap₂, ◌∙◌, arith}
+use Rattle.er_store.proofs.Names.{◌≡◌, ℕ, ◌+◌, pos, List, [], ◌∷◌, refl, sym, ap, ap₂, ◌∙◌, arith, Int, Text, Row, Trees, Table, Schema}
+use Rattle.er_store.proofs.Names.{Database, EventValue, HasTables, StandsFor, IsStored}
 use Rattle.std.specs.List.{AllZip}
-use Rattle.sqlite.specs.declared.types.Value.TheVariants.{Int, Text}
-use Rattle.sqlite.specs.Order.{Row}
-use Rattle.sqlite.specs.Tree.{Trees}
-use Rattle.sqlite.specs.Table.{Table}
-use Rattle.sqlite.specs.Schema.{Schema}
-use Rattle.sqlite.specs.Effect.{Database}
 use Rattle.sqlite_catalog.specs.Listing.{IsSound, IsTableRow}
-use Rattle.er_event.specs.Event.{EventValue}
-use Rattle.er_store.specs.Standing.{HasTables, StandsFor, IsStored}
 
 same_table : (row : Row) (a b : Table) → IsTableRow row a → IsTableRow row b → a ≡ b
 same_table row a b p q =

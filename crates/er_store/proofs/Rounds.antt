@@ -1,18 +1,11 @@
 -- How many rounds, and matches of a round, a sound event may have.
-use Rattle.std.proofs.Common.{◌≡◌, ◌≤◌, ◌<◌, ◌+◌, ◌||◌, ◌==◌, ℕ, Bool, true, false, List, [], ◌∷◌, ◌++◌, All, map, flat_map, length, Contains, refl, subst, arith}
-use Rattle.std.specs.List.{AllByRecursion, IsDistinct, list_any, range_with_len}
-use Rattle.std.proofs.lemmas.Bool.Decides.{nat_tests, Decides-eqb}
-use Rattle.std.proofs.lemmas.List.{length-map}
-use Rattle.std.proofs.lemmas.List.Elements.{All-head, All-tail, recursion_from_All}
-use Rattle.std.proofs.lemmas.List.FromFn.{length-range_with_len, get_or-range_with_len}
-use Rattle.std.proofs.lemmas.Map.Made.{IsDistinct-from_AllPairs}
-use Rattle.std.proofs.lemmas.Map.Steps.{length-le_from_distinct_below}
-use Rattle.er_event.specs.declared.matches.Match.{Match}
-use Rattle.er_event.specs.declared.rounds.Round.{Round}
-use Rattle.er_event.specs.Event.{EventValue}
-use Rattle.er_event.specs.Change.{with_round}
-use Rattle.er_event.specs.Round.{seats}
-use Rattle.er_event.specs.Sound.{IsRound, IsSoundButForSeeds, numbers}
+use Rattle.er_store.proofs.Names.{◌≡◌, ◌≤◌, ◌<◌, ◌+◌, ◌==◌, ℕ, true, false, List, [], ◌∷◌, ◌++◌, All, map, flat_map, length}
+use Rattle.er_store.proofs.Names.{Contains, subst, arith, AllByRecursion, range_with_len, nat_tests, length-map, All-head, All-tail}
+use Rattle.er_store.proofs.Names.{recursion_from_All, Match, Round, EventValue, with_round, seats, IsRound, IsSoundButForSeeds, numbers}
+use Rattle.std.specs.List.{IsDistinct, list_any}
+use Rattle.std.proofs.{lemmas.Bool.Decides.Decides-eqb, lemmas.Map.Made.IsDistinct-from_AllPairs}
+use Rattle.std.proofs.{lemmas.Map.Steps.length-le_from_distinct_below}
+use Rattle.er_store.proofs.Picking.{within}
 
 abbrev Apart : ℕ → ℕ → Type 0
 Apart p q = (p == q) ≡ false
@@ -30,21 +23,12 @@ unfolding IsDistinct
 firsts_apart [] h = tt
 firsts_apart (m ∷ ms) h = (first_apart m.a ms h.0.1, firsts_apart ms h.1.1)
 
-known_below : (count k : ℕ) → Contains (range_with_len 1 count) k → k < count + 1
-known_below count k has =
-    let below = has.1 in
-    let len = length-range_with_len 1 count in
-    let at = get_or-range_with_len 1 count has.0 k (omega arith) in
-    let is = has.2 in
-    omega arith
-
-firsts_below : (count q : ℕ) (ms : List Match) → AllByRecursion (λ (m : Match). Contains (range_with_len 1 count) m.a) ms → list_any (λ p. q == p) (firsts ms) ≡ true → q < count + 1
+firsts_below : (count q : ℕ) (ms : List Match) → AllByRecursion (λ (m : Match). Contains (range_with_len 1 count) m.a) ms
+    → list_any (λ p. q == p) (firsts ms) ≡ true → q < count + 1
 firsts_below count q [] known has = absurd (cc)
-firsts_below count q (m ∷ ms) known has = one_of_both (q == m.a) refl (known_below count m.a known.0) (firsts_below count q ms known.1) has
-  where
-    one_of_both : (b : Bool) → (q == m.a) ≡ b → m.a < count + 1 → (list_any (λ p. q == p) (firsts ms) ≡ true → q < count + 1) → (b || list_any (λ p. q == p) (firsts ms)) ≡ true → q < count + 1
-    one_of_both true e low more h = let same : q ≡ m.a = grind (arith, nat_tests) in omega (arith, low)
-    one_of_both false e low more h = more h
+firsts_below count q (m ∷ ms) known has =
+    let low = within count m.a known.0 in
+    grind (arith, nat_tests, low.1, firsts_below count q ms known.1)
 
 -- nobody is named first at two tables
 few_firsts : (count : ℕ) (ms : List Match) → IsRound (range_with_len 1 count) ms → length ms ≤ count + 1

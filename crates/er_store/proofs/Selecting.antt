@@ -1,81 +1,68 @@
 -- A SELECT changes nothing, whatever the schema is.
-use Rattle.std.proofs.Common.{◌≡◌, inl, inr, ℕ, List, [], Bool, true, false, if◌then◌else◌, Ok, Err, None, refl, sym, ap, subst}
+use Rattle.er_store.proofs.Names.{◌≡◌, inl, inr, ℕ, List, Bool, true, false, if◌then◌else◌, Ok, Err, None, refl, sym, ap, subst, Command}
+use Rattle.er_store.proofs.Names.{Compiled, first, Schema, Row, Error, timed, State, Survives, ShowsRows, FailsToShow, IsUnchanged}
+use Rattle.er_store.proofs.Names.{KeepsTables, begins_select, read_event, read_players, read_pairings, read_bracket, read_tallies}
+use Rattle.er_store.proofs.Names.{read_meetings, read_slip}
 use Rattle.sqlite_ast.specs.declared.Statement.{Statement}
-use Rattle.sqlite_ast.specs.declared.Statement.TheVariants as written
 use Rattle.sqlite_syntax.specs.declared.statement.Parsed.{Parsed}
-use Rattle.sqlite_schema.specs.declared.command.Command.{Command}
-use Rattle.sqlite_resolve.specs.declared.compiled.Compiled.{Compiled}
-use Rattle.sqlite_resolve.specs.Compile.{first, planned, meaning, returning, compiled, with_command}
-use Rattle.sqlite_resolve.specs.Lowering.{Checked, and_then}
-use Rattle.sqlite.specs.Schema.{Schema}
-use Rattle.sqlite.specs.Order.{Row}
-use Rattle.sqlite.specs.declared.error.Error.{Error}
-use Rattle.sqlite.specs.Clock.{timed}
-use Rattle.sqlite.specs.Listing.{understood, listing_schema, if_select, is_select}
-use Rattle.sqlite.specs.State.{State, Survives, CommitsShowing, Shown, ShowsRows, FailsToQuery, FailsToShow, IsNotRun, IsUnchanged}
+use Rattle.sqlite_resolve.specs.{Compile.planned, Compile.meaning, Compile.returning, Compile.compiled, Compile.with_command}
+use Rattle.sqlite_resolve.specs.{Lowering.Checked, Lowering.and_then}
+use Rattle.sqlite.specs.{Listing.understood, Listing.listing_schema, Listing.if_select, Listing.is_select, State.CommitsShowing}
+use Rattle.sqlite.specs.{State.Shown, State.FailsToQuery, State.IsNotRun}
 use Rattle.sqlite.proofs.StateLemmas.{survives_weaker}
 use Rattle.sqlite_tied.specs.Compute.{everything}
-use Rattle.er_store.specs.Reading.{KeepsTables}
-use Rattle.er_store.specs.inside.Lookup.{is_select_by, begins_select}
-use Rattle.er_store.specs.Tables.{read_event, read_players, read_pairings, read_bracket, read_tallies, read_meetings, read_slip}
+use Rattle.er_store.specs.inside.Lookup.{is_select_by}
 use Rattle.er_store.proofs.LoadLemmas.{unchanged_keeps, refused_keeps}
+use Rattle.sqlite_ast.specs.declared.Statement.TheVariants as written
 
-pub event_selects : begins_select (first read_event) ≡ true
-unfolding understood everything
-event_selects = refl
+-- each statement that reads begins with SELECT
+pub record AreSelects : Type 0 where
+  pub event : begins_select (first read_event) ≡ true
+  pub players : begins_select (first read_players) ≡ true
+  pub pairings : begins_select (first read_pairings) ≡ true
+  pub bracket : begins_select (first read_bracket) ≡ true
+  pub tallies : begins_select (first read_tallies) ≡ true
+  pub meetings : begins_select (first read_meetings) ≡ true
+  pub slip : begins_select (first read_slip) ≡ true
 
-pub players_select : begins_select (first read_players) ≡ true
+pub selects : AreSelects
 unfolding understood everything
-players_select = refl
-
-pub tallies_select : begins_select (first read_tallies) ≡ true
-unfolding understood everything
-tallies_select = refl
-
-pub pairings_select : begins_select (first read_pairings) ≡ true
-unfolding understood everything
-pairings_select = refl
-
-pub bracket_selects : begins_select (first read_bracket) ≡ true
-unfolding understood everything
-bracket_selects = refl
-
-pub meetings_select : begins_select (first read_meetings) ≡ true
-unfolding understood everything
-meetings_select = refl
-
-pub slip_selects : begins_select (first read_slip) ≡ true
-unfolding understood everything
-slip_selects = refl
+selects = record { event = refl; players = refl; pairings = refl; bracket = refl; tallies = refl; meetings = refl; slip = refl }
 
 taken : (r : Checked Command) (p : Parsed) (formats : List (List ℕ)) (c : Compiled)
-    → and_then (and_then (and_then r (λ k. Ok (k, None))) (λ found. Ok (formats, found))) (λ plan. Ok (with_command p plan)) ≡ Ok c → c.returning ≡ None
+    → and_then (and_then (and_then r (λ k. Ok (k, None))) (λ found. Ok (formats, found))) (λ plan. Ok (with_command p plan)) ≡ Ok c
+    → c.returning ≡ None
 taken (Ok k) p formats c h = let same : with_command p (formats, (k, None)) ≡ c = cc in ap (λ (x : Compiled). x.returning) (sym same)
 taken (Err e) p formats c h = absurd (cc)
 
-planned_select : (schema : Schema) (p : Parsed) (c : Compiled) (s : Statement) → p.statement ≡ s → is_select_by s ≡ true → and_then (planned schema p) (λ plan. Ok (with_command p plan)) ≡ Ok c → c.returning ≡ None
+planned_select : (schema : Schema) (p : Parsed) (c : Compiled) (s : Statement) → p.statement ≡ s → is_select_by s ≡ true
+    → and_then (planned schema p) (λ plan. Ok (with_command p plan)) ≡ Ok c → c.returning ≡ None
 unfolding planned meaning returning
 planned_select schema p c (written.Select s) same is h = taken _ p _ c (rw same at h)
 planned_select schema p c _ same is h = absurd (cc)
 
-compiled_select : (schema : Schema) (sql : List ℕ) (c : Compiled) → begins_select (first sql) ≡ true → compiled schema sql ≡ Ok c → c.returning ≡ None
+compiled_select : (schema : Schema) (sql : List ℕ) (c : Compiled) → begins_select (first sql) ≡ true → compiled schema sql ≡ Ok c
+    → c.returning ≡ None
 unfolding compiled
 compiled_select schema sql c is h = go (first sql) is h
   where
-    go : (r : Checked Parsed) → begins_select r ≡ true → and_then r (λ p. and_then (planned schema p) (λ plan. Ok (with_command p plan))) ≡ Ok c → c.returning ≡ None
+    go : (r : Checked Parsed) → begins_select r ≡ true
+        → and_then r (λ p. and_then (planned schema p) (λ plan. Ok (with_command p plan))) ≡ Ok c → c.returning ≡ None
     go (Ok p) sel got = planned_select schema p c p.statement refl sel got
     go (Err e) sel got = absurd (cc)
 
 listed_select : (r : Checked Compiled) (c : Compiled) → if_select r ≡ Ok c → r ≡ Ok c
 listed_select (Ok k) c h = go (is_select k.command) h
   where
-    go : (b : Bool) → (if b then Ok k else Err Rattle.sqlite_resolve.specs.declared.error.CompileError.TheVariants.NoSuchTable) ≡ Ok c → ◌≡◌ {A = Checked Compiled} (Ok k) (Ok c)
+    go : (b : Bool) → (if b then Ok k else Err Rattle.sqlite_resolve.specs.declared.error.CompileError.TheVariants.NoSuchTable) ≡ Ok c
+        → ◌≡◌ {A = Checked Compiled} (Ok k) (Ok c)
     go true got = got
     go false got = absurd (cc)
 listed_select (Err e) c h = absurd (cc)
 
 -- whatever the schema is, it shows no row that is written
-pub never_returns : (schema : Schema) (sql : List ℕ) (c : Compiled) → begins_select (first sql) ≡ true → understood schema sql ≡ Ok c → c.returning ≡ None
+pub never_returns : (schema : Schema) (sql : List ℕ) (c : Compiled) → begins_select (first sql) ≡ true → understood schema sql ≡ Ok c
+    → c.returning ≡ None
 unfolding understood
 never_returns schema sql c is h = go _ h
   where
@@ -83,27 +70,24 @@ never_returns schema sql c is h = go _ h
     go true got = compiled_select listing_schema sql c is (listed_select _ c got)
     go false got = compiled_select schema sql c is got
 
-pub commits_nothing : (sql : List ℕ) (params : Row) (old new : State) → begins_select (first sql) ≡ true → Survives old new (CommitsShowing sql params old) → Survives old new (λ _. ⊥)
+pub commits_nothing : (sql : List ℕ) (params : Row) {old new : State} → begins_select (first sql) ≡ true
+    → Survives old new (CommitsShowing sql params old) → Survives old new (λ _. ⊥)
 unfolding CommitsShowing
-commits_nothing sql params old new is = survives_weaker old new _ _ (λ _ db h. absurd (let none = rw (never_returns old.now.schema sql h.0 is h.1.is) at h.2 in cc))
+commits_nothing sql params {old} {new} is =
+    survives_weaker old new _ _ (λ _ db h. absurd (let none = rw (never_returns old.now.schema sql h.0 is h.1.is) at h.2 in cc))
 
 -- a read changes no table, in success or refusal
-pub shows_unchanged : (sql : List ℕ) (params : Row) (old new : State) (rows : List Row) → begins_select (first sql) ≡ true → Shown sql params old new rows → IsUnchanged old new
+pub shows_unchanged : (sql : List ℕ) (params : Row) {old new : State} (rows : List Row) → begins_select (first sql) ≡ true
+    → Shown sql params old new rows → IsUnchanged old new
 unfolding Shown
-shows_unchanged sql params old new rows is h = (subst (ShowsRows old new sql h.0 (timed params h.0.formats h.1.now) rows) (never_returns old.now.schema sql h.0 is h.1.is) h.2).3
+shows_unchanged sql params {old} {new} rows is h =
+    (subst (ShowsRows old new sql h.0 (timed params h.0.formats h.1.now) rows) (never_returns old.now.schema sql h.0 is h.1.is) h.2).3
 
-pub fails_keeping : (sql : List ℕ) (params : Row) (old new : State) (e : Error) → begins_select (first sql) ≡ true → FailsToQuery sql params old new e → KeepsTables old new
+pub fails_keeping : (sql : List ℕ) (params : Row) (old new : State) (e : Error) → begins_select (first sql) ≡ true
+    → FailsToQuery sql params old new e → KeepsTables old new
 unfolding FailsToQuery IsNotRun
 fails_keeping sql params old new e is (inl (inl none)) = unchanged_keeps old new none.1
 fails_keeping sql params old new e is (inl (inr fails)) = refused_keeps old new e (inl fails)
-fails_keeping sql params old new e is (inr (c, s, shows)) = unchanged_keeps old new (subst (FailsToShow old new sql c (timed params c.formats s.now) e) (never_returns old.now.schema sql c is s.is) shows).3
-
--- so does one with no parameter
-pub select_commits_nothing : (sql : List ℕ) (old new : State) → begins_select (first sql) ≡ true → Survives old new (CommitsShowing sql [] old) → Survives old new (λ _. ⊥)
-select_commits_nothing sql = commits_nothing sql []
-
-pub select_shows : (sql : List ℕ) (old new : State) (rows : List Row) → begins_select (first sql) ≡ true → Shown sql [] old new rows → IsUnchanged old new
-select_shows sql = shows_unchanged sql []
-
-pub select_fails : (sql : List ℕ) (old new : State) (e : Error) → begins_select (first sql) ≡ true → FailsToQuery sql [] old new e → KeepsTables old new
-select_fails sql = fails_keeping sql []
+fails_keeping sql params old new e is (inr (c, s, shows)) =
+    unchanged_keeps old new
+    (subst (FailsToShow old new sql c (timed params c.formats s.now) e) (never_returns old.now.schema sql c is s.is) shows).3

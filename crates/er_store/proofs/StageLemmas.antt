@@ -1,17 +1,11 @@
 -- How many stages, and matches of a stage, a sound event may have.
-use Rattle.std.proofs.Common.{◌≡◌, inl, inr, ◌≤◌, ◌<◌, ◌+◌, ◌==◌, ◌||◌, ℕ, Bool, true, false, List, [], ◌∷◌, ◌++◌, length, Option, Some, None, IfSome, refl, sym, subst, true≢false, arith}
-use Rattle.std.specs.List.{slice_get, AllByRecursion}
-use Rattle.std.proofs.lemmas.Option.{none-some, same_Some}
-use Rattle.std.proofs.lemmas.Bool.Decides.{nat_tests}
-use Rattle.er_event.specs.declared.events.Phase.{Phase}
-use Rattle.er_event.specs.declared.events.Phase.TheVariants.{Enrolling, Swiss, Playoff, Finished}
-use Rattle.er_event.specs.declared.matches.Match.{Match}
-use Rattle.er_event.specs.declared.scores.Games.{Games}
-use Rattle.er_event.specs.Event.{EventValue}
-use Rattle.er_event.specs.Bracket.{next_stage, SameSlots, FollowOn}
-use Rattle.er_event.specs.Change.{with_bracket, with_slot_score, with_bracket_score}
-use Rattle.er_event.specs.Sound.{IsInPlayoff, IsSoundButForSeeds}
-use Rattle.er_store.specs.inside.Steps.{IsStage}
+use Rattle.er_store.proofs.Names.{◌≡◌, inl, inr, ◌≤◌, ◌<◌, ◌+◌, ◌==◌, ◌||◌, ℕ, Bool, true, List, [], ◌∷◌, ◌++◌, length, Option, Some, None}
+use Rattle.er_store.proofs.Names.{IfSome, refl, sym, subst, arith, zero, suc, AllByRecursion, none-some, same_Some, nat_tests, Phase, Match}
+use Rattle.er_store.proofs.Names.{Games, EventValue, with_slot_score, with_bracket_score, IsSoundButForSeeds, IsStage}
+use Rattle.std.specs.List.{slice_get}
+use Rattle.er_event.specs.{declared.events.Phase.TheVariants.Enrolling, declared.events.Phase.TheVariants.Swiss}
+use Rattle.er_event.specs.{declared.events.Phase.TheVariants.Playoff, declared.events.Phase.TheVariants.Finished, Bracket.next_stage}
+use Rattle.er_event.specs.{Bracket.SameSlots, Bracket.FollowOn, Change.with_bracket, Sound.IsInPlayoff}
 
 half : (ms : List Match) → length (next_stage ms) + length (next_stage ms) ≤ length ms
 half [] = omega arith
@@ -30,7 +24,8 @@ same_length (m ∷ ms) [] same = absurd same
 same_length (m ∷ ms) (n ∷ ns) same = let rest = same_length ms ns same.1 in omega arith
 
 -- each stage has half of the matches of that before it
-stages_from : (stages : List (List Match)) (stage : List Match) → FollowOn (stage ∷ stages) → IsStage stage → AllByRecursion IsStage (stage ∷ stages)
+stages_from : (stages : List (List Match)) (stage : List Match) → FollowOn (stage ∷ stages) → IsStage stage
+    → AllByRecursion IsStage (stage ∷ stages)
 stages_from [] stage follow is = (is, tt)
 stages_from (next ∷ more) stage follow is =
     let same = same_length next (next_stage stage) follow.2 in
@@ -39,46 +34,36 @@ stages_from (next ∷ more) stage follow is =
     let below = is.1 in
     (is, stages_from more next follow.3 (omega (arith, same), omega (arith, same)))
 
-stages_of : (stages : List (List Match)) (first : List Match) → slice_get stages 0 ≡ Some first → FollowOn stages → IsStage first → AllByRecursion IsStage stages
+stages_of : (stages : List (List Match)) (first : List Match) → slice_get stages 0 ≡ Some first → FollowOn stages → IsStage first
+    → AllByRecursion IsStage stages
 stages_of [] first at follow is = absurd (none-some first at)
 stages_of (stage ∷ stages) first at follow is = stages_from stages stage follow (subst IsStage (sym (same_Some stage first at)) is)
 
-alone : (stages : List (List Match)) (stage : List Match) → FollowOn (stage ∷ stages) → length stage ≤ 1 → length stages ≤ 0
-alone [] stage follow few = omega arith
-alone (next ∷ more) stage follow few = let some = follow.1 in absurd (omega arith)
+-- how many matches a stage has at most that so many others follow
+abbrev most : ℕ → ℕ
+most zero = 1
+most (suc n) = most n + most n
 
-one_later : (stages : List (List Match)) (stage : List Match) → FollowOn (stage ∷ stages) → length stage ≤ 2 → length stages ≤ 1
-one_later [] stage follow few = omega arith
-one_later (next ∷ more) stage follow few =
+few_later : (n : ℕ) (stages : List (List Match)) (stage : List Match) → FollowOn (stage ∷ stages) → length stage ≤ most n
+    → length stages ≤ n
+few_later n [] stage follow few = omega arith
+few_later zero (next ∷ more) stage follow few = let some = follow.1 in absurd (omega arith)
+few_later (suc n) (next ∷ more) stage follow few =
     let same = same_length next (next_stage stage) follow.2 in
     let fewer = half stage in
-    let rest = alone more next follow.3 (omega (arith, same)) in
+    let rest = few_later n more next follow.3 (omega (arith, same)) in
     omega (arith, rest)
 
-two_later : (stages : List (List Match)) (stage : List Match) → FollowOn (stage ∷ stages) → length stage ≤ 4 → length stages ≤ 2
-two_later [] stage follow few = omega arith
-two_later (next ∷ more) stage follow few =
-    let same = same_length next (next_stage stage) follow.2 in
-    let fewer = half stage in
-    let rest = one_later more next follow.3 (omega (arith, same)) in
-    omega (arith, rest)
-
-three_at_most : (stages : List (List Match)) (first : List Match) → slice_get stages 0 ≡ Some first → FollowOn stages → length first ≤ 4 → length stages ≤ 3
+three_at_most : (stages : List (List Match)) (first : List Match) → slice_get stages 0 ≡ Some first → FollowOn stages → length first ≤ 4
+    → length stages ≤ 3
 three_at_most [] first at follow few = omega arith
 three_at_most (stage ∷ stages) first at follow few =
-    let rest = two_later stages stage follow (subst (λ (ms : List Match). length ms ≤ 4) (sym (same_Some stage first at)) few) in
+    let rest = few_later 2 stages stage follow (subst (λ (ms : List Match). length ms ≤ 4) (sym (same_Some stage first at)) few) in
     omega (arith, rest)
 
 -- how many play a playoff
 cut_between : (cut : ℕ) → (cut == 0 || cut == 2 || cut == 4 || cut == 8) ≡ true → 0 < cut → (2 ≤ cut) × (cut ≤ 8)
-cut_between cut h low = by (cut == 0) (cut == 2) (cut == 4) (cut == 8) refl refl refl refl h
-  where
-    by : (a b c d : Bool) → (cut == 0) ≡ a → (cut == 2) ≡ b → (cut == 4) ≡ c → (cut == 8) ≡ d → (a || b || c || d) ≡ true → (2 ≤ cut) × (cut ≤ 8)
-    by true b c d p q r t h = absurd (grind (arith, nat_tests))
-    by false true c d p q r t h = (grind (arith, nat_tests), grind (arith, nat_tests))
-    by false false true d p q r t h = (grind (arith, nat_tests), grind (arith, nat_tests))
-    by false false false true p q r t h = (grind (arith, nat_tests), grind (arith, nat_tests))
-    by false false false false p q r t h = absurd (true≢false (sym h))
+cut_between cut h low = (grind (arith, nat_tests), grind (arith, nat_tests))
 
 -- ---- a sound event
 
@@ -92,8 +77,10 @@ module _ (e : EventValue) (sound : IsSoundButForSeeds e) where
       let within = cut_between e.cut sound.set_up.cut b.cut_is_played in
       let least = within.0 in
       let most = within.1 in
-      let slots = b.slots in
-      (stages_of stages b.first b.is_first b.follows (omega arith, omega arith), three_at_most stages b.first b.is_first b.follows (omega arith))
+      let slots = b.slots in (
+        stages_of stages b.first b.is_first b.follows (omega arith, omega arith),
+        three_at_most stages b.first b.is_first b.follows (omega arith),
+      )
 
   before : stages ≡ [] → AllByRecursion IsStage stages × (length stages ≤ 3)
   before none = subst (λ (ss : List (List Match)). AllByRecursion IsStage ss × (length ss ≤ 3)) (sym none) (tt, omega arith)
@@ -117,6 +104,8 @@ last_of (s ∷ stages) stage all = last_of stages stage all.1
 pub first_is : (e : EventValue) (ms : List Match) → IsSoundButForSeeds (with_bracket e ms) → IsStage ms
 first_is e ms sound = last_of e.bracket.stages ms (both (with_bracket e ms) sound).0
 
-pub next_is : (e : EventValue) (k t : ℕ) (score : Games) (next : Option (List Match)) (over : Bool) → IsSoundButForSeeds (with_bracket_score e k t score next over) → IfSome next IsStage
+pub next_is : (e : EventValue) (k t : ℕ) (score : Games) (next : Option (List Match)) (over : Bool)
+    → IsSoundButForSeeds (with_bracket_score e k t score next over) → IfSome next IsStage
 next_is e k t score None over sound = tt
-next_is e k t score (Some ms) over sound = last_of (with_slot_score e k t score).bracket.stages ms (both (with_bracket_score e k t score (Some ms) over) sound).0
+next_is e k t score (Some ms) over sound =
+    last_of (with_slot_score e k t score).bracket.stages ms (both (with_bracket_score e k t score (Some ms) over) sound).0

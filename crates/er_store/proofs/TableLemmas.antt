@@ -1,55 +1,57 @@
 -- The five shapes are tables: what their texts read is what stands in their trees.
-use Rattle.std.proofs.Common.{ℕ, List, [], ◌∷◌, refl}
-use Rattle.sqlite.specs.Order.{Row}
-use Rattle.sqlite.specs.Schema.{Schema}
-use Rattle.sqlite.specs.Query.{Query}
-use Rattle.sqlite.specs.Command.TheVariants.{Select}
-use Rattle.sqlite.specs.State.{State, Shown, FailsToQuery}
-use Rattle.sqlite.specs.declared.types.Value.TheVariants.{Null}
-use Rattle.sqlite.specs.declared.error.Error.{Error}
-use Rattle.sqlite_schema.specs.declared.schema.Index.{Index}
-use Rattle.sqlite_schema.specs.declared.schema.View.{View}
-use Rattle.sqlite.specs.Table.{Table}
-use Rattle.sqlite.proofs.Callers.{reads_as}
-use Rattle.er_store.specs.Rows.{columns_at}
-use Rattle.er_store.specs.Shape.{Form, Shape, event_form, player_form, pairing_form, bracket_form, tally_form, event_table, player_table, pairing_table, bracket_table, tally_table}
-use Rattle.er_store.specs.Reading.{Lists, IsReadRefused}
-use Rattle.er_store.specs.Standing.{HasTables}
-use Rattle.er_store.specs.inside.Queries.{table_query, Selects}
-use Rattle.er_store.specs.inside.Lookup.{IsOurs}
-use Rattle.er_store.proofs.Meaning.{full, event_selected, players_selected, pairings_selected, bracket_selected, tallies_selected}
-use Rattle.er_store.proofs.Effects.{at_ours}
-use Rattle.er_store.proofs.ReadLemmas.{answer_lists, sorted_by_one, sorted_by_two}
-use Rattle.er_store.proofs.Refusals.{read_refused}
-use Rattle.er_store.proofs.Selecting.{event_selects, players_select, pairings_select, bracket_selects, tallies_select}
-use Rattle.er_store.proofs.Exact.{event_exact, players_exact, bracket_exact, tallies_exact, event_columns-same, player_columns-same, pairing_columns-same, bracket_columns-same, tally_columns-same, event_text, players_text}
-use Rattle.er_store.proofs.Keyed.{pairings_exact}
+use Rattle.er_store.proofs.Names.{ℕ, List, [], ◌∷◌, refl, ap, map, subst, sym, ◌≡◌, ◌∙◌, Row, State, Error, columns_at, Form, Shape, Lists}
+use Rattle.er_store.proofs.Names.{IsReadRefused, first_columns, HasTables, StandsFor, FindsRows, EventValue, IsSoundButForSeeds}
+use Rattle.sqlite.specs.State.{Shown, FailsToQuery}
+use Rattle.er_store.specs.{Shape.event_form, Shape.player_form, Shape.pairing_form, Shape.bracket_form, Shape.tally_form, Shape.event_table}
+use Rattle.er_store.specs.{Shape.player_table, Shape.pairing_table, Shape.bracket_table, Shape.tally_table, inside.Lookup.IsOurs}
+use Rattle.er_store.specs.{Loading.IsListed}
+use Rattle.er_store.proofs.{Meaning.event_selected, Meaning.players_selected, Meaning.pairings_selected, Meaning.bracket_selected}
+use Rattle.er_store.proofs.{Meaning.tallies_selected, ReadLemmas.answer_lists, ReadLemmas.sorted_by_one, ReadLemmas.sorted_by_two}
+use Rattle.er_store.proofs.{ReadLemmas.listed_whole, Refusals.read_refused, Refusals.answers, Selecting.selects, Exact.event_exact}
+use Rattle.er_store.proofs.{Exact.players_exact, Exact.bracket_exact, Exact.tallies_exact, Exact.event_columns-same}
+use Rattle.er_store.proofs.{Exact.player_columns-same, Exact.pairing_columns-same, Exact.bracket_columns-same, Exact.tally_columns-same}
+use Rattle.er_store.proofs.{Exact.event_text, Exact.players_text, Exact.map-same, Keyed.pairings_exact, Effects.selected, Damaging.may_read}
 
 -- ---- what the statement of a table reads
 
-module _ {R : Type 0} (form : Form R) (table : Shape R) (it : IsOurs form table) (old new : State) (has : HasTables old.now.schema) where
-  pub listed : (rows : List Row) → Shown table.read [] old new rows → Lists table.order (columns_at table.places (old.now.trees table.tree)) rows
-  listed rows h =
-      let is = it.selects old.now.schema has in
-      let read = reads_as table.read [] old new old.now.schema refl (Select (record { lets = []; body = table_query table.tree table.places it.keys }) is.names) is.is is.plain is.unlisted rows h in
-      it.lists old.now.trees rows (read.answer Null)
+module _ {R : Type 0} (form : Form R) (table : Shape R) (it : IsOurs form table) (old new : State) where
+  listed : {rows : List Row} → HasTables old.now.schema → Shown table.read [] old new rows
+      → Lists table.order (columns_at table.places (old.now.trees table.tree)) rows
+  listed {rows} has h = it.lists old.now.trees rows (answers old new (it.selects old.now.schema has) h)
 
-  pub refused : (e : Error) → FailsToQuery table.read [] old new e → IsReadRefused old new e
-  refused e = read_refused table.tree table.places it.keys table.read old new e (it.selects old.now.schema has)
+  pub refused : (e : Error) → HasTables old.now.schema → FailsToQuery table.read [] old new e → IsReadRefused old new e
+  refused e has = read_refused table.tree table.places it.keys old new e (it.selects old.now.schema has)
+
+  -- the rows are those of the event, where the tables stand for one
+  pub are_rows : {rows : List Row} → Shown table.read [] old new rows → (e : EventValue) (s : ℕ) → StandsFor old.now e s
+      → IsSoundButForSeeds e → rows ≡ map form.columns (table.rows e s)
+  are_rows {rows} shows e s stands sound = it.exact old.now e s rows stands sound (listed stands.tables shows)
+
+  -- what typed rows with their columns are
+  pub finds_rows : {rows given : List Row} → Shown table.read [] old new rows → given ≡ rows
+      → (typed : List R) → map form.columns typed ≡ map (first_columns form.width) given → FindsRows form table old.now typed
+  finds_rows {rows} {given} shows same typed are = record {
+    reads = may_read form table old new rows given it.begins same shows typed are;
+    lists = lists;
+    exact = λ e s stands sound.
+        map-same form.columns it.same typed (table.rows e s)
+        (it.exact old.now e s (map form.columns typed) stands sound (lists stands.tables));
+  }
+    where
+      lists : HasTables old.now.schema → IsListed form table old.now typed
+      lists has =
+          let all = listed has shows in
+          let width = listed_whole table.order form.width table.places (old.now.trees table.tree) rows it.whole all in
+          subst (Lists table.order (columns_at table.places (old.now.trees table.tree)))
+          (sym (are ∙ (ap (map (first_columns form.width)) same ∙ width))) all
 
 -- ---- the five
 
-abbrev SelectsAll : List ℕ → Query → Type 0
-SelectsAll sql query = (others : List Table) (indexes : List Index) (views : List View) → Selects sql query (full others indexes views)
-
-selected : (sql : List ℕ) (query : Query) → SelectsAll sql query → (schema : Schema) → HasTables schema → Selects sql query schema
-selected sql query is schema has = at_ours schema has (Selects sql query) (is has.others schema.indexes schema.views)
-
 pub event_is_ours : IsOurs event_form event_table
 event_is_ours = record {
-  begins = event_selects;
+  begins = selects.event;
   keys = 0 ∷ [];
-  selects = selected _ _ event_selected;
+  selects = λ schema has. selected has event_selected;
   lists = answer_lists event_table.tree event_table.places (0 ∷ []) event_table.order (sorted_by_one 0 0 (2 ∷ 3 ∷ 4 ∷ 5 ∷ 6 ∷ 7 ∷ []));
   whole = λ r. refl;
   exact = λ db e s rows stands sound. event_exact db e s rows stands;
@@ -59,9 +61,9 @@ event_is_ours = record {
 
 pub player_is_ours : IsOurs player_form player_table
 player_is_ours = record {
-  begins = players_select;
+  begins = selects.players;
   keys = 0 ∷ [];
-  selects = selected _ _ players_selected;
+  selects = λ schema has. selected has players_selected;
   lists = answer_lists player_table.tree player_table.places (0 ∷ []) player_table.order (sorted_by_one 1 0 (2 ∷ 3 ∷ []));
   whole = λ r. refl;
   exact = λ db e s rows stands sound. players_exact db e s rows stands sound.players.numbered;
@@ -71,10 +73,11 @@ player_is_ours = record {
 
 pub pairing_is_ours : IsOurs pairing_form pairing_table
 pairing_is_ours = record {
-  begins = pairings_select;
+  begins = selects.pairings;
   keys = 1 ∷ 2 ∷ [];
-  selects = selected _ _ pairings_selected;
-  lists = answer_lists pairing_table.tree pairing_table.places (1 ∷ 2 ∷ []) pairing_table.order (sorted_by_two 3 1 2 (3 ∷ 4 ∷ 5 ∷ 6 ∷ 7 ∷ 8 ∷ 9 ∷ []));
+  selects = λ schema has. selected has pairings_selected;
+  lists = answer_lists pairing_table.tree pairing_table.places (1 ∷ 2 ∷ []) pairing_table.order
+      (sorted_by_two 3 1 2 (3 ∷ 4 ∷ 5 ∷ 6 ∷ 7 ∷ 8 ∷ 9 ∷ []));
   whole = λ r. refl;
   exact = pairings_exact;
   same = pairing_columns-same;
@@ -83,10 +86,11 @@ pairing_is_ours = record {
 
 pub bracket_is_ours : IsOurs bracket_form bracket_table
 bracket_is_ours = record {
-  begins = bracket_selects;
+  begins = selects.bracket;
   keys = 1 ∷ 2 ∷ [];
-  selects = selected _ _ bracket_selected;
-  lists = answer_lists bracket_table.tree bracket_table.places (1 ∷ 2 ∷ []) bracket_table.order (sorted_by_two 6 1 2 (3 ∷ 4 ∷ 5 ∷ 6 ∷ 7 ∷ 8 ∷ []));
+  selects = λ schema has. selected has bracket_selected;
+  lists = answer_lists bracket_table.tree bracket_table.places (1 ∷ 2 ∷ []) bracket_table.order
+      (sorted_by_two 6 1 2 (3 ∷ 4 ∷ 5 ∷ 6 ∷ 7 ∷ 8 ∷ []));
   whole = λ r. refl;
   exact = λ db e s rows stands sound. bracket_exact db e s rows stands;
   same = bracket_columns-same;
@@ -95,9 +99,9 @@ bracket_is_ours = record {
 
 pub tally_is_ours : IsOurs tally_form tally_table
 tally_is_ours = record {
-  begins = tallies_select;
+  begins = selects.tallies;
   keys = 0 ∷ [];
-  selects = selected _ _ tallies_selected;
+  selects = λ schema has. selected has tallies_selected;
   lists = answer_lists tally_table.tree tally_table.places (0 ∷ []) tally_table.order (sorted_by_one 8 0 (2 ∷ 3 ∷ 4 ∷ 5 ∷ []));
   whole = λ r. refl;
   exact = λ db e s rows stands sound. tallies_exact db e s rows stands sound.players.numbered;

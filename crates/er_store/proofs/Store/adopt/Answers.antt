@@ -1,22 +1,8 @@
-use Rattle.std.proofs.Common.{◌≡◌, ℕ, List, Result, Ok, Err, IsOk, IsTrue, refl, sym, ap, not, subst, ◌∙◌, true≢false}
-use Rattle.er_store.specs.Tables.{read_event}
-use Rattle.sqlite.specs.Held.{state}
-use Rattle.sqlite.specs.Schema.{Schema}
-use Rattle.sqlite.specs.Effect.{Database, IsDatabase}
-use Rattle.sqlite.specs.State.{State, IsUnchanged}
-use Rattle.sqlite_resolve.specs.declared.compiled.Compiled.{Compiled}
-use Rattle.sqlite_resolve.specs.declared.error.CompileError.{CompileError}
-use Rattle.er_event.specs.Event.{EventValue}
-use Rattle.er_store.specs.Loading.{ShowsEvent}
-use Rattle.er_store.specs.Standing.{HasTables, AreKeyed, StandsFor, ReadsEvent, Shows}
-use Rattle.er_store.proofs.Meaning.{event_selected}
-use Rattle.er_store.specs.inside.Queries.{Takes}
-use Rattle.er_store.proofs.Effects.{at_ours}
-use Rattle.er_store.proofs.Crash.{shows_leaves}
-use Rattle.er_store.proofs.LoadLemmas.{kept_tables, kept_stands}
-use Rattle.er_store.specs.Damage.{ReadsParts, ReadsTallies, IsAtFault}
-use Rattle.er_event.specs.Rows.{tally_rows}
-use Rattle.er_event.specs.Parts.{parts_of}
+use Rattle.er_store.proofs.Names.{◌≡◌, ℕ, List, Result, Ok, Err, IsOk, IsTrue, refl, sym, ap, not, subst, ◌∙◌, true≢false, read_event}
+use Rattle.er_store.proofs.Names.{state, Schema, Database, IsDatabase, State, IsUnchanged, Compiled, CompileError, EventValue, ShowsEvent}
+use Rattle.er_store.proofs.Names.{HasTables, StandsFor, Shows, Takes, ReadsParts, ReadsTallies, IsAtFault, tally_rows, parts_of}
+use Rattle.er_store.specs.Standing.{AreKeyed, ReadsEvent}
+use Rattle.er_store.proofs.{Meaning.event_selected, Effects.at_ours, Crash.shows_leaves, LoadLemmas.kept_tables, LoadLemmas.kept_stands}
 use Rattle.er_store.proofs.Store.adopt.Goals as goal
 
 takes_ok : (n : ℕ) (sql : List ℕ) (r : Result Compiled CompileError) → Takes n sql r → IsOk r
@@ -24,10 +10,12 @@ takes_ok n sql (Ok c) takes = refl
 takes_ok n sql (Err e) takes = absurd takes
 
 reads_ours : (schema : Schema) → HasTables schema → ReadsEvent schema
-reads_ours schema has = at_ours schema has ReadsEvent (takes_ok 0 read_event _ (event_selected has.others schema.indexes schema.views).whole)
+reads_ours schema has = at_ours schema has ReadsEvent
+    (takes_ok 0 read_event _ (event_selected has.others schema.indexes schema.views).whole)
 
 -- a connection that saw the last commit, and sees the same
-shows_same : (old mid new : State) (e : EventValue) (s : ℕ) → IsDatabase old.now → old.now ≡ old.committed → StandsFor old.now e s → IsUnchanged old mid → IsUnchanged mid new → Shows new e s
+shows_same : (old mid new : State) (e : EventValue) (s : ℕ) → IsDatabase old.now → old.now ≡ old.committed → StandsFor old.now e s
+    → IsUnchanged old mid → IsUnchanged mid new → Shows new e s
 shows_same old mid new e s sound settled stands first second =
     let nows : new.now ≡ old.now = second.0.now_is ∙ first.0.now_is in
     record {
@@ -45,7 +33,8 @@ returns-in-Ok-false-clause-found g c e s stands sound clean =
 pub returns-in-Err-load_tables-clause-found : goal.returns-in-Err-load_tables-clause-found
 returns-in-Err-load_tables-clause-found g c e s stands sound clean =
     let same = (c.in-Ok-true.ensures.found (c.in-Err-load_tables.ensures.clean clean)).1 in
-    c.in-Err-load_tables.ensures.found clean e s (kept_stands (state g.S.Store c.args.conn) (state g.S.Store c.reads_event.new.conn) e s same stands) sound
+    c.in-Err-load_tables.ensures.found clean e s
+    (kept_stands (state g.S.Store c.args.conn) (state g.S.Store c.reads_event.new.conn) e s same stands) sound
 
 pub returns-in-Ok-clause-found : goal.returns-in-Ok-clause-found
 returns-in-Ok-clause-found g c e s stands sound clean =
@@ -76,13 +65,17 @@ returns-in-Ok-clause-stands g c clean has keyed =
     let same = (c.in-Ok-true.ensures.found (c.in-Ok.ensures.clean clean)).1 in
     let auto : IsTrue c.is_autocommit.result = c.is_autocommit.ensures.value ∙ ap not c.requires.mode in
     let was : old.now ≡ old.committed = c.is_autocommit.ensures.settled auto same.0.was_open in
-    let shows = subst (λ (d : Database). ShowsEvent d c.in-Ok.event c.in-Ok.serial) same.0.now_is (c.in-Ok.ensures.shows clean (kept_tables old mid same has)) in
+    let shows = subst (λ (d : Database). ShowsEvent d c.in-Ok.event c.in-Ok.serial) same.0.now_is
+    (c.in-Ok.ensures.shows clean (kept_tables old mid same has)) in
     let stands = shown_stands old.now c.in-Ok.event c.in-Ok.serial has keyed shows in
-    shows_same old mid new c.in-Ok.event c.in-Ok.serial (c.schema.ensures.live same.0.was_open).0 was stands same (c.in-Ok.ensures.same clean)
+    shows_same old mid new c.in-Ok.event c.in-Ok.serial (c.schema.ensures.live same.0.was_open).0 was stands same
+    (c.in-Ok.ensures.same clean)
 
 pub returns-in-Ok-clause-leaves : goal.returns-in-Ok-clause-leaves
 returns-in-Ok-clause-leaves g c clean e s stands sound =
-    shows_leaves (state g.S.Store c.load_tables.new.conn) e s (λ db is_open may. g.met.S.Store.settled c.load_tables.new.conn.store db is_open may) (returns-in-Ok-clause-found g c e s stands sound clean).2
+    shows_leaves (state g.S.Store c.load_tables.new.conn) e s
+    (λ db is_open may. g.met.S.Store.settled c.load_tables.new.conn.store db is_open may)
+    (returns-in-Ok-clause-found g c e s stands sound clean).2
 
 pub returns-in-Err-load_tables-clause-first : goal.returns-in-Err-load_tables-clause-first
 returns-in-Err-load_tables-clause-first g c clean place is =
@@ -90,9 +83,11 @@ returns-in-Err-load_tables-clause-first g c clean place is =
     subst (λ (d : Database). IsAtFault d place) same.0.now_is (c.in-Err-load_tables.ensures.first clean place is)
 
 pub returns-in-Err-load_tables-clause-readable : goal.returns-in-Err-load_tables-clause-readable
-returns-in-Err-load_tables-clause-readable g c clean place is = (c.in-Ok-true.ensures.found (c.in-Err-load_tables.ensures.clean clean)).0.0 c.in-Ok-true.field-0-test
+returns-in-Err-load_tables-clause-readable g c clean place is =
+    (c.in-Ok-true.ensures.found (c.in-Err-load_tables.ensures.clean clean)).0.0 c.in-Ok-true.field-0-test
 
 pub returns-in-Ok-clause-reads : goal.returns-in-Ok-clause-reads
 returns-in-Ok-clause-reads g c clean =
     let same = (c.in-Ok-true.ensures.found (c.in-Ok.ensures.clean clean)).1 in
-    subst (λ (d : Database). ReadsParts d (parts_of c.in-Ok.event c.in-Ok.serial) × ReadsTallies d (tally_rows c.in-Ok.event)) same.0.now_is (c.in-Ok.ensures.reads clean)
+    subst (λ (d : Database). ReadsParts d (parts_of c.in-Ok.event c.in-Ok.serial) × ReadsTallies d (tally_rows c.in-Ok.event)) same.0.now_is
+    (c.in-Ok.ensures.reads clean)

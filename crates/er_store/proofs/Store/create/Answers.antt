@@ -1,24 +1,19 @@
-use Rattle.std.proofs.Common.{inl, inr, sym, subst, ◌∙◌, true≢false}
-use Rattle.sqlite.specs.Held.{state}
-use Rattle.er_store.specs.Tables.{no_schema}
-use Rattle.er_store.specs.Standing.{CanRead}
-use Rattle.er_store.proofs.Finding.{schema_kept}
-use Rattle.er_store.specs.Standing.{CanRead}
-use Rattle.er_store.proofs.Meaning.{unreadable}
-use Rattle.er_store.proofs.Effects.{can_read}
-use Rattle.er_store.proofs.Crash.{only}
-use Rattle.er_store.proofs.LoadLemmas.{unchanged_keeps, then_keeps}
+use Rattle.er_store.proofs.Names.{inl, inr, sym, subst, ◌∙◌, true≢false, state, no_schema, CanRead}
+use Rattle.er_store.proofs.{Finding.schema_kept, Meaning.unreadable, Effects.can_read, Crash.only, LoadLemmas.unchanged_keeps}
+use Rattle.er_store.proofs.{LoadLemmas.then_keeps}
 use Rattle.er_store.proofs.Store.create.Goals as goal
 
 pub returns-in-Ok-clause-created : goal.returns-in-Ok-clause-created
 returns-in-Ok-clause-created g c clean none =
     let early = c.in-Ok.ensures.clean clean in
-    c.in-Ok.ensures.created clean (schema_kept (state g.S.Store c.args.conn) (state g.S.Store c.has_event.new.conn) no_schema (c.in-Ok-false.ensures.found early).1 none)
+    c.in-Ok.ensures.created clean (schema_kept (state g.S.Store c.args.conn) (state g.S.Store c.has_event.new.conn) no_schema
+    (c.in-Ok-false.ensures.found early).1 none)
 
 pub returns-in-Ok-clause-acknowledged : goal.returns-in-Ok-clause-acknowledged
 returns-in-Ok-clause-acknowledged g c clean none =
     let early = c.in-Ok.ensures.clean clean in
-    c.in-Ok.ensures.acknowledged clean (schema_kept (state g.S.Store c.args.conn) (state g.S.Store c.has_event.new.conn) no_schema (c.in-Ok-false.ensures.found early).1 none)
+    c.in-Ok.ensures.acknowledged clean (schema_kept (state g.S.Store c.args.conn) (state g.S.Store c.has_event.new.conn) no_schema
+    (c.in-Ok-false.ensures.found early).1 none)
 
 pub returns-in-Ok-clause-absent : goal.returns-in-Ok-clause-absent
 returns-in-Ok-clause-absent g c clean =
@@ -50,9 +45,11 @@ returns-in-Err-create_tables-clause-spares g c reads clean trees may =
     absurd (true≢false (sym (found.1 reads) ∙ c.in-Ok-false.field-0-test))
 
 pub returns-in-Ok-true-clause-kept : goal.returns-in-Ok-true-clause-kept
-returns-in-Ok-true-clause-kept g c clean = unchanged_keeps (state g.S.Store c.args.conn) (state g.S.Store c.has_event.new.conn) (c.in-Ok-true.ensures.found clean).1
+returns-in-Ok-true-clause-kept g c clean =
+    unchanged_keeps (state g.S.Store c.args.conn) (state g.S.Store c.has_event.new.conn) (c.in-Ok-true.ensures.found clean).1
 
 pub returns-in-Err-create_tables-clause-kept : goal.returns-in-Err-create_tables-clause-kept
 returns-in-Err-create_tables-clause-kept g c clean =
     let found = c.in-Ok-false.ensures.found (c.in-Err-create_tables.ensures.clean clean) in
-    then_keeps (state g.S.Store c.args.conn) (state g.S.Store c.has_event.new.conn) (state g.S.Store c.create_tables.new.conn) found.1 (c.in-Err-create_tables.ensures.kept clean)
+    then_keeps (state g.S.Store c.args.conn) (state g.S.Store c.has_event.new.conn) (state g.S.Store c.create_tables.new.conn) found.1
+    (c.in-Err-create_tables.ensures.kept clean)

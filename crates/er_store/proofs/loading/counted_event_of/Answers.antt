@@ -1,6 +1,4 @@
-use Rattle.std.proofs.Common.{◌≡◌, inr, refl, sym, ap, ◌∙◌, true≢false}
-use Rattle.er_event.specs.Event.{EventValue}
-use Rattle.er_event.specs.Rows.{tally_rows}
+use Rattle.er_store.proofs.Names.{◌≡◌, inr, refl, sym, ap, ◌∙◌, true≢false, EventValue, tally_rows}
 use Rattle.er_store.proofs.loading.counted_event_of.Goals as goal
 
 pub returns-then-has_tallies-clause-only : goal.returns-then-has_tallies-clause-only

@@ -1,7 +1,10 @@
-use Rattle.std.proofs.Common.{inr, Err, ap, ◌∙◌}
-use Rattle.er_event.specs.declared.refusals.Refusal.TheVariants.{Damaged}
+use Rattle.er_store.proofs.Names.{inr, Err, ap, ◌∙◌, Damaged}
 use Rattle.er_store.proofs.loading.event_of.Goals as goal
 
 pub returns-in-Err-Damaged-clause-refused : goal.returns-in-Err-Damaged-clause-refused
 returns-in-Err-Damaged-clause-refused c =
-    inr (c.in-Err-Damaged.table, ap Damaged c.in-Err-Damaged.table-is, c.from_parts.ensures.damaged c.in-Err-Damaged.table (c.in-Err-Damaged.is ∙ ap Err c.in-Err-Damaged.field-0-is))
+    inr (
+      c.in-Err-Damaged.table,
+      ap Damaged c.in-Err-Damaged.table-is,
+      c.from_parts.ensures.damaged c.in-Err-Damaged.table (c.in-Err-Damaged.is ∙ ap Err c.in-Err-Damaged.field-0-is),
+    )

@@ -1,11 +1,6 @@
-use Rattle.std.proofs.Common.{◌≡◌, Ok, sym, ap, ◌∙◌, subst}
-use Rattle.sqlite.specs.Held.{state}
-use Rattle.er_event.specs.declared.refusals.Refusal.TheVariants.{Damaged}
-use Rattle.er_event.specs.declared.refusals.Place.{Place}
-use Rattle.er_store.specs.Fault.{IsFault, reading_refusal}
-use Rattle.er_store.specs.inside.Lookup.{LooksUp, FindsRows, MissesRows}
-use Rattle.er_store.proofs.LoadLemmas.{read_fault}
-use Rattle.er_store.proofs.Damaging.{damaged_place}
+use Rattle.er_store.proofs.Names.{◌≡◌, Ok, sym, ap, ◌∙◌, subst, state, Damaged, Place, IsFault, reading_refusal, LooksUp, FindsRows}
+use Rattle.er_store.specs.inside.Lookup.{MissesRows}
+use Rattle.er_store.proofs.{LoadLemmas.read_fault, Damaging.damaged_place}
 use Rattle.er_store.proofs.loading.load_rows.Goals as goal
 
 pub returns-in-Ok-clause-looks : goal.returns-in-Ok-clause-looks
@@ -30,15 +25,18 @@ returns-in-Err-clause-looks g c =
     let place = g.T.TableRow.table.place in
     let old = state g.S.Store c.args.conn.now in
     let new = state g.S.Store c.read_table.new.conn in
-    let is : c.reading_refusal.result ≡ reading_refusal place c.in-Err.error = c.reading_refusal.ensures.value ∙ ap (λ (at : Place). reading_refusal at c.in-Err.error) c.place.ensures in
-    let damaged : (at : Place) → c.reading_refusal.result ≡ Damaged at → reading_refusal place c.in-Err.error ≡ Damaged at = λ at h. sym is ∙ h in
+    let is : c.reading_refusal.result ≡ reading_refusal place c.in-Err.error = c.reading_refusal.ensures.value
+    ∙ ap (λ (at : Place). reading_refusal at c.in-Err.error) c.place.ensures in
+    let damaged : (at : Place) → c.reading_refusal.result ≡ Damaged at
+    → reading_refusal place c.in-Err.error ≡ Damaged at = λ at h. sym is ∙ h in
     record {
       clean = c.read_table.ensures.clean;
       finds = λ clean. tt;
       misses = λ clean.
           record {
             misread = λ at h. (damaged_place place c.in-Err.error at (damaged at h), c.in-Err.ensures.misread clean at (damaged at h));
-            refused = λ e s stands sound. subst IsFault (sym is) (read_fault place old new c.in-Err.error (c.in-Err.ensures.refused clean e s stands sound));
+            refused = λ e s stands sound. subst IsFault (sym is)
+                (read_fault place old new c.in-Err.error (c.in-Err.ensures.refused clean e s stands sound));
           };
       fault = c.reading_refusal.ensures.fault;
       same = λ clean. tt;

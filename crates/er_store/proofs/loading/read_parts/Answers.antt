@@ -1,8 +1,6 @@
-use Rattle.std.proofs.Common.{rules}
-use Rattle.sqlite.specs.Held.{state}
-use Rattle.er_event.specs.declared.refusals.Place.TheVariants.{EventTable, PlayerTable, PairingTable, BracketTable}
-use Rattle.er_store.proofs.TableLemmas.{event_is_ours, player_is_ours, pairing_is_ours, bracket_is_ours}
-use Rattle.er_store.proofs.LookupLemmas.{looks_then, found_as, missed_as, first_misread}
+use Rattle.er_store.proofs.Names.{rules, EventTable, PlayerTable, PairingTable, BracketTable}
+use Rattle.er_store.proofs.{TableLemmas.event_is_ours, TableLemmas.player_is_ours, TableLemmas.pairing_is_ours, TableLemmas.bracket_is_ours}
+use Rattle.er_store.proofs.{LookupLemmas.looks_then, LookupLemmas.found_as, LookupLemmas.missed_as, LookupLemmas.first_misread}
 use Rattle.er_store.proofs.loading.read_parts.Goals as goal
 
 pub load_rows-requires : goal.load_rows-requires
@@ -19,50 +17,41 @@ load_rows-requires-4 g c = bracket_is_ours
 
 pub returns-in_err-event-clause-looks : goal.returns-in_err-event-clause-looks
 returns-in_err-event-clause-looks g c =
-    let s0 = state g.S.Store c.args.conn.now in
-    let s1 = state g.S.Store c.load_rows.new.conn in
     let look = c.in_err-event.ensures.looks in
-    missed_as s0 s1 c.in_err-event.field-0.0 c.from_residual.result (search rules) (λ db miss. record { misread = first_misread EventTable db c.in_err-event.field-0.0 tt miss.misread; refused = miss.refused }) look
+    missed_as (search rules) (λ db miss. first_misread EventTable db c.in_err-event.field-0.0 tt miss.misread miss.refused) look
 
 pub returns-in_err-players-clause-looks : goal.returns-in_err-players-clause-looks
 returns-in_err-players-clause-looks g c =
-    let s0 = state g.S.Store c.args.conn.now in
-    let s1 = state g.S.Store c.load_rows.new.conn in
-    let s2 = state g.S.Store c.load_rows-2.new.conn in
-    let look = looks_then s0 s1 s2 c.in_ok-event.event _ c.in_ok-event.ensures.looks c.in_err-players.ensures.looks in
-    missed_as s0 s2 c.in_err-players.field-0.0 c.from_residual-in_err-players.result (search rules) (λ db miss. record { misread = first_misread PlayerTable db c.in_err-players.field-0.0 (c.in_ok-event.event, miss.0.reads) miss.1.misread; refused = miss.1.refused }) look
+    let look = looks_then c.in_ok-event.ensures.looks c.in_err-players.ensures.looks in
+    missed_as (search rules) (λ db miss. first_misread PlayerTable db c.in_err-players.field-0.0
+    (c.in_ok-event.event, miss.0.reads) miss.1.misread miss.1.refused) look
 
 pub returns-in_err-pairings-clause-looks : goal.returns-in_err-pairings-clause-looks
 returns-in_err-pairings-clause-looks g c =
-    let s0 = state g.S.Store c.args.conn.now in
-    let s1 = state g.S.Store c.load_rows.new.conn in
-    let s2 = state g.S.Store c.load_rows-2.new.conn in
-    let s3 = state g.S.Store c.load_rows-3.new.conn in
-    let look = looks_then s0 s1 s3 c.in_ok-event.event _ c.in_ok-event.ensures.looks (looks_then s1 s2 s3 c.in_ok-players.players _ c.in_ok-players.ensures.looks c.in_err-pairings.ensures.looks) in
-    missed_as s0 s3 c.in_err-pairings.field-0.0 c.from_residual-in_err-pairings.result (search rules) (λ db miss. record { misread = first_misread PairingTable db c.in_err-pairings.field-0.0 ((c.in_ok-event.event, miss.0.reads), (c.in_ok-players.players, miss.1.0.reads)) miss.1.1.misread; refused = miss.1.1.refused }) look
+    let look = looks_then c.in_ok-event.ensures.looks (looks_then c.in_ok-players.ensures.looks c.in_err-pairings.ensures.looks) in
+    missed_as (search rules) (λ db miss. first_misread PairingTable db c.in_err-pairings.field-0.0
+    ((c.in_ok-event.event, miss.0.reads), (c.in_ok-players.players, miss.1.0.reads)) miss.1.1.misread miss.1.1.refused) look
 
 pub returns-in_err-bracket-clause-looks : goal.returns-in_err-bracket-clause-looks
 returns-in_err-bracket-clause-looks g c =
-    let s0 = state g.S.Store c.args.conn.now in
-    let s1 = state g.S.Store c.load_rows.new.conn in
-    let s2 = state g.S.Store c.load_rows-2.new.conn in
-    let s3 = state g.S.Store c.load_rows-3.new.conn in
-    let s4 = state g.S.Store c.load_rows-4.new.conn in
-    let look = looks_then s0 s1 s4 c.in_ok-event.event _ c.in_ok-event.ensures.looks (looks_then s1 s2 s4 c.in_ok-players.players _ c.in_ok-players.ensures.looks (looks_then s2 s3 s4 c.in_ok-pairings.pairings _ c.in_ok-pairings.ensures.looks c.in_err-bracket.ensures.looks)) in
-    missed_as s0 s4 c.in_err-bracket.field-0.0 c.from_residual-in_err-bracket.result (search rules) (λ db miss. record { misread = first_misread BracketTable db c.in_err-bracket.field-0.0 ((c.in_ok-event.event, miss.0.reads), (c.in_ok-players.players, miss.1.0.reads), (c.in_ok-pairings.pairings, miss.1.1.0.reads)) miss.1.1.1.misread; refused = miss.1.1.1.refused }) look
+    let look = looks_then c.in_ok-event.ensures.looks
+    (looks_then c.in_ok-players.ensures.looks (looks_then c.in_ok-pairings.ensures.looks c.in_err-bracket.ensures.looks)) in
+    missed_as (search rules) (λ db miss. first_misread BracketTable db c.in_err-bracket.field-0.0
+    ((c.in_ok-event.event, miss.0.reads), (c.in_ok-players.players, miss.1.0.reads), (c.in_ok-pairings.pairings, miss.1.1.0.reads))
+    miss.1.1.1.misread miss.1.1.1.refused) look
 
 pub returns-clause-looks : goal.returns-clause-looks
 returns-clause-looks g c =
-    let s0 = state g.S.Store c.args.conn.now in
-    let s1 = state g.S.Store c.load_rows.new.conn in
-    let s2 = state g.S.Store c.load_rows-2.new.conn in
-    let s3 = state g.S.Store c.load_rows-3.new.conn in
-    let s4 = state g.S.Store c.load_rows-4.new.conn in
-    let look = looks_then s0 s1 s4 c.in_ok-event.event _ c.in_ok-event.ensures.looks
-    (looks_then s1 s2 s4 c.in_ok-players.players _ c.in_ok-players.ensures.looks (looks_then s2 s3 s4 c.in_ok-pairings.pairings _ c.in_ok-pairings.ensures.looks c.in_ok-bracket.ensures.looks)) in
-    found_as s0 s4 c.in_ok-bracket.bracket _ (λ db it. record {
+    let look = looks_then c.in_ok-event.ensures.looks
+    (looks_then c.in_ok-players.ensures.looks (looks_then c.in_ok-pairings.ensures.looks c.in_ok-bracket.ensures.looks)) in
+    found_as (λ db it. record {
       reads = record { event = it.0.reads; players = it.1.0.reads; pairings = it.1.1.0.reads; bracket = it.1.1.1.reads };
-      lists = λ has. record { event = it.0.lists has; players = it.1.0.lists has; pairings = it.1.1.0.lists has; bracket = it.1.1.1.lists has };
+      lists = λ has. record {
+        event = it.0.lists has;
+        players = it.1.0.lists has;
+        pairings = it.1.1.0.lists has;
+        bracket = it.1.1.1.lists has;
+      };
       exact = λ e s stands sound.
           let event = it.0.exact e s stands sound in
           let players = it.1.0.exact e s stands sound in

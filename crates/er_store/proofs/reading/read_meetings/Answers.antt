@@ -1,33 +1,18 @@
-use Rattle.std.proofs.Common.{rules, ◌≡◌, ◌⊎◌, inl, inr, [], ◌∷◌, ◌++◌, map, List, Result, IfErr, IsErrAnd, refl, sym, ap, subst, ◌∙◌, arith}
-use Rattle.std.proofs.lemmas.List.{map-append}
-use Rattle.sqlite.specs.declared.error.Error.{Error}
-use Rattle.sqlite.specs.Held.{state}
-use Rattle.sqlite.specs.Order.{Row}
-use Rattle.sqlite.specs.Schema.{Schema}
-use Rattle.sqlite.specs.State.{State, HasCleanDisk, IsUnchanged, Survives, CommitsShowing, FailsToQuery, Shown}
-use Rattle.sqlite.proofs.Callers.{unchanged_then}
-use Rattle.sqlite.proofs.StateLemmas.{survives_then}
-use Rattle.er_store.specs.inside.Meetings.{meeting_rows}
+use Rattle.er_store.proofs.Names.{rules, ◌≡◌, ◌⊎◌, inl, inr, [], ◌∷◌, ◌++◌, map, List, Result, IfErr, IsErrAnd, refl, sym, ap, subst, ◌∙◌}
+use Rattle.er_store.proofs.Names.{arith, map-append, Error, state, Row, State, HasCleanDisk, IsUnchanged, Survives, unchanged_then}
+use Rattle.er_store.proofs.Names.{survives_then, meeting_rows, out_of_memory, IsReadRefused, first_columns, meeting_columns}
+use Rattle.sqlite.specs.State.{CommitsShowing, FailsToQuery, Shown}
+use Rattle.er_store.proofs.{Meaning.meeting_query, Meaning.meetings_selected, Refusals.meetings_refused, Selecting.commits_nothing}
+use Rattle.er_store.proofs.{Selecting.fails_keeping, Selecting.selects, LoadLemmas.all_err, LoadLemmas.kept_stands, LoadLemmas.told}
+use Rattle.er_store.proofs.{Exact.is_memory, Mates.meetings-listed, Mates.meetings-exact, Mates.meetings-read, OneAtATime.begun-select}
+use Rattle.er_store.proofs.{OneAtATime.given-shown, OneAtATime.row-among, OneAtATime.refused-after, OneAtATime.unchanged-refl}
+use Rattle.er_store.proofs.{Effects.selected}
 use Rattle.er_store.specs.Tables as sql
-use Rattle.er_store.specs.Reading.{out_of_memory, IsReadRefused, first_columns}
-use Rattle.er_store.specs.Rows.{meeting_columns}
-use Rattle.er_store.specs.Standing.{HasTables}
-use Rattle.er_store.proofs.Meaning.{meeting_query, meetings_selected}
-use Rattle.er_store.specs.inside.Queries.{Selects}
-use Rattle.er_store.proofs.Effects.{at_ours}
-use Rattle.er_store.proofs.Refusals.{meetings_refused}
-use Rattle.er_store.proofs.Selecting.{meetings_select, select_commits_nothing, select_fails}
-use Rattle.er_store.proofs.LoadLemmas.{all_err, kept_stands, told}
-use Rattle.er_store.proofs.Exact.{is_memory}
-use Rattle.er_store.proofs.Mates.{meetings-listed, meetings-exact, meetings-read}
-use Rattle.er_store.proofs.OneAtATime.{begun-select, given-shown, row-among, refused-after, unchanged-refl}
 use Rattle.er_store.proofs.reading.read_meetings.Goals as goal
 
-selected : (schema : Schema) → HasTables schema → Selects sql.read_meetings meeting_query schema
-selected schema has = at_ours schema has (Selects sql.read_meetings meeting_query) (meetings_selected has.others schema.indexes schema.views)
-
 -- the connection is given back as it is
-ends : {A : Type 0} (r : Result A Error) (old new then : State) → new ≡ then → IfErr r (λ w. (w ≡ out_of_memory) ⊎ IsReadRefused old then w) → IfErr r (λ w. (w ≡ out_of_memory) ⊎ IsReadRefused old new w)
+ends : {A : Type 0} (r : Result A Error) (old new then : State) → new ≡ then → IfErr r (λ w. (w ≡ out_of_memory) ⊎ IsReadRefused old then w)
+    → IfErr r (λ w. (w ≡ out_of_memory) ⊎ IsReadRefused old new w)
 ends r old new then same = subst (λ (s : State). IfErr r (λ w. (w ≡ out_of_memory) ⊎ IsReadRefused old s w)) (sym same)
 
 pub returns-in_err-rows-clause-refused : goal.returns-in_err-rows-clause-refused
@@ -36,7 +21,8 @@ returns-in_err-rows-clause-refused g c clean e s stands sound =
     let new = state g.S.Store c.query.follows.lender-at-none in
     let held = c.query.follows.holds-at-none in
     let failed : FailsToQuery sql.read_meetings [] old new c.in_err-rows.field-0.0 = (rw c.in_err-rows.was at held).err clean in
-    let why : (c.in_err-rows.field-0.0 ≡ out_of_memory) ⊎ IsReadRefused old new c.in_err-rows.field-0.0 = inr (meetings_refused sql.read_meetings old new c.in_err-rows.field-0.0 (selected old.now.schema stands.tables) failed) in
+    let why : (c.in_err-rows.field-0.0 ≡ out_of_memory) ⊎ IsReadRefused old new c.in_err-rows.field-0.0 =
+    inr (meetings_refused _ _ _ (selected stands.tables meetings_selected) failed) in
     search (rules, why)
 
 pub returns-in_err-rows-clause-kept : goal.returns-in_err-rows-clause-kept
@@ -45,7 +31,7 @@ returns-in_err-rows-clause-kept g c clean =
     let new = state g.S.Store c.query.follows.lender-at-none in
     let held = c.query.follows.holds-at-none in
     let failed : FailsToQuery sql.read_meetings [] old new c.in_err-rows.field-0.0 = (rw c.in_err-rows.was at held).err clean in
-    all_err c.from_residual.result (select_fails sql.read_meetings old new _ meetings_select failed)
+    all_err c.from_residual.result (fails_keeping _ _ _ _ _ selects.meetings failed)
 
 pub returns-in_err-rows-clause-survives : goal.returns-in_err-rows-clause-survives
 returns-in_err-rows-clause-survives g c =
@@ -53,18 +39,18 @@ returns-in_err-rows-clause-survives g c =
     let new = state g.S.Store c.query.follows.lender-at-none in
     let held = c.query.follows.holds-at-none in
     let kept : Survives old new (CommitsShowing sql.read_meetings [] old) = search rules in
-    select_commits_nothing sql.read_meetings old new meetings_select kept
+    commits_nothing _ _ selects.meetings kept
 
 pub loop-rows-init : goal.loop-rows-init
 loop-rows-init g c =
     let made = c.in_ok-rows.ensures in
-    let old = state g.S.Store c.args.conn.now in
     let now = state g.S.Store c.in_ok-rows.rows.conn.now in (
       refl,
-      select_commits_nothing sql.read_meetings old now meetings_select made.survives,
+      commits_nothing _ _ selects.meetings made.survives,
       made.mode,
       λ clean.
-          let begun = begun-select g.S.Store sql.read_meetings [] c.args.conn.now c.in_ok-rows.rows.conn.now meetings_select (made.begun clean) in
+          let begun = begun-select g.S.Store sql.read_meetings [] c.args.conn.now c.in_ok-rows.rows.conn.now selects.meetings
+          (made.begun clean) in
           ([], begun.0, ap (map meeting_columns) c.new-meetings.ensures.items, begun.1),
     )
 
@@ -75,9 +61,11 @@ returns-clause-exact g c clean e s stands sound =
     let late : HasCleanDisk (state g.S.Store then) = search rules in
     let was = c.loop-rows.invariant.3 (omega (arith, moved.survives.clean)) in
     let now = state g.S.Store c.loop-rows.rows.conn.now in
-    let shown : Shown sql.read_meetings [] now (state g.S.Store then) was.0 = (rw (c.in_ok-row.was, c.in_default.is) at (moved.ok late)) sql.read_meetings [] was.0 was.1 in
+    let shown : Shown sql.read_meetings [] now (state g.S.Store then) was.0 =
+    (rw (c.in_ok-row.was, c.in_default.is) at (moved.ok late)) sql.read_meetings [] was.0 was.1 in
     let here = kept_stands (state g.S.Store c.args.conn.now) now e s was.3 stands in
-    meetings-read now.now e s was.0 c.loop-rows.meetings.items here sound (meetings-listed sql.read_meetings now (state g.S.Store then) was.0 (selected now.now.schema here.tables) shown) was.2
+    meetings-read now.now e s was.0 c.loop-rows.meetings.items here sound
+    (meetings-listed _ _ (selected here.tables meetings_selected) shown) was.2
 
 pub returns-in_err-row-clause-refused : goal.returns-in_err-row-clause-refused
 returns-in_err-row-clause-refused g c clean e s stands sound =
@@ -88,11 +76,14 @@ returns-in_err-row-clause-refused g c clean e s stands sound =
     let old = state g.S.Store c.args.conn.now in
     let now = state g.S.Store c.loop-rows.rows.conn.now in
     let here = kept_stands old now e s was.3 stands in
-    let failed : FailsToQuery sql.read_meetings [] now then c.in_err-row.field-0.0 = (rw c.in_err-row.was at (moved.err late)) sql.read_meetings [] was.0 was.1 in
-    let refused = meetings_refused sql.read_meetings now then c.in_err-row.field-0.0 (selected now.now.schema here.tables) failed in
-    let why : (c.in_err-row.field-0.0 ≡ out_of_memory) ⊎ IsReadRefused old then c.in_err-row.field-0.0 = inr (refused-after old now then (λ _. ⊥) c.in_err-row.field-0.0 was.3 c.loop-rows.invariant.1 refused) in
+    let failed : FailsToQuery sql.read_meetings [] now then c.in_err-row.field-0.0 =
+    (rw c.in_err-row.was at (moved.err late)) sql.read_meetings [] was.0 was.1 in
+    let refused = meetings_refused _ _ _ (selected here.tables meetings_selected) failed in
+    let why : (c.in_err-row.field-0.0 ≡ out_of_memory) ⊎ IsReadRefused old then c.in_err-row.field-0.0 =
+    inr (refused-after old now then (λ _. ⊥) c.in_err-row.field-0.0 was.3 c.loop-rows.invariant.1 refused) in
     let is : IsErrAnd c.from_residual-in_err-row.result (λ x. x ≡ c.in_err-row.field-0.0) = search rules in
-    let there = told c.from_residual-in_err-row.result c.in_err-row.field-0.0 (λ w. (w ≡ out_of_memory) ⊎ IsReadRefused old then w) is why in
+    let there = told c.from_residual-in_err-row.result c.in_err-row.field-0.0
+    (λ w. (w ≡ out_of_memory) ⊎ IsReadRefused old then w) is why in
     ends c.from_residual-in_err-row.result old _ then (search rules) there
 
 pub loop-rows-preserved : goal.loop-rows-preserved
@@ -103,15 +94,20 @@ loop-rows-preserved g c =
     let now = state g.S.Store c.loop-rows.rows.conn.now in
     let inv = c.loop-rows.invariant in
     let row = c.in-Some.row.now in
-    let added : map meeting_columns c.push_row.new.typed.items ≡ map meeting_columns c.loop-rows.meetings.items ++ first_columns 13 row ∷ [] = c.in_ok-push_row.ensures.value in (
+    let added : map meeting_columns c.push_row.new.typed.items
+    ≡ map meeting_columns c.loop-rows.meetings.items ++ first_columns 13 row ∷ [] = c.in_ok-push_row.ensures.value in (
       moved.same_reference ∙ inv.0,
       survives_then old now then (λ _. ⊥) (λ _. ⊥) (λ _. ⊥) (λ clean db none. none) (λ clean db none. none) inv.1 moved.survives,
       (λ outside. moved.mode (inv.2 outside)),
       λ late.
           let was = inv.3 (omega (arith, moved.survives.clean)) in
           let given = (rw (c.in_ok-row.was, c.in-Some.is) at (moved.ok late)) sql.read_meetings [] was.0 was.1 in
-          let same : IsUnchanged now then = rw c.in_ok-row.was at (moved.same late) in
-          (was.0 ++ row ∷ [], given, added ∙ (ap (λ (xs : List Row). xs ++ first_columns 13 row ∷ []) was.2 ∙ sym (map-append (first_columns 13) was.0 (row ∷ []))), unchanged_then old now then was.3 same),
+          let same : IsUnchanged now then = rw c.in_ok-row.was at (moved.same late) in (
+            was.0 ++ row ∷ [],
+            given,
+            added ∙ (ap (λ (xs : List Row). xs ++ first_columns 13 row ∷ []) was.2 ∙ sym (map-append (first_columns 13) was.0 (row ∷ []))),
+            unchanged_then old now then was.3 same,
+          ),
     )
 
 pub returns-in_err-push_row-clause-refused : goal.returns-in_err-push_row-clause-refused
@@ -127,10 +123,11 @@ returns-in_err-push_row-clause-refused g c clean e s stands sound =
     let given = (rw (c.in_ok-row.was, c.in-Some.is) at (moved.ok late)) sql.read_meetings [] was.0 was.1 in
     let same : IsUnchanged old then = unchanged_then old now then was.3 (rw c.in_ok-row.was at (moved.same late)) in
     let there = kept_stands old then e s same stands in
-    let it = selected then.now.schema there.tables in
+    let it = selected there.tables meetings_selected in
     let shown = given-shown g.S.Store sql.read_meetings meeting_query held (was.0 ++ row ∷ []) it (unchanged-refl old then same) given in
-    let rows = meetings-exact then.now e s ((was.0 ++ row ∷ []) ++ shown.0) there sound (meetings-listed sql.read_meetings then then ((was.0 ++ row ∷ []) ++ shown.0) it shown.1) in
+    let rows = meetings-exact then.now e s ((was.0 ++ row ∷ []) ++ shown.0) there sound (meetings-listed _ _ it shown.1) in
     let among = row-among meeting_columns was.0 shown.0 row (meeting_rows e) rows in
-    let memory : c.in_err-push_row.field-0.0 ≡ out_of_memory = is_memory c.in_err-push_row.field-0.0 (λ unless. c.in_err-push_row.ensures.refused unless among.0 tt among.1) in
+    let memory : c.in_err-push_row.field-0.0 ≡ out_of_memory =
+    is_memory c.in_err-push_row.field-0.0 (λ unless. c.in_err-push_row.ensures.refused unless among.0 tt among.1) in
     let why : (c.in_err-push_row.field-0.0 ≡ out_of_memory) ⊎ IsReadRefused old then c.in_err-push_row.field-0.0 = inl memory in
     search (rules, why)

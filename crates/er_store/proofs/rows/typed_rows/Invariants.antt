@@ -1,5 +1,4 @@
-use Rattle.std.proofs.Common.{◌≡◌, map, take}
-use Rattle.er_store.specs.Reading.{first_columns}
+use Rattle.er_store.proofs.Names.{◌≡◌, map, take, first_columns}
 use Rattle.er_store.proofs.rows.typed_rows.Given as goal
 
 abbrev pub invariant-loop-row : goal.invariant-loop-row

@@ -1,5 +1,4 @@
-use Rattle.er_store.proofs.Effects.{inside_ok}
-use Rattle.er_store.proofs.Committed.{step_keeps}
+use Rattle.er_store.proofs.{Effects.inside_ok, Committed.step_keeps}
 use Rattle.er_store.proofs.statements.run.Goals as goal
 
 pub returns-clause-ran : goal.returns-clause-ran
@@ -9,12 +8,14 @@ returns-clause-ran g c clean =
 
 pub returns-clause-stays : goal.returns-clause-stays
 returns-clause-stays g c = record {
-  committed = λ clean. step_keeps g.S.Store c.args.tx.now.conn.now c.execute.new.self.conn.now _ _ c.execute.result _ c.execute.ensures.ended (c.execute.ensures.runs clean);
+  committed = λ clean. step_keeps g.S.Store c.args.tx.now.conn.now c.execute.new.self.conn.now _ _ c.execute.result _
+      c.execute.ensures.ended (c.execute.ensures.runs clean);
   survives = c.execute.ensures.survives;
 }
 
 pub returns-in_err-execute-clause-stays : goal.returns-in_err-execute-clause-stays
 returns-in_err-execute-clause-stays g c = record {
-  committed = λ clean. step_keeps g.S.Store c.args.tx.now.conn.now c.execute.new.self.conn.now _ _ c.execute.result _ c.execute.ensures.ended (c.execute.ensures.runs clean);
+  committed = λ clean. step_keeps g.S.Store c.args.tx.now.conn.now c.execute.new.self.conn.now _ _ c.execute.result _
+      c.execute.ensures.ended (c.execute.ensures.runs clean);
   survives = c.execute.ensures.survives;
 }

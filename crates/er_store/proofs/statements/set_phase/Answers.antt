@@ -1,11 +1,8 @@
-use Rattle.sqlite.specs.Held.{state}
-use Rattle.er_store.proofs.Effects.{sets_phase}
-use Rattle.er_store.proofs.Together.{on_ok, row_set}
+use Rattle.er_store.proofs.Names.{on_ok_weaker}
+use Rattle.er_store.proofs.Effects.{phase_set}
 use Rattle.er_store.proofs.statements.set_phase.Goals as goal
 
 pub returns-clause-makes : goal.returns-clause-makes
 returns-clause-makes g c clean e s rows stands =
-    let old = state g.S.Store c.args.tx.now.conn.now in
-    let new = state g.S.Store c.run.new.tx.conn.now in
-    on_ok c.run.result _ _ (λ ran. let set = sets_phase old new e s c.args.phase ran.count stands ran.was (rw (c.params-to_sql.ensures, c.from.ensures, c.code.ensures) at ran.executes) in
-    row_set old new e c.args.phase s s stands.low stands set.0 set.1) (c.run.ensures.ran clean)
+    on_ok_weaker c.run.result (phase_set c.args.phase stands)
+    (rw (c.params-to_sql.ensures, c.from.ensures, c.code.ensures) at (c.run.ensures.ran clean))

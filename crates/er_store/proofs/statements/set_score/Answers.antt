@@ -1,21 +1,13 @@
-use Rattle.std.proofs.Common.{◌≡◌, rules}
-use Rattle.sqlite.specs.Held.{state}
+use Rattle.er_store.proofs.Names.{◌≡◌, rules, on_ok_weaker}
 use Rattle.er_store.proofs.Scoring.{pairing_scored}
-use Rattle.er_store.proofs.Together.{on_ok}
 use Rattle.er_store.proofs.statements.set_score.Goals as goal
-
-x : (g : _) (c : goal.After-run g) → c.from.result ≡ c.args.score.x
-x g c = search rules
-
-y : (g : _) (c : goal.After-run g) → c.from-2.result ≡ c.args.score.y
-y g c = search rules
-
-d : (g : _) (c : goal.After-run g) → c.from-3.result ≡ c.args.score.d
-d g c = search rules
 
 pub returns-clause-makes : goal.returns-clause-makes
 returns-clause-makes g c clean e s rows stands m found seat =
-    let old = state g.S.Store c.args.tx.now.conn.now in
-    let new = state g.S.Store c.run.new.tx.conn.now in
-    on_ok c.run.result _ _ (λ ran. let h = (rw (c.params-to_sql.ensures, c.params-to_sql-2.ensures, c.params-to_sql-3.ensures, c.params-to_sql-4.ensures, c.params-to_sql-5.ensures, x g c, y g c, d g c) at ran.executes) in
-    pairing_scored old new e s c.args.round c.args.table c.args.score m ran.count stands found seat ran.was h) (c.run.ensures.ran clean)
+    let x : c.from.result ≡ c.args.score.x = search rules in
+    let y : c.from-2.result ≡ c.args.score.y = search rules in
+    let d : c.from-3.result ≡ c.args.score.d = search rules in
+    on_ok_weaker c.run.result (pairing_scored c.args.round c.args.table c.args.score stands found seat)
+    (rw (c.params-to_sql-5.ensures, x, y, d) at
+    (rw (c.params-to_sql.ensures, c.params-to_sql-2.ensures, c.params-to_sql-3.ensures, c.params-to_sql-4.ensures) at
+    (c.run.ensures.ran clean)))

@@ -1,8 +1,8 @@
-use Rattle.std.proofs.Common.{◌≡◌, ◌∙◌}
-use Rattle.er_event.specs.Tallies.{meetings}
+use Rattle.er_store.proofs.Names.{◌≡◌, ◌∙◌, meetings}
 use Rattle.er_store.proofs.TallyLists.{memory-fault}
 use Rattle.er_store.proofs.tallies.find_meetings.Goals as goal
 
 pub returns-in-Ok-clause-found : goal.returns-in-Ok-clause-found
 returns-in-Ok-clause-found g c clean e s stands sound =
-    memory-fault c.meetings_of.result (λ list. list.items ≡ meetings e) (c.meetings_of.ensures.event e sound (c.as_slice.ensures.value ∙ c.in-Ok.ensures.exact clean e s stands sound))
+    memory-fault c.meetings_of.result (λ list. list.items ≡ meetings e)
+    (c.meetings_of.ensures.event e sound (c.as_slice.ensures.value ∙ c.in-Ok.ensures.exact clean e s stands sound))

@@ -1,9 +1,5 @@
-use Rattle.std.proofs.Common.{◌≡◌, ◌∙◌}
-use Rattle.sqlite.specs.Held.{state}
-use Rattle.er_event.specs.Tallies.{tallies}
-use Rattle.er_store.proofs.LoadLemmas.{kept_stands}
-use Rattle.er_store.proofs.TableLemmas.{player_is_ours, tally_is_ours}
-use Rattle.er_store.proofs.TallyLists.{memory-fault}
+use Rattle.er_store.proofs.Names.{◌≡◌, ◌∙◌, state, tallies}
+use Rattle.er_store.proofs.{LoadLemmas.kept_stands, TableLemmas.player_is_ours, TableLemmas.tally_is_ours, TallyLists.memory-fault}
 use Rattle.er_store.proofs.tallies.find_tallies.Goals as goal
 
 pub read_table-requires : goal.read_table-requires
@@ -18,4 +14,5 @@ returns-clause-found g c clean e s stands sound =
     let mid = state g.S.Store c.read_table.new.conn in
     let here = kept_stands (state g.S.Store c.args.conn.now) mid e s (c.in-Ok.ensures.same early) stands in
     memory-fault c.tallies_of.result (λ list. list.items ≡ tallies e)
-    (c.tallies_of.ensures.event e sound (c.as_slice.ensures.value ∙ (c.in-Ok.ensures.finds early).exact e s stands sound) (c.as_slice-2.ensures.value ∙ (c.in-Ok-read_table.ensures.finds clean).exact e s here sound))
+    (c.tallies_of.ensures.event e sound (c.as_slice.ensures.value ∙ (c.in-Ok.ensures.finds early).exact e s stands sound)
+    (c.as_slice-2.ensures.value ∙ (c.in-Ok-read_table.ensures.finds clean).exact e s here sound))

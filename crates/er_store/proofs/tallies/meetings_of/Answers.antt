@@ -1,9 +1,5 @@
-use Rattle.std.proofs.Common.{◌∙◌, map, sym, ap, ap₂, filter, List, All, Option, ℤ, subst}
-use Rattle.std.proofs.lemmas.List.{take_all}
-use Rattle.std.proofs.lemmas.Option.{none-some}
-use Rattle.er_event.specs.Tallies.{meetings}
-use Rattle.er_store.specs.declared.rows.MeetingRow.{MeetingRow}
-use Rattle.er_store.specs.inside.Meetings.{is_over, counted_rows, sides_in}
+use Rattle.er_store.proofs.Names.{◌∙◌, map, sym, ap, ap₂, filter, List, All, Option, ℤ, subst, take_all, none-some, meetings, MeetingRow}
+use Rattle.er_store.proofs.Names.{is_over, counted_rows, sides_in}
 use Rattle.er_store.proofs.Counted.{meetings-counted, meetings-same, IsMeetingRow, all-show}
 use Rattle.er_store.proofs.tallies.meetings_of.Goals as goal
 
@@ -16,7 +12,7 @@ returns-in_default-clause-event c e sound rows =
 pub returns-clause-event : goal.returns-clause-event
 returns-clause-event c e sound rows =
     let all = c.args.rows.now in
-    meetings-same c.loop-row.meetings.items (meetings e)
-    (c.loop-row.invariant
-    ∙ (ap₂ (λ (o : Option ℤ) (rs : List MeetingRow). map sides_in (filter (is_over o) rs)) c.open_round-unfinished.ensures (take_all c.loop-row.row-index all c.loop-row-test.false)
+    meetings-same c.loop-row.meetings.items (meetings e) (c.loop-row.invariant
+    ∙ (ap₂ (λ (o : Option ℤ) (rs : List MeetingRow). map sides_in (filter (is_over o) rs)) c.open_round-unfinished.ensures
+    (take_all c.loop-row.row-index all c.loop-row-test.false)
     ∙ (ap (λ (rs : List MeetingRow). map sides_in (counted_rows rs)) rows ∙ meetings-counted e sound)))

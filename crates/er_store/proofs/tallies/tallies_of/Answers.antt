@@ -1,16 +1,15 @@
-use Rattle.std.proofs.Common.{rules, ◌≡◌, ◌∙◌, ◌++◌, ◌∷◌, [], map, List, sym, ap, ap₂, arith}
-use Rattle.std.proofs.lemmas.Option.{none-some, same_Some}
+use Rattle.er_store.proofs.Names.{rules, ◌≡◌, ◌∙◌, ◌++◌, ◌∷◌, [], map, List, sym, ap, ap₂, arith, none-some, same_Some, tally_row, tally_by}
+use Rattle.er_store.proofs.Names.{totals}
 use Rattle.er_event.specs.declared.tallies.Tally.{Tally}
-use Rattle.er_event.specs.Rows.{tally_row}
-use Rattle.er_event.specs.Tallies.{tally_by}
-use Rattle.er_event.specs.Totals.{totals}
 use Rattle.er_store.proofs.TallyLists.{player-at, rows-more}
 use Rattle.er_store.proofs.tallies.tallies_of.Goals as goal
 
 pub returns-in_default-clause-event : goal.returns-in_default-clause-event
 returns-in_default-clause-event c e sound players rows =
-    let it = player-at e sound c.args.players.now c.args.rows.now c.loop-at.at c.index-players-at.result _ players rows c.loop-at-test.true in
-    absurd (none-some _ (sym c.in_default.is ∙ (c.tally_of.ensures.event e it.it sound it.low it.high (c.index-players-at.is ∙ it.player_is) it.row_is)))
+    let it = player-at e sound c.args.players.now c.args.rows.now c.loop-at.at c.index-players-at.result _ players rows
+    c.loop-at-test.true in
+    absurd (none-some _ (sym c.in_default.is
+    ∙ (c.tally_of.ensures.event e it.it sound it.low it.high (c.index-players-at.is ∙ it.player_is) it.row_is)))
 
 pub loop-at-preserved : goal.loop-at-preserved
 loop-at-preserved c =
@@ -19,9 +18,11 @@ loop-at-preserved c =
     record {
       many = inv.many;
       rows = ap (map (λ (t : Tally). tally_row t.no t.totals)) pushed
-          ∙ rows-more c.loop-at.tallies.items c.args.rows.now c.loop-at.at _ c.in-Some.tally (omega (arith, inv.many, c.loop-at-test.true)) c.in-Some.ensures.value.0 inv.rows;
+          ∙ rows-more c.loop-at.tallies.items c.args.rows.now c.loop-at.at _ c.in-Some.tally
+          (omega (arith, inv.many, c.loop-at-test.true)) c.in-Some.ensures.value.0 inv.rows;
       event = λ e sound players rows.
-          let it = player-at e sound c.args.players.now c.args.rows.now c.loop-at.at c.index-players-at.result _ players rows c.loop-at-test.true in
+          let it = player-at e sound c.args.players.now c.args.rows.now c.loop-at.at c.index-players-at.result _ players rows
+          c.loop-at-test.true in
           let found = c.tally_of.ensures.event e it.it sound it.low it.high (c.index-players-at.is ∙ it.player_is) it.row_is in
           let same : c.in-Some.tally ≡ tally_by (totals e) it.it = same_Some _ _ (sym c.in-Some.is ∙ found) in
           pushed ∙ (ap₂ (λ (xs : List Tally) (x : Tally). xs ++ x ∷ []) (inv.event e sound players rows) same ∙ sym it.more);

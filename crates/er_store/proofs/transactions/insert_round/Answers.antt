@@ -1,21 +1,12 @@
-use Rattle.std.proofs.Common.{◌≡◌, ◌++◌, ◌∷◌, [], ◌+◌, List, length, take, refl, sym, ap, subst, ◌∙◌, arith}
-use Rattle.std.proofs.lemmas.List.{take_all, take_more, length-take-le}
-use Rattle.sqlite.specs.Held.{state}
-use Rattle.er_event.specs.declared.matches.Match.{Match}
-use Rattle.er_event.specs.Change.{with_round}
-use Rattle.er_event.specs.Rows.{pairing_row}
-use Rattle.er_store.specs.Standing.{StandsWith}
-use Rattle.er_store.specs.inside.Steps.{BringsToWith}
-use Rattle.er_store.proofs.Committed.{stays_self, stays_then}
-use Rattle.er_store.proofs.Crash.{was_clean}
-use Rattle.er_store.proofs.Pairing.{none_added, adds_none, adds_one}
-use Rattle.er_store.proofs.Rounds.{few_matches, some_matches}
+use Rattle.er_store.proofs.Names.{◌≡◌, ◌+◌, length, take, refl, sym, ap, ◌∙◌, arith, length-take-le, state, with_round, pairing_row}
+use Rattle.er_store.proofs.{Committed.stays_self, Committed.stays_then, Crash.was_clean, Pairing.none_added, Pairing.adds_none}
+use Rattle.er_store.proofs.{Pairing.adds_all, Pairing.adds_next, Rounds.few_matches, Rounds.some_matches}
 use Rattle.er_store.proofs.transactions.insert_round.Goals as goal
 
 pub loop-place-init : goal.loop-place-init
 loop-place-init g c =
     let old = state g.S.Store c.args.tx.now.conn.now in
-    (refl, stays_self old, λ clean s rows stands. adds_none old (with_round c.args.event.now) s (none_added old.now c.args.event.now s stands))
+    (refl, stays_self old, λ clean s rows stands. adds_none old (with_round c.args.event.now) s (none_added c.args.event.now stands))
 
 pub of-row-requires : goal.of-row-requires
 of-row-requires g c =
@@ -25,43 +16,30 @@ of-row-requires g c =
 
 pub loop-place-preserved : goal.loop-place-preserved
 loop-place-preserved g c =
-    let old = state g.S.Store c.args.tx.now.conn.now in
-    let mid = state g.S.Store c.loop-place.tx.conn.now in
-    let new = state g.S.Store c.insert_pairing.new.tx.conn.now in
     let e = c.args.event.now in
     let matches = c.args.matches.now in
     let at = c.loop-place.place in
     let m = c.index-matches-place.result in
     let kept = c.loop-place.invariant in
-    let stored = length-take-le at matches c.loop-place.auto.place-end in
-    let more : take (at + 1) matches ≡ take at matches ++ m ∷ [] = take_more matches at m c.loop-place-test.true ∙ ap (λ x. take at matches ++ x ∷ []) (sym c.index-matches-place.is) in (
+    let stored = length-take-le at matches c.loop-place.auto.place-end in (
       c.insert_pairing.ensures.same_reference ∙ kept.0,
-      stays_then old mid new kept.1 c.insert_pairing.ensures.stays,
+      stays_then kept.1 c.insert_pairing.ensures.stays,
       λ clean s rows stands.
-          let was = kept.2 (was_clean mid new _ c.insert_pairing.ensures.stays.survives clean) s rows stands in
+          let was = kept.2 (was_clean c.insert_pairing.ensures.stays.survives clean) s rows stands in
           let row : c.of-row.result ≡ pairing_row (length e.stored + 1) (length (take at matches) + 1, m) =
-          c.of-row.ensures ∙ (ap (λ rounds. pairing_row (length rounds + 1) (at + 1, m)) c.stored.ensures.value ∙ ap (λ n. pairing_row (length e.stored + 1) (n + 1, m)) (sym stored)) in
-          let made = c.in_ok-insert_pairing.ensures.makes clean e (take at matches) m s rows was.stands row in
-          adds_one old mid new (with_round e) at (take at matches) (take (at + 1) matches) s was (subst (λ (ms : List Match). BringsToWith mid new (with_round e ms) s rows) (sym more) made),
+          c.of-row.ensures ∙ (ap (λ rounds. pairing_row (length rounds + 1) (at + 1, m)) c.stored.ensures.value
+          ∙ ap (λ n. pairing_row (length e.stored + 1) (n + 1, m)) (sym stored)) in
+          adds_next at matches m c.loop-place-test.true c.index-matches-place.is was
+          (c.in_ok-insert_pairing.ensures.makes clean e (take at matches) m s rows was.stands row),
     )
 
 pub returns-clause-makes : goal.returns-clause-makes
 returns-clause-makes g c clean s rows stands =
-    let e = c.args.event.now in
-    let new = state g.S.Store c.loop-place.tx.conn.now in
-    let adds = c.loop-place.invariant.2 clean s rows stands in
-    let some = some_matches e c.args.matches.now c.requires.fits.sound in
-    let past = c.loop-place-test.false in
-    let whole = take_all c.loop-place.place c.args.matches.now past in
-    record { moves = adds.some (omega arith); stands = subst (λ (ms : List Match). StandsWith new.now (with_round e ms) s rows) whole adds.stands }
+    let some = some_matches c.args.event.now c.args.matches.now c.requires.fits.sound in
+    adds_all c.loop-place.place c.args.matches.now some c.loop-place-test.false (c.loop-place.invariant.2 clean s rows stands)
 
 pub returns-clause-stays : goal.returns-clause-stays
-returns-clause-stays g c =
-    c.loop-place.invariant.1
+returns-clause-stays g c = c.loop-place.invariant.1
 
 pub returns-in_err-insert_pairing-clause-stays : goal.returns-in_err-insert_pairing-clause-stays
-returns-in_err-insert_pairing-clause-stays g c =
-    let s0 = state g.S.Store c.args.tx.now.conn.now in
-    let s1 = state g.S.Store c.loop-place.tx.conn.now in
-    let s2 = state g.S.Store c.insert_pairing.new.tx.conn.now in
-    stays_then s0 s1 s2 c.loop-place.invariant.1 c.insert_pairing.ensures.stays
+returns-in_err-insert_pairing-clause-stays g c = stays_then c.loop-place.invariant.1 c.insert_pairing.ensures.stays

@@ -1,10 +1,4 @@
-use Rattle.std.proofs.Common.{◌≡◌, ℕ, List, take}
-use Rattle.sqlite.specs.State.{HasCleanDisk}
-use Rattle.sqlite.specs.Held.{state}
-use Rattle.er_event.specs.declared.rows.tally.TallyRow.{TallyRow}
-use Rattle.er_event.specs.Change.{with_round}
-use Rattle.er_store.specs.Standing.{StandsWith}
-use Rattle.er_store.specs.inside.Steps.{Stays}
+use Rattle.er_store.proofs.Names.{◌≡◌, ℕ, List, take, HasCleanDisk, state, TallyRow, with_round, StandsWith, Stays}
 use Rattle.er_store.proofs.Pairing.{Adds}
 use Rattle.er_store.proofs.transactions.insert_round.Given as goal
 
@@ -12,4 +6,6 @@ abbrev pub invariant-loop-place : goal.invariant-loop-place
 invariant-loop-place g l =
     let old = state g.S.Store l.fn.tx.conn.now in
     let now = state g.S.Store l.tx.conn.now in
-    (l.tx.conn.ghost_name ≡ l.fn.tx.conn.ghost_name) × Stays old now × (HasCleanDisk now → (s : ℕ) (rows : List TallyRow) → StandsWith old.now l.event s rows → Adds (with_round l.event) l.place (take l.place l.matches) s rows old now)
+    (l.tx.conn.ghost_name ≡ l.fn.tx.conn.ghost_name) × Stays old now
+    × (HasCleanDisk now → (s : ℕ) (rows : List TallyRow) → StandsWith old.now l.event s rows
+    → Adds (with_round l.event) l.place (take l.place l.matches) s rows old now)

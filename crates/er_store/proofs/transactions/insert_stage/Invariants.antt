@@ -1,11 +1,4 @@
-use Rattle.std.proofs.Common.{◌≡◌, ◌+◌, ℕ, List, take, length}
-use Rattle.sqlite.specs.State.{HasCleanDisk}
-use Rattle.sqlite.specs.Held.{state}
-use Rattle.er_event.specs.declared.rows.tally.TallyRow.{TallyRow}
-use Rattle.er_event.specs.Event.{EventValue}
-use Rattle.er_event.specs.Change.{with_stage}
-use Rattle.er_store.specs.Standing.{StandsWith}
-use Rattle.er_store.specs.inside.Steps.{Stays}
+use Rattle.er_store.proofs.Names.{◌≡◌, ◌+◌, ℕ, List, take, length, HasCleanDisk, state, TallyRow, EventValue, with_stage, StandsWith, Stays}
 use Rattle.er_store.proofs.Pairing.{Adds}
 use Rattle.er_store.proofs.transactions.insert_stage.Given as goal
 
@@ -14,4 +7,5 @@ invariant-loop-place g l =
     let old = state g.S.Store l.fn.tx.conn.now in
     let now = state g.S.Store l.tx.conn.now in
     (l.tx.conn.ghost_name ≡ l.fn.tx.conn.ghost_name) × Stays old now
-    × (HasCleanDisk now → (e : EventValue) (s : ℕ) (rows : List TallyRow) → StandsWith old.now e s rows → l.stage ≡ length e.bracket.stages + 1 → Adds (with_stage e) l.place (take l.place l.matches) s rows old now)
+    × (HasCleanDisk now → (e : EventValue) (s : ℕ) (rows : List TallyRow) → StandsWith old.now e s rows
+    → l.stage ≡ length e.bracket.stages + 1 → Adds (with_stage e) l.place (take l.place l.matches) s rows old now)

@@ -1,5 +1,4 @@
-use Rattle.std.proofs.Common.{◌≤◌, length, List, ap, subst, sym, ◌∙◌, arith}
-use Rattle.er_event.specs.declared.matches.Match.{Match}
+use Rattle.er_store.proofs.Names.{◌≤◌, length, List, ap, subst, sym, ◌∙◌, arith, Match}
 use Rattle.er_store.proofs.StageLemmas.{sound_few}
 use Rattle.er_store.proofs.transactions.next_number.Goals as goal
 

@@ -1,22 +1,9 @@
-use Rattle.std.proofs.Common.{◌≡◌, ◌+◌, ◌<◌, ℕ, List, length, Contains, IsFalse, [], ◌∷◌, ◌++◌, take, get_or, refl, sym, ap, subst, ◌∙◌}
-use Rattle.std.proofs.lemmas.List.{take_all, take_more}
-use Rattle.std.proofs.lemmas.List.Elements.{All-nil, All-cons}
-use Rattle.sqlite.specs.Held.{state}
-use Rattle.er_event.specs.declared.matches.Match.{Match}
-use Rattle.er_event.specs.declared.rows.tally.TallyRow.{TallyRow}
-use Rattle.er_event.specs.Change.{after}
-use Rattle.er_event.specs.Event.{EventValue}
+use Rattle.er_store.proofs.Names.{◌≡◌, ◌+◌, ◌<◌, ℕ, List, length, Contains, IsFalse, [], ◌∷◌, ◌++◌, take, get_or, refl, sym, ap, subst, ◌∙◌}
+use Rattle.er_store.proofs.Names.{take_all, take_more, All-nil, All-cons, state, Match, TallyRow, after, EventValue, is_bye, numbers}
+use Rattle.er_store.proofs.Names.{tally_rows_by, totals, BringsToWith, set_for_all}
 use Rattle.er_event.specs.Recounted.{AreOf}
-use Rattle.er_event.specs.Round.{is_bye}
-use Rattle.er_event.specs.Sound.{numbers}
-use Rattle.er_event.specs.Rows.{tally_rows_by}
-use Rattle.er_event.specs.Totals.{totals}
-use Rattle.er_store.specs.inside.Steps.{BringsToWith}
-use Rattle.er_store.specs.inside.Totals.{set_for_all}
-use Rattle.er_store.proofs.Committed.{stays_self, stays_then}
-use Rattle.er_store.proofs.Crash.{was_clean}
-use Rattle.er_store.proofs.Together.{makes_then}
-use Rattle.er_store.proofs.Recounting.{numbered_too, rows_agree, set-more, all_set}
+use Rattle.er_store.proofs.{Committed.stays_self, Committed.stays_then, Crash.was_clean, Together.makes_then, Recounting.numbered_too}
+use Rattle.er_store.proofs.{Recounting.rows_agree, Recounting.set-more, Recounting.all_set}
 use Rattle.er_store.proofs.transactions.recount.Goals as goal
 
 pub loop-played-init : goal.loop-played-init
@@ -25,29 +12,27 @@ loop-played-init g c =
     (refl, stays_self old, λ clean e s same moves stands. record { moves = moves; stands = stands })
 
 -- what holds of all holds of one
-one_match : (event : EventValue) (items : List Match) (at : ℕ) (m : Match) → AreOf event items → at < length items → m ≡ get_or items at m → AreOf event (m ∷ [])
+one_match : (event : EventValue) (items : List Match) (at : ℕ) (m : Match) → AreOf event items → at < length items → m ≡ get_or items at m
+    → AreOf event (m ∷ [])
 one_match event items at m all below is =
     All-cons (λ (x : Match). Contains (numbers event.players) x.a × (IsFalse (is_bye x) → Contains (numbers event.players) x.b)) m []
-    (subst (λ (x : Match). Contains (numbers event.players) x.a × (IsFalse (is_bye x) → Contains (numbers event.players) x.b)) (sym is) (all at m below)) (All-nil _)
+    (subst (λ (x : Match). Contains (numbers event.players) x.a × (IsFalse (is_bye x) → Contains (numbers event.players) x.b)) (sym is)
+    (all at m below)) (All-nil _)
 
 pub recount_match-requires-clause-known : goal.recount_match-requires-clause-known
 recount_match-requires-clause-known g c =
-    one_match c.args.event.now c.matches_to_recount-played-items.result.now c.loop-played.played-index c.played-item.result c.matches_to_recount-played-items.ensures.known c.loop-played-test.true c.played-item.is
+    one_match c.args.event.now c.matches_to_recount-played-items.result.now c.loop-played.played-index c.played-item.result
+    c.matches_to_recount-played-items.ensures.known c.loop-played-test.true c.played-item.is
 
 pub returns-in_err-recount_match-clause-same_reference : goal.returns-in_err-recount_match-clause-same_reference
 returns-in_err-recount_match-clause-same_reference g c = c.recount_match.ensures.same_reference ∙ c.loop-played.invariant.0
 
 pub returns-in_err-recount_match-clause-stays : goal.returns-in_err-recount_match-clause-stays
-returns-in_err-recount_match-clause-stays g c =
-    let s0 = state g.S.Store c.args.tx.now.conn.now in
-    let s1 = state g.S.Store c.loop-played.tx.conn.now in
-    let s2 = state g.S.Store c.recount_match.new.tx.conn.now in
-    stays_then s0 s1 s2 c.loop-played.invariant.1 c.recount_match.ensures.stays
+returns-in_err-recount_match-clause-stays g c = stays_then c.loop-played.invariant.1 c.recount_match.ensures.stays
 
 pub loop-played-preserved : goal.loop-played-preserved
 loop-played-preserved g c =
     let old = state g.S.Store c.args.tx.now.conn.now in
-    let mid = state g.S.Store c.loop-played.tx.conn.now in
     let new = state g.S.Store c.recount_match.new.tx.conn.now in
     let event = c.args.event.now in
     let items = c.matches_to_recount-played-items.result.now in
@@ -56,16 +41,18 @@ loop-played-preserved g c =
     let now = totals (after event c.args.change.now) in
     let before = totals event in
     let so_far = c.loop-played.invariant in
-    let more : take (at + 1) items ≡ take at items ++ m ∷ [] = take_more items at m c.loop-played-test.true ∙ ap (λ x. take at items ++ x ∷ []) (sym c.played-item.is) in (
+    let more : take (at + 1) items ≡ take at items ++ m ∷ [] = take_more items at m c.loop-played-test.true
+    ∙ ap (λ x. take at items ++ x ∷ []) (sym c.played-item.is) in (
       c.recount_match.ensures.same_reference ∙ so_far.0,
-      stays_then old mid new so_far.1 c.recount_match.ensures.stays,
+      stays_then so_far.1 c.recount_match.ensures.stays,
       λ clean e s same moves stands.
-          let was = so_far.2 (was_clean mid new _ c.recount_match.ensures.stays.survives clean) e s same moves stands in
+          let was = so_far.2 (was_clean c.recount_match.ensures.stays.survives clean) e s same moves stands in
           let made = c.in_ok-recount_match.ensures.makes clean e s (set_for_all (take at items) now before) same was.stands in
           let numbered = numbered_too e.players event.players same (c.matches_to_recount-played-items.ensures.sound.players.numbered) in
-          let rows = rows_agree (set_for_all (m ∷ []) now (set_for_all (take at items) now before)) (set_for_all (take at items ++ m ∷ []) now before) e.players numbered (λ q low. set-more (take at items) m q now before) in
+          let rows = rows_agree (set_for_all (m ∷ []) now (set_for_all (take at items) now before))
+          (set_for_all (take at items ++ m ∷ []) now before) e.players numbered (λ q low. set-more (take at items) m q now before) in
           subst (λ (ms : List Match). BringsToWith old new e s (tally_rows_by (set_for_all ms now before) e.players)) (sym more)
-          (subst (λ (ts : List TallyRow). BringsToWith old new e s ts) rows (makes_then old mid new e e s was made)),
+          (subst (λ (ts : List TallyRow). BringsToWith old new e s ts) rows (makes_then was made)),
     )
 
 pub returns-clause-same_reference : goal.returns-clause-same_reference
@@ -81,10 +68,10 @@ returns-clause-makes g c clean e s same moves stands =
     let before = totals event in
     let numbered = numbered_too e.players event.players same (c.matches_to_recount-played-items.ensures.sound.players.numbered) in
     let all = take_all c.loop-played.played-index items c.loop-played-test.false in
-    let made = subst (λ (ms : List Match). BringsToWith old new e s (tally_rows_by (set_for_all ms now before) e.players)) all (c.loop-played.invariant.2 clean e s same moves stands) in
-    subst (λ (ts : List TallyRow). BringsToWith old new e s ts)
-    (rows_agree (set_for_all items now before) now e.players numbered (λ q low. all_set items now before c.matches_to_recount-played-items.ensures.others q)) made
+    let made = subst (λ (ms : List Match). BringsToWith old new e s (tally_rows_by (set_for_all ms now before) e.players)) all
+    (c.loop-played.invariant.2 clean e s same moves stands) in
+    subst (λ (ts : List TallyRow). BringsToWith old new e s ts) (rows_agree (set_for_all items now before) now e.players numbered
+    (λ q low. all_set items now before c.matches_to_recount-played-items.ensures.others q)) made
 
 pub returns-clause-stays : goal.returns-clause-stays
-returns-clause-stays g c =
-    c.loop-played.invariant.1
+returns-clause-stays g c = c.loop-played.invariant.1

@@ -1,7 +1,4 @@
-use Rattle.std.proofs.Common.{◌≡◌, ap, ◌∙◌}
-use Rattle.er_event.specs.Change.{after}
-use Rattle.er_event.specs.Rows.{tally_row}
-use Rattle.er_event.specs.Totals.{totals}
+use Rattle.er_store.proofs.Names.{◌≡◌, ap, ◌∙◌, after, tally_row, totals}
 use Rattle.er_store.proofs.transactions.recount_player.Goals as goal
 
 pub returns-clause-makes : goal.returns-clause-makes
