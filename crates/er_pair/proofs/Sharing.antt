@@ -1,13 +1,14 @@
 -- Rows to which a position is added.
-use Rattle.std.proofs.Common.{◌≡◌, inl, inr, ℕ, ◌<◌, ◌≤◌, ◌==◌, ◌||◌, ◌&&◌, not, nat_lt, Bool, true, false, List, [], length, slice_index, sym, ap, ◌∙◌, arith}
-use Rattle.std.proofs.lemmas.Bool.{cases_lt, le-ltb}
+use Rattle.std.proofs.Common.{◌≡◌, inl, inr, ℕ, ◌<◌, ◌≤◌, ◌==◌, ◌||◌, ◌&&◌, not, true, false, List, [], length, slice_index, ◌∙◌, arith}
+use Rattle.std.proofs.lemmas.Bool.{cases_lt}
+use Rattle.std.proofs.lemmas.Bool.Decides.{nat_tests}
 use Rattle.std.proofs.lemmas.List.{get_or_past}
 use Rattle.er_pair.specs.declared.meetings.TheConstants.{NUMBERS}
 use Rattle.er_pair.specs.declared.rows.TheConstants.{WORDS}
 use Rattle.er_pair.specs.declared.rows.Cursor.{Cursor}
 use Rattle.er_pair.specs.Met.{has_met}
 use Rattle.er_pair.specs.inside.Seats.{AreByNumber, CountsAll, AreByPosition}
-use Rattle.er_pair.proofs.Meeting.{no_word}
+use Rattle.er_pair.proofs.Bits.{no_word}
 use Rattle.er_pair.specs.declared.rows.Row.{Row}
 use Rattle.er_pair.specs.Rows.{has_place, is_ahead, row_at}
 
@@ -38,10 +39,12 @@ pub record IsGathered (rows table : List Row) (order : List ℕ) (position : ℕ
 pub gathered_all : (rows table met : List Row) (order : List ℕ) (position : ℕ) → length table ≤ NUMBERS
     → CountsAll order (length table) → length order ≤ position → IsGathered rows table order position
     → AreByNumber met order table → AreByPosition met order rows
-gathered_all rows table met order position size enough all h shared p q here there = elim (cases_lt (slice_index order p) NUMBERS) [
-  | inl small ↦ h.same p q (omega arith) ∙ shared (slice_index order p) q (enough p here small) small there
-  | inr above ↦ h.same p q (omega arith)
-      ∙ (ap (λ (r : Row). has_place r q) (get_or_past table (slice_index order p) (record { words = [] }) (omega arith))
-      ∙ (no_word q ∙ sym (ap (λ (b : Bool). b && nat_lt (slice_index order q) NUMBERS && has_place (row_at met (slice_index order p))
-      (slice_index order q)) (le-ltb (slice_index order p) NUMBERS above))))
-]
+gathered_all rows table met order position size enough all h shared p q here there =
+    let at = slice_index order p in
+    let same = h.same p q (omega arith) in
+    elim (cases_lt at NUMBERS) [
+      | inl small ↦ same ∙ shared at q (enough p here small) small there
+      | inr above ↦
+          let past = get_or_past table at (record { words = [] }) (omega arith) in
+          grind (arith, nat_tests, no_word q)
+    ]

@@ -27,7 +27,15 @@ abbrev player : ℕ → List ℕ → Player
 player number name = record { no = number; name = name; dropped = false }
 
 abbrev event_of : List Player → List Round → EventValue
-event_of players stored = record { name = codes "Friday"; rounds = 3; cut = 0; phase = Swiss; players = players; stored = stored; bracket = record { stages = [] } }
+event_of players stored = record {
+  name = codes "Friday";
+  rounds = 3;
+  cut = 0;
+  phase = Swiss;
+  players = players;
+  stored = stored;
+  bracket = record { stages = [] };
+}
 
 -- as a row is printed: rank, number, points, and the three percentages in hundredths
 abbrev printed : EventValue → ℕ → List ℕ
@@ -115,7 +123,8 @@ abbrev gone : Player → Player
 gone p = record p { dropped = true }
 
 abbrev six : List Player
-six = player 1 (codes "P1") ∷ gone (player 2 (codes "P2")) ∷ player 3 (codes "P3") ∷ player 4 (codes "P4") ∷ player 5 (codes "P5") ∷ player 6 (codes "P6") ∷ []
+six = player 1 (codes "P1") ∷ gone (player 2 (codes "P2")) ∷ player 3 (codes "P3") ∷ player 4 (codes "P4")
+    ∷ player 5 (codes "P5") ∷ player 6 (codes "P6") ∷ []
 
 abbrev six_done : EventValue
 six_done = record (event_of six (round_of (played 6 4 2 0 0 ∷ played 2 1 2 0 0 ∷ played 5 3 2 0 0 ∷ []) ∷ [])) { rounds = 1; cut = 4 }

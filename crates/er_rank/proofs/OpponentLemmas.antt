@@ -1,7 +1,8 @@
 -- Whom each player has met, one encounter after the other.
-use Rattle.std.proofs.Common.{◌≡◌, ◌≢◌, ℕ, ◌+◌, ◌-◌, ◌<◌, ◌≤◌, ◌==◌, Bool, true, false, cond, List, [], ◌∷◌, ◌++◌, map, filter, length, take, get_or, count_by, All, refl, sym, ap, subst, ◌∙◌, arith, append-nil, append_assoc, inl, inr, zero, suc}
+use Rattle.std.proofs.Common.{◌≡◌, ℕ, ◌+◌, ◌-◌, ◌<◌, ◌==◌, true, cond, List, [], ◌∷◌, ◌++◌, map, filter, length, take, get_or, count_by}
+use Rattle.std.proofs.Common.{All, sym, ap, ◌∙◌, arith, append-nil, append_assoc, inl, inr, zero, suc}
 use Rattle.std.proofs.Math.ListN.{set}
-use Rattle.std.proofs.lemmas.Bool.{cases_eq}
+use Rattle.std.proofs.lemmas.Bool.{cases_eq, ne_eqb, eq-eqb}
 use Rattle.std.proofs.lemmas.Bool.Decides.{nat_tests}
 use Rattle.std.proofs.lemmas.List.{map-append, length-map, length-set, take_more, get_or-set_same, get_or-set_other}
 use Rattle.std.proofs.lemmas.List.Concat.{flat_map-append}
@@ -23,23 +24,9 @@ use Rattle.er_rank.specs.Tally.{IsKnown}
 pub count-of : (mean : MeanValue) (f : Totals → Fraction) (totals : List Totals) → IsMeanOf mean (map f totals) → mean.count ≡ length totals
 count-of mean f totals are = are.count ∙ (sym (AllZip-long IsShareOf are.shares (map f totals) are.each) ∙ length-map totals f)
 
-pub opponents_of-append : (xs ys : List Encounter) (player : ℕ) → opponents_of (xs ++ ys) player ≡ opponents_of xs player ++ opponents_of ys player
-opponents_of-append xs ys player =
-    ap (map (λ (e : Encounter). e.opponent)) (filter-append (λ (e : Encounter). e.player == player) xs ys)
-    ∙ map-append (λ (e : Encounter). e.opponent) (filter (λ (e : Encounter). e.player == player) xs) (filter (λ (e : Encounter). e.player == player) ys)
-
-opponents_of-own : (xs : List Encounter) (e : Encounter) → opponents_of (xs ++ e ∷ []) e.player ≡ opponents_of xs e.player ++ e.opponent ∷ []
-opponents_of-own xs e =
-    let same : (e.player == e.player) ≡ true = grind (arith, nat_tests) in
-    opponents_of-append xs (e ∷ []) e.player
-    ∙ ap (λ (b : Bool). opponents_of xs e.player ++ map (λ (x : Encounter). x.opponent) (cond b (e ∷ []) [])) same
-
-opponents_of-other : (xs : List Encounter) (e : Encounter) (player : ℕ) → player ≢ e.player → opponents_of (xs ++ e ∷ []) player ≡ opponents_of xs player
-opponents_of-other xs e player other =
-    let apart : (e.player == player) ≡ false = grind (arith, nat_tests) in
-    opponents_of-append xs (e ∷ []) player
-    ∙ (ap (λ (b : Bool). opponents_of xs player ++ map (λ (x : Encounter). x.opponent) (cond b (e ∷ []) [])) apart
-    ∙ append-nil (opponents_of xs player))
+pub opponents_of-append : (xs ys : List Encounter) (player : ℕ)
+    → opponents_of (xs ++ ys) player ≡ opponents_of xs player ++ opponents_of ys player
+opponents_of-append xs ys player = simp (filter-append, map-append)
 
 -- the player's own place has one opponent more, and the others stay
 pub AreOpponentsOf-met : (before : List Encounter) (e : Encounter) (list : List Opponents) (at : ℕ) (here : Opponents)
@@ -48,44 +35,35 @@ pub AreOpponentsOf-met : (before : List Encounter) (e : Encounter) (list : List 
 AreOpponentsOf-met before e list at here number within are now = λ k d below.
     elim (cases_eq k at) [
       | inl same ↦
-          let own : opponents_of (before ++ e ∷ []) (1 + k) ≡ opponents_of before (1 + at) ++ e.opponent ∷ [] =
-          rw (same, number) (opponents_of-own before e) in
-          let placed : get_or (set list at here) k d ≡ here = rw same (get_or-set_same list at here d within) in
-          rw (placed, own) now
+          let own : (e.player == 1 + at) ≡ true = eq-eqb e.player (1 + at) (sym number) in
+          rw (same, get_or-set_same list at here d within) (rw (opponents_of-append before (e ∷ []) (1 + at)) (rw own now))
       | inr other ↦
           let inside : k < length list = omega (arith, length-set list at here, below) in
-          let placed : get_or (set list at here) k d ≡ get_or list k d = get_or-set_other list at k here d other in
-          let rest = opponents_of-other before e (1 + k) (λ same. other (omega arith)) in
-          rw (placed, rest) (are k d inside)
+          let apart = ne_eqb e.player (1 + k) (λ same. other (omega arith)) in
+          rw (get_or-set_other list at k here d other)
+          (rw (opponents_of-append before (e ∷ []) (1 + k)) (rw apart (rw (append-nil (opponents_of before (1 + k))) (are k d inside))))
     ]
 
 -- ---- room for one more
 
-count-push : (player : ℕ) (xs : List Encounter) (e : Encounter) (ys : List Encounter) → e.player ≡ player
-    → count_by (λ (x : Encounter). x.player == player) xs < count_by (λ (x : Encounter). x.player == player) (xs ++ e ∷ ys)
-count-push player xs e ys is =
-    let test : Encounter → Bool = λ x. x.player == player in
-    let same : (e.player == player) ≡ true = grind (arith, nat_tests) in
-    let split : count_by test (xs ++ e ∷ ys) ≡ count_by test xs + count_by test (e ∷ ys) = sum_by-append (λ (x : Encounter). cond (test x) 1 0) xs (e ∷ ys) in
-    let first : count_by test (e ∷ ys) ≡ cond (test e) 1 0 + count_by test ys = sum_by-cons (λ (x : Encounter). cond (test x) 1 0) e ys in
-    let one : ◌≡◌ {A = ℕ} (cond (test e) 1 0) 1 = ap (λ (b : Bool). cond {A = ℕ} b 1 0) same in
-    omega arith
-
-pub met-count : (all : List Encounter) (player : ℕ) → length (opponents_of all player) ≡ count_by (λ (e : Encounter). e.player == player) all
+pub met-count : (all : List Encounter) (player : ℕ)
+    → length (opponents_of all player) ≡ count_by (λ (e : Encounter). e.player == player) all
 met-count all player =
-    length-map (filter (λ (e : Encounter). e.player == player) all) (λ (e : Encounter). e.opponent) ∙ length-filter (λ (e : Encounter). e.player == player) all
+    length-map (filter (λ (e : Encounter). e.player == player) all) (λ (e : Encounter). e.opponent)
+    ∙ length-filter (λ (e : Encounter). e.player == player) all
 
 -- before an encounter of the player there is room
-pub HasRoom-here : (players : ℕ) (xs : List Encounter) (e : Encounter) (ys : List Encounter) (list : List Opponents) → AreEncounters players (xs ++ e ∷ ys)
-    → length list ≡ players → 1 ≤ e.player → e.player ≤ players → AreOpponentsOf xs list → HasRoom list e.player
-HasRoom-here players xs e ys list all count low high are =
-    let fewer = count-push e.player xs e ys refl in
-    let few = all.few e.player in
-    let number : 1 + (e.player - 1) ≡ e.player = omega arith in
+HasRoom-here : (players : ℕ) (xs : List Encounter) (e : Encounter) (ys : List Encounter) (list : List Opponents)
+    → AreEncounters players (xs ++ e ∷ ys) → length list ≡ players → IsKnown players e.player → AreOpponentsOf xs list
+    → HasRoom list e.player
+HasRoom-here players xs e ys list all count known are =
+    let bit : Encounter → ℕ = λ x. cond (x.player == e.player) 1 0 in
+    let own : bit e ≡ 1 = grind (arith, nat_tests) in
+    let number : 1 + (e.player - 1) ≡ e.player = omega (arith, known) in
     record {
       before = opponents_of xs e.player;
-      few = omega (arith, met-count xs e.player);
-      are = λ d. subst (λ (n : ℕ). AreOpponents (get_or list (e.player - 1) d) (opponents_of xs n)) number (are (e.player - 1) d (omega arith));
+      few = omega (arith, own, all.few e.player, sum_by-append bit xs (e ∷ ys), sum_by-cons bit e ys, met-count xs e.player);
+      are = λ d. rw number at (are (e.player - 1) d (omega (arith, known)));
     }
 
 -- ---- one meeting after the other
@@ -123,35 +101,38 @@ pub record AreBoth (players : ℕ) (m : Meeting) : Type 0 where
   pub lo_record : IsRecord m.lo_totals
   pub hi_record : IsRecord m.hi_totals
 
-pub both-here : (players : ℕ) (met : List Meeting) (i : ℕ) (m : Meeting) → AreEncounters players (encounters met) → i < length met → m ≡ get_or met i m
-    → AreBoth players m
-both-here players met i m all below is =
-    let split = encounters-split met i m below is in
-    let xs = encounters (take i met) in
-    let behind : (xs ++ first_of m ∷ []) ++ second_of m ∷ split.0 ≡ encounters met = append_assoc xs (first_of m ∷ []) (second_of m ∷ split.0) ∙ sym split.1 in
-    let known : (e : Encounter) → Type 0 = λ e. IsKnown players e.player in
-    let recorded : (e : Encounter) → Type 0 = λ e. IsRecord e.opponent in
-    record {
-      lo = All-here known xs (first_of m) (second_of m ∷ split.0) (subst (All known) split.1 all.known);
-      hi = All-here known (xs ++ first_of m ∷ []) (second_of m) split.0 (subst (All known) (sym behind) all.known);
-      lo_record = All-here recorded (xs ++ first_of m ∷ []) (second_of m) split.0 (subst (All recorded) (sym behind) all.records);
-      hi_record = All-here recorded xs (first_of m) (second_of m ∷ split.0) (subst (All recorded) split.1 all.records);
-    }
+module _ (players : ℕ) (met : List Meeting) (i : ℕ) (m : Meeting) (all : AreEncounters players (encounters met))
+    (below : i < length met) (is : m ≡ get_or met i m) where
+  split_first : (rest : List Encounter) × AreEncounters players (encounters (take i met) ++ first_of m ∷ rest)
+  split_first =
+      let split = encounters-split met i m below is in
+      (second_of m ∷ split.0, rw split.1 at all)
 
-pub first-room : (players : ℕ) (met : List Meeting) (i : ℕ) (m : Meeting) (list : List Opponents) → AreEncounters players (encounters met)
-    → i < length met → m ≡ get_or met i m → length list ≡ players → AreOpponentsOf (encounters (take i met)) list → HasRoom list m.lo
-first-room players met i m list all below is count are =
-    let split = encounters-split met i m below is in
-    let both = both-here players met i m all below is in
-    HasRoom-here players (encounters (take i met)) (first_of m) (second_of m ∷ split.0) list
-    (subst (AreEncounters players) split.1 all) count both.lo.0 both.lo.1 are
+  split_second : (rest : List Encounter) × AreEncounters players ((encounters (take i met) ++ first_of m ∷ []) ++ second_of m ∷ rest)
+  split_second =
+      let split = encounters-split met i m below is in
+      (split.0, rw (append_assoc (encounters (take i met)) (first_of m ∷ []) (second_of m ∷ split.0)) (rw split.1 at all))
 
-pub second-room : (players : ℕ) (met : List Meeting) (i : ℕ) (m : Meeting) (list : List Opponents) → AreEncounters players (encounters met)
-    → i < length met → m ≡ get_or met i m → length list ≡ players → AreOpponentsOf (encounters (take i met) ++ first_of m ∷ []) list → HasRoom list m.hi
-second-room players met i m list all below is count are =
-    let split = encounters-split met i m below is in
-    let both = both-here players met i m all below is in
-    let xs = encounters (take i met) in
-    let behind : (xs ++ first_of m ∷ []) ++ second_of m ∷ split.0 ≡ encounters met = append_assoc xs (first_of m ∷ []) (second_of m ∷ split.0) ∙ sym split.1 in
-    HasRoom-here players (xs ++ first_of m ∷ []) (second_of m) split.0 list
-    (subst (AreEncounters players) (sym behind) all) count both.hi.0 both.hi.1 are
+  pub both-here : AreBoth players m
+  both-here =
+      let xs = encounters (take i met) in
+      let one = split_first in
+      let two = split_second in
+      let known : Encounter → Type 0 = λ e. IsKnown players e.player in
+      let recorded : Encounter → Type 0 = λ e. IsRecord e.opponent in
+      record {
+        lo = All-here known xs (first_of m) one.0 one.1.known;
+        hi = All-here known (xs ++ first_of m ∷ []) (second_of m) two.0 two.1.known;
+        lo_record = All-here recorded (xs ++ first_of m ∷ []) (second_of m) two.0 two.1.records;
+        hi_record = All-here recorded xs (first_of m) one.0 one.1.records;
+      }
+
+  pub first-room : (list : List Opponents) → length list ≡ players → AreOpponentsOf (encounters (take i met)) list → HasRoom list m.lo
+  first-room list count are =
+      HasRoom-here players (encounters (take i met)) (first_of m) split_first.0 list split_first.1 count both-here.lo are
+
+  pub second-room : (list : List Opponents) → length list ≡ players → AreOpponentsOf (encounters (take i met) ++ first_of m ∷ []) list
+      → HasRoom list m.hi
+  second-room list count are =
+      HasRoom-here players (encounters (take i met) ++ first_of m ∷ [])
+      (second_of m) split_second.0 list split_second.1 count both-here.hi are

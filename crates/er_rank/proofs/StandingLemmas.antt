@@ -1,5 +1,6 @@
 -- Placings stand as the rules say.
-use Rattle.std.proofs.Common.{◌≡◌, ◌≢◌, ℕ, ◌+◌, ◌-◌, ◌<◌, ◌&&◌, ◌||◌, nat_lt, suc, Bool, true, false, cond, List, [], ◌∷◌, map, length, get_or, sum_by, count_by, All, Contains, refl, sym, ap, ap₂, subst, ◌∙◌, arith}
+use Rattle.std.proofs.Common.{◌≡◌, ◌≢◌, ℕ, ◌+◌, ◌-◌, ◌<◌, ◌&&◌, ◌||◌, nat_lt, suc, Bool, true, false, cond, List, [], ◌∷◌, map, length}
+use Rattle.std.proofs.Common.{get_or, count_by, All, Contains, refl, sym, ap, ap₂, ◌∙◌, arith}
 use Rattle.std.specs.List.{range_with_len}
 use Rattle.std.specs.List.Sorted.{IsPermutation}
 use Rattle.std.specs.declared.cmp.Ordering.{Ordering}
@@ -7,10 +8,9 @@ use Rattle.std.specs.declared.cmp.Ordering.TheVariants.{Less, Equal, Greater}
 use Rattle.std.specs.Ordering.{nat_cmp, ordering_then, ordering_reverse, is_lt, is_eq, is_gt, bool_cmp}
 use Rattle.std.proofs.lemmas.Bool.Decides.{nat_tests}
 use Rattle.std.proofs.lemmas.List.{get_or-map, get_or_default, length-map}
+use Rattle.std.proofs.lemmas.List.Folds.{fold-map}
 use Rattle.std.proofs.lemmas.List.Sorted.{sum_by-IsPermutation}
-use Rattle.std.proofs.lemmas.List.Sums.{sum_by-cons}
 use Rattle.std.proofs.lemmas.List.FromFn.{get_or-map-range_with_len}
-use Rattle.er_share.specs.Fraction.{Fraction, average}
 use Rattle.er_share.specs.Share.{IsShareOf}
 use Rattle.er_share.specs.Order.{share_cmp-same}
 use Rattle.er_event.specs.declared.players.Player.{Player}
@@ -28,23 +28,23 @@ use Rattle.er_rank.specs.Meeting.{encounters, opponents_of, totals_of}
 use Rattle.er_rank.specs.inside.Merit.{IsMerit}
 use Rattle.er_rank.specs.inside.Placing.{merit_cmp, placing_cmp, is_above, ArePlacings}
 use Rattle.er_rank.specs.Standings.{game_win, opponents, opponents_match_win, opponents_game_win, standing_cmp, is_better, is_listed_before}
-use Rattle.er_rank.proofs.PlacingLemmas.{merit_cmp-total, first_apart}
+use Rattle.er_rank.proofs.PlacingLemmas.{merit_cmp-total, first_apart, count_by-agree}
 use Rattle.er_rank.proofs.MeetingLemmas.{opponents-met}
 
 -- ---- lists
-
-sum_by-map : {X Y : Type 0} (g : Y → ℕ) (f : X → Y) (xs : List X) → sum_by g (map f xs) ≡ sum_by (λ x. g (f x)) xs
-sum_by-map g f [] = refl
-sum_by-map g f (x ∷ xs) = sum_by-cons g (f x) (map f xs) ∙ (ap (λ n. g (f x) + n) (sum_by-map g f xs) ∙ sym (sum_by-cons (λ y. g (f y)) x xs))
 
 pub map-map : {X Y Z : Type 0} (g : Y → Z) (f : X → Y) (xs : List X) → map g (map f xs) ≡ map (λ x. g (f x)) xs
 map-map g f [] = refl
 map-map g f (x ∷ xs) = ap (λ ys. g (f x) ∷ ys) (map-map g f xs)
 
 -- two functions that agree at each element
-pub map-agree : {X Y : Type 0} (f g : X → Y) (P : X → Type 0) → ((x : X) → P x → f x ≡ g x) → (xs : List X) → All P xs → map f xs ≡ map g xs
-map-agree f g P same [] all = refl
-map-agree f g P same (x ∷ xs) all = ap₂ (λ y ys. y ∷ ys) (same x (all 0 x (omega arith))) (map-agree f g P same xs (λ k d below. all (suc k) d (omega arith)))
+pub map-agree : {X Y : Type 0} (f g : X → Y) (xs : List X) → All (λ x. f x ≡ g x) xs → map f xs ≡ map g xs
+map-agree f g [] same = refl
+map-agree f g (x ∷ xs) same =
+    ap₂ (λ y ys. y ∷ ys) (same 0 x (omega arith)) (map-agree f g xs (λ k d below. same (suc k) d (omega arith)))
+
+count_by-map : {X Y : Type 0} (p : Y → Bool) (f : X → Y) (xs : List X) → count_by p (map f xs) ≡ count_by (λ x. p (f x)) xs
+count_by-map p f xs = fold-map (λ n y. n + cond (p y) 1 0) f 0 xs
 
 -- ---- a placing of one player of an event
 
@@ -58,105 +58,105 @@ pub record IsPlacing (e : EventValue) (p : Placing) : Type 0 where
   pub gwp : IsShareOf p.merit.gwp.0 (game_win e p.player)
   pub ogw : IsShareOf p.merit.ogw.0 (opponents_game_win e p.player)
 
--- the tally at a known player's place
-pub totals_of-known : (e : EventValue) → IsSoundButForSeeds e → (player : ℕ) → IsKnown (length e.players) player → totals_of (tallies e) player ≡ totals e player
-totals_of-known e sound player known =
-    let all : map (λ (t : Tally). t.totals) (tallies e) ≡ map (totals e) (range_with_len 1 (length e.players)) =
-    map-map (λ (t : Tally). t.totals) (tally_by (totals e)) e.players
-    ∙ (sym (map-map (totals e) (λ (p : Player). p.no) e.players) ∙ ap (map (totals e)) sound.players.numbered) in
-    ap (λ (ts : List Totals). get_or ts (player - 1) no_totals) all
-    ∙ get_or-map-range_with_len (totals e) 1 (length e.players) (player - 1) player no_totals (omega (arith, known)) (omega (arith, known))
+module _ (e : EventValue) (sound : IsSoundButForSeeds e) where
+  -- the tally at a known player's place
+  pub totals_of-known : (player : ℕ) → IsKnown (length e.players) player → totals_of (tallies e) player ≡ totals e player
+  totals_of-known player known =
+      let own = map-map (λ (t : Tally). t.totals) (tally_by (totals e)) e.players in
+      let numbered = map-map (totals e) (λ (p : Player). p.no) e.players in
+      let all : map (λ (t : Tally). t.totals) (tallies e) ≡ map (totals e) (range_with_len 1 (length e.players)) =
+      own ∙ (sym numbered ∙ ap (map (totals e)) sound.players.numbered) in
+      ap (λ (ts : List Totals). get_or ts (player - 1) no_totals) all
+      ∙ get_or-map-range_with_len (totals e) 1 (length e.players) (player - 1) player no_totals (omega (arith, known))
+      (omega (arith, known))
 
-IsPlacing-merit : (e : EventValue) (p : Placing) (listed : Player) → IsSoundButForSeeds e → All (λ (r : Round). All (λ (m : Match). 0 < m.a) r.matches) e.stored
-    → Contains e.players listed → IsKnown (length e.players) p.player → p.player ≡ listed.no → p.dropped ≡ listed.dropped
-    → IsMerit (totals_of (tallies e) p.player) (opponents_of (encounters (meetings e)) p.player) p.merit → IsPlacing e p
-IsPlacing-merit e p listed sound positive contains known number dropped merit =
-    let own = totals_of-known e sound p.player known in
-    let met = opponents-met e p.player positive in
-    let match_wins = ap (map match_win_of) met ∙ map-map match_win_of (totals e) (opponents e p.player) in
-    let game_wins = ap (map game_win_of) met ∙ map-map game_win_of (totals e) (opponents e p.player) in
-    record {
-      listed = listed;
-      is_player = contains;
-      number = number;
-      dropped = dropped;
-      points = merit.points ∙ ap (λ (t : Totals). t.points) own;
-      omw = subst (λ (fs : List Fraction). IsShareOf p.merit.omw.0 (average fs)) match_wins merit.omw;
-      gwp = subst (λ (t : Totals). IsShareOf p.merit.gwp.0 (game_win_of t)) own merit.gwp;
-      ogw = subst (λ (fs : List Fraction). IsShareOf p.merit.ogw.0 (average fs)) game_wins merit.ogw;
-    }
+  module _ (positive : All (λ (r : Round). All (λ (m : Match). 0 < m.a) r.matches) e.stored) where
+    IsPlacing-merit : (p : Placing) (listed : Player) → Contains e.players listed → IsKnown (length e.players) p.player
+        → p.player ≡ listed.no → p.dropped ≡ listed.dropped
+        → IsMerit (totals_of (tallies e) p.player) (opponents_of (encounters (meetings e)) p.player) p.merit → IsPlacing e p
+    IsPlacing-merit p listed contains known number dropped merit =
+        let own = totals_of-known p.player known in
+        let met = opponents-met e p.player positive in
+        let match_wins = ap (map match_win_of) met ∙ map-map match_win_of (totals e) (opponents e p.player) in
+        let game_wins = ap (map game_win_of) met ∙ map-map game_win_of (totals e) (opponents e p.player) in
+        record {
+          listed = listed;
+          is_player = contains;
+          number = number;
+          dropped = dropped;
+          points = merit.points ∙ ap (λ (t : Totals). t.points) own;
+          omw = rw match_wins at merit.omw;
+          gwp = rw own at merit.gwp;
+          ogw = rw game_wins at merit.ogw;
+        }
 
-nobody : Player
-nobody = record { no = 0; name = []; dropped = false }
-
-pub ArePlacings-each : (e : EventValue) (placings : List Placing) → IsSoundButForSeeds e → All (λ (r : Round). All (λ (m : Match). 0 < m.a) r.matches) e.stored
-    → All (λ (q : Player). IsKnown (length e.players) q.no) e.players → ArePlacings (encounters (meetings e)) (tallies e) placings → All (IsPlacing e) placings
-ArePlacings-each e placings sound positive known placed = λ k d below.
-    let numbers : map (λ (p : Placing). p.player) placings ≡ map (λ (q : Player). q.no) e.players = placed.numbers ∙ map-map (λ (t : Tally). t.no) (tally_by (totals e)) e.players in
-    let gone : map (λ (p : Placing). p.dropped) placings ≡ map (λ (q : Player). q.dropped) e.players = placed.dropped ∙ map-map (λ (t : Tally). t.dropped) (tally_by (totals e)) e.players in
-    let count : length placings ≡ length e.players = sym (length-map placings (λ (p : Placing). p.player)) ∙ (ap length numbers ∙ length-map e.players (λ (q : Player). q.no)) in
-    let inside : k < length e.players = omega arith in
-    let listed = get_or e.players k nobody in
-    let number : (get_or placings k d).player ≡ listed.no =
-    sym (get_or-map (λ (p : Placing). p.player) placings k d 0 below) ∙ (ap (λ ns. get_or ns k 0) numbers ∙ get_or-map (λ (q : Player). q.no) e.players k nobody 0 inside) in
-    let dropped : (get_or placings k d).dropped ≡ listed.dropped =
-    sym (get_or-map (λ (p : Placing). p.dropped) placings k d false below) ∙ (ap (λ ds. get_or ds k false) gone ∙ get_or-map (λ (q : Player). q.dropped) e.players k nobody false inside) in
-    IsPlacing-merit e (get_or placings k d) listed sound positive
-    (k, inside, get_or_default e.players k listed nobody inside)
-    (subst (IsKnown (length e.players)) (sym number) (known k nobody inside)) number dropped (placed.merits k d below)
+    pub ArePlacings-each : (placings : List Placing) → All (λ (q : Player). IsKnown (length e.players) q.no) e.players
+        → ArePlacings (encounters (meetings e)) (tallies e) placings → All (IsPlacing e) placings
+    ArePlacings-each placings known placed = λ k d below.
+        let nobody : Player = record { no = 0; name = []; dropped = false } in
+        let numbers = placed.numbers ∙ map-map (λ (t : Tally). t.no) (tally_by (totals e)) e.players in
+        let gone = placed.dropped ∙ map-map (λ (t : Tally). t.dropped) (tally_by (totals e)) e.players in
+        let long = length-map placings (λ (p : Placing). p.player) in
+        let count : length placings ≡ length e.players =
+        omega (arith, long, ap length numbers, length-map e.players (λ (q : Player). q.no)) in
+        let inside : k < length e.players = omega arith in
+        let listed = get_or e.players k nobody in
+        let number : (get_or placings k d).player ≡ listed.no =
+        let here = get_or-map (λ (p : Placing). p.player) placings k d 0 below in
+        let there = get_or-map (λ (q : Player). q.no) e.players k nobody 0 inside in
+        cc in
+        let dropped : (get_or placings k d).dropped ≡ listed.dropped =
+        let here = get_or-map (λ (p : Placing). p.dropped) placings k d false below in
+        let there = get_or-map (λ (q : Player). q.dropped) e.players k nobody false inside in
+        cc in
+        IsPlacing-merit (get_or placings k d) listed (k, inside, get_or_default e.players k listed nobody inside)
+        (rw number (known k nobody inside)) number dropped (placed.merits k d below)
 
 -- ---- the order of merits is the rules'
 
-pub merit_cmp-standing : (e : EventValue) (s t : Placing) → IsPlacing e s → IsPlacing e t → merit_cmp s.merit t.merit ≡ standing_cmp e t.player s.player
+merit_cmp-standing : (e : EventValue) (s t : Placing) → IsPlacing e s → IsPlacing e t
+    → merit_cmp s.merit t.merit ≡ standing_cmp e t.player s.player
 merit_cmp-standing e s t one other =
     ap₂ ordering_then (ap₂ nat_cmp other.points one.points)
     (ap₂ ordering_then (share_cmp-same _ _ _ _ other.omw one.omw)
     (ap₂ ordering_then (share_cmp-same _ _ _ _ other.gwp one.gwp) (share_cmp-same _ _ _ _ other.ogw one.ogw)))
 
-is_lt-reverse : (o : Ordering) → is_lt (ordering_reverse o) ≡ is_gt o
-is_lt-reverse Less = refl
-is_lt-reverse Equal = refl
-is_lt-reverse Greater = refl
-
-pub is_above-better : (e : EventValue) (s t : Placing) → IsPlacing e s → IsPlacing e t → is_above s t ≡ is_better e s.player t.player
+is_above-better : (e : EventValue) (s t : Placing) → IsPlacing e s → IsPlacing e t → is_above s t ≡ is_better e s.player t.player
 is_above-better e s t one other =
     ap is_lt (merit_cmp-total.antisymm s.merit t.merit)
-    ∙ (is_lt-reverse (merit_cmp t.merit s.merit)
-    ∙ ap is_gt (merit_cmp-standing e t s other one))
+    ∙ (turned (merit_cmp t.merit s.merit) ∙ ap is_gt (merit_cmp-standing e t s other one))
+  where
+    turned : (o : Ordering) → is_lt (ordering_reverse o) ≡ is_gt o
+    turned Less = refl
+    turned Equal = refl
+    turned Greater = refl
 
 -- ---- ranks
 
-count_by-agree_all : {X : Type 0} (p q : X → Bool) (P : X → Type 0) → ((x : X) → P x → p x ≡ q x) → (xs : List X) → All P xs → count_by p xs ≡ count_by q xs
-count_by-agree_all p q P same [] all = refl
-count_by-agree_all p q P same (x ∷ xs) all =
-    sum_by-cons (λ y. cond (p y) 1 0) x xs
-    ∙ (rw (same x (all 0 x (omega arith)), count_by-agree_all p q P same xs (λ k d below. all (suc k) d (omega arith))) refl
-    ∙ sym (sum_by-cons (λ y. cond (q y) 1 0) x xs))
-
-count_by-map : {X Y : Type 0} (p : Y → Bool) (f : X → Y) (xs : List X) → count_by p (map f xs) ≡ count_by (λ x. p (f x)) xs
-count_by-map p f xs = sum_by-map (λ y. cond (p y) 1 0) f xs
-
 -- as many placings are above as there are better players
-pub rank-standing : (e : EventValue) (by_number placings : List Placing) (p : Placing) → All (IsPlacing e) placings → IsPlacing e p → IsPermutation by_number placings → map (λ (q : Placing). q.player) by_number ≡ map (λ (q : Player). q.no) e.players → count_by (λ q. is_above q p) placings ≡ count_by (λ (q : Player). is_better e q.no p.player) e.players
+pub rank-standing : (e : EventValue) (by_number placings : List Placing) (p : Placing) → All (IsPlacing e) placings → IsPlacing e p
+    → IsPermutation by_number placings → map (λ (q : Placing). q.player) by_number ≡ map (λ (q : Player). q.no) e.players
+    → count_by (λ q. is_above q p) placings ≡ count_by (λ (q : Player). is_better e q.no p.player) e.players
 rank-standing e by_number placings p all is same numbers =
     let better : ℕ → Bool = λ q. is_better e q p.player in
-    count_by-agree_all (λ (q : Placing). is_above q p) (λ (q : Placing). better q.player) (IsPlacing e) (λ q placed. is_above-better e q p placed is) placings all
+    count_by-agree (λ (q : Placing). is_above q p) (λ (q : Placing). better q.player) placings
+    (λ k d below. is_above-better e (get_or placings k d) p (all k d below) is)
     ∙ (sum_by-IsPermutation (λ (q : Placing). cond (better q.player) 1 0) by_number placings same
     ∙ (sym (count_by-map better (λ (q : Placing). q.player) by_number)
-    ∙ (ap (count_by better) numbers
-    ∙ count_by-map better (λ (q : Player). q.no) e.players)))
+    ∙ (ap (count_by better) numbers ∙ count_by-map better (λ (q : Player). q.no) e.players)))
 
 -- ---- the order of the list
 
-later_number : (p q : ℕ) → is_lt (nat_cmp q p) ≡ false → p ≢ q → nat_lt p q ≡ true
-later_number p q apart other = grind (arith, nat_tests)
-
-listed_by : (o : Ordering) (p q : ℕ) (later : Ordering) → is_lt (ordering_then o (ordering_then (nat_cmp q p) later)) ≡ false → p ≢ q → (is_gt o || (is_eq o && nat_lt p q)) ≡ true
+listed_by : (o : Ordering) (p q : ℕ) (later : Ordering) → is_lt (ordering_then o (ordering_then (nat_cmp q p) later)) ≡ false → p ≢ q
+    → (is_gt o || (is_eq o && nat_lt p q)) ≡ true
 listed_by Less p q later apart other = cc
-listed_by Equal p q later apart other = later_number p q (first_apart (nat_cmp q p) later apart) other
+listed_by Equal p q later apart other =
+    let before = first_apart (nat_cmp q p) later apart in
+    grind (arith, nat_tests)
 listed_by Greater p q later apart other = refl
 
-pub listed_before : (e : EventValue) (above below : Placing) → IsPlacing e above → IsPlacing e below → is_lt (placing_cmp below above) ≡ false → above.player ≢ below.player → is_listed_before e above.player below.player ≡ true
+pub listed_before : (e : EventValue) (above below : Placing) → IsPlacing e above → IsPlacing e below
+    → is_lt (placing_cmp below above) ≡ false → above.player ≢ below.player → is_listed_before e above.player below.player ≡ true
 listed_before e above below one other apart differ =
-    subst (λ (o : Ordering). (is_gt o || (is_eq o && nat_lt above.player below.player)) ≡ true) (merit_cmp-standing e below above other one)
+    rw (← merit_cmp-standing e below above other one)
     (listed_by (merit_cmp below.merit above.merit) above.player below.player (bool_cmp below.dropped above.dropped) apart differ)

@@ -1,5 +1,5 @@
 -- What is answered to those who ask for a pairing.
-use Rattle.std.proofs.Common.{◌≡◌, ◌⊎◌, ◌↔◌, inl, inr, ℕ, List, None, Result, Ok, Err, IsErrAnd, refl, sym, ap, subst, ◌∙◌}
+use Rattle.std.proofs.Common.{◌≡◌, ◌⊎◌, ◌↔◌, inl, inr, ℕ, Bool, List, None, Result, Ok, Err, IsErrAnd, refl, sym, ap, ◌∙◌}
 use Rattle.er_event.specs.declared.commands.Command.TheVariants.{Pair}
 use Rattle.er_event.specs.declared.refusals.Refusal.TheVariants as refusal
 use Rattle.er_event.specs.Event.{EventValue}
@@ -22,7 +22,13 @@ pub err_is : {T F : Type 0} (r : Result T F) (x : F) → IsErrAnd r (λ y. y ≡
 err_is (Err y) x h = ap Err h
 err_is (Ok t) x h = absurd h
 
-module _ (e : EventValue) (round : ℕ) (seed : List ℕ) (free : first_refusal (pair_checks e round) ≡ None) (order : List ℕ) (ordered : IsOrder e (seed_words seed) order) (one : (key : ℕ → ℕ) (a b : List ℕ) → IsOrder e key a → IsOrder e key b → a ≡ b) where
+-- the search has too few steps just where the order needs more, or memory didn't last
+abbrev pub IsExact : {T : Type 0} → (ℕ → ℕ → Bool) → List ℕ → Result T PairFault → Type 0
+IsExact met order found = (found ≡ Err Memory) ⊎ ((found ≡ Err (Budget MAX_STEPS)) ↔ NeedsMore met order MAX_STEPS)
+
+module _ (e : EventValue) (round : ℕ) (seed : List ℕ) (free : first_refusal (pair_checks e round) ≡ None) (order : List ℕ)
+    (ordered : IsOrder e (seed_words seed) order)
+    (one : (key : ℕ → ℕ) (a b : List ℕ) → IsOrder e key a → IsOrder e key b → a ≡ b) where
   none_steps : ((pairs : List pairing.Pair) → IsLegal (have_met e) order pairs → ⊥) → Steps e (Pair round seed) (Err refusal.NoPairing)
   none_steps none = rw free (order, ordered, (refl, none))
 
@@ -30,34 +36,30 @@ module _ (e : EventValue) (round : ℕ) (seed : List ℕ) (free : first_refusal 
   steps ps it = rw free (order, ordered, (it.pairs, it.earliest, ap (with_round e) (ap tables_of it.are ∙ tables_are order it.pairs)))
 
   needs_more : NeedsMoreSteps e (Pair round seed) → NeedsMore (have_met e) order MAX_STEPS
-  needs_more needs = subst (λ (o : List ℕ). NeedsMore (have_met e) o MAX_STEPS) (one (seed_words seed) needs.1 order needs.2 ordered) needs.3
+  needs_more needs = rw (one (seed_words seed) needs.1 order needs.2 ordered) at needs.3
 
-  module _ {T : Type 0} (found : Result T PairFault) (exact : (found ≡ Err Memory) ⊎ ((found ≡ Err (Budget MAX_STEPS)) ↔ NeedsMore (have_met e) order MAX_STEPS)) where
+  module _ {T : Type 0} (found : Result T PairFault) (exact : IsExact (have_met e) order found) where
     -- another answer than the budget's tells that the steps suffice
     enough : (found ≡ Err Memory → ⊥) → (found ≡ Err (Budget MAX_STEPS) → ⊥) → NeedsMoreSteps e (Pair round seed) → ⊥
-    enough lasts within needs = by_case exact
-      where
-        by_case : (found ≡ Err Memory) ⊎ ((found ≡ Err (Budget MAX_STEPS)) ↔ NeedsMore (have_met e) order MAX_STEPS) → ⊥
-        by_case (inl memory) = lasts memory
-        by_case (inr iff) = within (iff.1 (needs_more needs))
+    enough lasts within needs = elim exact [ inl memory ↦ lasts memory | inr iff ↦ within (iff.1 (needs_more needs)) ]
 
     too_few : found ≡ Err (Budget MAX_STEPS) → NeedsMoreSteps e (Pair round seed)
-    too_few over = by_case exact
-      where
-        never : (let r : Result T PairFault = Err (Budget MAX_STEPS) in r) ≡ Err Memory → ⊥
-        never h = cc
-
-        by_case : (found ≡ Err Memory) ⊎ ((found ≡ Err (Budget MAX_STEPS)) ↔ NeedsMore (have_met e) order MAX_STEPS) → NeedsMoreSteps e (Pair round seed)
-        by_case (inl memory) = absurd (never (sym over ∙ memory))
-        by_case (inr iff) = (free, order, ordered, iff.0 over)
+    too_few over = elim exact [
+      | inl memory ↦ absurd (let never = sym over ∙ memory in cc)
+      | inr iff ↦ (free, order, ordered, iff.0 over)
+    ]
 
     pub refused_by : (fault : PairFault) → found ≡ Err fault
         → (found ≡ Err NoPairing → (pairs : List pairing.Pair) → IsLegal (have_met e) order pairs → ⊥)
         → ((steps : ℕ) → found ≡ Err (Budget steps) → steps ≡ 1000000)
         → (refusal_of fault ≡ refusal.Memory) ⊎ Answers e (Pair round seed) (Err (refusal_of fault))
-    refused_by NoPairing is none count = inr (inl (none_steps (none is), enough (λ h. let never = sym is ∙ h in cc) (λ h. let never = sym is ∙ h in cc)))
-    refused_by (Budget n) is none count = inr (inr (ap (λ (k : ℕ). Err (refusal.Budget k)) (count n is), too_few (is ∙ ap (λ (k : ℕ). Err (Budget k)) (count n is))))
+    refused_by NoPairing is none count =
+        inr (inl (none_steps (none is), enough (λ h. let never = sym is ∙ h in cc) (λ h. let never = sym is ∙ h in cc)))
+    refused_by (Budget n) is none count =
+        let steps = count n is in
+        inr (inr (ap (λ (k : ℕ). Err (refusal.Budget k)) steps, too_few (is ∙ ap (λ (k : ℕ). Err (Budget k)) steps)))
     refused_by Memory is none count = inl refl
 
-    pub taken_by : (pairs : T) → found ≡ Ok pairs → (ps : List pairing.Pair) → IsPairing (have_met e) order ps → Answers e (Pair round seed) (Ok (with_round e (tables_of ps)))
+    pub taken_by : (pairs : T) → found ≡ Ok pairs → (ps : List pairing.Pair) → IsPairing (have_met e) order ps
+        → Answers e (Pair round seed) (Ok (with_round e (tables_of ps)))
     taken_by pairs is ps it = inl (steps ps it, enough (λ h. let never = sym is ∙ h in cc) (λ h. let never = sym is ∙ h in cc))

@@ -7,7 +7,10 @@ use Rattle.er_event.specs.declared.players.Player.{Player}
 use Rattle.er_event.specs.declared.commands.Command.{Command}
 use Rattle.er_event.specs.declared.commands.Command.TheVariants.{Enrol, Start, Pair, Result, Correct, Drop, Cut, Playoff as PlayOff}
 use Rattle.er_event.specs.declared.refusals.Refusal.{Refusal}
-use Rattle.er_event.specs.declared.refusals.Refusal.TheVariants.{BadName, NameTaken, PlayersFull, NotEnrolling, TooFewPlayers, NotSwiss, WrongRound, RoundOpen, AllRoundsPaired, NoSuchMatch, BadScore, AlreadyReported, NotReported, IsBye, NoSuchPlayer, AlreadyDropped, RoundsNotDone, NoCut, TooFewForCut, NotPlayoff}
+use Rattle.er_event.specs.declared.refusals.Refusal.TheVariants.{BadName, NameTaken, PlayersFull, NotEnrolling, TooFewPlayers, NotSwiss}
+use Rattle.er_event.specs.declared.refusals.Refusal.TheVariants.{WrongRound, RoundOpen, AllRoundsPaired, NoSuchMatch, BadScore}
+use Rattle.er_event.specs.declared.refusals.Refusal.TheVariants.{AlreadyReported, NotReported, IsBye, NoSuchPlayer, AlreadyDropped}
+use Rattle.er_event.specs.declared.refusals.Refusal.TheVariants.{RoundsNotDone, NoCut, TooFewForCut, NotPlayoff}
 use Rattle.er_event.specs.declared.matches.Match.{Match}
 use Rattle.er_event.specs.declared.scores.Games.{Games}
 use Rattle.er_event.specs.Bracket.{open_match}
@@ -60,19 +63,23 @@ four = three ++ player 4 (codes "Di") ∷ []
 abbrev enrolling : List Player → EventValue
 enrolling players = event_of 3 0 Enrolling players [] []
 
-pub names_to_enrol : refused (enrolling four) (Enrol (codes "Ed") ∷ Enrol (codes "Ana") ∷ Enrol (codes "Ana ") ∷ Enrol [] ∷ []) ≡ None ∷ Some NameTaken ∷ Some BadName ∷ Some BadName ∷ []
+pub names_to_enrol : refused (enrolling four) (Enrol (codes "Ed") ∷ Enrol (codes "Ana") ∷ Enrol (codes "Ana ") ∷ Enrol [] ∷ [])
+    ≡ None ∷ Some NameTaken ∷ Some BadName ∷ Some BadName ∷ []
 unfolding is_utf8 chars lib.Utf8.encode
 names_to_enrol = refl
 
 -- a name that is taken is named before the event is called full, and an unlawful one before both
-pub names_of_a_full_event : refused (enrolling (replicate 512 (player 1 (codes "Ana")))) (Enrol (codes "Ed") ∷ Enrol (codes "Ana") ∷ Enrol [] ∷ []) ≡ Some PlayersFull ∷ Some NameTaken ∷ Some BadName ∷ []
+pub names_of_a_full_event : refused (enrolling (replicate 512 (player 1 (codes "Ana"))))
+    (Enrol (codes "Ed") ∷ Enrol (codes "Ana") ∷ Enrol [] ∷ []) ≡ Some PlayersFull ∷ Some NameTaken ∷ Some BadName ∷ []
 unfolding is_utf8 chars lib.Utf8.encode
 names_of_a_full_event = refl
 
-pub starts : refused (enrolling two) (Start ∷ []) ++ refused (enrolling (player 1 (codes "Ana") ∷ [])) (Start ∷ []) ≡ None ∷ Some TooFewPlayers ∷ []
+pub starts : refused (enrolling two) (Start ∷ []) ++ refused (enrolling (player 1 (codes "Ana") ∷ [])) (Start ∷ [])
+    ≡ None ∷ Some TooFewPlayers ∷ []
 starts = refl
 
-pub before_the_start : refused (enrolling four) (pair 1 ∷ Result 1 1 (games 2 0 0) ∷ Correct 1 1 (games 2 0 0) ∷ Drop 1 ∷ Cut ∷ PlayOff 1 1 (games 2 0 0) ∷ [])
+pub before_the_start : refused (enrolling four)
+    (pair 1 ∷ Result 1 1 (games 2 0 0) ∷ Correct 1 1 (games 2 0 0) ∷ Drop 1 ∷ Cut ∷ PlayOff 1 1 (games 2 0 0) ∷ [])
     ≡ Some NotSwiss ∷ Some NotSwiss ∷ Some NotSwiss ∷ Some NotSwiss ∷ Some NotSwiss ∷ Some NotPlayoff ∷ []
 before_the_start = refl
 
@@ -81,24 +88,30 @@ before_the_start = refl
 abbrev paired : EventValue
 paired = event_of 3 0 Swiss four ((open_match 4 2 ∷ open_match 1 3 ∷ []) ∷ []) []
 
-pub after_the_start : refused paired (Enrol (codes "Ed") ∷ Enrol [] ∷ Start ∷ PlayOff 1 1 (games 2 0 0) ∷ []) ≡ Some NotEnrolling ∷ Some NotEnrolling ∷ Some NotEnrolling ∷ Some NotPlayoff ∷ []
+pub after_the_start : refused paired (Enrol (codes "Ed") ∷ Enrol [] ∷ Start ∷ PlayOff 1 1 (games 2 0 0) ∷ [])
+    ≡ Some NotEnrolling ∷ Some NotEnrolling ∷ Some NotEnrolling ∷ Some NotPlayoff ∷ []
 unfolding is_utf8 chars lib.Utf8.encode
 after_the_start = refl
 
-pub rounds_while_one_is_open : refused paired (pair 0 ∷ pair 1 ∷ pair 2 ∷ pair 3 ∷ pair 4 ∷ []) ≡ Some (WrongRound 2) ∷ Some (WrongRound 2) ∷ Some (RoundOpen 1) ∷ Some (WrongRound 2) ∷ Some (WrongRound 2) ∷ []
+pub rounds_while_one_is_open : refused paired (pair 0 ∷ pair 1 ∷ pair 2 ∷ pair 3 ∷ pair 4 ∷ [])
+    ≡ Some (WrongRound 2) ∷ Some (WrongRound 2) ∷ Some (RoundOpen 1) ∷ Some (WrongRound 2) ∷ Some (WrongRound 2) ∷ []
 rounds_while_one_is_open = refl
 
-pub results : refused paired (Result 1 1 (games 2 0 0) ∷ Result 1 2 (games 2 2 0) ∷ Result 1 3 (games 2 2 0) ∷ Result 1 0 (games 2 0 0) ∷ Result 2 1 (games 2 0 0) ∷ Result 0 1 (games 2 0 0) ∷ [])
-    ≡ None ∷ Some BadScore ∷ Some NoSuchMatch ∷ Some NoSuchMatch ∷ Some NoSuchMatch ∷ Some NoSuchMatch ∷ []
+pub results : refused paired (
+    Result 1 1 (games 2 0 0) ∷ Result 1 2 (games 2 2 0) ∷ Result 1 3 (games 2 2 0)
+    ∷ Result 1 0 (games 2 0 0) ∷ Result 2 1 (games 2 0 0) ∷ Result 0 1 (games 2 0 0) ∷ []
+    ) ≡ None ∷ Some BadScore ∷ Some NoSuchMatch ∷ Some NoSuchMatch ∷ Some NoSuchMatch ∷ Some NoSuchMatch ∷ []
 results = refl
 
-pub nothing_to_correct : refused paired (Correct 1 1 (games 2 0 0) ∷ Correct 1 1 (games 2 2 0) ∷ Correct 1 3 (games 2 0 0) ∷ []) ≡ Some NotReported ∷ Some NotReported ∷ Some NoSuchMatch ∷ []
+pub nothing_to_correct : refused paired (Correct 1 1 (games 2 0 0) ∷ Correct 1 1 (games 2 2 0) ∷ Correct 1 3 (games 2 0 0) ∷ [])
+    ≡ Some NotReported ∷ Some NotReported ∷ Some NoSuchMatch ∷ []
 nothing_to_correct = refl
 
 pub drops : refused paired (Drop 0 ∷ Drop 5 ∷ Drop 3 ∷ []) ≡ Some NoSuchPlayer ∷ Some NoSuchPlayer ∷ None ∷ []
 drops = refl
 
-pub dropped_again : refused (event_of 3 0 Swiss (two ++ gone 3 (codes "Cy") ∷ []) [] []) (Drop 3 ∷ Drop 2 ∷ []) ≡ Some AlreadyDropped ∷ None ∷ []
+pub dropped_again : refused (event_of 3 0 Swiss (two ++ gone 3 (codes "Cy") ∷ []) [] []) (Drop 3 ∷ Drop 2 ∷ [])
+    ≡ Some AlreadyDropped ∷ None ∷ []
 dropped_again = refl
 
 -- the first two have handed in their score
@@ -106,11 +119,13 @@ abbrev reported : EventValue
 reported = event_of 3 0 Swiss four ((played 4 2 2 1 0 ∷ open_match 1 3 ∷ []) ∷ []) []
 
 -- the score that stands is named, also where the same or an unlawful one is handed in
-pub reported_again : refused reported (Result 1 1 (games 2 1 0) ∷ Result 1 1 (games 0 2 0) ∷ Result 1 1 (games 2 2 0) ∷ Result 1 2 (games 2 0 0) ∷ [])
+pub reported_again : refused reported
+    (Result 1 1 (games 2 1 0) ∷ Result 1 1 (games 0 2 0) ∷ Result 1 1 (games 2 2 0) ∷ Result 1 2 (games 2 0 0) ∷ [])
     ≡ Some (AlreadyReported (games 2 1 0)) ∷ Some (AlreadyReported (games 2 1 0)) ∷ Some (AlreadyReported (games 2 1 0)) ∷ None ∷ []
 reported_again = refl
 
-pub corrections : refused reported (Correct 1 1 (games 0 2 0) ∷ Correct 1 1 (games 3 0 0) ∷ Correct 1 2 (games 0 2 0) ∷ []) ≡ None ∷ Some BadScore ∷ Some NotReported ∷ []
+pub corrections : refused reported (Correct 1 1 (games 0 2 0) ∷ Correct 1 1 (games 3 0 0) ∷ Correct 1 2 (games 0 2 0) ∷ [])
+    ≡ None ∷ Some BadScore ∷ Some NotReported ∷ []
 corrections = refl
 
 -- ---- three players: one has the bye
@@ -118,7 +133,9 @@ corrections = refl
 abbrev with_bye : EventValue
 with_bye = event_of 3 0 Swiss three ((open_match 2 1 ∷ played 3 0 2 0 0 ∷ []) ∷ []) []
 
-pub scores_of_a_bye : refused with_bye (Correct 1 0 (games 2 1 0) ∷ Result 1 0 (games 2 0 0) ∷ Result 1 0 (games 2 2 0) ∷ Result 1 2 (games 2 0 0) ∷ []) ≡ Some IsBye ∷ Some IsBye ∷ Some IsBye ∷ Some NoSuchMatch ∷ []
+pub scores_of_a_bye : refused with_bye
+    (Correct 1 0 (games 2 1 0) ∷ Result 1 0 (games 2 0 0) ∷ Result 1 0 (games 2 2 0) ∷ Result 1 2 (games 2 0 0) ∷ [])
+    ≡ Some IsBye ∷ Some IsBye ∷ Some IsBye ∷ Some NoSuchMatch ∷ []
 scores_of_a_bye = refl
 
 -- the bye stands behind the tables, and is won
@@ -140,11 +157,15 @@ no_round_left = refl
 pub nobody_to_meet : refused (over 2 0 (player 1 (codes "Ana") ∷ gone 2 (codes "Bo") ∷ [])) (pair 2 ∷ []) ≡ Some TooFewPlayers ∷ []
 nobody_to_meet = refl
 
-pub cuts : refused (over 1 2 two) (Cut ∷ []) ++ refused (over 1 0 two) (Cut ∷ []) ++ refused (over 2 2 two) (Cut ∷ []) ++ refused (over 1 4 two) (Cut ∷ []) ≡ None ∷ Some NoCut ∷ Some RoundsNotDone ∷ Some TooFewForCut ∷ []
+pub cuts : refused (over 1 2 two) (Cut ∷ []) ++ refused (over 1 0 two) (Cut ∷ [])
+    ++ refused (over 2 2 two) (Cut ∷ []) ++ refused (over 1 4 two) (Cut ∷ [])
+    ≡ None ∷ Some NoCut ∷ Some RoundsNotDone ∷ Some TooFewForCut ∷ []
 cuts = refl
 
 -- that there is no cut is said before that rounds are not done, and that before too few are active
-pub cuts_in_order : refused (over 2 0 two) (Cut ∷ []) ++ refused (over 2 4 two) (Cut ∷ []) ++ refused (event_of 1 2 Swiss two ((open_match 2 1 ∷ []) ∷ []) []) (Cut ∷ []) ≡ Some NoCut ∷ Some RoundsNotDone ∷ Some RoundsNotDone ∷ []
+pub cuts_in_order : refused (over 2 0 two) (Cut ∷ []) ++ refused (over 2 4 two) (Cut ∷ [])
+    ++ refused (event_of 1 2 Swiss two ((open_match 2 1 ∷ []) ∷ []) []) (Cut ∷ [])
+    ≡ Some NoCut ∷ Some RoundsNotDone ∷ Some RoundsNotDone ∷ []
 cuts_in_order = refl
 
 -- ---- the playoff
@@ -152,17 +173,22 @@ cuts_in_order = refl
 abbrev playing : List (List Match) → EventValue
 playing stages = event_of 1 2 Playoff two ((played 2 1 2 0 0 ∷ []) ∷ []) stages
 
-pub scores_of_the_final : refused (playing ((open_match 2 1 ∷ []) ∷ [])) (PlayOff 1 1 (games 2 0 0) ∷ PlayOff 1 1 (games 1 1 0) ∷ PlayOff 1 2 (games 1 1 0) ∷ PlayOff 2 1 (games 2 0 0) ∷ PlayOff 0 1 (games 2 0 0) ∷ PlayOff 1 0 (games 2 0 0) ∷ Cut ∷ Result 1 1 (games 2 0 0) ∷ [])
-    ≡ None ∷ Some BadScore ∷ Some NoSuchMatch ∷ Some NoSuchMatch ∷ Some NoSuchMatch ∷ Some NoSuchMatch ∷ Some NotSwiss ∷ Some NotSwiss ∷ []
+pub scores_of_the_final : refused (playing ((open_match 2 1 ∷ []) ∷ [])) (
+    PlayOff 1 1 (games 2 0 0) ∷ PlayOff 1 1 (games 1 1 0) ∷ PlayOff 1 2 (games 1 1 0) ∷ PlayOff 2 1 (games 2 0 0)
+    ∷ PlayOff 0 1 (games 2 0 0) ∷ PlayOff 1 0 (games 2 0 0) ∷ Cut ∷ Result 1 1 (games 2 0 0) ∷ []
+    ) ≡ None ∷ Some BadScore ∷ Some NoSuchMatch ∷ Some NoSuchMatch ∷ Some NoSuchMatch ∷ Some NoSuchMatch
+    ∷ Some NotSwiss ∷ Some NotSwiss ∷ []
 scores_of_the_final = refl
 
 -- of a stage with two slots the first is played
-pub slot_reported_again : refused (playing ((played 5 3 2 0 0 ∷ open_match 6 1 ∷ []) ∷ [])) (PlayOff 1 1 (games 2 0 0) ∷ PlayOff 1 1 (games 1 1 0) ∷ PlayOff 1 2 (games 1 2 0) ∷ [])
+pub slot_reported_again : refused (playing ((played 5 3 2 0 0 ∷ open_match 6 1 ∷ []) ∷ []))
+    (PlayOff 1 1 (games 2 0 0) ∷ PlayOff 1 1 (games 1 1 0) ∷ PlayOff 1 2 (games 1 2 0) ∷ [])
     ≡ Some (AlreadyReported (games 2 0 0)) ∷ Some (AlreadyReported (games 2 0 0)) ∷ None ∷ []
 slot_reported_again = refl
 
 -- its other score brings the stage of the winners
-pub winners_go_on : with_stage_score (playing ((played 5 3 2 0 0 ∷ open_match 6 1 ∷ []) ∷ [])) 1 2 (games 1 2 0) ≡ playing ((played 5 3 2 0 0 ∷ played 6 1 1 2 0 ∷ []) ∷ (open_match 5 1 ∷ []) ∷ [])
+pub winners_go_on : with_stage_score (playing ((played 5 3 2 0 0 ∷ open_match 6 1 ∷ []) ∷ [])) 1 2 (games 1 2 0)
+    ≡ playing ((played 5 3 2 0 0 ∷ played 6 1 1 2 0 ∷ []) ∷ (open_match 5 1 ∷ []) ∷ [])
 winners_go_on = refl
 
 abbrev finished : EventValue
@@ -172,5 +198,6 @@ finished = event_of 1 2 Finished two ((played 2 1 2 0 0 ∷ []) ∷ []) ((played
 pub the_final_ends_it : with_stage_score (playing ((open_match 2 1 ∷ []) ∷ [])) 1 1 (games 0 2 0) ≡ finished
 the_final_ends_it = refl
 
-pub after_the_end : refused finished (PlayOff 1 1 (games 0 2 0) ∷ Correct 1 1 (games 0 2 0) ∷ Drop 1 ∷ Cut ∷ Start ∷ []) ≡ Some NotPlayoff ∷ Some NotSwiss ∷ Some NotSwiss ∷ Some NotSwiss ∷ Some NotEnrolling ∷ []
+pub after_the_end : refused finished (PlayOff 1 1 (games 0 2 0) ∷ Correct 1 1 (games 0 2 0) ∷ Drop 1 ∷ Cut ∷ Start ∷ [])
+    ≡ Some NotPlayoff ∷ Some NotSwiss ∷ Some NotSwiss ∷ Some NotSwiss ∷ Some NotEnrolling ∷ []
 after_the_end = refl

@@ -1,15 +1,15 @@
 -- The step keeps the seeds of the playoff.
-use Rattle.std.proofs.Common.{◌≡◌, inl, inr, ℕ, zero, suc, ◌-◌, not, List, [], ◌∷◌, ◌++◌, drop, get_or, Option, Some, None, MatchOption, Result, Ok, Err, IfOk, OnOk, refl, sym, ap, subst, ◌∙◌}
+use Rattle.std.proofs.Common.{true, false, true≢false, ◌≡◌, inl, inr, ℕ, zero, suc, ◌-◌, not, List, [], ◌∷◌, ◌++◌, get_or, Option, Some}
+use Rattle.std.proofs.Common.{None, MatchOption, Result, Ok, Err, IfOk, OnOk, refl, sym, ap, subst, ◌∙◌}
 use Rattle.std.specs.List.{slice_get}
 use Rattle.std.proofs.Math.ListN.{set}
 use Rattle.std.proofs.lemmas.Option.{none-some, same_Some}
 use Rattle.std.proofs.lemmas.List.Elements.{All-weaker}
 use Rattle.er_event.specs.declared.events.Phase.{Phase}
-use Rattle.er_event.specs.declared.events.Phase.TheVariants.{Enrolling, Swiss, Playoff, Finished}
+use Rattle.er_event.specs.declared.events.Phase.TheVariants.{Enrolling, Swiss, Playoff}
 use Rattle.er_event.specs.declared.commands.Command.{Command}
-use Rattle.er_event.specs.declared.commands.Command.TheVariants.{Enrol, Start, Pair, Result as Report, Correct, Drop, Cut, Playoff as PlayOff}
+use Rattle.er_event.specs.declared.commands.Command.TheVariants.{Enrol, Start, Pair, Cut, Playoff as PlayOff}
 use Rattle.er_event.specs.declared.refusals.Refusal.{Refusal}
-use Rattle.er_event.specs.declared.refusals.Refusal.TheVariants.{NotEnrolling, NotSwiss}
 use Rattle.er_event.specs.declared.brackets.Bracket.{Bracket}
 use Rattle.er_event.specs.declared.matches.Match.{Match}
 use Rattle.er_event.specs.declared.scores.Games.{Games}
@@ -31,31 +31,51 @@ module _ (e : EventValue) (p : Phase) (b : Bracket) where
   other = record e { phase = p; bracket = b }
 
   row_moved : (r : Row) → IsRowOf e r → IsRowOf other r
-  row_moved r is = record { listed = is.listed; is_player = is.is_player; player = is.player; dropped = is.dropped; rank = is.rank; points = is.points; omw = is.omw; gwp = is.gwp; ogw = is.ogw }
+  row_moved r is = record {
+    listed = is.listed;
+    is_player = is.is_player;
+    player = is.player;
+    dropped = is.dropped;
+    rank = is.rank;
+    points = is.points;
+    omw = is.omw;
+    gwp = is.gwp;
+    ogw = is.ogw;
+  }
 
   pub top_moved : (k : ℕ) (seeds : List ℕ) → IsTop e k seeds → IsTop other k seeds
   top_moved k seeds top = record {
     rows = top.rows;
-    standings = record { everyone = top.standings.everyone; in_order = top.standings.in_order; each = All-weaker (IsRowOf e) (IsRowOf other) row_moved top.rows top.standings.each };
+    standings = record {
+      everyone = top.standings.everyone;
+      in_order = top.standings.in_order;
+      each = All-weaker (IsRowOf e) (IsRowOf other) row_moved top.rows top.standings.each;
+    };
     top = top.top;
   }
+
+-- no check of the list fails
+abbrev pub AllPass : List Check → Type 0
+AllPass [] = Unit {0}
+AllPass (c ∷ cs) = (c.0 ≡ false) × AllPass cs
+
+pub passes : (cs : List Check) → first_refusal cs ≡ None → AllPass cs
+passes [] is = tt
+passes ((false, w) ∷ cs) is = (refl, passes cs is)
+passes ((true, w) ∷ cs) is = absurd (none-some w (sym is))
+
+pub enrolling_is : (p : Phase) → not (is_enrolling p) ≡ false → p ≡ Enrolling
+enrolling_is Enrolling is = refl
+enrolling_is p is = absurd (true≢false is)
+
+pub swiss_is : (p : Phase) → not (is_swiss p) ≡ false → p ≡ Swiss
+swiss_is Swiss is = refl
+swiss_is p is = absurd (true≢false is)
 
 -- ---- no stage, no seeds
 
 no_seeds : (e : EventValue) → e.bracket.stages ≡ [] → HasSeeds e
-no_seeds e none first at = absurd (none-some first (ap (λ (ss : List (List Match)). slice_get ss 0) (sym none) ∙ at))
-
-swiss_alone : (p : Phase) (rest : List Check) → first_refusal ((not (is_swiss p), NotSwiss) ∷ rest) ≡ None → p ≡ Swiss
-swiss_alone Enrolling rest h = absurd (none-some NotSwiss (sym h))
-swiss_alone Swiss rest h = refl
-swiss_alone Playoff rest h = absurd (none-some NotSwiss (sym h))
-swiss_alone Finished rest h = absurd (none-some NotSwiss (sym h))
-
-enrolling_alone : (p : Phase) (rest : List Check) → first_refusal ((not (is_enrolling p), NotEnrolling) ∷ rest) ≡ None → p ≡ Enrolling
-enrolling_alone Enrolling rest h = refl
-enrolling_alone Swiss rest h = absurd (none-some NotEnrolling (sym h))
-enrolling_alone Playoff rest h = absurd (none-some NotEnrolling (sym h))
-enrolling_alone Finished rest h = absurd (none-some NotEnrolling (sym h))
+no_seeds e none first at = absurd (none-some first (rw none at at))
 
 -- ---- a score changes no player of a slot
 
@@ -64,8 +84,7 @@ same_itself [] = tt
 same_itself (m ∷ ms) = ((refl, refl), same_itself ms)
 
 same_then : (xs bs cs : List Match) → SameSlots xs bs → SameSlots bs cs → SameSlots xs cs
-same_then [] [] [] p q = tt
-same_then [] [] (c ∷ cs) p q = absurd q
+same_then [] [] cs p q = q
 same_then [] (b ∷ bs) cs p q = absurd p
 same_then (a ∷ xs) [] cs p q = absurd p
 same_then (a ∷ xs) (b ∷ bs) [] p q = absurd q
@@ -80,62 +99,78 @@ same_scored (x ∷ ms) (suc i) score d = ((refl, refl), same_scored ms i score d
 abbrev FirstWas : List (List Match) → List Match → Type 0
 FirstWas stages first = (was : List Match) × (slice_get stages 0 ≡ Some was) × SameSlots first was
 
-first_placed : (x : List Match) (stages : List (List Match)) (i t : ℕ) (score : Games) (later : List (List Match)) (first : List Match) → slice_get (set (x ∷ stages) i (scored_slot (get_or (x ∷ stages) i []) t score) ++ later) 0 ≡ Some first → FirstWas (x ∷ stages) first
-first_placed x stages zero t score later first at = (x, refl, subst (λ (ms : List Match). SameSlots ms x) (same_Some (scored_slot x t score) first at) (same_scored x (t - 1) score (open_match 0 0)))
-first_placed x stages (suc i) t score later first at = (x, refl, subst (λ (ms : List Match). SameSlots ms x) (same_Some x first at) (same_itself x))
+first_placed : (x : List Match) (stages : List (List Match)) (i t : ℕ) (score : Games) (later : List (List Match)) (first : List Match)
+    → slice_get (set (x ∷ stages) i (scored_slot (get_or (x ∷ stages) i []) t score) ++ later) 0 ≡ Some first
+    → FirstWas (x ∷ stages) first
+first_placed x stages zero t score later first at =
+    (x, refl, rw (← same_Some (scored_slot x t score) first at) (same_scored x (t - 1) score (open_match 0 0)))
+first_placed x stages (suc i) t score later first at = (x, refl, rw (← same_Some x first at) (same_itself x))
 
-first_scored : (stages : List (List Match)) (k t : ℕ) (score : Games) (first : List Match) → slice_get (scored_stages stages k t score (following (scored_slot (stage_of stages k) t score))) 0 ≡ Some first → FirstWas stages first
+first_scored : (stages : List (List Match)) (k t : ℕ) (score : Games) (first : List Match)
+    → slice_get (scored_stages stages k t score (following (scored_slot (stage_of stages k) t score))) 0 ≡ Some first
+    → FirstWas stages first
 first_scored [] k t score first at = absurd (none-some first at)
-first_scored (x ∷ stages) k t score first at = first_placed x stages (k - 1) t score (one_more (following (scored_slot (stage_of (x ∷ stages) k) t score))) first at
+first_scored (x ∷ stages) k t score first at =
+    first_placed x stages (k - 1) t score (one_more (following (scored_slot (stage_of (x ∷ stages) k) t score))) first at
 
 -- ---- the law
 
-no_check : (e : EventValue) (c : Command) (next : EventValue) → Steps e c (Ok next) → (first_refusal (checks e c) ≡ None) × Makes e c (Ok next)
-no_check e c next steps = by_check (first_refusal (checks e c)) refl steps
+pub is_taken : (e next : EventValue) (c : Command) → Steps e c (Ok next) → (first_refusal (checks e c) ≡ None) × Makes e c (Ok next)
+is_taken e next c steps = by_check (first_refusal (checks e c)) refl steps
   where
-    by_check : (o : Option Refusal) → first_refusal (checks e c) ≡ o → MatchOption o (Makes e c (Ok next)) (Refuses (Ok next)) → (first_refusal (checks e c) ≡ None) × Makes e c (Ok next)
+    by_check : (o : Option Refusal) → first_refusal (checks e c) ≡ o → MatchOption o (Makes e c (Ok next)) (Refuses (Ok next))
+        → (first_refusal (checks e c) ≡ None) × Makes e c (Ok next)
     by_check None is made = (is, made)
     by_check (Some why) is refused = absurd (cc)
 
-same_Ok : {A E : Type 0} (a b : A) → ◌≡◌ {A = Result A E} (Ok a) (Ok b) → a ≡ b
+pub same_Ok : (a b : EventValue) → ◌≡◌ {A = Result EventValue Refusal} (Ok a) (Ok b) → a ≡ b
 same_Ok a b is = cc
 
-module _ (e : EventValue) (sound : IsSound e) where
-  enrolling : (rest : List Check) → first_refusal ((not (is_enrolling e.phase), NotEnrolling) ∷ rest) ≡ None → e.bracket.stages ≡ []
-  enrolling rest free = sound.but_for_seeds.bracket.none (inl (enrolling_alone e.phase rest free))
+abbrev pub stages_in : EventValue → List (List Match)
+stages_in e = e.bracket.stages
 
-  swiss : (rest : List Check) → first_refusal ((not (is_swiss e.phase), NotSwiss) ∷ rest) ≡ None → e.bracket.stages ≡ []
-  swiss rest free = sound.but_for_seeds.bracket.none (inr (swiss_alone e.phase rest free))
+module _ (e : EventValue) (sound : IsSound e) where
+  enrolling : not (is_enrolling e.phase) ≡ false → e.bracket.stages ≡ []
+  enrolling free = sound.but_for_seeds.bracket.none (inl (enrolling_is e.phase free))
+
+  swiss : not (is_swiss e.phase) ≡ false → e.bracket.stages ≡ []
+  swiss free = sound.but_for_seeds.bracket.none (inr (swiss_is e.phase free))
 
   -- the event after has no stage either
   none_after : (next : EventValue) → next.bracket.stages ≡ e.bracket.stages → e.bracket.stages ≡ [] → HasSeeds next
   none_after next same none = no_seeds next (same ∙ none)
 
-  pub keeps : (c : Command) (next : EventValue) → first_refusal (checks e c) ≡ None → Makes e c (Ok next) → HasSeeds next
-  keeps (Enrol name) next free made = none_after next (ap (λ (f : EventValue). f.bracket.stages) (same_Ok next _ made)) (enrolling (drop 1 (checks e (Enrol name))) free)
-  keeps Start next free made = none_after next (ap (λ (f : EventValue). f.bracket.stages) (same_Ok next _ made)) (enrolling (drop 1 (checks e Start)) free)
-  keeps (Pair round seed) next free made = none_after next (ap (λ (f : EventValue). f.bracket.stages) made.2.2) (swiss (drop 1 (checks e (Pair round seed))) free)
-  keeps (Report round table score) next free made = none_after next (ap (λ (f : EventValue). f.bracket.stages) (same_Ok next _ made)) (swiss (drop 1 (checks e (Report round table score))) free)
-  keeps (Correct round table score) next free made = none_after next (ap (λ (f : EventValue). f.bracket.stages) (same_Ok next _ made)) (swiss (drop 1 (checks e (Correct round table score))) free)
-  keeps (Drop player) next free made = none_after next (ap (λ (f : EventValue). f.bracket.stages) (same_Ok next _ made)) (swiss (drop 1 (checks e (Drop player))) free)
-  keeps Cut next free made =
+  pub keeps : (c : Command) (next : EventValue) → AllPass (checks e c) → Makes e c (Ok next) → HasSeeds next
+  keeps (Enrol name) next pass made = none_after next (ap stages_in (same_Ok next _ made)) (enrolling pass.0)
+  keeps Start next pass made = none_after next (ap stages_in (same_Ok next _ made)) (enrolling pass.0)
+  keeps (Pair round seed) next pass made = none_after next (ap stages_in made.2.2) (swiss pass.0)
+  keeps Cut next pass made =
       let seeds = made.0 in
       let b : Bracket = record { stages = first_stage seeds ∷ [] } in
-      subst HasSeeds (sym (same_Ok next (other e Playoff b) made.2)) (λ first at. (seeds, top_moved e Playoff b e.cut seeds made.1, subst (λ (ms : List Match). SameSlots ms (first_stage seeds)) (same_Some (first_stage seeds) first at) (same_itself (first_stage seeds))))
-  keeps (PlayOff stage slot score) next free made =
+      subst HasSeeds (sym (same_Ok next (other e Playoff b) made.2)) (λ first at.
+      let is = same_Some (first_stage seeds) first at in
+      let same = subst (λ (ms : List Match). SameSlots ms (first_stage seeds)) is (same_itself (first_stage seeds)) in
+      (seeds, top_moved e Playoff b e.cut seeds made.1, same))
+  keeps (PlayOff stage slot score) next pass made =
       let after = with_stage_score e stage slot score in
       subst HasSeeds (sym (same_Ok next after made)) (λ first at.
       let old = first_scored e.bracket.stages stage slot score first at in
       let has = sound.seeds old.0 old.1 in
       (has.0, top_moved e after.phase after.bracket e.cut has.0 has.1, same_then first old.0 (first_stage has.0) old.2 has.2))
+  keeps c next pass made = none_after next (ap stages_in (same_Ok next _ made)) (swiss pass.0)
 
-pub step_keeps : (e : EventValue) (c : Command) (next : EventValue) → IsSound e → Steps e c (Ok next) → IsSoundButForSeeds next → IsSound next
-step_keeps e c next sound steps but_for_seeds = let made = no_check e c next steps in record { but_for_seeds = but_for_seeds; seeds = keeps e sound c next made.0 made.1 }
+pub step_keeps : (e : EventValue) (c : Command) (next : EventValue) → IsSound e → Steps e c (Ok next) → IsSoundButForSeeds next
+    → IsSound next
+step_keeps e c next sound steps but_for_seeds =
+    let made = is_taken e next c steps in
+    record { but_for_seeds = but_for_seeds; seeds = keeps e sound c next (passes (checks e c) made.0) made.1 }
 
-pub answers_keep : (e : EventValue) (c : Command) (next : EventValue) → IsSound e → Answers e c (Ok next) → IsSoundButForSeeds next → IsSound next
+pub answers_keep : (e : EventValue) (c : Command) (next : EventValue) → IsSound e → Answers e c (Ok next) → IsSoundButForSeeds next
+    → IsSound next
 answers_keep e c next sound (inl steps) but_for_seeds = step_keeps e c next sound steps.0 but_for_seeds
 answers_keep e c next sound (inr budget) but_for_seeds = absurd (let never = budget.0 in cc)
 
-pub if_three : {T E : Type 0} (r : Result T E) (P Q R : T → Type 0) (A : Type 0) → ((x : T) → P x → Q x → A → R x) → IfOk r P → IfOk r Q → OnOk r A → IfOk r R
+pub if_three : {T E : Type 0} (r : Result T E) (P Q R : T → Type 0) (A : Type 0) → ((x : T) → P x → Q x → A → R x) → IfOk r P → IfOk r Q
+    → OnOk r A → IfOk r R
 if_three (Ok x) P Q R A f p q a = f x p q a
 if_three (Err e) P Q R A f p q a = tt

@@ -2,6 +2,7 @@ mod Rounds
 mod Seeding
 mod Opening
 mod SlotLemmas
+mod Found
 mod Keeping
 mod Playing
 mod Deciding

@@ -1,11 +1,13 @@
 -- `Budget` is no refusal of the step: it says that the search for a pairing has too few steps.
-use Rattle.std.proofs.Common.{◌≡◌, inl, inr, ℕ, Bool, true, false, List, [], ◌∷◌, ◌++◌, Option, Some, None, MatchOption, Result, Ok, Err, refl, ap, subst, true≢false}
+use Rattle.std.proofs.Common.{◌≡◌, inl, inr, ℕ, Bool, true, false, List, [], ◌∷◌, ◌++◌, Option, Some, None, MatchOption, Result, Ok, Err}
+use Rattle.std.proofs.Common.{refl, ap, subst, true≢false}
 use Rattle.std.proofs.lemmas.Option.{none-some, same_Some}
 use Rattle.er_event.specs.declared.scores.Games.{Games}
 use Rattle.er_event.specs.declared.matches.Match.{Match}
 use Rattle.er_event.specs.declared.players.Player.{Player}
 use Rattle.er_event.specs.declared.commands.Command.{Command}
-use Rattle.er_event.specs.declared.commands.Command.TheVariants.{Enrol, Start, Pair, Result as Report, Correct, Drop, Cut, Playoff as PlayOff}
+use Rattle.er_event.specs.declared.commands.Command.TheVariants.{Enrol, Start, Pair, Result as Report, Correct, Drop, Cut}
+use Rattle.er_event.specs.declared.commands.Command.TheVariants.{Playoff as PlayOff}
 use Rattle.er_event.specs.declared.refusals.Refusal.{Refusal}
 use Rattle.er_event.specs.declared.refusals.Refusal.TheVariants.{Budget}
 use Rattle.er_event.specs.Event.{EventValue}
@@ -56,21 +58,18 @@ same_Err : (why w : Refusal) → ◌≡◌ {A = Result EventValue Refusal} (Err 
 same_Err why w is = cc
 
 not_by_making : (e : EventValue) (c : Command) (why : Refusal) → Makes e c (Err why) → is_budget why ≡ false
-not_by_making e (Enrol name) why made = absurd (not_made why _ made)
-not_by_making e Start why made = absurd (not_made why _ made)
 not_by_making e (Pair round seed) why made = ap is_budget made.2.0
-not_by_making e (Report round table score) why made = absurd (not_made why _ made)
-not_by_making e (Correct round table score) why made = absurd (not_made why _ made)
-not_by_making e (Drop player) why made = absurd (not_made why _ made)
 not_by_making e Cut why made = absurd (not_made why _ made.2)
-not_by_making e (PlayOff stage slot score) why made = absurd (not_made why _ made)
+not_by_making e c why made = absurd (not_made why _ made)
 
 no_step : (e : EventValue) (c : Command) (why : Refusal) → Steps e c (Err why) → is_budget why ≡ false
 no_step e c why steps = by_check (first_refusal (checks e c)) refl steps
   where
-    by_check : (o : Option Refusal) → first_refusal (checks e c) ≡ o → MatchOption o (Makes e c (Err why)) (Refuses (Err why)) → is_budget why ≡ false
+    by_check : (o : Option Refusal) → first_refusal (checks e c) ≡ o → MatchOption o (Makes e c (Err why)) (Refuses (Err why))
+        → is_budget why ≡ false
     by_check None is made = not_by_making e c why made
-    by_check (Some w) is refuses = subst (λ (x : Refusal). is_budget x ≡ false) (same_Err why w refuses) (first_of (checks e c) w (no_check e c) is)
+    by_check (Some w) is refuses = subst (λ (x : Refusal). is_budget x ≡ false) (same_Err why w refuses)
+        (first_of (checks e c) w (no_check e c) is)
 
 pub budget_searches : (e : EventValue) (c : Command) (steps : ℕ) → Answers e c (Err (Budget steps)) → NeedsMoreSteps e c
 budget_searches e c steps (inl it) = absurd (true≢false (no_step e c (Budget steps) it.0))

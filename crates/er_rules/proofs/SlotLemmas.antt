@@ -1,16 +1,16 @@
 -- Stages with the same players in their slots.
-use Rattle.std.proofs.Common.{◌≡◌, ◌≢◌, inl, inr, ℕ, ◌<◌, ◌≤◌, ◌==◌, Bool, true, false, if◌then◌else◌, List, [], ◌∷◌, length, map, get_or, Some, refl, sym, ap, ◌∙◌, arith}
+use Rattle.std.proofs.Common.{◌≡◌, ◌≢◌, inl, inr, ℕ, ◌<◌, ◌≤◌, List, [], ◌∷◌, length, get_or, Some, refl, sym, ap, ◌∙◌, arith}
 use Rattle.std.specs.List.{slice_get}
 use Rattle.std.proofs.lemmas.Option.{none-some, same_Some}
-use Rattle.std.proofs.lemmas.Bool.Decides.{nat_tests}
+use Rattle.std.proofs.lemmas.Bool.{ne_eqb}
 use Rattle.er_event.specs.declared.events.Phase.{Phase}
 use Rattle.er_event.specs.declared.events.Phase.TheVariants.{Enrolling, Swiss, Playoff, Finished}
 use Rattle.er_event.specs.declared.matches.Match.{Match}
 use Rattle.er_event.specs.Event.{EventValue}
-use Rattle.er_event.specs.Bracket.{open_match, SameSlots}
+use Rattle.er_event.specs.Bracket.{SameSlots}
 use Rattle.er_event.specs.Sound.{IsInPlayoff, IsSoundButForSeeds}
-use Rattle.er_bracket.specs.Seeds.{seeded, first_stage}
-use Rattle.er_rules.proofs.Opening.{IsCut, is_cut}
+use Rattle.er_bracket.specs.Seeds.{first_stage}
+use Rattle.er_rules.proofs.Opening.{is_cut}
 
 pub same_length : (ms ns : List Match) → SameSlots ms ns → length ms ≡ length ns
 same_length [] [] same = refl
@@ -18,21 +18,17 @@ same_length [] (n ∷ ns) same = absurd same
 same_length (m ∷ ms) [] same = absurd same
 same_length (m ∷ ms) (n ∷ ns) same = let rest = same_length ms ns same.1 in omega arith
 
-pub first_read : (stages : List (List Match)) (first : List Match) → 1 ≤ length stages → first ≡ get_or stages 0 first → slice_get stages 0 ≡ Some first
+pub first_read : (stages : List (List Match)) (first : List Match) → 1 ≤ length stages → first ≡ get_or stages 0 first
+    → slice_get stages 0 ≡ Some first
 first_read [] first some is = absurd (omega arith)
 first_read (stage ∷ stages) first some is = ap Some (sym is)
-
-some_slots : (cut : ℕ) → IsCut cut → 2 ≤ cut
-some_slots cut (inl is) = omega (arith, is)
-some_slots cut (inr (inl is)) = omega (arith, is)
-some_slots cut (inr (inr is)) = omega (arith, is)
 
 -- an event with a stage is in its playoff
 playing : (e : EventValue) → IsSoundButForSeeds e → (first : List Match) → slice_get e.bracket.stages 0 ≡ Some first → IsInPlayoff e
 playing e sound first at = by_phase e.phase refl
   where
     none : e.bracket.stages ≡ [] → ⊥
-    none empty = none-some first (ap (λ (ss : List (List Match)). slice_get ss 0) (sym empty) ∙ at)
+    none empty = none-some first (rw empty at at)
 
     by_phase : (p : Phase) → e.phase ≡ p → IsInPlayoff e
     by_phase Enrolling is = absurd (none (sound.bracket.none (inl is)))
@@ -41,20 +37,17 @@ playing e sound first at = by_phase e.phase refl
     by_phase Finished is = inr is
 
 -- the first stage of a sound event has a slot
-pub first_some : (e : EventValue) → IsSoundButForSeeds e → (first : List Match) → slice_get e.bracket.stages 0 ≡ Some first → 0 < length first
+pub first_some : (e : EventValue) → IsSoundButForSeeds e → (first : List Match) → slice_get e.bracket.stages 0 ≡ Some first
+    → 0 < length first
 first_some e sound first at =
     let b = sound.bracket.bracket (playing e sound first at) in
-    let least = some_slots e.cut (is_cut e.cut sound.set_up.cut b.cut_is_played) in
+    let kind = is_cut e.cut sound.set_up.cut b.cut_is_played in
+    let least : 2 ≤ e.cut = grind (arith, kind) in
     let slots = b.slots in
     let same : length b.first ≡ length first = ap length (same_Some b.first first (sym b.is_first ∙ at)) in
     omega (arith, same)
 
 -- so many players are the seeds of no stage
 pub no_stage : (seeds : List ℕ) → length seeds ≢ 2 → length seeds ≢ 4 → length seeds ≢ 8 → length (first_stage seeds) ≡ 0
-no_stage seeds two four eight = by (length seeds == 2) (length seeds == 4) (length seeds == 8) refl refl refl
-  where
-    by : (a b c : Bool) → (length seeds == 2) ≡ a → (length seeds == 4) ≡ b → (length seeds == 8) ≡ c → length (map (λ (s : ℕ × ℕ). open_match (seeded seeds s.0) (seeded seeds s.1)) (if a then (1, 2) ∷ [] else if b then (1, 4) ∷ (2, 3) ∷ [] else if c then (1, 8) ∷ (4, 5) ∷ (2, 7) ∷ (3, 6) ∷ [] else [])) ≡ 0
-    by true b c p q r = absurd (two (grind (arith, nat_tests)))
-    by false true c p q r = absurd (four (grind (arith, nat_tests)))
-    by false false true p q r = absurd (eight (grind (arith, nat_tests)))
-    by false false false p q r = refl
+no_stage seeds two four eight =
+    rw (ne_eqb (length seeds) 2 two, ne_eqb (length seeds) 4 four, ne_eqb (length seeds) 8 eight) refl

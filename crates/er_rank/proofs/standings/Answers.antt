@@ -1,16 +1,14 @@
 use Rattle.std.proofs.Common.{◌≡◌, length, map, filter, List, ap, ◌∙◌}
 use Rattle.std.proofs.lemmas.List.{length-map}
 use Rattle.er_event.specs.declared.rounds.Round.{Round}
-use Rattle.er_event.specs.declared.tallies.Meeting.{Meeting}
 use Rattle.er_event.specs.declared.tallies.Tally.{Tally}
-use Rattle.er_event.specs.Event.{EventValue}
-use Rattle.er_event.specs.Sound.{IsSoundButForSeeds}
 use Rattle.er_event.specs.Tallies.{tally_by, tallies, counted_matches, meeting_by}
 use Rattle.er_event.specs.Totals.{totals}
 use Rattle.er_rank.specs.Meeting.{totals_of, AreListsOf}
 use Rattle.er_rank.proofs.EventLemmas.{AreTallies-event, AreLists-event, meetings-known}
 use Rattle.er_rank.proofs.MeetingLemmas.{is_met}
 use Rattle.er_rank.proofs.SoundLemmas.{seats_known}
+use Rattle.er_rank.proofs.standings.Goals.{After-as_slice-3}
 use Rattle.er_rank.proofs.standings.Goals as goal
 
 pub meetings_of-requires-clause-numbered : goal.meetings_of-requires-clause-numbered
@@ -25,34 +23,26 @@ meetings_of-requires-clause-known c =
     rw (c.stored.ensures.value, count) (seats_known event c.stored.ensures.sound)
 
 -- the lists that the code made
-lists-are : (event : EventValue) → IsSoundButForSeeds event → (list same : List Tally) (rounds : List Round) (met : List Meeting) → list ≡ tallies event → same ≡ tallies event
-    → rounds ≡ event.stored → met ≡ map (meeting_by (totals_of list)) (filter is_met (counted_matches rounds)) → AreListsOf event same met
-lists-are event sound list same rounds met list_is same_is rounds_are made = record {
-  sound = sound;
-  tallies = same_is;
-  meetings = made
-      ∙ (ap (λ (ts : List Tally). map (meeting_by (totals_of ts)) (filter is_met (counted_matches rounds))) list_is
-      ∙ (ap (λ (rs : List Round). map (meeting_by (totals_of (tallies event))) (filter is_met (counted_matches rs))) rounds_are
-      ∙ meetings-known event sound));
+are_lists : (c : After-as_slice-3) → AreListsOf c.args.event.now c.as_slice-2.result.now c.as_slice-3.result.now
+are_lists c = record {
+  sound = c.stored.ensures.sound;
+  tallies = c.as_slice-2.ensures.value ∙ c.in_ok-tallies.ensures;
+  meetings =
+      let event = c.args.event.now in
+      let made : List Tally → List Round → List _ = λ ts rs. map (meeting_by (totals_of ts)) (filter is_met (counted_matches rs)) in
+      c.as_slice-3.ensures.value
+      ∙ (c.in_ok-meetings.ensures
+      ∙ (ap (λ (ts : List Tally). made ts c.stored.result.now) (c.as_slice.ensures.value ∙ c.in_ok-tallies.ensures)
+      ∙ (ap (made (tallies event)) c.stored.ensures.value ∙ meetings-known event c.stored.ensures.sound)));
 }
 
 pub standings_of-requires : goal.standings_of-requires
 standings_of-requires c =
-    let event = c.args.event.now in
-    AreLists-event event c.as_slice-2.result.now c.as_slice-3.result.now
-    (lists-are event c.stored.ensures.sound c.as_slice.result.now c.as_slice-2.result.now c.stored.result.now c.as_slice-3.result.now
-    (c.as_slice.ensures.value ∙ c.in_ok-tallies.ensures) (c.as_slice-2.ensures.value ∙ c.in_ok-tallies.ensures) c.stored.ensures.value (c.as_slice-3.ensures.value ∙ c.in_ok-meetings.ensures))
+    AreLists-event c.args.event.now c.as_slice-2.result.now c.as_slice-3.result.now
+    (are_lists (goal.at.standings_of-requires c).After-as_slice-3)
 
 pub returns-clause-value : goal.returns-clause-value
-returns-clause-value c =
-    let event = c.args.event.now in
-    c.standings_of.ensures.value event
-    (lists-are event c.stored.ensures.sound c.as_slice.result.now c.as_slice-2.result.now c.stored.result.now c.as_slice-3.result.now
-    (c.as_slice.ensures.value ∙ c.in_ok-tallies.ensures) (c.as_slice-2.ensures.value ∙ c.in_ok-tallies.ensures) c.stored.ensures.value (c.as_slice-3.ensures.value ∙ c.in_ok-meetings.ensures))
+returns-clause-value c = c.standings_of.ensures.value c.args.event.now (are_lists (goal.at.returns-clause-value c).After-as_slice-3)
 
 pub returns-clause-only : goal.returns-clause-only
-returns-clause-only c =
-    let event = c.args.event.now in
-    c.standings_of.ensures.only event
-    (lists-are event c.stored.ensures.sound c.as_slice.result.now c.as_slice-2.result.now c.stored.result.now c.as_slice-3.result.now
-    (c.as_slice.ensures.value ∙ c.in_ok-tallies.ensures) (c.as_slice-2.ensures.value ∙ c.in_ok-tallies.ensures) c.stored.ensures.value (c.as_slice-3.ensures.value ∙ c.in_ok-meetings.ensures))
+returns-clause-only c = c.standings_of.ensures.only c.args.event.now (are_lists (goal.at.returns-clause-only c).After-as_slice-3)

@@ -1,14 +1,14 @@
-use Rattle.std.proofs.Common.{length, List, sym, ap, subst, ◌∙◌, arith}
+use Rattle.std.proofs.Common.{length, sym, ap, subst, ◌∙◌, arith}
 use Rattle.std.proofs.lemmas.Result.{IfOk-weaker}
-use Rattle.er_event.specs.declared.tallies.Meeting.{Meeting}
-use Rattle.er_event.specs.declared.tallies.Tally.{Tally}
-use Rattle.er_event.specs.Tallies.{tallies, meetings}
 use Rattle.er_rank.specs.Meeting.{encounters}
-use Rattle.er_rank.specs.inside.Opponents.{AreOpponentsOf}
 use Rattle.er_rank.specs.inside.Placing.{ranked, ArePlacingsInOrder}
 use Rattle.er_rank.specs.Standings.{AreStandings}
 use Rattle.er_rank.proofs.ListLemmas.{AreStandings-placings, length-placings, OneStandings-sound}
+use Rattle.er_rank.proofs.standings_of.Goals.{In_ok-placings}
 use Rattle.er_rank.proofs.standings_of.Goals as goal
+
+placed : (c : In_ok-placings) → ArePlacingsInOrder (encounters c.args.meetings.now) c.args.tallies.now c.in_ok-placings.placings.items
+placed c = c.in_ok-placings.ensures (encounters c.args.meetings.now) (rw c.as_slice.ensures.value c.in_ok-opponents.ensures.value)
 
 pub opponents_of-requires : goal.opponents_of-requires
 opponents_of-requires c = c.requires.encounters
@@ -16,29 +16,21 @@ opponents_of-requires c = c.requires.encounters
 pub placings_of-requires-clause-tallies : goal.placings_of-requires-clause-tallies
 placings_of-requires-clause-tallies c = c.requires.tallies
 
-pub rows_of-requires-clause-few : goal.rows_of-requires-clause-few
-rows_of-requires-clause-few c =
-    let met = encounters c.args.meetings.now in
-    let opponents : AreOpponentsOf met c.as_slice.result.now = rw c.as_slice.ensures.value c.in_ok-opponents.ensures.value in
-    let placed = length-placings met c.args.tallies.now c.in_ok-placings.placings.items (c.in_ok-placings.ensures met opponents) in
-    omega (arith, ap length c.as_slice-2.ensures.value, placed, c.requires.tallies.few)
-
-pub rows_of-requires-clause-sorted : goal.rows_of-requires-clause-sorted
-rows_of-requires-clause-sorted c =
-    let met = encounters c.args.meetings.now in
-    let opponents : AreOpponentsOf met c.as_slice.result.now = rw c.as_slice.ensures.value c.in_ok-opponents.ensures.value in
-    rw c.as_slice-2.ensures.value (c.in_ok-placings.ensures met opponents).sorted
+pub rows_of-requires : goal.rows_of-requires
+rows_of-requires c =
+    let here = placed (goal.at.rows_of-requires c).In_ok-placings in
+    let count = length-placings (encounters c.args.meetings.now) c.args.tallies.now c.in_ok-placings.placings.items here in
+    record {
+      few = omega (arith, ap length c.as_slice-2.ensures.value, count, c.requires.tallies.few);
+      sorted = rw c.as_slice-2.ensures.value here.sorted;
+    }
 
 pub returns-clause-value : goal.returns-clause-value
 returns-clause-value c = λ event are.
-    let met = encounters c.args.meetings.now in
-    let opponents : AreOpponentsOf met c.as_slice.result.now = rw c.as_slice.ensures.value c.in_ok-opponents.ensures.value in
-    let placed = c.in_ok-placings.ensures met opponents in
-    let own : ArePlacingsInOrder (encounters (meetings event)) (tallies event) c.in_ok-placings.placings.items =
-    subst (λ (ms : List Meeting). ArePlacingsInOrder (encounters ms) (tallies event) c.in_ok-placings.placings.items) are.meetings
-    (subst (λ (ts : List Tally). ArePlacingsInOrder met ts c.in_ok-placings.placings.items) are.tallies placed) in
-    let standings = AreStandings-placings event c.in_ok-placings.placings.items are.sound own in
-    IfOk-weaker c.rows_of.result _ _ (λ rows is. subst (AreStandings event) (sym (is ∙ ap ranked c.as_slice-2.ensures.value)) standings) c.rows_of.ensures
+    let here = rw (are.tallies, are.meetings) at (placed (goal.at.returns-clause-value c).In_ok-placings) in
+    let standings = AreStandings-placings event c.in_ok-placings.placings.items are.sound here in
+    let value = ap ranked c.as_slice-2.ensures.value in
+    IfOk-weaker c.rows_of.result _ _ (λ rows is. subst (AreStandings event) (sym (is ∙ value)) standings) c.rows_of.ensures
 
 pub returns-clause-only : goal.returns-clause-only
 returns-clause-only c = λ event are.

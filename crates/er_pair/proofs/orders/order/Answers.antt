@@ -1,30 +1,28 @@
-use Rattle.std.proofs.Common.{◌∙◌, ℕ, Vec, Global, List, IsPermutation, subst}
+use Rattle.std.proofs.Common.{ℕ, Vec, Global, get_or, refl, arith}
+use Rattle.std.proofs.lemmas.Grind.{common_steps}
 use Rattle.std.proofs.lemmas.Result.{IfOk-weaker}
-use Rattle.er_pair.specs.declared.entrants.Entrant.{Entrant}
-use Rattle.er_pair.proofs.Ordering.{ordered, few, order_distinct}
+use Rattle.er_pair.proofs.Ordering.{ordered, few, stands_once}
 use Rattle.er_pair.proofs.Uniqueness.{one_order}
 use Rattle.er_pair.proofs.orders.order.Goals as goal
 
-pub returns-clause-ordered : goal.returns-clause-ordered
-returns-clause-ordered c =
-    let is = c.as_mut_slice-list.ensures.value ∙ c.in_ok-entrants.ensures.entrants in
-    let moved = subst (λ (l : List Entrant). IsPermutation l c.sort_entrants.new.entrants) is c.sort_entrants.ensures.same in
-    IfOk-weaker _ _ _ (λ (seats : Vec ℕ Global) seated. ordered c.args.event.now c.args.keys.now c.sort_entrants.new.entrants seats.items c.entrants.ensures.sound c.requires moved c.sort_entrants.ensures.sorted seated) c.seats.ensures
-
-pub returns-clause-few : goal.returns-clause-few
-returns-clause-few c =
-    let is = c.as_mut_slice-list.ensures.value ∙ c.in_ok-entrants.ensures.entrants in
-    let moved = subst (λ (l : List Entrant). IsPermutation l c.sort_entrants.new.entrants) is c.sort_entrants.ensures.same in
-    IfOk-weaker _ _ _ (λ (seats : Vec ℕ Global) seated. few c.args.event.now c.args.keys.now c.sort_entrants.new.entrants seats.items c.entrants.ensures.sound c.requires moved seated) c.seats.ensures
-
-pub returns-clause-one : goal.returns-clause-one
-returns-clause-one c = one_order c.args.event.now
+pub returns : goal.returns
+returns c =
+    let event = c.args.event.now in
+    let keys = c.args.keys.now in
+    let sorted = c.sort_entrants.new.entrants in
+    let sound = c.entrants.ensures.sound in
+    let moved = rw (c.as_mut_slice-list.ensures.value, c.in_ok-entrants.ensures.entrants) at c.sort_entrants.ensures.same in
+    let own : ℕ → ℕ = λ place. get_or keys place 0 in
+    let is = λ (seats : Vec ℕ Global). ordered event keys sorted seats.items sound c.requires moved c.sort_entrants.ensures.sorted in
+    record {
+      ordered = IfOk-weaker _ _ _ (λ (seats : Vec ℕ Global) seated. is seats seated) c.seats.ensures;
+      one = one_order event;
+      distinct = IfOk-weaker _ _ _
+          (λ (seats : Vec ℕ Global) seated. stands_once event own seats.items sound (is seats seated own (λ _ _. refl))) c.seats.ensures;
+      few = IfOk-weaker _ _ _
+          (λ (seats : Vec ℕ Global) seated. few event own seats.items sound (is seats seated own (λ _ _. refl))) c.seats.ensures;
+      even = grind (arith, common_steps);
+    }
 
 pub returns-in_err-entrants-clause-one : goal.returns-in_err-entrants-clause-one
 returns-in_err-entrants-clause-one c = one_order c.args.event.now
-
-pub returns-clause-distinct : goal.returns-clause-distinct
-returns-clause-distinct c =
-    let is = c.as_mut_slice-list.ensures.value ∙ c.in_ok-entrants.ensures.entrants in
-    let moved = subst (λ (l : List Entrant). IsPermutation l c.sort_entrants.new.entrants) is c.sort_entrants.ensures.same in
-    IfOk-weaker _ _ _ (λ (seats : Vec ℕ Global) seated. order_distinct c.args.event.now c.args.keys.now c.sort_entrants.new.entrants seats.items c.entrants.ensures.sound c.requires moved seated) c.seats.ensures

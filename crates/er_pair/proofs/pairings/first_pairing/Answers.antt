@@ -1,117 +1,112 @@
-use Rattle.std.proofs.Common.{◌∙◌, inr, length, refl, sym, ap, subst, arith}
+use Rattle.std.proofs.Common.{◌≡◌, inr, length, refl, sym, ap, subst, arith, rules}
 use Rattle.er_pair.specs.declared.search.Outcome.TheVariants.{Paired, DeadEnd, OutOfSteps}
+use Rattle.er_pair.specs.declared.pairings.TheConstants.{MAX_STEPS}
 use Rattle.er_pair.specs.Met.{has_met}
-use Rattle.er_pair.specs.inside.Search.{AreDeadEnds}
-use Rattle.er_pair.proofs.Entries.{short_needs}
-use Rattle.er_pair.proofs.Answering.{as_long, of_order, earliest, within_order, paired_within, no_pairing, dead_within, needs_more, short_within, fresh_within, fresh_pairs}
+use Rattle.er_pair.specs.Pairing.{all_positions, IsEarliest}
+use Rattle.er_pair.specs.Steps.{met_at, NeedsMore}
+use Rattle.er_pair.specs.inside.Search.{Answer, SearchAnswers, AreDeadEnds, answer_ahead, search_of}
+use Rattle.er_pair.proofs.Entries.{one_earliest, short_needs, more_needed}
+use Rattle.er_pair.proofs.Answering.{as_long, of_order, within_order, paired, unpaired, short_within, fresh_within, fresh_pairs}
 use Rattle.er_pair.proofs.Seating.{first_before_second, each_sits, none_has_met}
-use Rattle.er_pair.proofs.Uniqueness.{one_earliest}
+use Rattle.er_pair.proofs.pairings.first_pairing.Goals.{After-as_mut_slice, In-Paired}
 use Rattle.er_pair.proofs.pairings.first_pairing.Goals as goal
+
+-- the search of the rows is one of the order
+of_rows : (c : After-as_mut_slice) → answer_ahead c.as_slice.result.now c.empty-used.result c.before_all-ahead.result
+    ≡ search_of (met_at (has_met c.args.met.now) c.args.order.now) (all_positions c.args.order.now)
+of_rows c =
+    let none = c.empty-used.ensures in
+    let all = c.before_all-ahead.ensures.ahead in
+    rw c.as_slice.ensures.value (of_order c.empty-used.result c.before_all-ahead.result none all
+    (has_met c.args.met.now) c.args.order.now c.in_ok-rows.rows.items c.in_ok-rows.ensures.count c.in_ok-rows.ensures.met)
+
+found : (c : In-Paired) → IsEarliest (has_met c.args.met.now) c.args.order.now c.search.new.pairs
+    × (NeedsMore (has_met c.args.met.now) c.args.order.now MAX_STEPS → ⊥)
+found c =
+    let rows = of_rows (goal.at.entries_at-requires c).After-as_mut_slice in
+    paired (has_met c.args.met.now) c.args.order.now MAX_STEPS c.search.new.steps c.search.new.pairs
+    (subst (λ (a : Answer). SearchAnswers a MAX_STEPS c.search.new.pairs c.search.new.steps Paired) rows c.in-Paired.ensures.answer)
 
 pub search-requires-clause-two_by_two : goal.search-requires-clause-two_by_two
 search-requires-clause-two_by_two c =
-    let size = as_long c.empty-used.result c.before_all-ahead.result c.as_slice.result.now c.args.order.now
-    (ap length c.as_slice.ensures.value ∙ c.in_ok-rows.ensures.count) c.empty-used.ensures c.before_all-ahead.ensures.ahead in
-    omega (arith, size, c.as_mut_slice-list.ensures.len, c.in_ok-pairs.ensures.len)
+    let size = as_long c.empty-used.result c.before_all-ahead.result c.empty-used.ensures c.before_all-ahead.ensures.ahead in
+    let rows = ap length c.as_slice.ensures.value in
+    omega (
+      arith,
+      size (length c.as_slice.result.now),
+      rows,
+      c.in_ok-rows.ensures.count,
+      c.as_mut_slice-list.ensures.len,
+      c.in_ok-pairs.ensures.len,
+    )
+
+pub search-requires-clause-known : goal.search-requires-clause-known
+search-requires-clause-known c = subst (AreDeadEnds c.as_slice.result.now) (sym c.as_mut_slice.ensures.value)
+    (c.in_ok-kept.ensures c.as_slice.result.now)
 
 pub entries_at-requires : goal.entries_at-requires
-entries_at-requires c =
-    let answers = of_order (has_met c.args.met.now) c.args.order.now c.as_slice.result.now c.in_ok-rows.rows.items c.empty-used.result
-    c.before_all-ahead.result 1000000 c.search.new.steps c.search.new.pairs Paired c.as_slice.ensures.value
-    c.in_ok-rows.ensures.count c.in_ok-rows.ensures.met c.empty-used.ensures c.before_all-ahead.ensures.ahead c.in-Paired.ensures.answer in
-    within_order (has_met c.args.met.now) c.args.order.now c.search.new.pairs
-    (earliest (has_met c.args.met.now) c.args.order.now 1000000 c.search.new.steps c.search.new.pairs answers).legal
+entries_at-requires c = within_order (has_met c.args.met.now) c.args.order.now c.search.new.pairs (found c).0.legal
 
-pub returns-in-Paired-clause-earliest : goal.returns-in-Paired-clause-earliest
-returns-in-Paired-clause-earliest c =
-    let answers = of_order (has_met c.args.met.now) c.args.order.now c.as_slice.result.now c.in_ok-rows.rows.items c.empty-used.result
-    c.before_all-ahead.result 1000000 c.search.new.steps c.search.new.pairs Paired c.as_slice.ensures.value
-    c.in_ok-rows.ensures.count c.in_ok-rows.ensures.met c.empty-used.ensures c.before_all-ahead.ensures.ahead c.in-Paired.ensures.answer in (
-      c.search.new.pairs,
-      earliest (has_met c.args.met.now) c.args.order.now 1000000 c.search.new.steps c.search.new.pairs
-          answers,
-      c.in_ok-entries_at-in-Paired.ensures,
-    )
+pub returns-in-Paired : goal.returns-in-Paired
+returns-in-Paired c =
+    let order = c.args.order.now in
+    let pairs = c.search.new.pairs in
+    let earliest = found (goal.at.returns-in-Paired c).In-Paired in
+    let entries = c.in_ok-entries_at-in-Paired.ensures in
+    record {
+      earliest = (pairs, earliest.0, entries);
+      seated = each_sits (has_met c.args.met.now) order pairs _ earliest.0.legal entries;
+      new_opponents = none_has_met (has_met c.args.met.now) order pairs _ earliest.0.legal entries;
+      in_order = first_before_second (has_met c.args.met.now) order;
+      one = one_earliest (has_met c.args.met.now) order;
+      none = search rules;
+      budget = inr (λ e. absurd (cc), λ more. absurd (earliest.1 more));
+      steps = search rules;
+      short_steps = short_needs (has_met c.args.met.now) order;
+      short = search rules;
+      fresh = search rules;
+    }
 
-pub returns-in-Paired-clause-seated : goal.returns-in-Paired-clause-seated
-returns-in-Paired-clause-seated c =
-    let answers = of_order (has_met c.args.met.now) c.args.order.now c.as_slice.result.now c.in_ok-rows.rows.items c.empty-used.result
-    c.before_all-ahead.result 1000000 c.search.new.steps c.search.new.pairs Paired c.as_slice.ensures.value
-    c.in_ok-rows.ensures.count c.in_ok-rows.ensures.met c.empty-used.ensures c.before_all-ahead.ensures.ahead c.in-Paired.ensures.answer in
-    each_sits (has_met c.args.met.now) c.args.order.now c.search.new.pairs _
-    (earliest (has_met c.args.met.now) c.args.order.now 1000000 c.search.new.steps c.search.new.pairs answers).legal
-    c.in_ok-entries_at-in-Paired.ensures
+pub returns-in-DeadEnd : goal.returns-in-DeadEnd
+returns-in-DeadEnd c =
+    let order = c.args.order.now in
+    let pairs = c.search.new.pairs in
+    let answers = subst (λ (a : Answer). SearchAnswers a MAX_STEPS pairs c.search.new.steps DeadEnd)
+    (of_rows (goal.at.returns-in-DeadEnd c).After-as_mut_slice) c.in-DeadEnd.ensures.answer in
+    let dead = unpaired (has_met c.args.met.now) order MAX_STEPS c.search.new.steps pairs answers in
+    record {
+      earliest = search rules;
+      seated = search rules;
+      new_opponents = search rules;
+      in_order = first_before_second (has_met c.args.met.now) order;
+      one = one_earliest (has_met c.args.met.now) order;
+      none = λ _. dead.0;
+      budget = inr (λ e. absurd (cc), λ more. absurd (dead.1 more));
+      steps = search rules;
+      short_steps = short_needs (has_met c.args.met.now) order;
+      short = search rules;
+      fresh = λ fault fresh e. absurd (fresh_pairs (has_met c.args.met.now) order fresh c.requires.even answers.0);
+    }
 
-pub returns-in-Paired-clause-new_opponents : goal.returns-in-Paired-clause-new_opponents
-returns-in-Paired-clause-new_opponents c =
-    let answers = of_order (has_met c.args.met.now) c.args.order.now c.as_slice.result.now c.in_ok-rows.rows.items c.empty-used.result
-    c.before_all-ahead.result 1000000 c.search.new.steps c.search.new.pairs Paired c.as_slice.ensures.value
-    c.in_ok-rows.ensures.count c.in_ok-rows.ensures.met c.empty-used.ensures c.before_all-ahead.ensures.ahead c.in-Paired.ensures.answer in
-    none_has_met (has_met c.args.met.now) c.args.order.now c.search.new.pairs _
-    (earliest (has_met c.args.met.now) c.args.order.now 1000000 c.search.new.steps c.search.new.pairs answers).legal
-    c.in_ok-entries_at-in-Paired.ensures
-
-pub returns-in-Paired-clause-budget : goal.returns-in-Paired-clause-budget
-returns-in-Paired-clause-budget c =
-    let answers = of_order (has_met c.args.met.now) c.args.order.now c.as_slice.result.now c.in_ok-rows.rows.items c.empty-used.result
-    c.before_all-ahead.result 1000000 c.search.new.steps c.search.new.pairs Paired c.as_slice.ensures.value
-    c.in_ok-rows.ensures.count c.in_ok-rows.ensures.met c.empty-used.ensures c.before_all-ahead.ensures.ahead c.in-Paired.ensures.answer in
-    inr (
-      λ e. absurd (cc),
-      λ more. absurd
-          (paired_within (has_met c.args.met.now) c.args.order.now 1000000 c.search.new.steps c.search.new.pairs answers more),
-    )
-
-pub returns-in-DeadEnd-clause-none : goal.returns-in-DeadEnd-clause-none
-returns-in-DeadEnd-clause-none c =
-    let answers = of_order (has_met c.args.met.now) c.args.order.now c.as_slice.result.now c.in_ok-rows.rows.items c.empty-used.result
-    c.before_all-ahead.result 1000000 c.search.new.steps c.search.new.pairs DeadEnd c.as_slice.ensures.value
-    c.in_ok-rows.ensures.count c.in_ok-rows.ensures.met c.empty-used.ensures c.before_all-ahead.ensures.ahead c.in-DeadEnd.ensures.answer in
-    λ _. no_pairing (has_met c.args.met.now) c.args.order.now 1000000 c.search.new.steps c.search.new.pairs answers
-
-pub returns-in-DeadEnd-clause-budget : goal.returns-in-DeadEnd-clause-budget
-returns-in-DeadEnd-clause-budget c =
-    let answers = of_order (has_met c.args.met.now) c.args.order.now c.as_slice.result.now c.in_ok-rows.rows.items c.empty-used.result
-    c.before_all-ahead.result 1000000 c.search.new.steps c.search.new.pairs DeadEnd c.as_slice.ensures.value
-    c.in_ok-rows.ensures.count c.in_ok-rows.ensures.met c.empty-used.ensures c.before_all-ahead.ensures.ahead c.in-DeadEnd.ensures.answer in
-    inr (
-      λ e. absurd (cc),
-      λ more. absurd
-          (dead_within (has_met c.args.met.now) c.args.order.now 1000000 c.search.new.steps c.search.new.pairs answers more),
-    )
-
-pub returns-in-DeadEnd-clause-fresh : goal.returns-in-DeadEnd-clause-fresh
-returns-in-DeadEnd-clause-fresh c =
-    let answers = of_order (has_met c.args.met.now) c.args.order.now c.as_slice.result.now c.in_ok-rows.rows.items c.empty-used.result
-    c.before_all-ahead.result 1000000 c.search.new.steps c.search.new.pairs DeadEnd c.as_slice.ensures.value
-    c.in_ok-rows.ensures.count c.in_ok-rows.ensures.met c.empty-used.ensures c.before_all-ahead.ensures.ahead c.in-DeadEnd.ensures.answer in
-    λ fault fresh e. absurd (fresh_pairs (has_met c.args.met.now) c.args.order.now 1000000 c.search.new.steps c.search.new.pairs answers
-    c.requires.even fresh)
-
-pub returns-clause-budget : goal.returns-clause-budget
-returns-clause-budget c =
-    let answers = of_order (has_met c.args.met.now) c.args.order.now c.as_slice.result.now c.in_ok-rows.rows.items c.empty-used.result
-    c.before_all-ahead.result 1000000 c.search.new.steps c.search.new.pairs OutOfSteps c.as_slice.ensures.value
-    c.in_ok-rows.ensures.count c.in_ok-rows.ensures.met c.empty-used.ensures c.before_all-ahead.ensures.ahead
-    c.in-OutOfSteps.ensures.answer in
-    inr (λ _. needs_more (has_met c.args.met.now) c.args.order.now 1000000 c.search.new.steps c.search.new.pairs answers, λ _. refl)
-
-pub returns-clause-short : goal.returns-clause-short
-returns-clause-short c =
-    let answers = of_order (has_met c.args.met.now) c.args.order.now c.as_slice.result.now c.in_ok-rows.rows.items c.empty-used.result
-    c.before_all-ahead.result 1000000 c.search.new.steps c.search.new.pairs OutOfSteps c.as_slice.ensures.value
-    c.in_ok-rows.ensures.count c.in_ok-rows.ensures.met c.empty-used.ensures c.before_all-ahead.ensures.ahead
-    c.in-OutOfSteps.ensures.answer in
-    λ steps short e. short_within (has_met c.args.met.now) c.args.order.now c.search.new.steps c.search.new.pairs answers short
-
-pub returns-clause-fresh : goal.returns-clause-fresh
-returns-clause-fresh c =
-    let answers = of_order (has_met c.args.met.now) c.args.order.now c.as_slice.result.now c.in_ok-rows.rows.items c.empty-used.result
-    c.before_all-ahead.result 1000000 c.search.new.steps c.search.new.pairs OutOfSteps c.as_slice.ensures.value
-    c.in_ok-rows.ensures.count c.in_ok-rows.ensures.met c.empty-used.ensures c.before_all-ahead.ensures.ahead
-    c.in-OutOfSteps.ensures.answer in
-    λ fault fresh e. absurd (fresh_within (has_met c.args.met.now) c.args.order.now c.search.new.steps c.search.new.pairs answers
-    c.requires.few c.requires.even fresh)
+pub returns : goal.returns
+returns c =
+    let order = c.args.order.now in
+    let answers = subst (λ (a : Answer). SearchAnswers a MAX_STEPS c.search.new.pairs c.search.new.steps OutOfSteps)
+    (of_rows (goal.at.returns c).After-as_mut_slice) c.in-OutOfSteps.ensures.answer in
+    record {
+      earliest = search rules;
+      seated = search rules;
+      new_opponents = search rules;
+      in_order = first_before_second (has_met c.args.met.now) order;
+      one = one_earliest (has_met c.args.met.now) order;
+      none = search rules;
+      budget = inr (λ _. more_needed (has_met c.args.met.now) order MAX_STEPS answers, λ _. refl);
+      steps = search rules;
+      short_steps = short_needs (has_met c.args.met.now) order;
+      short = λ steps short e. short_within (has_met c.args.met.now) order answers short;
+      fresh = λ fault fresh e.
+          absurd (fresh_within (has_met c.args.met.now) order fresh c.requires.even answers c.requires.few);
+    }
 
 pub returns-in_err-rows-clause-in_order : goal.returns-in_err-rows-clause-in_order
 returns-in_err-rows-clause-in_order c = first_before_second (has_met c.args.met.now) c.args.order.now
@@ -131,42 +126,6 @@ returns-in_err-pairs-clause-one c = one_earliest (has_met c.args.met.now) c.args
 pub returns-in_err-pairs-clause-short_steps : goal.returns-in_err-pairs-clause-short_steps
 returns-in_err-pairs-clause-short_steps c = short_needs (has_met c.args.met.now) c.args.order.now
 
-pub returns-in_err-entries_at-in-Paired-clause-in_order : goal.returns-in_err-entries_at-in-Paired-clause-in_order
-returns-in_err-entries_at-in-Paired-clause-in_order c = first_before_second (has_met c.args.met.now) c.args.order.now
-
-pub returns-in_err-entries_at-in-Paired-clause-one : goal.returns-in_err-entries_at-in-Paired-clause-one
-returns-in_err-entries_at-in-Paired-clause-one c = one_earliest (has_met c.args.met.now) c.args.order.now
-
-pub returns-in_err-entries_at-in-Paired-clause-short_steps : goal.returns-in_err-entries_at-in-Paired-clause-short_steps
-returns-in_err-entries_at-in-Paired-clause-short_steps c = short_needs (has_met c.args.met.now) c.args.order.now
-
-pub returns-in-Paired-clause-in_order : goal.returns-in-Paired-clause-in_order
-returns-in-Paired-clause-in_order c = first_before_second (has_met c.args.met.now) c.args.order.now
-
-pub returns-in-Paired-clause-one : goal.returns-in-Paired-clause-one
-returns-in-Paired-clause-one c = one_earliest (has_met c.args.met.now) c.args.order.now
-
-pub returns-in-Paired-clause-short_steps : goal.returns-in-Paired-clause-short_steps
-returns-in-Paired-clause-short_steps c = short_needs (has_met c.args.met.now) c.args.order.now
-
-pub returns-in-DeadEnd-clause-in_order : goal.returns-in-DeadEnd-clause-in_order
-returns-in-DeadEnd-clause-in_order c = first_before_second (has_met c.args.met.now) c.args.order.now
-
-pub returns-in-DeadEnd-clause-one : goal.returns-in-DeadEnd-clause-one
-returns-in-DeadEnd-clause-one c = one_earliest (has_met c.args.met.now) c.args.order.now
-
-pub returns-in-DeadEnd-clause-short_steps : goal.returns-in-DeadEnd-clause-short_steps
-returns-in-DeadEnd-clause-short_steps c = short_needs (has_met c.args.met.now) c.args.order.now
-
-pub returns-clause-in_order : goal.returns-clause-in_order
-returns-clause-in_order c = first_before_second (has_met c.args.met.now) c.args.order.now
-
-pub returns-clause-one : goal.returns-clause-one
-returns-clause-one c = one_earliest (has_met c.args.met.now) c.args.order.now
-
-pub returns-clause-short_steps : goal.returns-clause-short_steps
-returns-clause-short_steps c = short_needs (has_met c.args.met.now) c.args.order.now
-
 pub returns-in_err-kept-clause-in_order : goal.returns-in_err-kept-clause-in_order
 returns-in_err-kept-clause-in_order c = first_before_second (has_met c.args.met.now) c.args.order.now
 
@@ -176,6 +135,11 @@ returns-in_err-kept-clause-one c = one_earliest (has_met c.args.met.now) c.args.
 pub returns-in_err-kept-clause-short_steps : goal.returns-in_err-kept-clause-short_steps
 returns-in_err-kept-clause-short_steps c = short_needs (has_met c.args.met.now) c.args.order.now
 
-pub search-requires-clause-known : goal.search-requires-clause-known
-search-requires-clause-known c = subst (AreDeadEnds c.as_slice.result.now) (sym c.as_mut_slice.ensures.value)
-    (c.in_ok-kept.ensures c.as_slice.result.now)
+pub returns-in_err-entries_at-in-Paired-clause-in_order : goal.returns-in_err-entries_at-in-Paired-clause-in_order
+returns-in_err-entries_at-in-Paired-clause-in_order c = first_before_second (has_met c.args.met.now) c.args.order.now
+
+pub returns-in_err-entries_at-in-Paired-clause-one : goal.returns-in_err-entries_at-in-Paired-clause-one
+returns-in_err-entries_at-in-Paired-clause-one c = one_earliest (has_met c.args.met.now) c.args.order.now
+
+pub returns-in_err-entries_at-in-Paired-clause-short_steps : goal.returns-in_err-entries_at-in-Paired-clause-short_steps
+returns-in_err-entries_at-in-Paired-clause-short_steps c = short_needs (has_met c.args.met.now) c.args.order.now

@@ -1,6 +1,8 @@
-use Rattle.std.proofs.Common.{◌≡◌, ◌+◌, ◌-◌, length, get_or, true≢false, sym, ap, ◌∙◌, refl, arith}
-use Rattle.er_rank.proofs.CountLemmas.{count_of, AreCountsOf-more, AreEncounters-more, MayMeet-last}
-use Rattle.er_rank.proofs.lists.count.Goals.{then-at-counts-via-then-at-counts, then-at-counts-via-else-at-counts+then-counts-at-ge-MAX_ROUNDS, then-at-counts-via-else-at-counts+else-counts-at-ge-MAX_ROUNDS+then-not-is_record}
+use Rattle.std.proofs.Common.{◌≡◌, ◌+◌, ◌-◌, length, true≢false, sym, ◌∙◌, refl, arith}
+use Rattle.er_rank.proofs.CountLemmas.{AreCountsOf-more, AreEncounters-more, MayMeet-last}
+use Rattle.er_rank.proofs.lists.count.Goals.{then-at-counts-via-then-at-counts}
+use Rattle.er_rank.proofs.lists.count.Goals.{then-at-counts-via-else-at-counts+then-counts-at-ge-MAX_ROUNDS}
+use Rattle.er_rank.proofs.lists.count.Goals.{then-at-counts-via-else-at-counts+else-counts-at-ge-MAX_ROUNDS+then-not-is_record}
 use Rattle.er_rank.proofs.lists.count.Goals as goal
 
 pub returns-then-at-counts-clause-may : goal.returns-then-at-counts-clause-may
@@ -9,12 +11,14 @@ returns-then-at-counts-clause-may c = λ before counted are. (
   λ more.
       let at = c.from-at.result - 1 in
       let number : 1 + at ≡ c.args.player = omega (arith, c.from-at.ensures, c.get.ensures.value, c.get.ensures.within.0) in
-      let may = MayMeet-last (length c.args.counts.now) before c.args.player c.args.opponent more in
+      let may = MayMeet-last before c.args.player c.args.opponent (length c.args.counts.now) more in
       elim c.then-at-counts.branch [
         | then-at-counts-via-then-at-counts w ↦ absurd (omega (arith, number, may.known, w.if-at-counts.true))
-        | then-at-counts-via-else-at-counts+then-counts-at-ge-MAX_ROUNDS w ↦ absurd (let here : get_or c.args.counts.now at 0 ≡ count_of before c.args.player = counted at w.if-at-counts.false ∙ ap (count_of before) number in
-            omega (arith, here, may.few, w.if-counts-at-ge-MAX_ROUNDS.true))
-        | then-at-counts-via-else-at-counts+else-counts-at-ge-MAX_ROUNDS+then-not-is_record w ↦ absurd (true≢false (sym (w.is_record.ensures.1 may.recorded) ∙ w.if-not-is_record.true))
+        | then-at-counts-via-else-at-counts+then-counts-at-ge-MAX_ROUNDS w ↦
+            let here = rw number at (counted at w.if-at-counts.false) in
+            absurd (omega (arith, here, may.few, w.if-counts-at-ge-MAX_ROUNDS.true))
+        | then-at-counts-via-else-at-counts+else-counts-at-ge-MAX_ROUNDS+then-not-is_record w ↦
+            absurd (true≢false (sym (w.is_record.ensures.1 may.recorded) ∙ w.if-not-is_record.true))
       ],
 )
 
@@ -22,8 +26,8 @@ pub returns-clause-may : goal.returns-clause-may
 returns-clause-may c = λ before counted are.
     let at = c.from-at.result - 1 in
     let number : 1 + at ≡ c.args.player = omega (arith, c.from-at.ensures, c.get.ensures.value, c.get.ensures.within.0) in
-    let here : get_or c.args.counts.now at 0 ≡ count_of before c.args.player = counted at c.if-at-counts.false ∙ ap (count_of before) number in (
-      λ _. AreEncounters-more (length c.args.counts.now) before c.args.player c.args.opponent (omega (arith, number)) are (record {
+    let here = rw number at (counted at c.if-at-counts.false) in (
+      λ _. AreEncounters-more before c.args.player c.args.opponent (length c.args.counts.now) (omega (arith, number)) are (record {
         known = omega (arith, number, c.if-at-counts.false);
         few = omega (arith, here, c.if-counts-at-ge-MAX_ROUNDS.false);
         recorded = c.is_record.ensures.0 c.if-not-is_record.false;
@@ -35,4 +39,4 @@ pub returns-clause-counted : goal.returns-clause-counted
 returns-clause-counted c = λ before counted _.
     let at = c.from-at.result - 1 in
     let number : 1 + at ≡ c.args.player = omega (arith, c.from-at.ensures, c.get.ensures.value, c.get.ensures.within.0) in
-    AreCountsOf-more before c.args.counts.now at (get_or c.args.counts.now at 0 + 1) c.args.player c.args.opponent number c.if-at-counts.false refl counted
+    AreCountsOf-more before c.args.player c.args.opponent c.args.counts.now at _ number c.if-at-counts.false refl counted

@@ -22,8 +22,10 @@ returns c =
     let hi_is : c.from-2.result ≡ max played.a played.b = c.from-2.ensures ∙ c.max.ensures in
     let lo_in : lo_at < length tallies = omega (arith, lo_is, c.requires.known) in
     let hi_in : hi_at < length tallies = omega (arith, hi_is, c.requires.known) in
-    let lo_no : lo.result.no ≡ min played.a played.b = omega (arith, number-here tallies lo_at lo.result c.requires.numbered lo_in lo.is, lo_is, c.requires.known) in
-    let hi_no : hi.result.no ≡ max played.a played.b = omega (arith, number-here tallies hi_at hi.result c.requires.numbered hi_in hi.is, hi_is, c.requires.known) in
+    let lo_no : lo.result.no ≡ min played.a played.b =
+    omega (arith, number-here tallies lo_at lo.result c.requires.numbered lo_in lo.is, lo_is, c.requires.known) in
+    let hi_no : hi.result.no ≡ max played.a played.b =
+    omega (arith, number-here tallies hi_at hi.result c.requires.numbered hi_in hi.is, hi_is, c.requires.known) in
     same _ _ _ _ _ _ _ _ lo_no hi_no
     (totals-here tallies lo_at (min played.a played.b) lo.result (omega (arith, lo_is)) lo_in lo.is)
     (totals-here tallies hi_at (max played.a played.b) hi.result (omega (arith, hi_is)) hi_in hi.is)

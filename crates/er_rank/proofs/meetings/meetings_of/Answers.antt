@@ -1,11 +1,10 @@
-use Rattle.std.proofs.Common.{◌≡◌, ◌++◌, [], List, Bool, if◌then◌else◌, map, filter, ap, sym, ◌∙◌, append-nil}
+use Rattle.std.proofs.Common.{◌≡◌, ◌++◌, [], List, Bool, if◌then◌else◌, ap, sym, ◌∙◌, append-nil}
 use Rattle.std.proofs.lemmas.List.{take_all}
 use Rattle.er_event.specs.declared.matches.Match.{Match}
 use Rattle.er_event.specs.declared.rounds.Round.{Round}
-use Rattle.er_event.specs.Round.{is_counted}
-use Rattle.er_event.specs.Tallies.{counted_matches, meeting_by}
+use Rattle.er_event.specs.Tallies.{counted_matches}
 use Rattle.er_rank.specs.Meeting.{totals_of}
-use Rattle.er_rank.proofs.MeetingLemmas.{is_met, counted-more}
+use Rattle.er_rank.proofs.MeetingLemmas.{made_of, counted_in, counted-more}
 use Rattle.er_rank.proofs.meetings.meetings_of.Goals as goal
 use Rattle.er_rank.proofs.meetings.meetings_of.Goals.{then-is_complete+in_ok-push_meetings, else-is_complete}
 
@@ -17,25 +16,22 @@ loop-round-preserved c =
     let come_to = totals_of c.args.tallies.now in
     let round = c.round-item.result in
     let list = c.loop-round.meetings.items in
-    let counted : c.is_complete.result ≡ is_counted round.matches = c.is_complete.ensures in
-    let made : List Match → List _ = λ ms. list ++ map (meeting_by come_to) (filter is_met ms) in
-    let pushed : c.if-is_complete.meetings.items ≡ made (if is_counted round.matches then round.matches else []) =
+    let made : List Match → List _ = λ ms. list ++ made_of come_to ms in
+    let by_test : Bool → List _ = λ b. made (if b then round.matches else []) in
+    let pushed : c.if-is_complete.meetings.items ≡ made (counted_in round) =
     elim c.if-is_complete.branch [
       | then-is_complete+in_ok-push_meetings w ↦
           ap (λ v. v.items) w.meetings-is
           ∙ (w.in_ok-push_meetings.ensures
-          ∙ (ap made w.as_slice.ensures
-          ∙ ap (λ (b : Bool). made (if b then round.matches else [])) (sym (sym counted ∙ w.if-is_complete.true))))
+          ∙ (ap made w.as_slice.ensures ∙ ap by_test (sym (sym c.is_complete.ensures ∙ w.if-is_complete.true))))
       | else-is_complete w ↦
           ap (λ v. v.items) w.meetings-is
-          ∙ (sym (append-nil list)
-          ∙ ap (λ (b : Bool). made (if b then round.matches else [])) (sym (sym counted ∙ w.if-is_complete.false)))
+          ∙ (sym (append-nil list) ∙ ap by_test (sym (sym c.is_complete.ensures ∙ w.if-is_complete.false)))
     ] in
     counted-more come_to list c.if-is_complete.meetings.items c.args.rounds.now c.loop-round.round-index round
     c.loop-round-test.true c.round-item.is c.loop-round.invariant pushed
 
 pub returns : goal.returns
 returns c =
-    let come_to = totals_of c.args.tallies.now in
-    c.loop-round.invariant
-    ∙ ap (λ (rs : List Round). map (meeting_by come_to) (filter is_met (counted_matches rs))) (take_all c.loop-round.round-index c.args.rounds.now c.loop-round-test.false)
+    let all = take_all c.loop-round.round-index c.args.rounds.now c.loop-round-test.false in
+    c.loop-round.invariant ∙ ap (λ (rs : List Round). made_of (totals_of c.args.tallies.now) (counted_matches rs)) all

@@ -1,5 +1,4 @@
-use Rattle.std.proofs.Common.{◌≡◌, ◌+◌, ◌-◌, ◌<◌, length, subst, sym, arith}
-use Rattle.er_rank.specs.declared.opponents.Opponents.{Opponents}
+use Rattle.std.proofs.Common.{◌≡◌, ◌+◌, ◌-◌, ◌<◌, length, arith}
 use Rattle.er_rank.specs.Meeting.{opponents_of}
 use Rattle.er_rank.specs.inside.Merit.{AreOpponents}
 use Rattle.er_rank.proofs.OpponentLemmas.{AreOpponentsOf-met}
@@ -13,5 +12,6 @@ returns c = λ before are.
     let number : 1 + at ≡ c.args.player = omega (arith, c.from-at.ensures, c.get.ensures.value, c.requires.known.0) in
     let within : at < length list = omega (arith, number, c.requires.known.1) in
     let met = opponents_of before (1 + at) in
-    let own : AreOpponents here.result met = subst (λ (o : Opponents). AreOpponents o met) (sym here.is) (are at here.result within) in
-    AreOpponentsOf-met before (record { player = c.args.player; opponent = c.args.totals }) list at c.with.result number within are (c.with.ensures met own)
+    let own : AreOpponents here.result met = rw here.is (are at here.result within) in
+    AreOpponentsOf-met before (record { player = c.args.player; opponent = c.args.totals }) list at c.with.result number within are
+    (c.with.ensures met own)

@@ -1,8 +1,6 @@
-use Rattle.std.proofs.Common.{◌+◌, ◌<◌, ℕ, length, subst, sym, arith, refl}
-use Rattle.er_event.specs.declared.totals.Totals.{Totals}
-use Rattle.er_rank.specs.declared.opponents.Opponents.{Opponents}
+use Rattle.std.proofs.Common.{◌<◌, length, arith, refl}
 use Rattle.er_rank.specs.Meeting.{opponents_of}
-use Rattle.er_rank.specs.inside.Merit.{AreOpponents, IsMerit}
+use Rattle.er_rank.specs.inside.Merit.{AreOpponents}
 use Rattle.er_rank.proofs.PlacingLemmas.{AreFirst-none, AreFirst-more, ArePlacings-first, number-here, totals-here}
 use Rattle.er_rank.proofs.placings.placings_by_number.Goals as goal
 
@@ -19,11 +17,11 @@ loop-at-preserved c = λ met are.
     let number = number-here tallies at tally c.requires.tallies.numbered below c.index-tallies-at.is in
     let own = totals-here tallies at tally.no tally (omega (arith, number)) below c.index-tallies-at.is in
     let place : at < length c.args.opponents.now = omega (arith, c.requires.each, below) in
-    let here : AreOpponents opponents.result (opponents_of met tally.no) =
-    subst (λ (n : ℕ). AreOpponents opponents.result (opponents_of met n)) (sym number)
-    (subst (λ (o : Opponents). AreOpponents o (opponents_of met (1 + at))) (sym opponents.is) (are at opponents.result place)) in
-    let merit = subst (λ (t : Totals). IsMerit t (opponents_of met tally.no) c.merit_of.result) own (c.merit_of.ensures (opponents_of met tally.no) here) in
-    AreFirst-more met tallies at tally c.loop-at.placings.items c.push.new.self.items _ below c.index-tallies-at.is (c.loop-at.invariant met are) refl refl merit c.in_ok-push.ensures.items
+    let here : AreOpponents opponents.result (opponents_of met tally.no) = rw (number, opponents.is) (are at opponents.result place) in
+    let merit = rw own at (c.merit_of.ensures (opponents_of met tally.no) here) in
+    AreFirst-more met tallies at tally c.loop-at.placings.items c.push.new.self.items _ below c.index-tallies-at.is
+    (c.loop-at.invariant met are) refl refl merit c.in_ok-push.ensures.items
 
 pub returns : goal.returns
-returns c = λ met are. ArePlacings-first met c.args.tallies.now c.loop-at.at c.loop-at.placings.items c.loop-at-test.false (c.loop-at.invariant met are)
+returns c = λ met are.
+    ArePlacings-first met c.args.tallies.now c.loop-at.at c.loop-at.placings.items c.loop-at-test.false (c.loop-at.invariant met are)

@@ -9,6 +9,7 @@ pub returns : goal.returns
 returns c =
     let e = c.args.event.now in
     let each = list_all (λ (r : Round). is_counted r.matches) in
-    let count : length e.stored ≡ e.rounds = sym (ap length c.stored.ensures.value) ∙ (c.if-stored-from.false ∙ (c.from.ensures ∙ c.rounds.ensures.value)) in
+    let count : length e.stored ≡ e.rounds = sym (ap length c.stored.ensures.value)
+    ∙ (c.if-stored-from.false ∙ (c.from.ensures ∙ c.rounds.ensures.value)) in
     let all : (length e.stored == e.rounds) ≡ true = grind (arith, nat_tests) in
     c.are_complete.ensures ∙ (ap each c.stored-2.ensures.value ∙ ap (λ b. b && each e.stored) (sym all))

@@ -1,11 +1,11 @@
 use Rattle.std.proofs.Common.{arith, rules}
 use Rattle.er_pair.specs.Rows.{is_ahead}
-use Rattle.er_pair.proofs.Ahead.{next_word, no_word, found_beyond, found_place, found_after}
+use Rattle.er_pair.proofs.Ahead.{next_word, no_next, found_beyond, found_place, found_after}
 use Rattle.er_pair.proofs.rows.Cursor.next.Goals as goal
 
 pub returns-then-self-end-clause-found : goal.returns-then-self-end-clause-found
 returns-then-self-end-clause-found c =
-    no_word c.args.one.now c.args.other.now c.loop-self.self.index c.loop-self.self.left
+    no_next c.args.one.now c.args.other.now c.loop-self.self.index c.loop-self.self.left
     (is_ahead c.args.one.now c.args.other.now c.args.self.now.index c.args.self.now.left)
     c.loop-self.invariant.same c.args.end (omega arith) (omega arith)
 

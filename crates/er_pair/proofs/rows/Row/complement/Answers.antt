@@ -1,5 +1,5 @@
 use Rattle.std.proofs.Common.{◌/◌, arith}
-use Rattle.er_pair.proofs.Ahead.{complemented}
+use Rattle.er_pair.proofs.Bits.{complemented}
 use Rattle.er_pair.proofs.rows.Row.complement.Goals as goal
 
 pub returns : goal.returns
