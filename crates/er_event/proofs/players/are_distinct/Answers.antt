@@ -10,8 +10,8 @@ returns-then-has_name c =
     let found = sym c.has_name.ensures.value ∙ c.if-has_name.true in (
       λ never. absurd (true≢false (sym never)),
       λ apart.
-          absurd (names-new c.args.players.now c.loop-place.place c.index-players-place.result c.loop-place-test.true c.index-players-place.is
-          apart found),
+          absurd (names-new c.args.players.now c.loop-place.place c.index-players-place.result c.loop-place-test.true
+          c.index-players-place.is apart found),
     )
 
 pub loop-place-preserved : goal.loop-place-preserved
