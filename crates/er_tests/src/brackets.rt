@@ -13,34 +13,41 @@ fn players(alloc: Global, numbers: &[u16]) -> Result<Vec<PlayerNo>, Fail> {
     Ok(players)
 }
 
-/// Whether these two meet in each slot, first-named player first, and have no score.
-fn are_open(matches: &[Match], slots: &[(u16, u16)]) -> bool {
-    let meet = matches
-        .iter()
-        .zip(slots)
-        .all(|(m, (a, b))| m.a == *a && m.b == *b && m.score.is_none());
-    matches.len() == slots.len() && meet
+/// Whether these players meet, two in each slot, the first-named one first, and have no score.
+fn are_open(matches: &[Match], players: &[u16]) -> bool {
+    let mut left = players;
+    for slot in matches {
+        let [a, b, later @ ..] = left else {
+            return false;
+        };
+        if slot.a != *a || slot.b != *b || slot.score.is_some() {
+            return false;
+        }
+        left = later;
+    }
+    left.is_empty()
 }
 
 /// Whether the first stage of these players has these slots.
-fn begins_with(alloc: Global, numbers: &[u16], slots: &[(u16, u16)]) -> Result<bool, Fail> {
+fn begins_with(alloc: Global, numbers: &[u16], slots: &[u16]) -> Result<bool, Fail> {
     let seeds = players(alloc, numbers)?;
-    if !matches!(seeds.len(), 2 | 4 | 8) {
-        return Err("no stage has so many")?;
+    let count = seeds.len();
+    if count == 2 || count == 4 || count == 8 {
+        let stage = first_stage(alloc, seeds.as_slice())?;
+        return Ok(are_open(stage.as_slice(), slots));
     }
-    let stage = first_stage(alloc, seeds.as_slice())?;
-    Ok(are_open(stage.as_slice(), slots))
+    Ok(false)
 }
 
 #[test]
 fn two_seeds(rt: HostRuntime) -> Result<(), Fail> {
-    assert!(rt; begins_with(rt.alloc(), &[7, 3], &[(7, 3)])?);
+    assert!(rt; begins_with(rt.alloc(), &[7, 3], &[7, 3])?);
     Ok(())
 }
 
 #[test]
 fn four_seeds(rt: HostRuntime) -> Result<(), Fail> {
-    let slots = [(5, 3), (6, 1)];
+    let slots = [5, 3, 6, 1];
     assert!(rt; begins_with(rt.alloc(), &[5, 6, 1, 3], &slots)?);
     Ok(())
 }
@@ -49,7 +56,7 @@ fn four_seeds(rt: HostRuntime) -> Result<(), Fail> {
 #[test]
 fn eight_seeds(rt: HostRuntime) -> Result<(), Fail> {
     let seeds = [11, 12, 13, 14, 15, 16, 17, 18];
-    let slots = [(11, 18), (14, 15), (12, 17), (13, 16)];
+    let slots = [11, 18, 14, 15, 12, 17, 13, 16];
     assert!(rt; begins_with(rt.alloc(), &seeds, &slots)?);
     Ok(())
 }
@@ -67,6 +74,6 @@ fn won(a: u16, b: u16) -> Match
 fn four_winners(rt: HostRuntime) -> Result<(), Fail> {
     let stage = [won(11, 18), won(14, 15), won(12, 17), won(13, 16)];
     let next = next_stage(rt.alloc(), &stage)?;
-    assert!(rt; are_open(next.as_slice(), &[(11, 14), (12, 13)]));
+    assert!(rt; are_open(next.as_slice(), &[11, 14, 12, 13]));
     Ok(())
 }

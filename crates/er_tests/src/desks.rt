@@ -73,8 +73,10 @@ fn failing(alloc: Global, calls: u64) -> Option<Connection<FileStore<Fuse<Memory
 
 /// What the desk answers to the player of this number.
 fn enrol<S: Alter>(alloc: Global, desk: &mut Desk<S>, number: u16) -> Option<Reply> {
-    let line = format!(in alloc; "enrol P{number}").ok()?;
-    submit(alloc, desk, line.as_str())
+    match format!(in alloc; "enrol P{number}") {
+        Ok(line) => submit(alloc, desk, line.as_str()),
+        Err(_) => None,
+    }
 }
 
 /// The first refusal of the players P1, P2, .. that are enrolled in turn.
@@ -87,45 +89,34 @@ fn first_refusal<S: Alter>(alloc: Global, desk: &mut Desk<S>) -> Option<Refusal>
     None
 }
 
-/// The first refusal, what the desk then says of itself, what it answers next, to the reader of a slip, and whether requests get the like.
-type Stop = (Option<Refusal>, bool, Option<Reply>, Option<Refusal>, bool);
-
-fn stopped<S: Alter + Drop>(alloc: Global, conn: Connection<S>) -> Option<Stop>
-    requires { conn.in_transaction ≡ false }
-{
-    let mut desk = new_desk(alloc, conn, 3, 0)?;
-    let why = first_refusal(alloc, &mut desk);
-    let needs_reopen = desk.needs_reopen();
-    let next = submit(alloc, &mut desk, "enrol Ana");
-    let slip = desk.slip(alloc, 1, 1).err();
-    Some((
-        why,
-        needs_reopen,
-        next,
-        slip,
-        are_unavailable(alloc, &mut desk),
-    ))
-}
-
-fn stopped_by_the_device(alloc: Global) -> Option<Stop> {
-    let conn = failing(alloc, 100)?;
-    stopped(alloc, conn)
-}
-
 const REFUSED: Refusal = Refusal::Store {
     cause: Cause::Refused,
 };
 
+/// Whether the desk is to be opened anew: as it says of itself, to a command, to the reader of a slip and to requests.
+fn is_stopped<S: Alter>(alloc: Global, desk: &mut Desk<S>) -> bool {
+    desk.needs_reopen()
+        && submit(alloc, desk, "enrol Ana") == Some(Err(Refusal::NeedsReopen))
+        && desk.slip(alloc, 1, 1).err() == Some(Refusal::NeedsReopen)
+        && are_unavailable(alloc, desk)
+}
+
+/// Whether the first refusal is that of the device, after which the desk is stopped.
+fn stops<S: Alter + Drop>(alloc: Global, conn: Connection<S>) -> Option<bool>
+    requires { conn.in_transaction ≡ false }
+{
+    let mut desk = new_desk(alloc, conn, 3, 0)?;
+    let why = first_refusal(alloc, &mut desk);
+    Some(why == Some(REFUSED) && is_stopped(alloc, &mut desk))
+}
+
+fn stops_with_the_device(alloc: Global) -> Option<bool> {
+    stops(alloc, failing(alloc, 100)?)
+}
+
 /// After a fault of the device the desk takes no command, shows no slip, and answers each request with a 503.
 #[test]
 fn a_fault_of_the_device_stops_the_desk(rt: HostRuntime) -> Result<(), Fail> {
-    let answers = (
-        Some(REFUSED),
-        true,
-        Some(Err(Refusal::NeedsReopen)),
-        Some(Refusal::NeedsReopen),
-        true,
-    );
-    assert_eq!(rt; stopped_by_the_device(rt.alloc()), Some(answers));
+    assert_eq!(rt; stops_with_the_device(rt.alloc()), Some(true));
     Ok(())
 }

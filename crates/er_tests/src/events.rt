@@ -12,30 +12,21 @@ fn is_taken(bytes: &[u8]) -> Option<bool> {
     }
 }
 
+/// Whether each line is taken as a name, or each is not.
+fn are_taken(lines: &str, due: bool) -> bool {
+    lines
+        .lines()
+        .all(|line| is_taken(line.as_bytes()) == Some(due))
+}
+
 /// Worked example 3, and the bytes next to what it takes.
 #[test]
 fn names_are_taken_where_the_rule_says(rt: HostRuntime) -> Result<(), Fail> {
-    let longest = [b'a'; 60];
-    let longer = [b'a'; 61];
-    let cases: [(&[u8], bool); 14] = [
-        (&longest, true),
-        (&longer, false),
-        (b"Ana ", false),
-        (b"", false),
-        (b"\xff", false),
-        (b" Ana", false),
-        (b" ", false),
-        (b"A na", true),
-        (b"-Ana", true),
-        (b"Jos\xc3\xa9", true),
-        (b"Jos\xc3", false),
-        (b"A\tB", false),
-        (b"A\x7fB", false),
-        (b"~", true),
-    ];
-    for (bytes, lawful) in cases {
-        assert_eq!(rt; is_taken(bytes), Some(lawful), "{bytes:?}");
-    }
+    assert_eq!(rt; is_taken(&[b'a'; 60]), Some(true));
+    assert_eq!(rt; is_taken(&[b'a'; 61]), Some(false));
+    assert!(rt; are_taken("A na\n-Ana\nJosé\n~", true));
+    assert!(rt; are_taken("Ana \n\n Ana\n \nA\tB\nA\x7fB", false));
+    assert!(rt; is_taken(b"\xff") == Some(false) && is_taken(b"Jos\xc3") == Some(false));
     Ok(())
 }
 
@@ -70,25 +61,22 @@ fn refusal_of(alloc: Global, rounds: u8, cut: u8) -> Option<Refusal> {
     }
 }
 
+fn is_set_up(alloc: Global, rounds: u8, cut: u8) -> bool {
+    refusal_of(alloc, rounds, cut).is_none()
+}
+
+fn is_refused(alloc: Global, rounds: u8, cut: u8) -> bool {
+    refusal_of(alloc, rounds, cut) == Some(Refusal::BadSetup)
+}
+
 /// The limits of worked example 29.
 #[test]
 fn events_are_set_up_within_the_limits(rt: HostRuntime) -> Result<(), Fail> {
-    let cases = [
-        (0, 0, false),
-        (1, 0, true),
-        (9, 8, true),
-        (10, 0, false),
-        (3, 3, false),
-        (3, 2, true),
-        (3, 4, true),
-        (3, 1, false),
-        (3, 16, false),
-    ];
-    for (rounds, cut, lawful) in cases {
-        let why = refusal_of(rt.alloc(), rounds, cut);
-        let due = (!lawful).then_some(Refusal::BadSetup);
-        assert_eq!(rt; why, due, "{rounds} {cut}");
-    }
+    let alloc = rt.alloc();
+    assert!(rt; is_set_up(alloc, 1, 0) && is_set_up(alloc, 9, 8));
+    assert!(rt; is_set_up(alloc, 3, 2) && is_set_up(alloc, 3, 4));
+    assert!(rt; is_refused(alloc, 0, 0) && is_refused(alloc, 10, 0));
+    assert!(rt; is_refused(alloc, 3, 1) && is_refused(alloc, 3, 3) && is_refused(alloc, 3, 16));
     Ok(())
 }
 

@@ -102,30 +102,40 @@ fn score_of(words: &[&str]) -> Option<(u8, u16, Games)> {
     }
 }
 
+fn result(words: &[&str]) -> Option<Command> {
+    let (round, table, score) = score_of(words)?;
+    Some(Command::Result {
+        round,
+        table,
+        score,
+    })
+}
+
+fn correct(words: &[&str]) -> Option<Command> {
+    let (round, table, score) = score_of(words)?;
+    Some(Command::Correct {
+        round,
+        table,
+        score,
+    })
+}
+
+fn playoff(words: &[&str]) -> Option<Command> {
+    let (stage, slot, score) = score_of(words)?;
+    Some(Command::Playoff {
+        stage,
+        slot: u8::try_from(slot).ok()?,
+        score,
+    })
+}
+
 /// The command on a match that words are.
 fn score_command(words: &[&str]) -> Option<Command> {
-    match words {
-        ["result", words @ ..] => {
-            let (round, table, score) = score_of(words)?;
-            Some(Command::Result {
-                round,
-                table,
-                score,
-            })
-        }
-        ["correct", words @ ..] => {
-            let (round, table, score) = score_of(words)?;
-            Some(Command::Correct {
-                round,
-                table,
-                score,
-            })
-        }
-        ["playoff", stage, slot, score @ ..] => Some(Command::Playoff {
-            stage: stage.parse().ok()?,
-            slot: slot.parse().ok()?,
-            score: games(score)?,
-        }),
+    let (first, words) = words.split_first()?;
+    match *first {
+        "result" => result(words),
+        "correct" => correct(words),
+        "playoff" => playoff(words),
         _ => None,
     }
 }

@@ -196,10 +196,13 @@ pub fn are_answered<S: Alter>(
     requests: &str,
     answer: &str,
 ) -> bool {
-    requests.lines().all(|line| match bytes(alloc, line) {
-        Some(request) => is_answered(alloc, desk, request.as_slice(), answer),
-        None => false,
-    })
+    for line in requests.lines() {
+        match bytes(alloc, line) {
+            Some(request) if is_answered(alloc, desk, request.as_slice(), answer) => {}
+            _ => return false,
+        }
+    }
+    true
 }
 
 /// Whether requests of each kind are answered that the desk has to be opened anew.

@@ -5,57 +5,42 @@ use er_share::{GameRecord, MatchRecord, Share, average, gwp, hundredths, mwp};
 use std::alloc::Global;
 use std::test::Fail;
 
-/// What is printed of the share of these match points, and whether it is of the base.
-fn match_percentage(points: u8, rounds: u8) -> Option<(u32, bool)> {
-    let share = mwp(MatchRecord::try_new(points, rounds)?);
-    Some((hundredths(share), share.is_base()))
+/// Whether the share of these match points is of the base and printed so.
+fn is_match_percentage(points: u8, rounds: u8, printed: u32) -> bool {
+    let Some(record) = MatchRecord::try_new(points, rounds) else {
+        return false;
+    };
+    let share = mwp(record);
+    hundredths(share) == printed && share.is_base()
 }
 
 /// Worked example 11.
 #[test]
 fn match_win_percentages(rt: HostRuntime) -> Result<(), Fail> {
-    for (points, rounds, printed) in [
-        (16, 8, 6667),
-        (7, 8, 3300),
-        (10, 7, 4762),
-        (9, 5, 6000),
-        (0, 0, 3300),
-    ] {
-        assert_eq!(rt;
-            match_percentage(points, rounds),
-            Some((printed, true)),
-            "{points} points in {rounds} rounds"
-        );
-    }
+    assert!(rt; is_match_percentage(16, 8, 6667) && is_match_percentage(7, 8, 3300));
+    assert!(rt; is_match_percentage(10, 7, 4762) && is_match_percentage(9, 5, 6000));
+    assert!(rt; is_match_percentage(0, 0, 3300));
     assert!(rt; MatchRecord::try_new(27, 9).is_some());
     assert_eq!(rt; MatchRecord::try_new(28, 9), None);
     assert_eq!(rt; MatchRecord::try_new(0, 10), None);
     Ok(())
 }
 
-/// What is printed of the share of these game points, and whether it is of the base.
-fn game_percentage(points: u16, games: u8) -> Option<(u32, bool)> {
-    let share = gwp(GameRecord::try_new(points, games)?);
-    Some((hundredths(share), share.is_base()))
+/// Whether the share of these game points is of the base and printed so.
+fn is_game_percentage(points: u16, games: u8, printed: u32) -> bool {
+    let Some(record) = GameRecord::try_new(points, games) else {
+        return false;
+    };
+    let share = gwp(record);
+    hundredths(share) == printed && share.is_base()
 }
 
 /// Worked examples 11 and 34.
 #[test]
 fn game_win_percentages(rt: HostRuntime) -> Result<(), Fail> {
-    for (points, games, printed) in [
-        (21, 10, 7000),
-        (9, 11, 3300),
-        (3, 3, 3333),
-        (0, 0, 3300),
-        (162, 54, 10_000),
-        (63, 32, 6563),
-    ] {
-        assert_eq!(rt;
-            game_percentage(points, games),
-            Some((printed, true)),
-            "{points} points in {games} games"
-        );
-    }
+    assert!(rt; is_game_percentage(21, 10, 7000) && is_game_percentage(9, 11, 3300));
+    assert!(rt; is_game_percentage(3, 3, 3333) && is_game_percentage(0, 0, 3300));
+    assert!(rt; is_game_percentage(162, 54, 10_000) && is_game_percentage(63, 32, 6563));
     assert_eq!(rt; GameRecord::try_new(0, 55), None);
     Ok(())
 }

@@ -598,8 +598,15 @@ fn are_meetings(list: &[Meeting]) -> bool {
     }
 }
 
+fn adopted(alloc: Global, desk: Desk<MemStore>) -> Option<Store<MemStore>> {
+    match Store::adopt(alloc, desk.close()) {
+        Ok((store, _event, _serial)) => Some(store),
+        Err(_) => None,
+    }
+}
+
 fn shows_lists(alloc: Global, desk: Desk<MemStore>) -> Option<bool> {
-    let (mut store, _event, _serial) = Store::adopt(alloc, desk.close()).ok()?;
+    let mut store = adopted(alloc, desk)?;
     let tallies = store.tallies(alloc).ok()?;
     let meetings = store.meetings(alloc).ok()?;
     Some(are_tallies(tallies.as_slice()) && are_meetings(meetings.as_slice()))
