@@ -7,9 +7,9 @@ function are put into one copy of the crate, and one check says of each function
 judge, as a function that calls another one that is refused, is tried again without these beside it, and at last alone.
 
 Beside the gate, which leaves processors idle while crates wait for those below them, a crate's wrong bodies are tried as soon as the gate
-has proved it, over copies of the libraries that it made. There those with a line `tried: always` are tried each time, and so is one of each public function, which changes by the day of
-the commit; those of private functions come in turns by that day too. With no turn given, all are tried. Where time is short, on a machine
-that others use, what is left is named, and not tried.
+has proved it, over copies of the libraries that it made. There those with a line `tried: always` and those of constants are tried each time,
+and one of each public function, which changes by the day of the commit. Those of private functions come in turns, by that day too. With no
+turn given, all are tried. Where time is short, on a machine that others use, what is left is named, and not tried.
 """
 import argparse
 import concurrent.futures
