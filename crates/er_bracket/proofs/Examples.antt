@@ -1,7 +1,6 @@
 -- Examples of the definitions, which compute.
 use Rattle.std.proofs.Common.{◌≡◌, ℕ, [], ◌∷◌, Some, None, refl}
-use Rattle.er_event.specs.declared.matches.Match.{Match}
-use Rattle.er_event.specs.Bracket.{open_match, next_stage, last_match, winner}
+use Rattle.er_event.specs.{declared.matches.Match.Match, Bracket.{open_match, next_stage, last_match, winner}}
 use Rattle.er_bracket.specs.Seeds.{first_stage}
 
 -- a match by two games to none

@@ -1,8 +1,7 @@
 -- The last match of a bracket is the only match of its last stage.
 use Rattle.std.proofs.Common.{◌≡◌, ◌≢◌, ℕ, zero, suc, ◌+◌, ◌-◌, ◌<◌, ◌≤◌, List, [], ◌∷◌, length, get_or, Option, Some, None, refl, sym, ap}
 use Rattle.std.proofs.Common.{◌∙◌, arith}
-use Rattle.er_event.specs.declared.matches.Match.{Match}
-use Rattle.er_event.specs.Bracket.{last_match}
+use Rattle.er_event.specs.{declared.matches.Match.Match, Bracket.last_match}
 
 -- the match of a stage that has just one
 abbrev pub only_match : List Match → Option Match

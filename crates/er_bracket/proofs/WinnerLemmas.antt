@@ -1,18 +1,12 @@
 -- Each player of a sound event's bracket is one of the event's, and so is its champion.
 use Rattle.std.proofs.Common.{◌≡◌, ℕ, ◌≤◌, ◌&&◌, inr, Bool, true, false, cond, List, [], ◌∷◌, length, flat_map, Contains, IsSome, IfSome}
 use Rattle.std.proofs.Common.{Option, Some, None, is_some, refl, sym, ap, subst, ◌∙◌, true≢false, arith}
-use Rattle.std.specs.List.{slice_get, range_with_len, AllByRecursion}
-use Rattle.std.proofs.lemmas.List.Elements.{recursion_from_All}
-use Rattle.std.proofs.lemmas.List.FromFn.{get_or-range_with_len, length-range_with_len}
+use Rattle.std.proofs.{lemmas.List.Elements.recursion_from_All, lemmas.List.FromFn.{get_or-range_with_len, length-range_with_len}}
 use Rattle.std.proofs.lemmas.Option.{none-some, same_Some, MatchOption-at_some}
-use Rattle.er_event.specs.declared.events.Phase.TheVariants.{Finished}
-use Rattle.er_event.specs.declared.matches.Match.{Match}
-use Rattle.er_event.specs.declared.scores.Games.{Games}
-use Rattle.er_event.specs.declared.players.TheConstants.{MAX_PLAYERS}
-use Rattle.er_event.specs.Event.{EventValue}
-use Rattle.er_event.specs.Round.{is_counted, seats}
-use Rattle.er_event.specs.Bracket.{winner, winner_with, next_stage, SameSlots, FollowOn, last_match}
-use Rattle.er_event.specs.Sound.{numbers, IsSoundButForSeeds}
+use Rattle.std.specs.List.{slice_get, range_with_len, AllByRecursion}
+use Rattle.er_event.specs.{declared.events.Phase.TheVariants.Finished, declared.matches.Match.Match, declared.scores.Games.Games}
+use Rattle.er_event.specs.{declared.players.TheConstants.MAX_PLAYERS, Event.EventValue, Round.{is_counted, seats}, Bracket.winner}
+use Rattle.er_event.specs.{Bracket.{winner_with, next_stage, SameSlots, FollowOn, last_match}, Sound.{numbers, IsSoundButForSeeds}}
 use Rattle.er_bracket.proofs.LastLemmas.{last-after}
 
 and-first : (a b : Bool) → (a && b) ≡ true → a ≡ true

@@ -1,6 +1,5 @@
 -- The bytes that were read, against the whole input.
-use Rattle.std.proofs.Common.{◌≡◌, ℕ, ◌+◌, ◌-◌, List, ◌++◌, take, drop, sym, ap, ◌∙◌, arith, slice_range}
-use Rattle.std.proofs.Math.Seq.{take-add}
+use Rattle.std.proofs.{Common.{◌≡◌, ℕ, ◌+◌, ◌-◌, List, ◌++◌, take, drop, sym, ap, ◌∙◌, arith, slice_range}, Math.Seq.take-add}
 
 -- one read more
 pub grown : (old new : List ℕ) (filled count : ℕ) → take filled new ≡ take filled old

@@ -1,16 +1,12 @@
 -- One connection after the other.
 use Rattle.std.proofs.Common.{◌≡◌, inr, ℕ, suc, ◌+◌, Bool, true, false, IsTrue, IsFalse, List, Option, refl, sym, ap, subst, ◌∙◌, ◌≤◌}
 use Rattle.std.proofs.Common.{arith, true≢false}
-use Rattle.sqlite_trees.specs.declared.store.Store.{Ghosts}
-use Rattle.er_desk.specs.declared.desk.Desk.{Desk}
-use Rattle.sqlite.specs.State.{HasCleanDisk}
-use Rattle.er_desk.specs.Desk.{ShowsOwn, Standing, point_of, standing, state}
-use Rattle.er_desk.specs.Headline.{LeavesJust}
-use Rattle.er_cli.specs.declared.TheConstants.{DEVICE}
-use Rattle.er_cli.specs.Serving.{Connects, ConnectsAll, PrintsServed, listening, served}
-use Rattle.er_cli.specs.Texts.{AppendsPart}
-use Rattle.er_cli.proofs.Sending.{part_after, part_first, whole_part}
 use Rattle.std.specs.Io.KnownBytes.{Appends}
+use Rattle.sqlite_trees.specs.declared.store.Store.{Ghosts}
+use Rattle.er_desk.specs.{declared.desk.Desk.Desk, Desk.{ShowsOwn, Standing, point_of, standing, state}, Headline.LeavesJust}
+use Rattle.sqlite.specs.State.{HasCleanDisk}
+use Rattle.er_cli.specs.{declared.TheConstants.DEVICE, Serving.{Connects, ConnectsAll, PrintsServed, listening, served}, Texts.AppendsPart}
+use Rattle.er_cli.proofs.Sending.{part_after, part_first, whole_part}
 
 one_more : (count : ℕ) → suc count ≡ count + 1
 one_more count = omega arith

@@ -1,11 +1,9 @@
 -- A flush keeps what was written, and where it fails what was written is a beginning of what is due.
-use Rattle.std.proofs.Common.{◌≡◌, ◌⊎◌, inl, inr, ℕ, List, length, Option, None, refl, sym, subst, arith}
-use Rattle.std.proofs.lemmas.List.{take_all}
-use Rattle.std.specs.Io.KnownBytes.{Keeps}
+use Rattle.std.proofs.{Common.{◌≡◌, ◌⊎◌, inl, inr, ℕ, List, length, Option, None, refl, sym, subst, arith}, lemmas.List.take_all}
 use Rattle.std.proofs.KnownBytes.{Appends-kept, Keeps-trans}
-use Rattle.er_cli.specs.declared.TheConstants.{DONE, USAGE, DEVICE, MEMORY}
-use Rattle.er_cli.specs.Script.{RunsLines, Prints, PrintsPart}
-use Rattle.er_cli.specs.Status.{Ends, Serves, Breaks}
+use Rattle.std.specs.Io.KnownBytes.{Keeps}
+use Rattle.er_cli.specs.{declared.TheConstants.{DONE, USAGE, DEVICE, MEMORY}, Script.{RunsLines, Prints, PrintsPart}, Status.{Ends, Serves}}
+use Rattle.er_cli.specs.Status.{Breaks}
 use Rattle.er_cli.proofs.Sending.{whole_part, part_kept}
 
 prints_whole : (lines : List (List ℕ)) (before after : Option (List ℕ)) → Prints lines before after → PrintsPart lines before after

@@ -1,23 +1,15 @@
 -- One name more of a list.
-use Rattle.std.proofs.Common.{◌≡◌, inl, inr, ℕ, ◌+◌, ◌<◌, Bool, true, false, IsFalse, List, [], ◌∷◌, ◌++◌, length, map, take, get_or, Some}
-use Rattle.std.proofs.Common.{None, Ok, Err, is_ok, not, refl, sym, ap, subst, ◌∙◌, arith, true≢false, append-nil, length-append}
-use Rattle.std.proofs.Common.{length-take-le}
-use Rattle.std.specs.List.{filter, list_any}
-use Rattle.std.proofs.lemmas.List.{length-map, take_all, take_more, map-append}
-use Rattle.std.specs.List.{take-map}
-use Rattle.std.proofs.lemmas.List.Elements.{filter-append}
+use Rattle.std.proofs.Common.{◌≡◌, inl, inr, ℕ, ◌+◌, ◌<◌, Bool, true, false, IsFalse, List, [], ◌∷◌, ◌++◌, length, map, take, get_or}
+use Rattle.std.proofs.Common.{Some, None, Ok, Err, is_ok, not, refl, sym, ap, subst, ◌∙◌, arith, true≢false, append-nil, length-append}
+use Rattle.std.proofs.{Common.length-take-le, lemmas.List.{length-map, take_all, take_more, map-append}, lemmas.List.Elements.filter-append}
 use Rattle.std.proofs.lemmas.List.Folds.{list_any-append}
-use Rattle.er_event.specs.declared.commands.Command.{Command}
-use Rattle.er_event.specs.declared.commands.Command.TheVariants.{Enrol}
-use Rattle.er_event.specs.declared.commands.Receipt.{Receipt}
-use Rattle.er_event.specs.declared.refusals.Refusal.{Refusal}
+use Rattle.std.specs.List.{filter, list_any, take-map}
+use Rattle.er_event.specs.{declared.commands.Command.Command, declared.commands.Command.TheVariants.Enrol}
+use Rattle.er_event.specs.{declared.commands.Receipt.Receipt, declared.refusals.Refusal.Refusal}
 use Rattle.er_store.specs.Fault.{IsFault}
-use Rattle.er_desk.specs.Desk.{Standing, Turn}
-use Rattle.er_desk.specs.Reply.{Reply}
-use Rattle.er_desk.specs.Run.{Runs}
-use Rattle.er_cli.specs.declared.importing.Tally.{Tally}
+use Rattle.er_desk.specs.{Desk.{Standing, Turn}, Reply.Reply, Run.Runs}
 use Rattle.er_paper.specs.declared.imports.PlayerLine.{PlayerLine}
-use Rattle.er_cli.specs.Importing.{Enrols, is_already, is_stop, is_taken, names_of, tally_of}
+use Rattle.er_cli.specs.{declared.importing.Tally.Tally, Importing.{Enrols, is_already, is_stop, is_taken, names_of, tally_of}}
 
 -- one command more of a run
 pub runs_more : (commands : List Command) (replies : List Reply) (old mid new : Standing) (command : Command) (reply : Reply)

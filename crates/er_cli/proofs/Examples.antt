@@ -1,7 +1,6 @@
 -- The statuses, and how long a script and a list may be, as literals.
 use Rattle.std.proofs.Common.{◌≡◌, refl}
-use Rattle.er_cli.specs.declared.TheConstants.{DONE, REFUSED, USAGE, DEVICE, MEMORY}
-use Rattle.er_cli.specs.declared.importing.TheConstants.{MAX_LIST_BYTES}
+use Rattle.er_cli.specs.{declared.TheConstants.{DONE, REFUSED, USAGE, DEVICE, MEMORY}, declared.importing.TheConstants.MAX_LIST_BYTES}
 use Rattle.er_cli.specs.declared.input.TheConstants.{MAX_SCRIPT_BYTES}
 
 done_is_0 : DONE ≡ 0

@@ -1,14 +1,10 @@
 -- One line more of a script.
 use Rattle.std.proofs.Common.{◌≡◌, ℕ, ◌+◌, ◌<◌, List, [], ◌∷◌, ◌++◌, length, map, take, get_or, Option, Bor, refl, subst, ap, ◌∙◌}
-use Rattle.std.proofs.Common.{append-nil}
+use Rattle.std.proofs.{Common.append-nil, lemmas.List.{map-append, take_more}, lemmas.List.Concat.flat_map-append}
 use Rattle.std.specs.List.{flat_map}
-use Rattle.std.proofs.lemmas.List.{map-append, take_more}
-use Rattle.std.proofs.lemmas.List.Concat.{flat_map-append}
-use Rattle.er_cli.specs.declared.texts.Answer.{Answer}
 use Rattle.er_words.specs.Fields.{script_action}
-use Rattle.er_cli.specs.Texts.{answer_text}
 use Rattle.er_desk.specs.Desk.{Standing}
-use Rattle.er_cli.specs.Script.{LineAnswers, RunsLines}
+use Rattle.er_cli.specs.{declared.texts.Answer.Answer, Texts.answer_text, Script.{LineAnswers, RunsLines}}
 
 pub Runs-push : (lines : List (List ℕ)) (answers : List Answer) (old mid new : Option Standing) (line : List ℕ) (answer : Answer)
     → RunsLines old lines answers mid → LineAnswers mid (script_action line) answer new

@@ -1,11 +1,9 @@
 -- What went out, and what came to be printed where a write or the flush failed.
 use Rattle.std.proofs.Common.{◌≡◌, ℕ, ◌+◌, ◌-◌, ◌≤◌, nat_le, Bool, true, false, List, ◌++◌, take, drop, length, Option, Result, Ok, Err}
-use Rattle.std.proofs.Common.{OnErr, refl, sym, ap, subst, ◌∙◌, arith, length-drop}
-use Rattle.std.proofs.lemmas.List.{take_all, take-append-le}
-use Rattle.std.proofs.lemmas.Bool.Decides.{nat_tests}
-use Rattle.std.proofs.Math.Seq.{take-add, take-append-add, take-append_seam}
+use Rattle.std.proofs.{Common.{OnErr, refl, sym, ap, subst, ◌∙◌, arith, length-drop}, lemmas.List.{take_all, take-append-le}}
+use Rattle.std.proofs.{lemmas.Bool.Decides.nat_tests, Math.Seq.{take-add, take-append-add, take-append_seam}, KnownBytes.Appends-trans}
+use Rattle.std.proofs.KnownBytes.{Appends-kept}
 use Rattle.std.specs.Io.KnownBytes.{Appends, Keeps}
-use Rattle.std.proofs.KnownBytes.{Appends-trans, Appends-kept}
 use Rattle.er_cli.specs.Texts.{AppendsPart}
 
 pub sent_more : (bytes : List ℕ) (sent n : ℕ) → take sent bytes ++ take n (take (length bytes - sent) (drop sent bytes)) ≡ take

@@ -1,18 +1,12 @@
 -- The turns of a script's lines.
 use Rattle.std.proofs.Common.{IsFalse, Option, Some, None, Result, Ok, Err, IfOk, is_ok, true≢false, refl, ap, subst, inl, inr}
 use Rattle.std.specs.Prelude.{⊤}
-use Rattle.er_event.specs.declared.refusals.Refusal.{Refusal}
-use Rattle.er_event.specs.declared.refusals.Refusal.TheVariants.{Memory}
-use Rattle.er_desk.specs.Desk.{Standing, Turn, Reads}
-use Rattle.er_desk.specs.Reply.{Reply}
+use Rattle.er_event.specs.{declared.refusals.Refusal.Refusal, declared.refusals.Refusal.TheVariants.Memory}
 use Rattle.er_event.specs.declared.commands.Command.{Command}
-use Rattle.er_words.specs.declared.action.Request.{Request}
-use Rattle.er_words.specs.declared.action.Request.TheVariants.{Submit, Players, Standings, Slips, Bracket, Export}
-use Rattle.er_cli.specs.declared.texts.Answer.{Answer}
-use Rattle.er_cli.specs.Answers.{DeskAnswers}
-use Rattle.er_words.specs.declared.action.Action.{Action}
-use Rattle.er_cli.specs.declared.texts.Answer.TheVariants.{Refused}
-use Rattle.er_cli.specs.Script.{LineAnswers}
+use Rattle.er_desk.specs.{Desk.{Standing, Turn, Reads}, Reply.Reply}
+use Rattle.er_words.specs.{declared.action.Request.Request, declared.action.Request.TheVariants.{Submit, Players, Standings, Slips}}
+use Rattle.er_words.specs.{declared.action.Request.TheVariants.{Bracket, Export}, declared.action.Action.Action}
+use Rattle.er_cli.specs.{declared.texts.Answer.Answer, Answers.DeskAnswers, declared.texts.Answer.TheVariants.Refused, Script.LineAnswers}
 
 -- memory may be wanting for any line, and then all stays as it is
 pub memory_answers : (old : Option Standing) (action : Option Action) → LineAnswers old action (Refused Memory) old

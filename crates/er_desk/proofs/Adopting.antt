@@ -1,23 +1,15 @@
 -- What an opening makes of the tables that it finds.
 use Rattle.std.proofs.Common.{Option, Some, None, IfSome, ◌≡◌, ℕ, is_ok, IsTrue, sym, ap, ap₂, subst, ◌∙◌}
 use Rattle.sqlite_trees.specs.declared.store.Store.{Ghosts}
-use Rattle.sqlite.specs.Tree.{Trees}
-use Rattle.sqlite.specs.Effect.{Database, IsDatabase}
-use Rattle.sqlite.specs.State.{State, Opens, IsLive, HasCleanDisk, IsUnchanged}
-use Rattle.sqlite.specs.Start.{FindsIn}
-use Rattle.sqlite.specs.Files.{HoldsDatabase}
+use Rattle.sqlite.specs.{Tree.Trees, Effect.{Database, IsDatabase}, State.{State, Opens, IsLive, HasCleanDisk, IsUnchanged}, Start.FindsIn}
+use Rattle.sqlite.specs.{Files.HoldsDatabase, Held.{Held, state}}
 use Rattle.sqlite_wal.specs.Recovery.{Image}
-use Rattle.sqlite.specs.Held.{Held, state}
-use Rattle.er_event.specs.Event.{EventValue}
-use Rattle.er_event.specs.declared.events.parts.Parts.{Parts}
-use Rattle.er_store.specs.Damage.{ReadsParts}
-use Rattle.er_store.specs.Reading.{KeepsTables}
-use Rattle.er_store.specs.Standing.{StandsFor, IsStored, Shows, Leaves, ReadsEvent}
-use Rattle.er_store.specs.Store as tables
+use Rattle.er_event.specs.{Event.EventValue, declared.events.parts.Parts.Parts}
+use Rattle.er_store.specs.{Damage.ReadsParts, Reading.KeepsTables, Standing.{StandsFor, IsStored, Shows, Leaves, ReadsEvent}}
 use Rattle.er_store.specs.declared.Store.{Store}
-use Rattle.er_desk.specs.Desk.{Point}
-use Rattle.er_desk.specs.Headline.{WasLeft}
+use Rattle.er_desk.specs.{Desk.Point, Headline.WasLeft}
 use Rattle.er_desk.proofs.Turns.{unchanged_keeps}
+use Rattle.er_store.specs.Store as tables
 
 pub point_is : (point : Point) (e : EventValue) (n : ℕ) → e ≡ point.event → n ≡ point.serial
     → ◌≡◌ {A = Point} (record { event = e; serial = n }) point

@@ -1,22 +1,13 @@
 -- A history is one fold.
-use Rattle.std.proofs.Common.{◌≡◌, ◌⊎◌, inl, inr, ℕ, ◌+◌, eqb, true, false, List, [], ◌∷◌, ◌++◌, length, take, drop, Option, Some, None, Ok}
-use Rattle.std.proofs.Common.{MatchOption, IfSome, refl, sym, ap, ap₂, subst, ◌∙◌, arith, length-append, append-nil}
+use Rattle.std.proofs.Common.{◌≡◌, ◌⊎◌, inl, inr, ℕ, ◌+◌, eqb, true, false, List, [], ◌∷◌, ◌++◌, length, take, drop, Option, Some, None}
+use Rattle.std.proofs.Common.{Ok, MatchOption, IfSome, refl, sym, ap, ap₂, subst, ◌∙◌, arith, length-append, append-nil}
+use Rattle.std.proofs.{lemmas.Bool.Decides.nat_tests, lemmas.List.{take-append-drop, take-take, drop-take, take_more}}
+use Rattle.std.proofs.{lemmas.List.Elements.All-nil, lemmas.Option.{none-some, slice_get_within, get_or_from_slice_get}}
 use Rattle.std.specs.List.{slice_get}
-use Rattle.std.proofs.lemmas.Bool.Decides.{nat_tests}
-use Rattle.std.proofs.lemmas.List.{take-append-drop, take-take, drop-take, take_more}
-use Rattle.std.proofs.lemmas.List.Elements.{All-nil}
-use Rattle.std.proofs.lemmas.Option.{none-some, slice_get_within, get_or_from_slice_get}
-use Rattle.er_event.specs.declared.commands.Command.{Command}
-use Rattle.er_event.specs.Event.{EventValue}
-use Rattle.er_event.specs.Change.{created}
-use Rattle.er_event.specs.Sound.{IsSetUp, IsInPlayoff}
-use Rattle.er_rules.specs.Sound.{IsSound}
-use Rattle.er_rules.specs.Step.{Steps}
-use Rattle.er_rules.specs.Fold.{Folds}
-use Rattle.er_desk.specs.Desk.{Point}
-use Rattle.er_desk.specs.Run.{Session, MayEnd, EndsAfterKept, EndsWithDoubt}
-use Rattle.er_desk.specs.History.{Ended, IsHistory, LeadsTo, found_of, accepted, accepted_surely, listed}
-use Rattle.er_desk.specs.Resuming.{SendsFrom, AllResume}
+use Rattle.er_event.specs.{declared.commands.Command.Command, Event.EventValue, Change.created, Sound.{IsSetUp, IsInPlayoff}}
+use Rattle.er_rules.specs.{Sound.IsSound, Step.Steps, Fold.Folds}
+use Rattle.er_desk.specs.{Desk.Point, Run.{Session, MayEnd, EndsAfterKept, EndsWithDoubt}, History.{Ended, IsHistory, LeadsTo, found_of}}
+use Rattle.er_desk.specs.{History.{accepted, accepted_surely, listed}, Resuming.{SendsFrom, AllResume}}
 use Rattle.er_desk.proofs.Folding.{Folds-append, Folds-one}
 
 pub leads_then : (first mid last : Point) (xs ys : List Command) → LeadsTo first xs mid → LeadsTo mid ys last

@@ -1,24 +1,17 @@
 -- A session goes on from where a history has ended.
-use Rattle.std.proofs.Common.{◌≡◌, List, [], ◌∷◌, ◌++◌, Bool, Result, Ok, Err, IfOk, IfErr, MatchResult, IsFalse}
-use Rattle.std.proofs.Common.{Vec, Global, inl, refl, sym, subst, ap₂, arith}
-use Rattle.sqlite_disk.specs.declared.Disk as disk
+use Rattle.std.proofs.Common.{◌≡◌, List, [], ◌∷◌, ◌++◌, Bool, Result, Ok, Err, IfOk, IfErr, MatchResult, IsFalse, Vec, Global, inl, refl}
+use Rattle.std.proofs.Common.{sym, subst, ap₂, arith}
 use Rattle.sqlite_trees.specs.declared.store.Store.{Ghosts}
-use Rattle.sqlite.specs.State.{HasCleanDisk}
-use Rattle.sqlite.specs.Files.{HoldsDatabase, file_state}
-use Rattle.sqlite.specs.Tree.{Trees}
+use Rattle.sqlite.specs.{State.HasCleanDisk, Files.{HoldsDatabase, file_state}, Tree.Trees}
 use Rattle.sqlite_wal.specs.Recovery.{Image}
 use Rattle.er_event.specs.declared.commands.Command.{Command}
 use Rattle.er_rules.specs.Sound.{IsSound}
 use Rattle.er_store.specs.Standing.{IsStored, Leaves}
-use Rattle.er_desk.specs.declared.desk.Desk.{Desk}
-use Rattle.er_desk.specs.declared.opening.OpenFault.{OpenFault}
-use Rattle.er_desk.specs.declared.opening.OpenFault.TheVariants.{Unopened, Refused}
-use Rattle.er_desk.specs.Reply.{Reply}
-use Rattle.er_desk.specs.Desk.{Point, Standing, ShowsOwn, point_of, state, standing, running_at}
-use Rattle.er_desk.specs.Opening.{OnRefused}
-use Rattle.er_desk.specs.Run.{Session, MayEnd, IsRun, IsStoredEnd, session_of, no_session}
-use Rattle.er_desk.specs.History.{Ended, IsHistory}
-use Rattle.er_desk.specs.Headline.{Histories, IsEndOf, FindsAgain, LeavesEnd, NextBegins, WasLeftBy, and_then}
+use Rattle.er_desk.specs.{declared.desk.Desk.Desk, declared.opening.OpenFault.OpenFault, declared.opening.OpenFault.TheVariants.Unopened}
+use Rattle.er_desk.specs.{declared.opening.OpenFault.TheVariants.Refused, Reply.Reply, Desk.{Point, Standing, ShowsOwn, point_of, state}}
+use Rattle.er_desk.specs.{Desk.{standing, running_at}, Opening.OnRefused, Run.{Session, MayEnd, IsRun, IsStoredEnd, session_of, no_session}}
+use Rattle.er_desk.specs.{History.{Ended, IsHistory}, Headline.{Histories, IsEndOf, FindsAgain, LeavesEnd, NextBegins, WasLeftBy, and_then}}
+use Rattle.sqlite_disk.specs.declared.Disk as disk
 
 history_more : (new first : Point) (ends : List Ended) (it : Ended) → IsHistory new ends first → MayEnd first it.session it.last
     → IsHistory new (ends ++ it ∷ []) it.last

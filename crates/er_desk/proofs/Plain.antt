@@ -1,19 +1,12 @@
 -- A run in plain words.
-use Rattle.std.proofs.Common.{◌≡◌, ◌⊎◌, inl, inr, ℕ, zero, suc, ◌+◌, ◌<◌, IsTrue, List, [], ◌∷◌, length, take, Some, Ok, Err, refl, sym, ap}
-use Rattle.std.proofs.Common.{subst, ◌∙◌, arith}
+use Rattle.std.proofs.Common.{◌≡◌, ◌⊎◌, inl, inr, ℕ, zero, suc, ◌+◌, ◌<◌, IsTrue, List, [], ◌∷◌, length, take, Some, Ok, Err, refl, sym}
+use Rattle.std.proofs.{Common.{ap, subst, ◌∙◌, arith}, lemmas.Option.{none-some, same_Some}}
 use Rattle.std.specs.List.{slice_get}
-use Rattle.std.proofs.lemmas.Option.{none-some, same_Some}
-use Rattle.er_event.specs.declared.commands.Command.{Command}
-use Rattle.er_event.specs.declared.refusals.Cause.{Cause}
-use Rattle.er_event.specs.declared.refusals.Refusal.{Refusal}
-use Rattle.er_event.specs.declared.refusals.Refusal.TheVariants.{Memory, Store, NeedsReopen}
-use Rattle.er_event.specs.Event.{EventValue}
+use Rattle.er_event.specs.{declared.commands.Command.Command, declared.refusals.Cause.Cause, declared.refusals.Refusal.Refusal}
+use Rattle.er_event.specs.{declared.refusals.Refusal.TheVariants.{Memory, Store, NeedsReopen}, Event.EventValue}
 use Rattle.er_rules.specs.Fold.{Folds}
-use Rattle.er_desk.specs.Reply.{Reply, receipt, IsDue, IsLawful}
-use Rattle.er_desk.specs.Desk.{Standing, Stops, Turn}
-use Rattle.er_desk.specs.Run.{Runs, acknowledged, FailsAt, IsRun}
-use Rattle.er_desk.proofs.Turns.{reply-low, turn_fault, waits_of, stops_of, stopped_of}
-use Rattle.er_desk.proofs.Running.{runs_lead}
+use Rattle.er_desk.specs.{Reply.{Reply, receipt, IsDue, IsLawful}, Desk.{Standing, Stops, Turn}, Run.{Runs, acknowledged, FailsAt, IsRun}}
+use Rattle.er_desk.proofs.{Turns.{reply-low, turn_fault, waits_of, stops_of, stopped_of}, Running.runs_lead}
 
 -- once stopped, it stays so
 runs_stopped : (old new : Standing) (cs : List Command) (rs : List Reply) → Runs old cs rs new → IsTrue old.stopped → IsTrue new.stopped

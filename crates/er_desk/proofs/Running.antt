@@ -2,22 +2,14 @@
 use Rattle.std.proofs.Common.{◌≡◌, ◌⊎◌, inl, inr, ℕ, ◌+◌, Bool, true, false, IsTrue, IsFalse, List, [], ◌∷◌, ◌++◌, length, Option, Some}
 use Rattle.std.proofs.Common.{None, Ok, Err, IfSome, MatchOption, refl, sym, ap, ap₂, subst, ◌∙◌, arith, true≢false}
 use Rattle.sqlite_trees.specs.declared.store.Store.{Ghosts}
-use Rattle.sqlite.specs.Tree.{Trees}
-use Rattle.sqlite.specs.State.{HasCleanDisk}
-use Rattle.er_event.specs.declared.commands.Command.{Command}
-use Rattle.er_event.specs.declared.commands.Receipt.{Receipt}
-use Rattle.er_event.specs.declared.refusals.Refusal.{Refusal}
-use Rattle.er_event.specs.declared.refusals.Refusal.TheVariants.{NeedsReopen}
-use Rattle.er_event.specs.Event.{EventValue}
+use Rattle.sqlite.specs.{Tree.Trees, State.HasCleanDisk}
+use Rattle.er_event.specs.{declared.commands.Command.Command, declared.commands.Receipt.Receipt, declared.refusals.Refusal.Refusal}
+use Rattle.er_event.specs.{declared.refusals.Refusal.TheVariants.NeedsReopen, Event.EventValue}
 use Rattle.er_rules.specs.Step.{Steps, Answers}
-use Rattle.er_store.specs.Fault.{IsFault}
-use Rattle.er_store.specs.Standing.{IsStored, Either, KeepsOthers}
-use Rattle.er_desk.specs.Reply.{Reply}
-use Rattle.er_desk.specs.Desk.{Point, Standing, Accepts, Stops, Turn, ShowsOwn, IsStoredAfter, point_of, state, standing}
-use Rattle.er_desk.specs.Headline.{LeavesJust, LeavesEither, LeavesEnd}
-use Rattle.er_desk.specs.declared.desk.Desk.{Desk}
-use Rattle.er_desk.specs.Run.{Runs, acknowledged, tried_or, last_tried, Session, session_of, EndsAfterKept, EndsWithDoubt, IsStoredEnd}
-use Rattle.er_desk.specs.History.{LeadsTo}
+use Rattle.er_store.specs.{Fault.IsFault, Standing.{IsStored, Either, KeepsOthers}}
+use Rattle.er_desk.specs.{Reply.Reply, Desk.{Point, Standing, Accepts, Stops, Turn, ShowsOwn, IsStoredAfter, point_of, state, standing}}
+use Rattle.er_desk.specs.{Headline.{LeavesJust, LeavesEither, LeavesEnd}, declared.desk.Desk.Desk, Run.{Runs, acknowledged, tried_or}}
+use Rattle.er_desk.specs.{Run.{last_tried, Session, session_of, EndsAfterKept, EndsWithDoubt, IsStoredEnd}, History.LeadsTo}
 use Rattle.er_desk.proofs.Turns.{waits_of, stops_of, keeps_then}
 
 -- ---- one turn

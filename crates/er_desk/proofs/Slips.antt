@@ -1,10 +1,8 @@
 -- What reading the tables leaves of the tables of others.
 use Rattle.std.proofs.Common.{◌≡◌, Bool, Result, Ok, Err, IfOk, IfErr, OnErr, MatchResult, IsTrue, IsFalse, sym, subst}
-use Rattle.sqlite.specs.Effect.{Database}
-use Rattle.sqlite.specs.State.{State, IsUnchanged}
+use Rattle.sqlite.specs.{Effect.Database, State.{State, IsUnchanged}}
 use Rattle.er_event.specs.declared.refusals.Refusal.{Refusal}
-use Rattle.er_store.specs.Reading.{KeepsTables}
-use Rattle.er_store.specs.Standing.{KeepsOthers}
+use Rattle.er_store.specs.{Reading.KeepsTables, Standing.KeepsOthers}
 use Rattle.er_desk.proofs.Turns.{keeps_self}
 
 keeps_same : (old new : Database) → new ≡ old → KeepsOthers old new

@@ -1,28 +1,17 @@
 -- What a command does to a desk.
 use Rattle.std.proofs.Common.{◌≡◌, ◌⊎◌, inl, inr, ℕ, ◌+◌, ◌<◌, eqb, Bool, cond, true, false, List, [], ◌∷◌, Result, Ok, Err, IfOk, IfErr}
 use Rattle.std.proofs.Common.{OnOk, IsErrAnd, IsTrue, IsFalse, refl, sym, ap, subst, ◌∙◌, arith, true≢false}
-use Rattle.std.specs.List.{AllByRecursion}
 use Rattle.std.proofs.lemmas.Bool.Decides.{nat_tests}
+use Rattle.std.specs.List.{AllByRecursion}
 use Rattle.sqlite_trees.specs.declared.store.Store.{Ghosts}
-use Rattle.sqlite.specs.Table.{Table}
-use Rattle.sqlite.specs.Effect.{Database}
-use Rattle.sqlite.specs.State.{State, IsUnchanged}
-use Rattle.er_event.specs.declared.refusals.Cause.{Cause}
-use Rattle.er_event.specs.declared.refusals.Cause.TheVariants.{Refused}
-use Rattle.er_event.specs.declared.commands.Command.{Command}
-use Rattle.er_event.specs.declared.commands.Receipt.{Receipt}
-use Rattle.er_event.specs.declared.refusals.Refusal.{Refusal}
-use Rattle.er_event.specs.declared.refusals.Refusal.TheVariants.{Memory, Budget, SerialFull, Store, NeedsReopen}
-use Rattle.er_event.specs.Event.{EventValue}
-use Rattle.er_rules.specs.Refusing.{IsOfRules}
-use Rattle.er_rules.specs.Step.{Answers, NeedsMoreSteps}
-use Rattle.er_store.specs.Fault.{IsFault}
-use Rattle.er_store.specs.Reading.{KeepsTables}
-use Rattle.er_store.specs.Standing.{IsOther, KeepsOthers}
-use Rattle.er_desk.specs.Reply.{Reply, reply_to, receipt, IsDue}
-use Rattle.er_desk.specs.Desk.{Standing, Turn, Stops, ShowsOwn, IsOwn, point_of, state, standing}
-use Rattle.er_desk.specs.Headline.{LeavesJust}
-use Rattle.er_desk.specs.declared.desk.Desk.{Desk}
+use Rattle.sqlite.specs.{Table.Table, Effect.Database, State.{State, IsUnchanged}}
+use Rattle.er_event.specs.{declared.refusals.Cause.Cause, declared.refusals.Cause.TheVariants.Refused, declared.commands.Command.Command}
+use Rattle.er_event.specs.{declared.commands.Receipt.Receipt, declared.refusals.Refusal.Refusal}
+use Rattle.er_event.specs.{declared.refusals.Refusal.TheVariants.{Memory, Budget, SerialFull, Store, NeedsReopen}, Event.EventValue}
+use Rattle.er_rules.specs.{Refusing.IsOfRules, Step.{Answers, NeedsMoreSteps}}
+use Rattle.er_store.specs.{Fault.IsFault, Reading.KeepsTables, Standing.{IsOther, KeepsOthers}}
+use Rattle.er_desk.specs.{Reply.{Reply, reply_to, receipt, IsDue}, Desk.{Standing, Turn, Stops, ShowsOwn, IsOwn, point_of, state, standing}}
+use Rattle.er_desk.specs.{Headline.LeavesJust, declared.desk.Desk.Desk}
 
 -- ---- replies
 

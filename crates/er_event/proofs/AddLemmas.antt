@@ -1,22 +1,12 @@
 -- An event with one more round is sound exactly where its checks hold.
-use Rattle.std.proofs.lemmas.Grind.{common_steps}
-use Rattle.std.proofs.Common.{◌≡◌, ◌≢◌, ℕ, suc, ◌+◌, ◌-◌, ◌<◌, ◌||◌, not, Bool, true, false, inl, inr, List, [], ◌∷◌, ◌++◌, length, take}
-use Rattle.std.proofs.Common.{flat_map, All, AllPairs, IsTrue, IsFalse, refl, sym, ap, subst, ◌∙◌, true≢false, arith, length-append}
-use Rattle.std.specs.List.{list_all, list_any, AllByRecursion}
-use Rattle.std.proofs.lemmas.Bool.Decides.{nat_tests}
-use Rattle.std.proofs.lemmas.List.Elements.{All-push, All-weaker, All-head, All-tail, All-from_recursion, recursion_from_All}
+use Rattle.er_event.proofs.Prelude.{common_steps, ◌≡◌, ◌≢◌, ℕ, suc, ◌+◌, ◌-◌, ◌<◌, ◌||◌, not, Bool, true, false, inl, inr, List, [], ◌∷◌}
+use Rattle.er_event.proofs.Prelude.{◌++◌, length, take, flat_map, All, AllPairs, IsTrue, IsFalse, refl, sym, ap, subst, ◌∙◌, true≢false}
+use Rattle.er_event.proofs.Prelude.{arith, length-append, list_all, list_any, AllByRecursion, nat_tests, All-push, All-weaker, All-head}
+use Rattle.er_event.proofs.Prelude.{All-tail, All-from_recursion, recursion_from_All, Phase, Enrolling, Swiss, Playoff, Finished, Match}
+use Rattle.er_event.proofs.Prelude.{Round, EventValue, is_counted, is_same_pairing, seats, matches_of, numbers, IsPlayoff, IsRound}
+use Rattle.er_event.proofs.Prelude.{AreRounds, IsSoundButForSeeds, MayFollow, with_round}
 use Rattle.std.proofs.lemmas.List.Folds.{list_any-append}
-use Rattle.er_event.specs.declared.events.Phase.{Phase}
-use Rattle.er_event.specs.declared.events.Phase.TheVariants.{Enrolling, Swiss, Playoff, Finished}
-use Rattle.er_event.specs.declared.matches.Match.{Match}
-use Rattle.er_event.specs.declared.rounds.Round.{Round}
-use Rattle.er_event.specs.Event.{EventValue}
-use Rattle.er_event.specs.Round.{is_counted, is_same_pairing, seats, matches_of}
-use Rattle.er_event.specs.Sound.{numbers, IsPlayoff, IsRound, AreRounds, IsSoundButForSeeds}
-use Rattle.er_event.specs.inside.Reading.{MayFollow}
-use Rattle.er_event.specs.Change.{with_round}
-use Rattle.er_event.proofs.Pairs.{Rec, from_rec, to_rec, rec_across, rec_append}
-use Rattle.er_event.proofs.RoundLemmas.{All-of, of-All}
+use Rattle.er_event.proofs.{Pairs.{Rec, from_rec, to_rec, rec_across, rec_append}, RoundLemmas.{All-of, of-All}}
 
 abbrev Differ : Match → Match → Type 0
 Differ m n = IsFalse (is_same_pairing m n)

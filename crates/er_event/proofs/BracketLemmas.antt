@@ -1,18 +1,9 @@
 -- When stages are a bracket.
-use Rattle.std.proofs.Common.{arith}
-use Rattle.std.proofs.lemmas.Grind.{common_steps}
-use Rattle.std.proofs.Common.{◌≡◌, ◌≢◌, ℕ, ◌/◌, ◌<◌, ◌&&◌, Bool, true, false, List, [], ◌∷◌, length, flat_map, All, AllPairs, Contains}
-use Rattle.std.proofs.Common.{Option, Some, None, IfSome, IsTrue, refl, sym, subst, ◌∙◌, true≢false}
-use Rattle.std.specs.List.{list_all, range_with_len, slice_get, AllByRecursion}
-use Rattle.std.proofs.lemmas.List.Elements.{All-from_recursion, recursion_from_All, All-weaker}
-use Rattle.std.proofs.lemmas.Option.{same_Some}
-use Rattle.er_event.specs.declared.matches.Match.{Match}
-use Rattle.er_event.specs.declared.scores.Games.{Games}
-use Rattle.er_event.specs.Score.{is_playoff_score}
-use Rattle.er_event.specs.Match.{is_known, is_lawful_slot_score}
-use Rattle.er_event.specs.Round.{seats}
-use Rattle.er_event.specs.Bracket.{FollowOn}
-use Rattle.er_event.specs.Sound.{IsBracket}
+use Rattle.er_event.proofs.Prelude.{arith, common_steps, ◌≡◌, ◌≢◌, ℕ, ◌/◌, ◌<◌, ◌&&◌, Bool, true, false, List, [], ◌∷◌, length, flat_map}
+use Rattle.er_event.proofs.Prelude.{All, AllPairs, Contains, Option, Some, None, IfSome, IsTrue, refl, sym, subst, ◌∙◌, true≢false}
+use Rattle.er_event.proofs.Prelude.{list_all, range_with_len, slice_get, AllByRecursion, All-from_recursion, recursion_from_All, All-weaker}
+use Rattle.er_event.proofs.Prelude.{same_Some, Match, Games, is_playoff_score, is_known, seats, FollowOn, IsBracket}
+use Rattle.er_event.specs.Match.{is_lawful_slot_score}
 use Rattle.er_event.proofs.RoundLemmas.{of-All, known_contains, contains_known}
 
 and-true : (a b : Bool) → (a && b) ≡ true → (a ≡ true) × (b ≡ true)

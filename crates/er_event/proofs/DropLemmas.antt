@@ -1,22 +1,12 @@
 -- A player who drops keeps number and name, so the event stays sound once it has started.
-use Rattle.std.proofs.lemmas.Grind.{common_steps}
-use Rattle.std.proofs.Common.{◌≡◌, ◌≢◌, ℕ, zero, suc, ◌+◌, ◌-◌, ◌==◌, ◌<◌, ◌≤◌, Bool, true, false, cond, not, ◌&&◌, ◌⊎◌, inl, inr, List, []}
-use Rattle.std.proofs.Common.{◌∷◌, length, map, get_or, IsFalse, All, Contains, Option, Some, None, IfSome, Bor}
-use Rattle.std.proofs.Common.{option_map, unwrap_or, find, drop, refl, sym, ap, ap₂, subst, ◌∙◌, true≢false, arith, not-suc-le-zero}
-use Rattle.std.specs.List.{range_with_len, list_all, slice_get}
+use Rattle.er_event.proofs.Prelude.{common_steps, ◌≡◌, ◌≢◌, ℕ, zero, suc, ◌+◌, ◌-◌, ◌==◌, ◌<◌, ◌≤◌, Bool, true, false, cond, not, ◌&&◌, ◌⊎◌}
+use Rattle.er_event.proofs.Prelude.{inl, inr, List, [], ◌∷◌, length, map, get_or, IsFalse, All, Contains, Option, Some, None, IfSome, Bor}
+use Rattle.er_event.proofs.Prelude.{option_map, unwrap_or, find, drop, refl, sym, ap, ap₂, subst, ◌∙◌, true≢false, arith, not-suc-le-zero}
+use Rattle.er_event.proofs.Prelude.{range_with_len, list_all, slice_get, set, length-map, nat_tests, All-head, All-tail, All-nil, none-some}
+use Rattle.er_event.proofs.Prelude.{slice_get_past, slice_get_read, length-range_with_len, get_or-range_with_len, Phase, Enrolling, Swiss}
+use Rattle.er_event.proofs.Prelude.{Playoff, Finished, Player, EventValue, numbers, names, ArePlayers, AreRounds, AreStages}
+use Rattle.er_event.proofs.Prelude.{IsSoundButForSeeds, SetDropped, dropped_at, with_dropped, with_phase, Fits}
 use Rattle.std.specs.Slice.{IsItemAt}
-use Rattle.std.proofs.Math.ListN.{set, length-map}
-use Rattle.std.proofs.lemmas.Bool.Decides.{nat_tests}
-use Rattle.std.proofs.lemmas.List.Elements.{All-head, All-tail, All-nil}
-use Rattle.std.proofs.lemmas.Option.{none-some, slice_get_past, slice_get_read}
-use Rattle.std.proofs.lemmas.List.FromFn.{length-range_with_len, get_or-range_with_len}
-use Rattle.er_event.specs.declared.events.Phase.{Phase}
-use Rattle.er_event.specs.declared.events.Phase.TheVariants.{Enrolling, Swiss, Playoff, Finished}
-use Rattle.er_event.specs.declared.players.Player.{Player}
-use Rattle.er_event.specs.Event.{EventValue}
-use Rattle.er_event.specs.Sound.{numbers, names, ArePlayers, AreRounds, AreStages, IsSoundButForSeeds}
-use Rattle.er_event.specs.declared.changes.Change.TheVariants.{SetDropped}
-use Rattle.er_event.specs.Change.{dropped_at, with_dropped, with_phase, Fits}
 
 no-kept : (b : Bool) (p : Player) → (cond b (record p { dropped = true }) p).no ≡ p.no
 no-kept true p = refl

@@ -1,29 +1,13 @@
 -- A stage that is read with a new score, and when it may be the last.
-use Rattle.std.proofs.lemmas.Grind.{common_steps}
-use Rattle.std.proofs.Common.{◌≡◌, ◌↔◌, ℕ, zero, suc, ◌-◌, ◌<◌, ◌≤◌, ◌==◌, ◌||◌, Bool, true, false, cond, List, [], ◌∷◌, ◌++◌, length, take}
-use Rattle.std.proofs.Common.{drop, get_or, All, Option, Some, None, IsTrue, is_some, option_map, Bor, refl, sym, ap}
-use Rattle.std.proofs.Common.{subst, ◌∙◌, true≢false, arith}
-use Rattle.std.specs.List.{slice_get, AllByRecursion}
-use Rattle.std.proofs.Math.ListN.{set}
-use Rattle.std.proofs.Math.Bool.{beq}
-use Rattle.std.proofs.lemmas.List.{set-append_left}
-use Rattle.std.proofs.lemmas.List.Elements.{All-from_recursion, recursion_from_All}
-use Rattle.std.proofs.lemmas.Option.{none-some, same_Some, get_or_from_slice_get, slice_get_read}
-use Rattle.std.proofs.lemmas.Bool.Decides.{nat_tests}
-use Rattle.er_event.specs.declared.scores.Games.{Games}
-use Rattle.er_event.specs.declared.matches.Match.{Match}
-use Rattle.er_event.specs.declared.events.Phase.{Phase}
-use Rattle.er_event.specs.declared.events.Phase.TheVariants.{Finished}
-use Rattle.er_event.proofs.PlayoffLemmas.{in_playoff}
-use Rattle.er_event.specs.Event.{EventValue}
-use Rattle.er_event.specs.Round.{is_counted}
-use Rattle.er_event.specs.Bracket.{FollowOn, is_over, slot_at, slot_in}
-use Rattle.er_event.specs.Sound.{IsSoundButForSeeds}
-use Rattle.er_event.specs.Change.{scored, scored_slot, stage_of, one_more, with_bracket_score, IsEnd}
-use Rattle.er_event.proofs.SlotLemmas.{Stands, winners-length}
-use Rattle.er_event.proofs.BracketLemmas.{Lawful}
-use Rattle.er_event.proofs.ScoreLemmas.{slots-refl, within-get}
-use Rattle.er_event.proofs.SlotScoreLemmas.{FoundSlot, found-slot, over, all-at, new_stage, new_stage-is}
+use Rattle.er_event.proofs.Prelude.{common_steps, ◌≡◌, ◌↔◌, ℕ, zero, suc, ◌-◌, ◌<◌, ◌≤◌, ◌==◌, ◌||◌, Bool, true, false, cond, List, [], ◌∷◌}
+use Rattle.er_event.proofs.Prelude.{◌++◌, length, take, drop, get_or, All, Option, Some, None, IsTrue, is_some, option_map, Bor, refl, sym}
+use Rattle.er_event.proofs.Prelude.{ap, subst, ◌∙◌, true≢false, arith, slice_get, AllByRecursion, set, All-from_recursion}
+use Rattle.er_event.proofs.Prelude.{recursion_from_All, none-some, same_Some, get_or_from_slice_get, slice_get_read, nat_tests, Games}
+use Rattle.er_event.proofs.Prelude.{Match, Phase, Finished, EventValue, is_counted, FollowOn, is_over, slot_at, slot_in, IsSoundButForSeeds}
+use Rattle.er_event.proofs.Prelude.{scored, scored_slot, stage_of, one_more, with_bracket_score, IsEnd}
+use Rattle.std.proofs.{Math.Bool.beq, lemmas.List.set-append_left}
+use Rattle.er_event.proofs.{PlayoffLemmas.in_playoff, SlotLemmas.{Stands, winners-length}, BracketLemmas.Lawful, ScoreLemmas.slots-refl}
+use Rattle.er_event.proofs.{ScoreLemmas.within-get, SlotScoreLemmas.{FoundSlot, found-slot, over, all-at, new_stage, new_stage-is}}
 
 -- ---- the copy of a stage, with open matches behind it
 

@@ -1,28 +1,12 @@
 -- Examples of the definitions, which compute, and the limits as the rules have them.
-use Rattle.std.specs.Prelude.{◌≡◌, ℕ, pos, Bool, true, false, List, [], ◌∷◌, ◌++◌, map, replicate, codes, Some, None, refl}
-use Rattle.std.specs.Str.{is_utf8, chars}
-use Rattle.er_event.specs.declared.events.TheConstants.{MAX_ROUNDS}
-use Rattle.er_event.specs.declared.events.fits.TheConstants.{MAX_SLOTS}
-use Rattle.er_event.specs.declared.names.TheConstants.{MAX_NAME_BYTES}
-use Rattle.er_event.specs.declared.players.TheConstants.{MAX_PLAYERS}
-use Rattle.er_event.specs.declared.commands.TheConstants.{MAX_SERIAL}
-use Rattle.er_event.specs.declared.rows.bracket.TheConstants.{MAX_STAGES}
-use Rattle.er_event.specs.declared.events.Phase.TheVariants.{Swiss}
-use Rattle.er_event.specs.declared.players.Player.{Player}
-use Rattle.er_event.specs.declared.matches.Match.{Match}
-use Rattle.er_event.specs.declared.rows.pairing.PairingRow.{PairingRow}
-use Rattle.er_event.specs.declared.rows.bracket.BracketRow.{BracketRow}
-use Rattle.er_event.specs.declared.scores.Games.{Games}
-use Rattle.er_event.specs.Bracket.{open_match}
-use Rattle.er_event.specs.Change.{with_player, with_dropped, with_score}
-use Rattle.er_event.specs.Event.{EventValue}
-use Rattle.er_event.specs.Lines.{Line}
-use Rattle.er_event.specs.Name.{is_lawful_name}
-use Rattle.er_event.specs.Round.{is_counted, match_at}
-use Rattle.er_event.specs.Rows.{event_row, player_rows, pairing_rows, keyed_pairing_rows, bracket_rows}
-use Rattle.er_event.specs.Score.{is_swiss_score, is_playoff_score}
-use Rattle.er_event.specs.Slip.{slip_of}
-use Rattle.er_event.specs.Totals.{totals_of}
+use Rattle.er_event.proofs.Prelude.{MAX_PLAYERS, MAX_SERIAL, Swiss, Player, Match, PairingRow, BracketRow, Games, open_match, with_player}
+use Rattle.er_event.proofs.Prelude.{with_dropped, with_score, EventValue, Line, is_lawful_name, is_counted, match_at, player_rows}
+use Rattle.er_event.proofs.Prelude.{keyed_pairing_rows, bracket_rows, is_swiss_score, is_playoff_score, totals_of}
+use Rattle.std.specs.{Prelude.{◌≡◌, ℕ, pos, Bool, true, false, List, [], ◌∷◌, ◌++◌, map, replicate, codes, Some, None, refl}, Str.is_utf8}
+use Rattle.std.specs.Str.{chars}
+use Rattle.er_event.specs.{declared.events.TheConstants.MAX_ROUNDS, declared.events.fits.TheConstants.MAX_SLOTS}
+use Rattle.er_event.specs.{declared.names.TheConstants.MAX_NAME_BYTES, declared.rows.bracket.TheConstants.MAX_STAGES, Rows.event_row}
+use Rattle.er_event.specs.{Rows.pairing_rows, Slip.slip_of}
 
 -- ---- each limit as the rules have it, so that the code's constant can't move from it
 

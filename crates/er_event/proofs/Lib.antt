@@ -1,3 +1,4 @@
+mod Prelude
 mod NameLemmas
 mod PlayerLemmas
 mod DropLemmas

@@ -1,14 +1,10 @@
 -- When bytes are a lawful name, by the tests of its parts.
-use Rattle.std.proofs.lemmas.Grind.{common_steps}
-use Rattle.std.proofs.Common.{◌≡◌, ℕ, ◌++◌, take, drop, replicate, ap, subst, ◌∙◌, ◌-◌, ◌==◌, ◌≤◌, ◌<◌, true, false, ◌||◌, List, length}
-use Rattle.std.proofs.Common.{slice_index_or, IsTrue, IsOk, Result, Ok, Err, MatchResult, refl, sym, true≢false, arith}
-use Rattle.std.specs.List.{list_all}
-use Rattle.std.specs.Str.{IsUtf8}
-use Rattle.std.proofs.lemmas.Str.{is_utf8-from_IsUtf8, IsUtf8-from_is_utf8}
-use Rattle.std.proofs.lemmas.Bool.Decides.{nat_tests}
-use Rattle.std.proofs.Math.Seq.{take-append_seam}
+use Rattle.er_event.proofs.Prelude.{common_steps, ◌≡◌, ℕ, ◌++◌, take, drop, ap, subst, ◌∙◌, ◌-◌, ◌==◌, ◌≤◌, ◌<◌, true, false, ◌||◌, List}
+use Rattle.er_event.proofs.Prelude.{length, IsTrue, Result, Ok, Err, MatchResult, refl, sym, true≢false, arith, list_all, IsUtf8, nat_tests}
+use Rattle.er_event.proofs.Prelude.{take-append_seam, is_lawful_name}
+use Rattle.std.proofs.{Common.{replicate, slice_index_or, IsOk}, lemmas.Str.{is_utf8-from_IsUtf8, IsUtf8-from_is_utf8}}
 use Rattle.std.proofs.lemmas.List.{drop-replicate}
-use Rattle.er_event.specs.Name.{is_plain_byte, is_lawful_name, padded}
+use Rattle.er_event.specs.Name.{is_plain_byte, padded}
 
 pub is_lawful_name-parts : (bs : List ℕ) → 0 < length bs → length bs ≤ 60 → IsUtf8 bs → list_all is_plain_byte bs ≡ true
     → (slice_index_or bs 0 0 == 32 || slice_index_or bs (length bs - 1) 0 == 32) ≡ false → IsTrue (is_lawful_name bs)

@@ -1,20 +1,10 @@
 -- What the matches of one player can come to at most.
-use Rattle.std.proofs.lemmas.Grind.{common_steps}
-use Rattle.std.proofs.Common.{◌≡◌, ◌≢◌, ◌⊎◌, inl, inr, ℕ, suc, ◌+◌, ◌≤◌, Bool, true, false, if◌then◌else◌, List, []}
-use Rattle.std.proofs.Common.{◌∷◌, ◌++◌, length, flat_map, All, IfSome, Option, Some, None, refl, sym, ap, subst, ◌∙◌}
-use Rattle.std.proofs.Common.{arith}
+use Rattle.er_event.proofs.Prelude.{common_steps, ◌≡◌, ◌≢◌, ◌⊎◌, inl, inr, ℕ, suc, ◌+◌, ◌≤◌, Bool, true, false, if◌then◌else◌, List, []}
+use Rattle.er_event.proofs.Prelude.{◌∷◌, ◌++◌, length, flat_map, All, IfSome, Option, Some, None, refl, sym, ap, subst, ◌∙◌, arith, Match}
+use Rattle.er_event.proofs.Prelude.{Round, Games, Totals, EventValue, Line, own, lines_of_score, lines_of_match, counted_lines, lines_from}
+use Rattle.er_event.proofs.Prelude.{is_counted, IsSeatedOnce, AreOver, IsRound, IsSoundButForSeeds, totals_of, totals, plus}
 use Rattle.std.proofs.lemmas.Bool.{cases_eq}
-use Rattle.er_event.specs.declared.matches.Match.{Match}
-use Rattle.er_event.specs.declared.rounds.Round.{Round}
-use Rattle.er_event.specs.declared.scores.Games.{Games}
-use Rattle.er_event.specs.declared.totals.Totals.{Totals}
-use Rattle.er_event.specs.Event.{EventValue}
-use Rattle.er_event.specs.Lines.{Line, own, lines_of_score, lines_of_match, counted_lines, lines_from}
-use Rattle.er_event.specs.Round.{is_counted}
-use Rattle.er_event.specs.inside.Seen.{IsSeatedOnce, AreFew, AreOver}
-use Rattle.er_event.specs.Sound.{IsRound, IsSoundButForSeeds}
-use Rattle.er_event.specs.Tallies.{AreReadable}
-use Rattle.er_event.specs.Totals.{totals_of, totals, plus}
+use Rattle.er_event.specs.{inside.Seen.AreFew, Tallies.AreReadable}
 use Rattle.er_event.proofs.TotalLemmas.{own-append, totals_of-append, absent, apart_at, one_match}
 
 -- no more than so many games of each kind

@@ -1,22 +1,13 @@
 -- Rows of pairings, and the matches that they show.
-use Rattle.std.proofs.lemmas.Grind.{common_steps}
-use Rattle.std.proofs.Common.{◌≡◌, ℕ, suc, ◌+◌, ◌-◌, ◌==◌, ◌<◌, ◌≤◌, ℤ, pos, Bool, true, false, ◌&&◌, List, [], ◌∷◌, ◌++◌, length, take}
-use Rattle.std.proofs.Common.{drop, map, filter, not, get_or, Option, Some, None, Result, Ok, Err, MatchResult, All, IsTrue, IsFalse, ◌⊎◌}
-use Rattle.std.proofs.Common.{inl, inr, refl, sym, ap, ap₂, subst, ◌∙◌, true≢false, arith, append_assoc, append-nil, length-append}
-use Rattle.std.proofs.Math.Seq.{drop-cons, take-append_seam}
-use Rattle.std.proofs.lemmas.List.{take_more, take_all, map-append, length-drop}
-use Rattle.std.proofs.lemmas.List.Elements.{All-head, All-tail, All-push, All-cons, All-nil, filter-append}
-use Rattle.std.proofs.lemmas.Option.{none-some}
-use Rattle.std.specs.Ordering.{int_eq}
-use Rattle.std.specs.List.{prefix_len}
-use Rattle.er_event.specs.declared.rounds.Round.{Round}
-use Rattle.std.proofs.lemmas.Bool.Decides.{Decides-int_eq, nat_tests}
-use Rattle.er_event.specs.declared.rows.pairing.PairingRow.{PairingRow}
-use Rattle.er_event.specs.declared.scores.Games.{Games}
-use Rattle.er_event.specs.declared.matches.Match.{Match}
-use Rattle.er_event.specs.Round.{is_bye, numbered_from}
-use Rattle.er_event.specs.Rows.{pairing_row, keyed_round_rows, keyed_rows_from}
-use Rattle.er_event.specs.Pairings.{FitsRow, AreTables, FitRows, table_rows, is_of}
+use Rattle.er_event.proofs.Prelude.{common_steps, ◌≡◌, ℕ, suc, ◌+◌, ◌-◌, ◌==◌, ◌<◌, ◌≤◌, ℤ, pos, Bool, true, false, ◌&&◌, List, [], ◌∷◌}
+use Rattle.er_event.proofs.Prelude.{◌++◌, length, take, drop, map, not, get_or, Option, Some, None, Result, Ok, Err, MatchResult, All}
+use Rattle.er_event.proofs.Prelude.{IsTrue, IsFalse, ◌⊎◌, inl, inr, refl, sym, ap, ap₂, subst, ◌∙◌, true≢false, arith, append_assoc}
+use Rattle.er_event.proofs.Prelude.{append-nil, length-append, drop-cons, take-append_seam, take_more, take_all, map-append, length-drop}
+use Rattle.er_event.proofs.Prelude.{All-head, All-tail, All-push, All-cons, All-nil, filter-append, none-some, int_eq, prefix_len, Round}
+use Rattle.er_event.proofs.Prelude.{Decides-int_eq, nat_tests, PairingRow, Games, Match, is_bye, numbered_from, pairing_row}
+use Rattle.er_event.proofs.Prelude.{keyed_round_rows, keyed_rows_from, FitsRow, AreTables, FitRows, table_rows}
+use Rattle.std.proofs.Common.{filter}
+use Rattle.er_event.specs.Pairings.{is_of}
 
 pub match_same : (a b : ℕ) (score : Option Games) (m : Match) → a ≡ m.a → b ≡ m.b → score ≡ m.score
     → (let made : Match = record { a = a; b = b; score = score } in made ≡ m)

@@ -1,8 +1,7 @@
 -- Lists in which each element and each later one are related, by recursion.
-use Rattle.std.proofs.Common.{suc, List, [], ◌∷◌, ◌++◌, AllPairs, arith, not-suc-le-zero}
-use Rattle.std.specs.List.{AllByRecursion}
-use Rattle.std.proofs.lemmas.List.Elements.{All-from_recursion, recursion_from_All, All-from_get_or}
-use Rattle.std.proofs.lemmas.List.Kept.{AllPairs-cons}
+use Rattle.er_event.proofs.Prelude.{suc, List, [], ◌∷◌, ◌++◌, AllPairs, arith, not-suc-le-zero, AllByRecursion, All-from_recursion}
+use Rattle.er_event.proofs.Prelude.{recursion_from_All}
+use Rattle.std.proofs.{lemmas.List.Elements.All-from_get_or, lemmas.List.Kept.AllPairs-cons}
 
 module _ {X : Type 0} where
   pub all_left : (P : X → Type 0) (xs ys : List X) → AllByRecursion P (xs ++ ys) → AllByRecursion P xs

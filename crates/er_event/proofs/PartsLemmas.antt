@@ -1,32 +1,14 @@
 -- Rows, and the event that they are of.
-use Rattle.std.proofs.lemmas.Grind.{common_steps}
-use Rattle.std.proofs.Common.{◌≡◌, ◌≢◌, ◌≤◌, ◌<◌, ◌+◌, ◌==◌, ℕ, ℤ, pos, true, false, suc, drop, List, [], ◌∷◌, ◌++◌, length, map}
-use Rattle.std.proofs.Common.{take, get_or, All, AllPairs, IsTrue, refl, sym, ap, subst, ◌∙◌, not-suc-le-zero, arith, length-take}
-use Rattle.std.specs.List.{range_with_len}
-use Rattle.std.specs.Str.{bytes_eq}
-use Rattle.std.proofs.Math.ListN.{get_or-map, length-map}
-use Rattle.std.proofs.lemmas.List.{map-append, take_more, get_or-take, get_or_default}
-use Rattle.std.proofs.lemmas.Bool.Decides.{nat_tests}
-use Rattle.std.proofs.lemmas.List.Elements.{All-map, All-get_or}
+use Rattle.er_event.proofs.Prelude.{common_steps, ◌≡◌, ◌≢◌, ◌≤◌, ◌<◌, ◌+◌, ◌==◌, ℕ, ℤ, pos, true, false, suc, drop, List, [], ◌∷◌, ◌++◌}
+use Rattle.er_event.proofs.Prelude.{length, map, take, get_or, All, AllPairs, IsTrue, refl, sym, ap, subst, ◌∙◌, not-suc-le-zero, arith}
+use Rattle.er_event.proofs.Prelude.{range_with_len, bytes_eq, length-map, map-append, take_more, get_or_default, nat_tests, All-get_or}
+use Rattle.er_event.proofs.Prelude.{all_pairs_push, get_or-range_with_len, bytes_eq-Decides, Player, PlayerRow, Phase, MAX_PLAYERS}
+use Rattle.er_event.proofs.Prelude.{EventRow, MAX_SERIAL, EventValue, is_lawful_name, phase_code, player_row, numbers, names, ArePlayers}
+use Rattle.er_event.proofs.Prelude.{has_name, IsEventRow, IsSetUpAs, Setup}
+use Rattle.std.proofs.{Common.length-take, Math.ListN.get_or-map, lemmas.List.get_or-take, lemmas.List.Elements.All-map}
 use Rattle.std.proofs.lemmas.List.Folds.{Any-from_list_any}
-use Rattle.std.proofs.lemmas.List.Quantifiers.{all_pairs_push}
-use Rattle.std.proofs.lemmas.List.FromFn.{get_or-range_with_len}
-use Rattle.std.proofs.lemmas.Slice.Eq.{bytes_eq-Decides}
-use Rattle.er_event.specs.declared.players.Player.{Player}
-use Rattle.er_event.specs.declared.rows.player.PlayerRow.{PlayerRow}
 use Rattle.er_event.proofs.PlayerLemmas.{range-push, has_name-none}
-use Rattle.er_event.specs.declared.events.Phase.{Phase}
-use Rattle.er_event.specs.declared.players.TheConstants.{MAX_PLAYERS}
-use Rattle.er_event.specs.declared.rows.event.EventRow.{EventRow}
-use Rattle.er_event.specs.declared.commands.TheConstants.{MAX_SERIAL}
-use Rattle.er_event.specs.Event.{EventValue}
-use Rattle.er_event.specs.Name.{is_lawful_name}
-use Rattle.er_event.specs.Rows.{phase_code, player_row}
-use Rattle.er_event.specs.Sound.{numbers, names, IsSetUp, ArePlayers}
-use Rattle.er_event.specs.Change.{has_name}
-use Rattle.er_event.specs.Parts.{IsEventRow}
-use Rattle.er_event.specs.inside.Reading.{IsSetUpAs, IsLawfulPlayer, Suits}
-use Rattle.er_event.specs.declared.rows.event.Setup.{Setup}
+use Rattle.er_event.specs.{Sound.IsSetUp, inside.Reading.{IsLawfulPlayer, Suits}}
 
 abbrev row_with : ℤ → ℤ → ℤ → List ℕ → ℤ → ℤ → ℤ → EventRow
 row_with id version serial name rounds cut phase =

@@ -1,22 +1,11 @@
 -- An event with one more player is sound exactly where there is room and the name is new.
-use Rattle.std.proofs.lemmas.Grind.{common_steps}
-use Rattle.std.proofs.Common.{◌≡◌, ◌≢◌, ℕ, ◌+◌, ◌<◌, Bool, true, false, List, [], ◌∷◌, ◌++◌, length, get_or, IsTrue, IsFalse, All, AllPairs}
-use Rattle.std.proofs.Common.{refl, sym, ap, ◌∙◌, subst, true≢false, zero, suc, ◌||◌, not, not-suc-le-zero, arith}
-use Rattle.std.proofs.Common.{length-append}
-use Rattle.std.specs.List.{range_with_len}
-use Rattle.std.specs.Str.{bytes_eq}
-use Rattle.std.proofs.lemmas.List.{map-append}
-use Rattle.std.proofs.lemmas.List.Elements.{All-push, All-weaker, Contains-append_left}
-use Rattle.std.proofs.lemmas.List.Quantifiers.{all_pairs_push}
-use Rattle.std.proofs.lemmas.Slice.Eq.{bytes_eq-Decides}
-use Rattle.er_event.specs.declared.events.Phase.{Phase}
-use Rattle.er_event.specs.declared.players.Player.{Player}
-use Rattle.er_event.specs.declared.matches.Match.{Match}
-use Rattle.er_event.specs.declared.rounds.Round.{Round}
-use Rattle.er_event.specs.Event.{EventValue}
-use Rattle.er_event.specs.Name.{is_lawful_name}
-use Rattle.er_event.specs.Sound.{numbers, names, IsRound, IsBracket, ArePlayers, AreRounds, AreStages, IsSoundButForSeeds}
-use Rattle.er_event.specs.Change.{has_name, new_player, with_player}
+use Rattle.er_event.proofs.Prelude.{common_steps, ◌≡◌, ◌≢◌, ℕ, ◌+◌, ◌<◌, Bool, true, false, List, [], ◌∷◌, ◌++◌, length, get_or, IsTrue}
+use Rattle.er_event.proofs.Prelude.{IsFalse, All, AllPairs, refl, sym, ap, ◌∙◌, subst, true≢false, zero, suc, ◌||◌, not, not-suc-le-zero}
+use Rattle.er_event.proofs.Prelude.{arith, length-append, range_with_len, bytes_eq, map-append, All-push, All-weaker, all_pairs_push}
+use Rattle.er_event.proofs.Prelude.{bytes_eq-Decides, Phase, Player, Match, Round, EventValue, is_lawful_name, numbers, names, IsRound}
+use Rattle.er_event.proofs.Prelude.{IsBracket, ArePlayers, AreRounds, AreStages, IsSoundButForSeeds, has_name, with_player}
+use Rattle.std.proofs.lemmas.List.Elements.{Contains-append_left}
+use Rattle.er_event.specs.Change.{new_player}
 
 -- more numbers are known
 IsRound-known : (known more : List ℕ) (matches : List Match) → IsRound known matches → IsRound (known ++ more) matches

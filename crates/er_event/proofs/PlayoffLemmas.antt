@@ -1,26 +1,12 @@
 -- An event whose playoff begins, or has one more score, is sound exactly where its checks hold.
-use Rattle.std.proofs.lemmas.Grind.{common_steps}
-use Rattle.std.proofs.Common.{◌≡◌, ◌⊎◌, inl, inr, ℕ, zero, suc, ◌<◌, ◌≤◌, ◌==◌, ◌&&◌, Bool, true, false, not, List, [], ◌∷◌, ◌++◌, length}
-use Rattle.std.proofs.Common.{drop, All, Option, Some, None, IsTrue, IfSome, is_some, refl, sym, ap, subst, ◌∙◌, true≢false, arith}
-use Rattle.std.specs.List.{slice_get, AllByRecursion}
-use Rattle.std.proofs.Math.ListN.{set}
-use Rattle.std.proofs.lemmas.List.Elements.{All-from_recursion, recursion_from_All, All-weaker}
-use Rattle.std.proofs.lemmas.Option.{none-some, same_Some}
-use Rattle.std.proofs.lemmas.Bool.Decides.{nat_tests}
-use Rattle.er_event.specs.declared.scores.Games.{Games}
-use Rattle.er_event.specs.declared.matches.Match.{Match}
-use Rattle.er_event.specs.declared.events.Phase.{Phase}
-use Rattle.er_event.specs.declared.events.Phase.TheVariants.{Enrolling, Swiss, Playoff, Finished}
-use Rattle.er_event.specs.declared.changes.Change.TheVariants.{AddBracket}
-use Rattle.er_event.specs.Event.{EventValue}
-use Rattle.er_event.specs.Score.{is_playoff_score}
-use Rattle.er_event.specs.Round.{is_counted}
-use Rattle.er_event.specs.Bracket.{next_stage, SameSlots, FollowOn, last_match, IsDecided}
-use Rattle.er_event.specs.Sound.{numbers, is_lawful_cut, IsBracket, IsPlayoff, AllRoundsDone, IsSoundButForSeeds}
-use Rattle.er_event.specs.Change.{with_bracket, Fits, IsOpening}
-use Rattle.er_event.proofs.ScoreLemmas.{slots-refl}
-use Rattle.er_event.proofs.SlotLemmas.{follow-split, over-counted, last-after}
-use Rattle.er_event.proofs.BracketLemmas.{Lawful}
+use Rattle.er_event.proofs.Prelude.{common_steps, ◌≡◌, ◌⊎◌, inl, inr, ℕ, zero, suc, ◌<◌, ◌≤◌, ◌==◌, ◌&&◌, Bool, true, false, not, List, []}
+use Rattle.er_event.proofs.Prelude.{◌∷◌, ◌++◌, length, drop, All, Option, Some, None, IsTrue, IfSome, is_some, refl, sym, ap, subst, ◌∙◌}
+use Rattle.er_event.proofs.Prelude.{true≢false, arith, slice_get, AllByRecursion, set, All-from_recursion, recursion_from_All, All-weaker}
+use Rattle.er_event.proofs.Prelude.{none-some, same_Some, nat_tests, Games, Match, Phase, Enrolling, Swiss, Playoff, Finished, AddBracket}
+use Rattle.er_event.proofs.Prelude.{EventValue, is_playoff_score, is_counted, next_stage, SameSlots, FollowOn, last_match, IsDecided}
+use Rattle.er_event.proofs.Prelude.{numbers, is_lawful_cut, IsBracket, IsPlayoff, IsSoundButForSeeds, Fits}
+use Rattle.er_event.specs.{Sound.AllRoundsDone, Change.{with_bracket, IsOpening}}
+use Rattle.er_event.proofs.{ScoreLemmas.slots-refl, SlotLemmas.{follow-split, over-counted, last-after}, BracketLemmas.Lawful}
 
 -- ---- stages of which one has new scores, with more behind
 

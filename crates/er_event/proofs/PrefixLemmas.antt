@@ -1,19 +1,11 @@
 -- The first rounds of an event's are an event's too.
-use Rattle.std.proofs.lemmas.Grind.{common_steps}
-use Rattle.std.proofs.Common.{◌≡◌, ℕ, zero, suc, ◌+◌, ◌-◌, ◌<◌, ◌≤◌, inl, inr, List, [], ◌∷◌, ◌++◌, length, take, drop, get_or, All, IsTrue}
-use Rattle.std.proofs.Common.{IsFalse, refl, sym, ap, subst, ◌∙◌, arith}
-use Rattle.std.proofs.lemmas.List.{take-append-drop, take_more, length-take}
-use Rattle.std.proofs.lemmas.List.Elements.{All-take}
-use Rattle.std.proofs.lemmas.List.Concat.{flat_map-append}
-use Rattle.er_event.specs.declared.events.Phase.{Phase}
-use Rattle.er_event.specs.declared.events.Phase.TheVariants.{Enrolling, Swiss, Playoff, Finished}
-use Rattle.er_event.specs.declared.matches.Match.{Match}
-use Rattle.er_event.specs.declared.rounds.Round.{Round}
-use Rattle.er_event.specs.Round.{is_counted, is_same_pairing, matches_of}
-use Rattle.er_event.specs.Sound.{IsPlayoff, AreDone, IsRound, AreRounds}
-use Rattle.er_event.specs.inside.Reading.{MayFollow}
-use Rattle.er_event.proofs.AddLemmas.{one_more, may_follow}
-use Rattle.er_event.proofs.Pairs.{Rec, from_rec, to_rec, rec_left}
+use Rattle.er_event.proofs.Prelude.{common_steps, ◌≡◌, ℕ, zero, suc, ◌+◌, ◌-◌, ◌<◌, ◌≤◌, inl, inr, List, [], ◌∷◌, ◌++◌, length, take, drop}
+use Rattle.er_event.proofs.Prelude.{get_or, All, IsTrue, IsFalse, refl, sym, ap, subst, ◌∙◌, arith, take-append-drop, take_more}
+use Rattle.er_event.proofs.Prelude.{flat_map-append, Phase, Enrolling, Swiss, Playoff, Finished, Match, Round, is_counted, is_same_pairing}
+use Rattle.er_event.proofs.Prelude.{matches_of, IsPlayoff, IsRound, AreRounds, MayFollow}
+use Rattle.std.proofs.{lemmas.List.length-take, lemmas.List.Elements.All-take}
+use Rattle.er_event.specs.Sound.{AreDone}
+use Rattle.er_event.proofs.{AddLemmas.{one_more, may_follow}, Pairs.{Rec, from_rec, to_rec, rec_left}}
 
 abbrev Differ : Match → Match → Type 0
 Differ m n = IsFalse (is_same_pairing m n)

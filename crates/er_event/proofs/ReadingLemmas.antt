@@ -1,24 +1,10 @@
 -- The events of rows, while the rows are read.
-use Rattle.std.proofs.Common.{arith}
-use Rattle.std.proofs.lemmas.Grind.{common_steps}
-use Rattle.std.proofs.Common.{◌≡◌, ℕ, List, [], map, length, refl, sym, ap, subst, ◌∙◌}
-use Rattle.std.specs.List.{range_with_len}
-use Rattle.er_event.specs.declared.events.Phase.{Phase}
-use Rattle.er_event.specs.declared.events.parts.Parts.{Parts}
-use Rattle.er_event.specs.declared.matches.Match.{Match}
-use Rattle.er_event.specs.declared.players.Player.{Player}
-use Rattle.er_event.specs.declared.refusals.Place.TheVariants.{PlayerTable, PairingTable, BracketTable}
-use Rattle.er_event.specs.declared.rounds.Round.{Round}
-use Rattle.er_event.specs.declared.rows.bracket.BracketRow.{BracketRow}
-use Rattle.er_event.specs.declared.rows.event.EventRow.{EventRow}
-use Rattle.er_event.specs.declared.rows.event.Setup.{Setup}
-use Rattle.er_event.specs.declared.rows.pairing.PairingRow.{PairingRow}
-use Rattle.er_event.specs.declared.rows.player.PlayerRow.{PlayerRow}
-use Rattle.er_event.specs.Event.{EventValue}
-use Rattle.er_event.specs.Parts.{IsEventRow, HasPlayerRows, HasRoundRows, HasAllRows, IsFirstFault, IsOf}
-use Rattle.er_event.specs.Rows.{player_row, player_rows, keyed_rows_from, keyed_pairing_rows, bracket_rows_from, bracket_rows}
-use Rattle.er_event.specs.Sound.{numbers, ArePlayers, AreRounds, AreStages, IsSoundButForSeeds}
-use Rattle.er_event.specs.inside.Reading.{IsSetUpAs}
+use Rattle.er_event.proofs.Prelude.{arith, common_steps, ◌≡◌, ℕ, List, [], map, length, refl, sym, ap, subst, ◌∙◌, range_with_len, Phase}
+use Rattle.er_event.proofs.Prelude.{Match, Player, Round, BracketRow, EventRow, Setup, PairingRow, PlayerRow, EventValue, IsEventRow}
+use Rattle.er_event.proofs.Prelude.{IsFirstFault, player_row, player_rows, keyed_rows_from, keyed_pairing_rows, bracket_rows_from}
+use Rattle.er_event.proofs.Prelude.{bracket_rows, numbers, ArePlayers, AreRounds, AreStages, IsSoundButForSeeds, IsSetUpAs}
+use Rattle.er_event.specs.{declared.events.parts.Parts.Parts, declared.refusals.Place.TheVariants.{PlayerTable, PairingTable, BracketTable}}
+use Rattle.er_event.specs.Parts.{HasPlayerRows, HasRoundRows, HasAllRows, IsOf}
 use Rattle.er_event.proofs.PartsLemmas.{players-same, row_name, row_rounds, row_cut, row_phase}
 
 abbrev parts_with : List EventRow → List PlayerRow → List PairingRow → List BracketRow → Parts

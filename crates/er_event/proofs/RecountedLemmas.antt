@@ -1,26 +1,14 @@
 -- Whoever sits at none of the matches that count anew keeps the totals.
-use Rattle.std.proofs.lemmas.Grind.{common_steps}
-use Rattle.std.proofs.Common.{◌≡◌, ◌≢◌, ℕ, zero, suc, ◌+◌, ◌-◌, ◌<◌, ◌&&◌, Bool, true, false, if◌then◌else◌, List, [], ◌∷◌, ◌++◌, length}
-use Rattle.std.proofs.Common.{get_or, flat_map, Contains, IsFalse, refl, sym, ap, ap₂, subst, ◌∙◌, arith}
-use Rattle.std.proofs.Math.ListN.{set}
-use Rattle.std.proofs.Math.Seq.{get_or-append_seam}
-use Rattle.std.proofs.lemmas.List.{get_or_default, length-append}
-use Rattle.std.proofs.lemmas.List.Elements.{All-nil, All-cons}
-use Rattle.er_event.specs.declared.changes.Change.TheVariants.{AddRound, SetScore}
-use Rattle.er_event.specs.declared.matches.Match.{Match}
-use Rattle.er_event.specs.declared.rounds.Round.{Round}
-use Rattle.er_event.specs.declared.scores.Games.{Games}
-use Rattle.er_event.specs.Bracket.{open_match}
-use Rattle.er_event.specs.Change.{scored, scored_slot, with_round, with_score, Fits}
-use Rattle.er_event.specs.Event.{EventValue}
-use Rattle.er_event.specs.Lines.{Line, own, lines_of_match, counted_lines, lines_from}
-use Rattle.er_event.specs.Recounted.{recounted_in, recounted, IsAbsent, AreOf}
-use Rattle.er_event.specs.Round.{is_bye, is_counted}
-use Rattle.er_event.specs.Sound.{numbers, IsRound, IsSoundButForSeeds}
-use Rattle.er_event.specs.Totals.{totals_of, totals}
-use Rattle.er_event.proofs.PairingLemmas.{and_true}
-use Rattle.er_event.proofs.RescoredLemmas.{as-scored, table-within, round-within}
-use Rattle.er_event.proofs.TotalLemmas.{own-append, absent, lines_from-push}
+use Rattle.er_event.proofs.Prelude.{common_steps, ◌≡◌, ◌≢◌, ℕ, zero, suc, ◌+◌, ◌-◌, ◌<◌, ◌&&◌, Bool, true, false, if◌then◌else◌, List, []}
+use Rattle.er_event.proofs.Prelude.{◌∷◌, ◌++◌, length, get_or, flat_map, Contains, IsFalse, refl, sym, ap, ap₂, subst, ◌∙◌, arith, set}
+use Rattle.er_event.proofs.Prelude.{get_or_default, All-nil, All-cons, AddRound, SetScore, Match, Round, Games, open_match, scored}
+use Rattle.er_event.proofs.Prelude.{scored_slot, with_round, with_score, Fits, EventValue, Line, own, lines_of_match, counted_lines}
+use Rattle.er_event.proofs.Prelude.{lines_from, recounted_in, recounted, IsAbsent, is_bye, is_counted, numbers, IsRound, IsSoundButForSeeds}
+use Rattle.er_event.proofs.Prelude.{totals_of, totals}
+use Rattle.std.proofs.{Math.Seq.get_or-append_seam, lemmas.List.length-append}
+use Rattle.er_event.specs.Recounted.{AreOf}
+use Rattle.er_event.proofs.{PairingLemmas.and_true, RescoredLemmas.{as-scored, table-within, round-within}, TotalLemmas.own-append}
+use Rattle.er_event.proofs.TotalLemmas.{absent, lines_from-push}
 
 -- no line of one who is absent
 absent_lines : (player round : ℕ) (ms : List Match) → IsAbsent player ms → own player (flat_map (lines_of_match round) ms) ≡ []

@@ -1,20 +1,9 @@
 -- The rounds of an event in which a match gets a score are those of the event after it.
-use Rattle.std.proofs.lemmas.Grind.{common_steps}
-use Rattle.std.proofs.Common.{◌≡◌, ℕ, ◌-◌, ◌<◌, ◌≤◌, List, [], length, map, get_or, All, Option, Some, sym, ap, subst, ◌∙◌, arith}
-use Rattle.std.proofs.Math.ListN.{set}
-use Rattle.std.specs.List.{slice_get}
-use Rattle.std.proofs.lemmas.Option.{get_or_from_slice_get}
-use Rattle.er_event.specs.declared.scores.Games.{Games}
-use Rattle.er_event.specs.declared.matches.Match.{Match}
-use Rattle.er_event.specs.declared.rounds.Round.{Round}
-use Rattle.er_event.specs.declared.changes.Change.TheVariants.{SetScore}
-use Rattle.er_event.specs.Event.{EventValue}
-use Rattle.er_event.specs.Round.{numbered_from}
-use Rattle.er_event.specs.Bracket.{open_match}
-use Rattle.er_event.specs.Change.{scored, score_table, scored_slot, with_score, Fits}
-use Rattle.er_event.specs.inside.Seen.{IsSeatedOnce, HasTable, rescored}
-use Rattle.er_event.proofs.ScoreLemmas.{Found, found, within-get}
-use Rattle.er_event.proofs.TableLemmas.{at-place, score-place}
+use Rattle.er_event.proofs.Prelude.{common_steps, ◌≡◌, ℕ, ◌-◌, ◌<◌, ◌≤◌, List, [], length, map, get_or, All, Option, Some, sym, ap, subst}
+use Rattle.er_event.proofs.Prelude.{◌∙◌, arith, set, slice_get, get_or_from_slice_get, Games, Match, Round, SetScore, EventValue}
+use Rattle.er_event.proofs.Prelude.{numbered_from, open_match, scored, score_table, scored_slot, with_score, Fits, IsSeatedOnce, rescored}
+use Rattle.er_event.specs.inside.Seen.{HasTable}
+use Rattle.er_event.proofs.{ScoreLemmas.{Found, found, within-get}, TableLemmas.{at-place, score-place}}
 
 some-injective : {X : Type 0} (d x y : X) → ◌≡◌ {A = Option X} (Some x) (Some y) → x ≡ y
 some-injective {X} d x y is = grind (arith, common_steps)

@@ -1,18 +1,11 @@
 -- When matches are a round.
-use Rattle.std.proofs.lemmas.Grind.{common_steps}
-use Rattle.std.proofs.Common.{◌≡◌, ◌≢◌, ℕ, ◌-◌, ◌==◌, ◌≤◌, ◌&&◌, ◌||◌, nat_le, not, Bool, true, false, List, [], ◌∷◌, length, take}
-use Rattle.std.proofs.Common.{flat_map, All, AllPairs, Contains, Option, Some, None, IfSome, IsTrue, IsFalse, refl, sym, ap, subst}
-use Rattle.std.proofs.Common.{true≢false, arith}
-use Rattle.std.specs.List.{list_all, range_with_len}
-use Rattle.std.proofs.lemmas.Bool.Decides.{nat_tests}
-use Rattle.std.proofs.lemmas.List.Elements.{All-nil, All-head, All-tail, All-weaker}
-use Rattle.std.proofs.lemmas.List.FromFn.{length-range_with_len, get_or-range_with_len}
-use Rattle.er_event.specs.declared.scores.Games.{Games}
-use Rattle.er_event.specs.declared.matches.Match.{Match}
-use Rattle.er_event.specs.Score.{is_swiss_score, bye_score}
-use Rattle.er_event.specs.Round.{is_bye, seats}
-use Rattle.er_event.specs.Match.{is_known, is_bye_score, is_lawful_score, is_lawful_match}
-use Rattle.er_event.specs.Sound.{IsRound}
+use Rattle.er_event.proofs.Prelude.{common_steps, ◌≡◌, ◌≢◌, ℕ, ◌-◌, ◌==◌, ◌≤◌, ◌&&◌, ◌||◌, not, Bool, true, false, List, [], ◌∷◌, length}
+use Rattle.er_event.proofs.Prelude.{take, flat_map, All, AllPairs, Contains, Option, Some, None, IfSome, IsTrue, IsFalse, refl, sym, ap}
+use Rattle.er_event.proofs.Prelude.{subst, true≢false, arith, list_all, range_with_len, nat_tests, All-nil, All-head, All-tail, All-weaker}
+use Rattle.er_event.proofs.Prelude.{length-range_with_len, get_or-range_with_len, Games, Match, is_swiss_score, bye_score, is_bye, seats}
+use Rattle.er_event.proofs.Prelude.{is_known, IsRound}
+use Rattle.std.proofs.Common.{nat_le}
+use Rattle.er_event.specs.Match.{is_bye_score, is_lawful_score, is_lawful_match}
 
 pub All-of : {X : Type 0} (p : X → Bool) (xs : List X) → list_all p xs ≡ true → All (λ x. IsTrue (p x)) xs
 All-of p [] e = All-nil (λ x. IsTrue (p x))

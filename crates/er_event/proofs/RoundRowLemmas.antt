@@ -1,15 +1,8 @@
 -- The rows of rounds in turn.
-use Rattle.std.proofs.lemmas.Grind.{common_steps}
-use Rattle.std.proofs.Common.{◌≡◌, ℕ, suc, ◌+◌, ◌-◌, ◌<◌, ◌≤◌, List, [], ◌∷◌, ◌++◌, length, take, drop, All, refl, sym, ap, ap₂, subst, ◌∙◌}
-use Rattle.std.proofs.Common.{arith, append_assoc, append-nil, length-append}
-use Rattle.std.proofs.Math.Seq.{take-add, drop-append_seam, drop-drop}
-use Rattle.std.proofs.lemmas.List.{take_all, length-drop}
-use Rattle.std.proofs.lemmas.List.Elements.{All-head, All-tail}
-use Rattle.er_event.specs.declared.matches.Match.{Match}
-use Rattle.er_event.specs.declared.rounds.Round.{Round}
-use Rattle.er_event.specs.declared.rows.pairing.PairingRow.{PairingRow}
-use Rattle.er_event.specs.Rows.{keyed_round_rows, keyed_rows_from}
-use Rattle.er_event.specs.Pairings.{FitRows}
+use Rattle.er_event.proofs.Prelude.{common_steps, ◌≡◌, ℕ, suc, ◌+◌, ◌-◌, ◌<◌, ◌≤◌, List, [], ◌∷◌, ◌++◌, length, take, drop, All, refl, sym}
+use Rattle.er_event.proofs.Prelude.{ap, ap₂, subst, ◌∙◌, arith, append_assoc, append-nil, length-append, take-add, drop-append_seam}
+use Rattle.er_event.proofs.Prelude.{drop-drop, take_all, length-drop, All-head, All-tail, Match, Round, PairingRow, keyed_round_rows}
+use Rattle.er_event.proofs.Prelude.{keyed_rows_from, FitRows}
 use Rattle.er_event.proofs.PairingLemmas.{keyed_cons}
 
 abbrev pub Shown : Round → Type 0

@@ -1,27 +1,12 @@
 -- An event with one score set anew is sound exactly where the score is lawful.
-use Rattle.std.proofs.lemmas.Grind.{common_steps}
-use Rattle.std.proofs.Common.{◌≡◌, ◌≢◌, ℕ, zero, suc, ◌-◌, ◌==◌, ◌<◌, ◌≤◌, true, false, List, [], ◌∷◌, ◌++◌, length, take, map}
-use Rattle.std.proofs.Common.{flat_map, get_or, All, AllPairs, Contains, IsTrue, IsFalse, Option, Some, None, IfSome, Bor, option_map}
-use Rattle.std.proofs.Common.{refl, sym, ap, ap₂, subst, ◌∙◌, true≢false, arith}
-use Rattle.std.specs.List.{slice_get, AllByRecursion}
-use Rattle.std.proofs.Math.ListN.{set}
-use Rattle.std.proofs.lemmas.List.{length-set}
-use Rattle.std.proofs.lemmas.List.Elements.{All-from_recursion, recursion_from_All}
-use Rattle.std.proofs.lemmas.Option.{none-some, get_or_from_slice_get, slice_get_read}
-use Rattle.std.proofs.lemmas.Bool.Decides.{nat_tests}
-use Rattle.er_event.specs.declared.scores.Games.{Games}
-use Rattle.er_event.specs.declared.matches.Match.{Match}
-use Rattle.er_event.specs.declared.rounds.Round.{Round}
-use Rattle.er_event.specs.Event.{EventValue}
-use Rattle.er_event.specs.Score.{is_swiss_score, bye_score}
-use Rattle.er_event.specs.Round.{is_bye, is_counted, is_same_pairing, seats, matches_of, numbered_from, match_in, match_at}
-use Rattle.er_event.specs.Bracket.{SameSlots}
-use Rattle.er_event.specs.Sound.{numbers, IsRound, AreRounds, IsSoundButForSeeds}
-use Rattle.er_event.specs.declared.changes.Change.TheVariants.{SetScore}
-use Rattle.er_event.specs.Change.{scored, score_table, with_score, Fits}
-use Rattle.er_event.proofs.Pairs.{Rec, from_rec, to_rec}
-use Rattle.er_event.proofs.RoundLemmas.{All-of, of-All}
-use Rattle.er_event.proofs.TableLemmas.{at-place, score-place}
+use Rattle.er_event.proofs.Prelude.{common_steps, ◌≡◌, ◌≢◌, ℕ, zero, suc, ◌-◌, ◌==◌, ◌<◌, ◌≤◌, true, false, List, [], ◌∷◌, ◌++◌, length}
+use Rattle.er_event.proofs.Prelude.{take, map, flat_map, get_or, All, AllPairs, Contains, IsTrue, IsFalse, Option, Some, None, IfSome, Bor}
+use Rattle.er_event.proofs.Prelude.{option_map, refl, sym, ap, ap₂, subst, ◌∙◌, true≢false, arith, slice_get, AllByRecursion, set}
+use Rattle.er_event.proofs.Prelude.{length-set, All-from_recursion, recursion_from_All, none-some, get_or_from_slice_get, slice_get_read}
+use Rattle.er_event.proofs.Prelude.{nat_tests, Games, Match, Round, EventValue, is_swiss_score, bye_score, is_bye, is_counted}
+use Rattle.er_event.proofs.Prelude.{is_same_pairing, seats, matches_of, numbered_from, match_in, match_at, SameSlots, numbers, IsRound}
+use Rattle.er_event.proofs.Prelude.{AreRounds, IsSoundButForSeeds, SetScore, scored, score_table, with_score, Fits}
+use Rattle.er_event.proofs.{Pairs.{Rec, from_rec, to_rec}, RoundLemmas.{All-of, of-All}, TableLemmas.{at-place, score-place}}
 
 -- ---- one element set anew
 

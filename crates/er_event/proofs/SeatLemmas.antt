@@ -1,13 +1,7 @@
 -- Who sits where in a round.
-use Rattle.std.proofs.lemmas.Grind.{common_steps}
-use Rattle.std.proofs.Common.{◌≡◌, ◌≢◌, ℕ, ◌+◌, ◌<◌, Bool, true, false, ◌||◌, List, [], ◌∷◌, ◌++◌, length, get_or, take, drop, AllPairs}
-use Rattle.std.proofs.Common.{flat_map, refl, sym, ap, subst, ◌∙◌, true≢false, arith}
-use Rattle.std.specs.List.{list_any}
-use Rattle.std.proofs.lemmas.List.{take-append-drop}
-use Rattle.std.proofs.lemmas.List.Concat.{flat_map-append}
-use Rattle.std.proofs.lemmas.Bool.Decides.{nat_tests}
-use Rattle.er_event.specs.declared.matches.Match.{Match}
-use Rattle.er_event.specs.Round.{seats}
+use Rattle.er_event.proofs.Prelude.{common_steps, ◌≡◌, ◌≢◌, ℕ, ◌+◌, ◌<◌, Bool, true, false, ◌||◌, List, [], ◌∷◌, ◌++◌, length, get_or, take}
+use Rattle.er_event.proofs.Prelude.{drop, AllPairs, flat_map, refl, sym, ap, subst, ◌∙◌, true≢false, arith, list_any, take-append-drop}
+use Rattle.er_event.proofs.Prelude.{flat_map-append, nat_tests, Match, seats}
 use Rattle.er_event.specs.Match.{shares_seat}
 use Rattle.er_event.proofs.Pairs.{Rec, from_rec, to_rec, rec_left, all_append, all_right}
 

@@ -1,17 +1,8 @@
 -- The rounds of a sound event can be shown by rows.
-use Rattle.std.proofs.lemmas.Grind.{common_steps}
-use Rattle.std.proofs.Common.{◌≡◌, ℕ, ◌<◌, ◌≤◌, Bool, true, false, List, [], ◌∷◌, All, Contains, IsTrue, IsFalse, IfSome, refl, arith}
-use Rattle.std.specs.List.{range_with_len}
-use Rattle.std.proofs.lemmas.Bool.Decides.{nat_tests}
-use Rattle.std.proofs.lemmas.List.FromFn.{length-range_with_len, get_or-range_with_len}
-use Rattle.std.proofs.lemmas.List.Elements.{All-head, All-tail, All-cons, All-nil, All-weaker}
-use Rattle.er_event.specs.declared.events.Phase.{Phase}
-use Rattle.er_event.specs.declared.matches.Match.{Match}
-use Rattle.er_event.specs.declared.rounds.Round.{Round}
-use Rattle.er_event.specs.Score.{is_swiss_score}
-use Rattle.er_event.specs.Round.{is_bye}
-use Rattle.er_event.specs.Sound.{IsRound, AreRounds}
-use Rattle.er_event.specs.Pairings.{FitsRow, FitRows}
+use Rattle.er_event.proofs.Prelude.{common_steps, ◌≡◌, ℕ, ◌<◌, ◌≤◌, Bool, true, false, List, [], ◌∷◌, All, Contains, IsTrue, IsFalse}
+use Rattle.er_event.proofs.Prelude.{IfSome, refl, arith, range_with_len, nat_tests, length-range_with_len, get_or-range_with_len, All-head}
+use Rattle.er_event.proofs.Prelude.{All-tail, All-cons, All-nil, All-weaker, Phase, Match, Round, is_swiss_score, is_bye, IsRound}
+use Rattle.er_event.proofs.Prelude.{AreRounds, FitsRow, FitRows}
 
 module _ (n : ℕ) (few : n ≤ 512) where
   pub below : (k : ℕ) → Contains (range_with_len 1 n) k → k < 65536

@@ -1,13 +1,9 @@
 -- The slots of a next stage, and which stages follow on one another.
-use Rattle.std.proofs.lemmas.Grind.{common_steps}
-use Rattle.std.proofs.Common.{◌≡◌, ◌↔◌, ℕ, zero, suc, ◌+◌, ◌*◌, ◌-◌, ◌/◌, ◌<◌, ◌≤◌, Bool, true, List, [], ◌∷◌, length}
-use Rattle.std.proofs.Common.{drop, get_or, Option, Some, None, IsTrue, refl, sym, ap, ap₂, subst, ◌∙◌}
-use Rattle.std.proofs.Common.{true≢false, arith}
-use Rattle.std.specs.List.{slice_get}
-use Rattle.std.proofs.lemmas.List.{drop_more, length-drop}
-use Rattle.er_event.specs.declared.matches.Match.{Match}
-use Rattle.er_event.specs.Round.{is_counted}
-use Rattle.er_event.specs.Bracket.{winner, next_stage, SameSlots, FollowOn, IsDecided, last_match, is_over}
+use Rattle.er_event.proofs.Prelude.{common_steps, ◌≡◌, ◌↔◌, ℕ, zero, suc, ◌+◌, ◌*◌, ◌-◌, ◌/◌, ◌<◌, ◌≤◌, Bool, true, List, [], ◌∷◌, length}
+use Rattle.er_event.proofs.Prelude.{drop, get_or, Option, Some, None, IsTrue, refl, sym, ap, ap₂, subst, ◌∙◌, true≢false, arith, slice_get}
+use Rattle.er_event.proofs.Prelude.{length-drop, Match, is_counted, next_stage, SameSlots, FollowOn, IsDecided, last_match, is_over}
+use Rattle.std.proofs.lemmas.List.{drop_more}
+use Rattle.er_event.specs.Bracket.{winner}
 
 -- ---- the winners, slot by slot
 

@@ -1,31 +1,18 @@
 -- An event whose playoff has one more score is sound exactly where the changed stage fits what stands behind it.
-use Rattle.std.proofs.lemmas.Grind.{common_steps}
-use Rattle.std.proofs.Common.{◌≡◌, ◌↔◌, inl, inr, ℕ, zero, suc, ◌-◌, ◌<◌, ◌≤◌, ◌==◌, ◌||◌, ◌&&◌, nat_lt, Bool, true, false, cond, List, []}
-use Rattle.std.proofs.Common.{◌∷◌, ◌++◌, length, drop, get_or, All, AllPairs, Contains, Option, Some, None, IsTrue, IfSome, is_some}
-use Rattle.std.proofs.Common.{MatchOption, IsSome, option_map, Bor, refl, sym, ap, subst, ◌∙◌, true≢false, arith}
-use Rattle.std.specs.List.{slice_get, AllByRecursion}
+use Rattle.er_event.proofs.Prelude.{common_steps, ◌≡◌, ◌↔◌, inl, inr, ℕ, zero, suc, ◌-◌, ◌<◌, ◌≤◌, ◌==◌, ◌||◌, ◌&&◌, Bool, true, false}
+use Rattle.er_event.proofs.Prelude.{cond, List, [], ◌∷◌, ◌++◌, length, drop, get_or, All, AllPairs, Contains, Option, Some, None, IsTrue}
+use Rattle.er_event.proofs.Prelude.{IfSome, is_some, option_map, Bor, refl, sym, ap, subst, ◌∙◌, true≢false, arith, slice_get}
+use Rattle.er_event.proofs.Prelude.{AllByRecursion, set, All-from_recursion, recursion_from_All, none-some, same_Some}
+use Rattle.er_event.proofs.Prelude.{get_or_from_slice_get, nat_tests, Games, Match, Phase, Finished, SetBracketScore, EventValue}
+use Rattle.er_event.proofs.Prelude.{is_playoff_score, is_counted, open_match, next_stage, SameSlots, FollowOn, last_match, IsDecided}
+use Rattle.er_event.proofs.Prelude.{slot_at, following, is_over, numbers, IsBracket, IsPlayoff, IsSoundButForSeeds, scored, scored_slot}
+use Rattle.er_event.proofs.Prelude.{stage_of, one_more, IsEnd, Fits}
+use Rattle.std.proofs.Common.{nat_lt, MatchOption, IsSome}
 use Rattle.std.specs.Option.{option_and_then}
-use Rattle.std.proofs.Math.ListN.{set}
-use Rattle.std.proofs.lemmas.List.Elements.{All-from_recursion, recursion_from_All}
-use Rattle.std.proofs.lemmas.Option.{none-some, same_Some, get_or_from_slice_get}
-use Rattle.std.proofs.lemmas.Bool.Decides.{nat_tests}
-use Rattle.er_event.specs.declared.scores.Games.{Games}
-use Rattle.er_event.specs.declared.matches.Match.{Match}
-use Rattle.er_event.specs.declared.events.Phase.{Phase}
-use Rattle.er_event.specs.declared.events.Phase.TheVariants.{Finished}
-use Rattle.er_event.specs.declared.changes.Change.TheVariants.{SetBracketScore}
-use Rattle.er_event.specs.Event.{EventValue}
-use Rattle.er_event.specs.Score.{is_playoff_score}
-use Rattle.er_event.specs.Round.{is_counted}
-use Rattle.er_event.specs.Bracket.{open_match, next_stage, SameSlots, FollowOn, last_match, IsDecided, slot_at, following, is_over}
-use Rattle.er_event.specs.Sound.{numbers, IsBracket, IsPlayoff, IsSoundButForSeeds}
-use Rattle.er_event.specs.Change.{scored, scored_slot, stage_of, one_more, IsEnd, Fits}
-use Rattle.er_event.proofs.ScoreLemmas.{All-set, set-All, slots-refl, slots-set, slots-seats, within-get}
-use Rattle.er_event.proofs.RoundLemmas.{All-of}
-use Rattle.er_event.proofs.SlotLemmas.{Stands, follow-split, over-counted, last-after, length-same}
-use Rattle.er_event.proofs.BracketLemmas.{Lawful}
-use Rattle.er_event.proofs.PlayoffLemmas.{follow-new, drop-new, length-new, all-new, all-old, first-new, follow-drop, last-drop, drop-here}
-use Rattle.er_event.proofs.PlayoffLemmas.{follow-never, in_playoff, sound-playoff, started}
+use Rattle.er_event.proofs.{ScoreLemmas.{All-set, set-All, slots-refl, slots-set, slots-seats, within-get}, RoundLemmas.All-of}
+use Rattle.er_event.proofs.{SlotLemmas.{Stands, follow-split, over-counted, last-after, length-same}, BracketLemmas.Lawful}
+use Rattle.er_event.proofs.PlayoffLemmas.{follow-new, drop-new, length-new, all-new, all-old, first-new, follow-drop, last-drop}
+use Rattle.er_event.proofs.PlayoffLemmas.{drop-here, follow-never, in_playoff, sound-playoff, started}
 
 abbrev AllLawful : List Match → Type 0
 AllLawful ms = All Lawful ms

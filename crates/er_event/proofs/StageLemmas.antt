@@ -1,17 +1,10 @@
 -- Rows of a bracket, and the matches that they show.
-use Rattle.std.proofs.lemmas.Grind.{common_steps}
-use Rattle.std.proofs.Common.{◌≡◌, ℕ, suc, ◌+◌, ◌-◌, ◌<◌, ◌≤◌, ℤ, pos, Bool, true, false, ◌&&◌, List, [], ◌∷◌, ◌++◌, length, take, drop}
-use Rattle.std.proofs.Common.{map, get_or, All, refl, sym, ap, ap₂, subst, ◌∙◌, arith, append_assoc, append-nil, length-append}
-use Rattle.std.proofs.Math.Seq.{drop-cons, take-append_seam, take-add, drop-append_seam, drop-drop}
-use Rattle.std.proofs.lemmas.List.{take_more, take_all, map-append, length-drop}
-use Rattle.std.proofs.lemmas.List.Elements.{All-head, All-tail}
-use Rattle.std.proofs.lemmas.Bool.Decides.{Decides-int_eq}
-use Rattle.std.specs.Ordering.{int_eq}
-use Rattle.std.specs.List.{prefix_len}
-use Rattle.er_event.specs.declared.rows.bracket.BracketRow.{BracketRow}
-use Rattle.er_event.specs.declared.matches.Match.{Match}
-use Rattle.er_event.specs.Rows.{bracket_row, stage_rows, bracket_rows_from}
-use Rattle.er_event.specs.inside.Stages.{FitsSlotRow, FitStageRows, slot_rows, is_of_stage}
+use Rattle.er_event.proofs.Prelude.{common_steps, ◌≡◌, ℕ, suc, ◌+◌, ◌-◌, ◌<◌, ◌≤◌, ℤ, pos, Bool, true, false, ◌&&◌, List, [], ◌∷◌, ◌++◌}
+use Rattle.er_event.proofs.Prelude.{length, take, drop, map, get_or, All, refl, sym, ap, ap₂, subst, ◌∙◌, arith, append_assoc, append-nil}
+use Rattle.er_event.proofs.Prelude.{length-append, drop-cons, take-append_seam, take-add, drop-append_seam, drop-drop, take_more, take_all}
+use Rattle.er_event.proofs.Prelude.{map-append, length-drop, All-head, All-tail, Decides-int_eq, int_eq, prefix_len, BracketRow, Match}
+use Rattle.er_event.proofs.Prelude.{bracket_row, bracket_rows_from, FitsSlotRow, FitStageRows, slot_rows}
+use Rattle.er_event.specs.{Rows.stage_rows, inside.Stages.is_of_stage}
 use Rattle.er_event.proofs.PairingLemmas.{and_true, numbered-push}
 
 -- ---- rows that agree in each column

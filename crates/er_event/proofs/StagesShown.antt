@@ -1,18 +1,9 @@
 -- The stages of a sound event can be shown by rows, and are few.
-use Rattle.std.proofs.lemmas.Grind.{common_steps}
-use Rattle.std.proofs.Common.{◌≡◌, ℕ, ◌+◌, ◌*◌, ◌/◌, ◌<◌, ◌≤◌, List, [], ◌∷◌, length, flat_map, All}
-use Rattle.std.proofs.Common.{Contains, IsTrue, IfSome, Option, Some, None, refl, sym, ap, subst, ◌∙◌, arith}
-use Rattle.std.specs.List.{range_with_len}
-use Rattle.std.proofs.lemmas.Bool.Decides.{nat_tests}
-use Rattle.std.proofs.lemmas.Option.{none-some, same_Some}
-use Rattle.std.proofs.lemmas.List.Elements.{All-head, All-tail, All-cons, All-nil}
-use Rattle.er_event.specs.declared.scores.Games.{Games}
-use Rattle.er_event.specs.declared.matches.Match.{Match}
-use Rattle.er_event.specs.Score.{is_playoff_score}
-use Rattle.er_event.specs.Round.{seats}
-use Rattle.er_event.specs.Bracket.{winner_with, next_stage, SameSlots, FollowOn}
-use Rattle.er_event.specs.Sound.{is_lawful_cut, IsBracket}
-use Rattle.er_event.specs.inside.Stages.{FitsSlotRow, FitStageRows}
+use Rattle.er_event.proofs.Prelude.{common_steps, ◌≡◌, ℕ, ◌+◌, ◌*◌, ◌/◌, ◌<◌, ◌≤◌, List, [], ◌∷◌, length, flat_map, All, Contains, IsTrue}
+use Rattle.er_event.proofs.Prelude.{IfSome, Option, Some, None, refl, sym, ap, subst, ◌∙◌, arith, range_with_len, nat_tests, none-some}
+use Rattle.er_event.proofs.Prelude.{same_Some, All-head, All-tail, All-cons, All-nil, Games, Match, is_playoff_score, seats, next_stage}
+use Rattle.er_event.proofs.Prelude.{SameSlots, FollowOn, is_lawful_cut, IsBracket, FitsSlotRow, FitStageRows}
+use Rattle.er_event.specs.Bracket.{winner_with}
 use Rattle.er_event.proofs.ShownLemmas.{below}
 
 -- the two numbers are 16 bits wide

@@ -1,15 +1,9 @@
 -- The match of a table stands at the table's place, or is the bye at table 0.
-use Rattle.std.proofs.lemmas.Grind.{common_steps}
-use Rattle.std.proofs.Common.{◌≡◌, ◌≢◌, ℕ, zero, suc, ◌+◌, ◌-◌, ◌==◌, ◌<◌, ◌≤◌, Bool, true, false, cond, List, [], ◌∷◌, length, map, get_or}
-use Rattle.std.proofs.Common.{Option, Some, None, option_map, unwrap_or, find, refl, sym, ap, ap₂, ◌∙◌, true≢false, arith}
-use Rattle.std.specs.List.{slice_get}
-use Rattle.std.proofs.Math.ListN.{set}
-use Rattle.std.proofs.lemmas.Bool.Decides.{nat_tests}
-use Rattle.std.proofs.lemmas.Option.{none-some, slice_get_read, slice_get_past}
-use Rattle.er_event.specs.declared.scores.Games.{Games}
-use Rattle.er_event.specs.declared.matches.Match.{Match}
-use Rattle.er_event.specs.Round.{is_bye, numbered_from, is_at, match_in}
-use Rattle.er_event.specs.Change.{scored, score_table}
+use Rattle.er_event.proofs.Prelude.{common_steps, ◌≡◌, ◌≢◌, ℕ, zero, suc, ◌+◌, ◌-◌, ◌==◌, ◌<◌, ◌≤◌, Bool, true, false, cond, List, [], ◌∷◌}
+use Rattle.er_event.proofs.Prelude.{length, map, get_or, Option, Some, None, option_map, unwrap_or, find, refl, sym, ap, ap₂, ◌∙◌}
+use Rattle.er_event.proofs.Prelude.{true≢false, arith, slice_get, set, nat_tests, none-some, slice_get_read, slice_get_past, Games, Match}
+use Rattle.er_event.proofs.Prelude.{is_bye, numbered_from, match_in, scored, score_table}
+use Rattle.er_event.specs.Round.{is_at}
 
 -- the match, unless it is a bye
 abbrev pub seated : Option Match → Option Match

@@ -1,21 +1,11 @@
 -- Where nobody sits twice, a player has the line of one match of a round alone; the rounds add up.
-use Rattle.std.proofs.lemmas.Grind.{common_steps}
-use Rattle.std.proofs.Common.{◌≡◌, ◌≢◌, ◌⊎◌, inl, inr, ℕ, zero, suc, ◌+◌, ◌-◌, ◌<◌, ◌≤◌, ◌==◌, List}
-use Rattle.std.proofs.Common.{[], ◌∷◌, ◌++◌, length, take, get_or, flat_map, All, Option, Some, None, refl, sym, ap, ap₂, subst, ◌∙◌, arith}
-use Rattle.std.proofs.Common.{not-suc-le-zero, append-nil}
-use Rattle.std.proofs.lemmas.List.{take_more, length-set, get_or_default, get_or-set_other}
-use Rattle.std.proofs.lemmas.List.Elements.{filter-append, All-get_or}
-use Rattle.er_event.specs.declared.matches.Match.{Match}
-use Rattle.er_event.specs.declared.rounds.Round.{Round}
-use Rattle.er_event.specs.declared.scores.Games.{Games}
-use Rattle.er_event.specs.declared.totals.Totals.{Totals}
-use Rattle.er_event.specs.Bracket.{open_match}
-use Rattle.er_event.specs.Change.{scored, scored_slot}
-use Rattle.er_event.specs.Lines.{Line, own, lines_of_score, lines_of_match, counted_lines, lines_from}
-use Rattle.er_event.specs.Round.{seats}
-use Rattle.er_event.specs.Totals.{totals_of, totals_of_games, plus}
+use Rattle.er_event.proofs.Prelude.{common_steps, ◌≡◌, ◌≢◌, ◌⊎◌, inl, inr, ℕ, zero, suc, ◌+◌, ◌-◌, ◌<◌, ◌≤◌, ◌==◌, List, [], ◌∷◌, ◌++◌}
+use Rattle.er_event.proofs.Prelude.{length, take, get_or, flat_map, All, Option, Some, None, refl, sym, ap, ap₂, subst, ◌∙◌, arith}
+use Rattle.er_event.proofs.Prelude.{not-suc-le-zero, append-nil, take_more, length-set, get_or_default, filter-append, All-get_or, Match}
+use Rattle.er_event.proofs.Prelude.{Round, Games, Totals, open_match, scored, scored_slot, Line, own, lines_of_score, lines_of_match}
+use Rattle.er_event.proofs.Prelude.{counted_lines, lines_from, seats, totals_of, totals_of_games, plus, IsSeatedOnce, AreOver, rescored}
+use Rattle.std.proofs.lemmas.List.{get_or-set_other}
 use Rattle.er_event.proofs.ScoreLemmas.{set-All}
-use Rattle.er_event.specs.inside.Seen.{IsSeatedOnce, AreOver, rescored}
 
 zero-right : (n : ℕ) → n + 0 ≡ n
 zero-right n = omega arith

@@ -1,12 +1,8 @@
 -- Walks over the places that two rows leave free.
 use Rattle.std.proofs.Common.{◌≡◌, ℕ, ◌+◌, ◌*◌, ◌/◌, ◌%◌, ◌^◌, ◌<◌, ◌≤◌, ◌==◌, ◌||◌, ◌&&◌, not, Bool, true, false, get_or, arith, w64}
-use Rattle.std.proofs.lemmas.Bool.Decides.{nat_tests}
-use Rattle.std.proofs.lemmas.Nat.Bits.{bit_at-zero, bit_at-trailing_zeros}
-use Rattle.std.specs.Prelude.{bit_and, bit_or}
-use Rattle.std.specs.Int.{bit_not, trailing_zeros}
-use Rattle.std.specs.Slice.Scan.{HoldsNowhere, IsFirstPlace}
-use Rattle.er_pair.specs.declared.rows.Row.{Row}
-use Rattle.er_pair.specs.Rows.{has_place, is_ahead}
+use Rattle.std.proofs.{lemmas.Bool.Decides.nat_tests, lemmas.Nat.Bits.{bit_at-zero, bit_at-trailing_zeros}}
+use Rattle.std.specs.{Prelude.{bit_and, bit_or}, Int.{bit_not, trailing_zeros}, Slice.Scan.{HoldsNowhere, IsFirstPlace}}
+use Rattle.er_pair.specs.{declared.rows.Row.Row, Rows.{has_place, is_ahead}}
 use Rattle.er_pair.proofs.Bits.{bit_less, less_set, not_set, and_not_set, neither_set, word_of}
 
 pub ahead-same : (one other these those : Row) (word left p : ℕ) → has_place one p ≡ has_place these p

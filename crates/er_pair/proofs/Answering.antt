@@ -1,20 +1,13 @@
 -- What the end of the search says of the order.
 use Rattle.std.proofs.Common.{◌≡◌, ℕ, ◌*◌, ◌%◌, ◌<◌, ◌≤◌, not, Bool, false, IsFalse, List, [], ◌∷◌, length, All, AllPairs, Option, Some}
-use Rattle.std.proofs.Common.{None, sym, ap, ◌∙◌, arith}
+use Rattle.std.proofs.{Common.{None, sym, ap, ◌∙◌, arith}, lemmas.List.Elements.{All-nil, All-cons, All-head, All-tail, All-from_get_or}}
+use Rattle.std.proofs.{lemmas.List.FromFn.{length-range_with_len, get_or-range_with_len}, lemmas.List.Sorted.All-permutation}
 use Rattle.std.specs.List.{range_with_len}
-use Rattle.std.proofs.lemmas.List.Elements.{All-nil, All-cons, All-head, All-tail, All-from_get_or}
-use Rattle.std.proofs.lemmas.List.FromFn.{length-range_with_len, get_or-range_with_len}
-use Rattle.std.proofs.lemmas.List.Sorted.{All-permutation}
-use Rattle.er_pair.specs.declared.rows.Cursor.{Cursor}
-use Rattle.er_pair.specs.declared.rows.Row.{Row}
-use Rattle.er_pair.specs.declared.search.Outcome.TheVariants.{Paired, DeadEnd}
-use Rattle.er_pair.specs.declared.pairings.TheConstants.{MAX_STEPS}
-use Rattle.er_pair.specs.Pairing.{Pair, positions, all_positions, IsLegal, IsEarliest}
-use Rattle.er_pair.specs.Rows.{has_place, ahead_of, row_at}
-use Rattle.er_pair.specs.Steps.{NeedsMore, met_at}
-use Rattle.er_pair.specs.inside.Search.{SearchAnswers, search_of, met_in, free_ahead, answer_ahead}
-use Rattle.er_pair.proofs.Bounds.{search_of-short, search_of-fresh}
-use Rattle.er_pair.proofs.Entries.{search_of-agree, earliest_found, none_found, no_more_needed}
+use Rattle.er_pair.specs.{declared.rows.Cursor.Cursor, declared.rows.Row.Row, declared.search.Outcome.TheVariants.{Paired, DeadEnd}}
+use Rattle.er_pair.specs.{declared.pairings.TheConstants.MAX_STEPS, Pairing.{Pair, positions, all_positions, IsLegal, IsEarliest}}
+use Rattle.er_pair.specs.{Rows.{has_place, ahead_of, row_at}, Steps.{NeedsMore, met_at}, inside.Search.{SearchAnswers, search_of, met_in}}
+use Rattle.er_pair.specs.inside.Search.{free_ahead, answer_ahead}
+use Rattle.er_pair.proofs.{Bounds.{search_of-short, search_of-fresh}, Entries.{search_of-agree, earliest_found, none_found, no_more_needed}}
 use Rattle.er_pair.proofs.Passing.{passing-all}
 
 -- ---- the search of rows by position

@@ -1,16 +1,10 @@
 -- Bits of words, and the places of rows for which they stand.
 use Rattle.std.proofs.Common.{◌≡◌, ℕ, ◌*◌, ◌/◌, ◌%◌, ◌^◌, ◌<◌, ◌==◌, ◌||◌, ◌&&◌, not, false, if◌then◌else◌, List, [], ◌∷◌, length, get_or}
-use Rattle.std.proofs.Common.{set, arith, w64}
-use Rattle.std.proofs.lemmas.Bool.Decides.{nat_tests}
-use Rattle.std.proofs.lemmas.Grind.{get_or-set_at}
-use Rattle.std.proofs.lemmas.List.{get_or-set_other, get_or-replicate, get_or_past}
-use Rattle.std.proofs.lemmas.Nat.{or_lt}
-use Rattle.std.proofs.lemmas.Nat.Bits.{bit_at-lt, bit_at-zero, bit_at_and, bit_at_or, bit_at_not, bit_at_set_same, bit_at_set_other}
-use Rattle.std.proofs.lemmas.Nat.Bits.{bit_at_clear_same, bit_at_clear_other}
-use Rattle.std.specs.Prelude.{bit_and, bit_or}
-use Rattle.std.specs.Int.{bit_not}
-use Rattle.er_pair.specs.declared.rows.Row.{Row}
-use Rattle.er_pair.specs.Rows.{is_set, has_place}
+use Rattle.std.proofs.{Common.{set, arith, w64}, lemmas.Bool.Decides.nat_tests, lemmas.Grind.get_or-set_at, lemmas.List.get_or-set_other}
+use Rattle.std.proofs.{lemmas.List.{get_or-replicate, get_or_past}, lemmas.Nat.or_lt, lemmas.Nat.Bits.{bit_at-lt, bit_at-zero, bit_at_and}}
+use Rattle.std.proofs.lemmas.Nat.Bits.{bit_at_or, bit_at_not, bit_at_set_same, bit_at_set_other, bit_at_clear_same, bit_at_clear_other}
+use Rattle.std.specs.{Prelude.{bit_and, bit_or}, Int.bit_not}
+use Rattle.er_pair.specs.{declared.rows.Row.Row, Rows.{is_set, has_place}}
 
 -- ---- bits of a word
 

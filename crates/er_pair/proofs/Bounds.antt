@@ -1,13 +1,9 @@
 -- How many steps a search makes at most, and how many where nobody has met.
 use Rattle.std.proofs.Common.{◌≡◌, ℕ, zero, suc, ◌+◌, ◌*◌, ◌%◌, ◌≤◌, nat_lt, Bool, true, IsFalse, List, [], ◌∷◌, ◌++◌, length, AllPairs}
-use Rattle.std.proofs.Common.{Option, Some, None, refl, ap, ◌∙◌, arith, append_assoc, not-suc-le-zero}
-use Rattle.std.proofs.lemmas.Bool.{agree_below_at, cond_both, cond-false}
-use Rattle.std.proofs.lemmas.Bool.Decides.{nat_tests}
-use Rattle.er_pair.specs.Pairing.{Pair}
-use Rattle.er_pair.specs.inside.Search.{Answer, after_step, tries, search_of}
-use Rattle.er_pair.proofs.Picking.{Picked, Picked-length}
-use Rattle.er_pair.proofs.Picking.Picked.{here, there}
-use Rattle.er_pair.proofs.Searching.{search_of-none, search_of-cons}
+use Rattle.std.proofs.{Common.{Option, Some, None, refl, ap, ◌∙◌, arith, append_assoc, not-suc-le-zero}, lemmas.Bool.agree_below_at}
+use Rattle.std.proofs.{lemmas.Bool.{cond_both, cond-false}, lemmas.Bool.Decides.nat_tests}
+use Rattle.er_pair.specs.{Pairing.Pair, inside.Search.{Answer, after_step, tries, search_of}}
+use Rattle.er_pair.proofs.{Picking.{Picked, Picked-length}, Picking.Picked.{here, there}, Searching.{search_of-none, search_of-cons}}
 
 -- each candidate costs at most one step and those of the others
 abbrev most : ℕ → ℕ

@@ -1,12 +1,9 @@
 -- Two lists have the same elements where each number stands as often in the one as in the other.
 use Rattle.std.proofs.Common.{◌≡◌, inl, inr, ℕ, ◌+◌, ◌<◌, ◌==◌, cond, List, [], ◌∷◌, sum_by, sym, arith, not-suc-le-zero, IsPermutation}
-use Rattle.std.proofs.lemmas.Bool.{cases_eq}
-use Rattle.std.proofs.lemmas.Bool.Decides.{nat_tests}
-use Rattle.std.proofs.lemmas.List.Sums.{sum_by-cons}
+use Rattle.std.proofs.{lemmas.Bool.cases_eq, lemmas.Bool.Decides.nat_tests, lemmas.List.Sums.sum_by-cons}
 use Rattle.std.proofs.lemmas.List.Sorted.{IsPermutation-refl, IsPermutation-cons, IsPermutation-trans, IsPermutation-sym}
 use Rattle.std.proofs.lemmas.List.Sorted.{IsPermutation-middle, sum_by-IsPermutation, Contains-permutation}
-use Rattle.er_pair.proofs.Picking.{In, In-from_Contains, Contains-from_In, Picked, pick}
-use Rattle.er_pair.proofs.Picking.Picked.{here, there}
+use Rattle.er_pair.proofs.{Picking.{In, In-from_Contains, Contains-from_In, Picked, pick}, Picking.Picked.{here, there}}
 
 -- how often a number stands in the list
 abbrev times : ℕ → List ℕ → ℕ

@@ -1,10 +1,7 @@
 -- Dead ends that a search keeps.
 use Rattle.std.proofs.Common.{◌≡◌, ℕ, ◌+◌, ◌*◌, ◌≤◌, List, length, ap, ◌∙◌, arith}
-use Rattle.er_pair.specs.declared.rows.Cursor.{Cursor}
-use Rattle.er_pair.specs.declared.rows.Row.{Row}
-use Rattle.er_pair.specs.inside.Search.{search_of, met_in, free_ahead, IsDeadAhead}
-use Rattle.er_pair.proofs.Ahead.{ahead-last}
-use Rattle.er_pair.proofs.Passing.{passing-same}
+use Rattle.er_pair.specs.{declared.rows.Cursor.Cursor, declared.rows.Row.Row, inside.Search.{search_of, met_in, free_ahead, IsDeadAhead}}
+use Rattle.er_pair.proofs.{Ahead.ahead-last, Passing.passing-same}
 
 -- in the last word, what is ahead doesn't depend on what is used
 free-last : (used other : Row) (ahead : Cursor) (end : ℕ) → end ≤ 64 * (ahead.index + 1)

@@ -1,15 +1,11 @@
 -- The search of an order's positions, and what it says of the order.
 use Rattle.std.proofs.Common.{◌≡◌, inl, inr, ℕ, zero, suc, ◌+◌, ◌<◌, ◌≤◌, Bool, List, [], ◌∷◌, length, map, Option, Some, None, refl, sym}
-use Rattle.std.proofs.Common.{◌∙◌, subst, arith, slice_index, get_or, not-suc-le-zero}
+use Rattle.std.proofs.{Common.{◌∙◌, subst, arith, slice_index, get_or, not-suc-le-zero}, lemmas.List.FromFn.length-range_with_len}
 use Rattle.std.specs.List.{range_with_len}
-use Rattle.std.proofs.lemmas.List.FromFn.{length-range_with_len}
-use Rattle.er_pair.specs.Pairing.{Pair, IsLegal, IsEarliest, all_positions}
-use Rattle.er_pair.specs.Steps.{met_at, Needs, NeedsMore}
-use Rattle.er_pair.specs.inside.Search.{search_of}
-use Rattle.er_pair.proofs.Picking.{In, Picked-In, Picked-kept, Picked-length, Rises-range, In-range}
-use Rattle.er_pair.proofs.Searching.{tries-same, search_of-none, search_of-cons}
-use Rattle.er_pair.proofs.Bounds.{search_of-short}
-use Rattle.er_pair.proofs.Settling.{Outcome, Settled, settled, needs_same}
+use Rattle.er_pair.specs.{Pairing.{Pair, IsLegal, IsEarliest, all_positions}, Steps.{met_at, Needs, NeedsMore}, inside.Search.search_of}
+use Rattle.er_pair.proofs.{Picking.{In, Picked-In, Picked-kept, Picked-length, Rises-range, In-range}, Searching.tries-same}
+use Rattle.er_pair.proofs.{Searching.{search_of-none, search_of-cons}, Bounds.search_of-short, Settling.{Outcome, Settled, settled}}
+use Rattle.er_pair.proofs.Settling.{needs_same}
 
 -- the entries at a run of places from a on
 map-range : (xs : List ℕ) (passed : ℕ) (f : ℕ → ℕ) → ((k : ℕ) → k < length xs → f (passed + k) ≡ get_or xs k 0)

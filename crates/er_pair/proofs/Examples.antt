@@ -1,10 +1,7 @@
 -- Examples of the definitions, which compute, and the limits as the rules have them.
 use Rattle.std.specs.Prelude.{◌≡◌, ℕ, ◌==◌, ◌&&◌, ◌||◌, Bool, false, [], ◌∷◌, Some, None, refl}
-use Rattle.er_event.specs.declared.matches.Match.{Match}
-use Rattle.er_event.specs.Bracket.{open_match}
-use Rattle.er_pair.specs.declared.meetings.TheConstants.{NUMBERS}
-use Rattle.er_pair.specs.declared.pairings.TheConstants.{MAX_STEPS}
-use Rattle.er_pair.specs.Pairing.{round_of}
+use Rattle.er_event.specs.{declared.matches.Match.Match, Bracket.open_match}
+use Rattle.er_pair.specs.{declared.meetings.TheConstants.NUMBERS, declared.pairings.TheConstants.MAX_STEPS, Pairing.round_of}
 use Rattle.er_pair.specs.inside.Search.{search_of, search_within, tries, after_step}
 
 -- ---- each limit as the rules have it, so that the code's constant can't move from it

@@ -1,13 +1,8 @@
 -- The stored matches: their players have numbers in the table, and one more is met.
 use Rattle.std.proofs.Common.{◌≡◌, inl, inr, ℕ, ◌+◌, ◌<◌, ◌||◌, Bool, IsFalse, List, length, take, get_or, Contains, arith}
+use Rattle.std.proofs.{lemmas.Bool.{cases_eq, ne_eqb}, lemmas.List.Elements.All-contains, lemmas.List.Folds.list_any_more}
 use Rattle.std.specs.List.{list_any}
-use Rattle.std.proofs.lemmas.Bool.{cases_eq, ne_eqb}
-use Rattle.std.proofs.lemmas.List.Elements.{All-contains}
-use Rattle.std.proofs.lemmas.List.Folds.{list_any_more}
-use Rattle.er_event.specs.declared.matches.Match.{Match}
-use Rattle.er_event.specs.declared.rounds.Round.{Round}
-use Rattle.er_event.specs.Event.{EventValue}
-use Rattle.er_event.specs.Round.{is_bye}
+use Rattle.er_event.specs.{declared.matches.Match.Match, declared.rounds.Round.Round, Event.EventValue, Round.is_bye}
 use Rattle.er_event.specs.Sound.{IsSoundButForSeeds, IsRound, numbers}
 use Rattle.er_pair.proofs.Picking.{In-from_Contains, In-range}
 

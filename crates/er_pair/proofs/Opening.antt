@@ -1,15 +1,12 @@
 -- A legal pairing pairs the first position with a candidate and is legal in the others, and the other way round.
 use Rattle.std.proofs.Common.{◌≡◌, inl, inr, ℕ, zero, suc, ◌==◌, Bool, true, false, IsFalse, List, [], ◌∷◌, ◌++◌, take, slice_get, Some}
-use Rattle.std.proofs.Common.{None, Option, refl, sym, ap, subst, arith, eq-eqb}
-use Rattle.std.specs.List.{list_any}
-use Rattle.std.proofs.lemmas.Bool.{true≢false, eqb-true, or_cases, or_left, or_right}
-use Rattle.std.proofs.lemmas.List.Elements.{All-cons, All-head, All-tail, All-nil}
+use Rattle.std.proofs.{Common.{None, Option, refl, sym, ap, subst, arith, eq-eqb}, lemmas.Bool.{true≢false, eqb-true, or_cases, or_left}}
+use Rattle.std.proofs.{lemmas.Bool.or_right, lemmas.List.Elements.{All-cons, All-head, All-tail, All-nil}}
 use Rattle.std.proofs.lemmas.List.Sorted.{IsPermutation-refl, IsPermutation-cons, IsPermutation-trans, IsPermutation-sym}
-use Rattle.er_pair.specs.Pairing.{Pair, positions, OpensWithLeast, IsLegalOf}
-use Rattle.er_pair.specs.Steps.{met_at}
+use Rattle.std.specs.List.{list_any}
+use Rattle.er_pair.specs.{Pairing.{Pair, positions, OpensWithLeast, IsLegalOf}, Steps.met_at}
 use Rattle.er_pair.proofs.Picking.{Rises, In, Picked, Above-In, Picked-kept, Picked-other, Picked-gone, pick, In-from_Contains}
-use Rattle.er_pair.proofs.Picking.{Contains-from_In}
-use Rattle.er_pair.proofs.Counting.{IsPermutation-uncons, IsPermutation-Picked, In-IsPermutation}
+use Rattle.er_pair.proofs.{Picking.Contains-from_In, Counting.{IsPermutation-uncons, IsPermutation-Picked, In-IsPermutation}}
 
 -- the pairings of a first position with one of the candidates that are left, and legal in the others
 pub data Opens (met : ℕ → ℕ → Bool) (order : List ℕ) (first : ℕ) (passed : List ℕ) : List ℕ → List Pair → Type 0 where

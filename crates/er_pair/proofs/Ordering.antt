@@ -1,28 +1,17 @@
 -- Places that are sorted give the order.
 use Rattle.std.proofs.Common.{AllPairs, ◌≡◌, ◌≢◌, ℕ, zero, suc, ◌+◌, ◌%◌, ◌<◌, ◌≤◌, ◌==◌, nat_lt, true, false, not, cond, List, [], ◌∷◌}
 use Rattle.std.proofs.Common.{◌++◌, length, map, filter, get_or, count_by, All, IsPermutation, length-append, refl, sym, ap, ◌∙◌, arith}
-use Rattle.std.proofs.Common.{not-suc-le-zero}
-use Rattle.std.specs.Cmp.{IsStrictWeakOrder}
-use Rattle.std.specs.List.Sorted.{IsSortedBy}
-use Rattle.std.proofs.lemmas.Bool.{cond_both}
-use Rattle.std.proofs.lemmas.Bool.Decides.{nat_tests, Decides-eqb}
-use Rattle.std.proofs.lemmas.List.{length-map, get_or-map}
-use Rattle.std.proofs.lemmas.List.Elements.{Contains-get_or}
-use Rattle.std.proofs.lemmas.List.Kept.{AllPairs-cons}
-use Rattle.std.proofs.lemmas.List.Quantifiers.{all_pairs_push}
-use Rattle.std.proofs.lemmas.List.Sorted.{IsPermutation-map, IsPermutation-sym, All-permutation, length_permutation, sorted_far}
-use Rattle.std.proofs.lemmas.List.Sums.{sum_by-cons, count_by-le-length, length-filter}
-use Rattle.std.proofs.lemmas.Map.Keys.{IsDistinct-IsPermutation}
-use Rattle.std.proofs.lemmas.Map.Made.{AllPairs-from_IsDistinct, IsDistinct-from_AllPairs}
-use Rattle.er_event.specs.declared.players.Player.{Player}
-use Rattle.er_event.specs.Event.{EventValue}
-use Rattle.er_event.specs.Sound.{IsSoundButForSeeds}
-use Rattle.er_event.specs.Totals.{totals}
-use Rattle.er_pair.specs.declared.entrants.Entrant.{Entrant}
-use Rattle.er_pair.specs.Order.{AreKeys, active_numbers, place_among, comes_before, seats_of, IsOrder}
+use Rattle.std.proofs.{Common.not-suc-le-zero, lemmas.Bool.cond_both, lemmas.Bool.Decides.{nat_tests, Decides-eqb}, lemmas.List.length-map}
+use Rattle.std.proofs.{lemmas.List.get_or-map, lemmas.List.Elements.Contains-get_or, lemmas.List.Kept.AllPairs-cons}
+use Rattle.std.proofs.{lemmas.List.Quantifiers.all_pairs_push, lemmas.List.Sorted.{IsPermutation-map, IsPermutation-sym, All-permutation}}
+use Rattle.std.proofs.{lemmas.List.Sorted.{length_permutation, sorted_far}, lemmas.List.Sums.{sum_by-cons, count_by-le-length}}
+use Rattle.std.proofs.{lemmas.List.Sums.length-filter, lemmas.Map.Keys.IsDistinct-IsPermutation, lemmas.Map.Made.AllPairs-from_IsDistinct}
+use Rattle.std.proofs.lemmas.Map.Made.{IsDistinct-from_AllPairs}
+use Rattle.std.specs.{Cmp.IsStrictWeakOrder, List.Sorted.IsSortedBy}
+use Rattle.er_event.specs.{declared.players.Player.Player, Event.EventValue, Sound.IsSoundButForSeeds, Totals.totals}
+use Rattle.er_pair.specs.{declared.entrants.Entrant.Entrant, Order.{AreKeys, active_numbers, place_among, comes_before, seats_of, IsOrder}}
 use Rattle.er_pair.specs.inside.Entrant.{is_before, entrant_of, entrants_of}
-use Rattle.er_pair.proofs.Picking.{Above, Rises, In, Above-In, In-from_Contains, Rises-range, Above-range}
-use Rattle.er_pair.proofs.Counting.{In-IsPermutation}
+use Rattle.er_pair.proofs.{Picking.{Above, Rises, In, Above-In, In-from_Contains, Rises-range, Above-range}, Counting.In-IsPermutation}
 use Rattle.er_pair.proofs.Placing.{active_in}
 
 -- ---- the tests of places

@@ -1,8 +1,7 @@
 -- The positions of a run that pass a test.
 use Rattle.std.proofs.Common.{◌≡◌, ℕ, zero, suc, ◌+◌, ◌<◌, ◌≤◌, Bool, true, false, List, [], ◌∷◌, ◌++◌, refl, ap, ◌∙◌, arith}
-use Rattle.std.specs.Prelude.{filter}
-use Rattle.std.specs.List.{range_with_len}
 use Rattle.std.proofs.lemmas.List.Elements.{filter-append}
+use Rattle.std.specs.{Prelude.filter, List.range_with_len}
 
 -- those of the so many positions from a on
 abbrev pub passing : (ℕ → Bool) → ℕ → ℕ → List ℕ

@@ -1,8 +1,7 @@
 -- Ascending lists, and one element taken out of a list.
 use Rattle.std.proofs.Common.{◌≡◌, ◌⊎◌, inl, inr, ℕ, zero, suc, ◌+◌, ◌<◌, List, [], ◌∷◌, length, Contains, refl, sym, ap, subst, arith}
-use Rattle.std.proofs.Common.{not-suc-le-zero}
+use Rattle.std.proofs.{Common.not-suc-le-zero, lemmas.List.FromFn.{length-range_with_len, get_or-range_with_len}}
 use Rattle.std.specs.List.{range_with_len}
-use Rattle.std.proofs.lemmas.List.FromFn.{length-range_with_len, get_or-range_with_len}
 
 -- x is below each
 abbrev pub Above : ℕ → List ℕ → Type 0

@@ -1,15 +1,9 @@
 -- The active players by number, with their keys.
 use Rattle.std.proofs.Common.{◌≡◌, ℕ, ◌+◌, ◌<◌, Bool, false, not, cond, List, [], ◌∷◌, ◌++◌, length, take, map, filter, get_or, refl, ap}
-use Rattle.std.proofs.Common.{◌∙◌, arith, not-suc-le-zero, length-append}
-use Rattle.std.proofs.lemmas.Bool.{cond-true, not_from_false}
-use Rattle.std.proofs.lemmas.List.{length-map, map_push}
-use Rattle.std.proofs.lemmas.List.Elements.{filter_more}
-use Rattle.std.proofs.lemmas.List.Sums.{length-filter, sum_by_more_le}
-use Rattle.er_event.specs.declared.players.Player.{Player}
-use Rattle.er_event.specs.Event.{EventValue}
-use Rattle.er_pair.specs.declared.entrants.Entrant.{Entrant}
-use Rattle.er_event.specs.Totals.{totals}
-use Rattle.er_pair.specs.inside.Entrant.{entrant_of, entrants_of}
+use Rattle.std.proofs.{Common.{◌∙◌, arith, not-suc-le-zero, length-append}, lemmas.Bool.{cond-true, not_from_false}, lemmas.List.length-map}
+use Rattle.std.proofs.{lemmas.List.map_push, lemmas.List.Elements.filter_more, lemmas.List.Sums.{length-filter, sum_by_more_le}}
+use Rattle.er_event.specs.{declared.players.Player.Player, Event.EventValue, Totals.totals}
+use Rattle.er_pair.specs.{declared.entrants.Entrant.Entrant, inside.Entrant.{entrant_of, entrants_of}}
 
 abbrev pub active_in : List Player → List ℕ
 active_in players = map (λ p. p.no) (filter (λ p. not p.dropped) players)

@@ -2,8 +2,7 @@
 use Rattle.std.proofs.Common.{◌≡◌, ℕ, zero, suc, ◌≤◌, Bool, List, [], ◌∷◌, ◌++◌, length, Some, refl, sym, ◌∙◌, arith, append_assoc}
 use Rattle.std.proofs.Common.{not-suc-le-zero}
 use Rattle.er_pair.specs.inside.Search.{Answer, tries, search_within, search_of}
-use Rattle.er_pair.proofs.Picking.{Picked, Picked-length}
-use Rattle.er_pair.proofs.Picking.Picked.{here, there}
+use Rattle.er_pair.proofs.{Picking.{Picked, Picked-length}, Picking.Picked.{here, there}}
 
 -- only the candidates that are left are tested, and only the lists without one are searched
 pub tries-same : (one two : ℕ → ℕ → Bool) (these those : List ℕ → Answer) (first : ℕ) (passed left : List ℕ)

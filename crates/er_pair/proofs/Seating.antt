@@ -1,13 +1,10 @@
 -- What a legal pairing says of the entries: each sits once, none has met the other, and the first stands before the second.
-use Rattle.std.proofs.Common.{◌≡◌, ℕ, zero, suc, ◌<◌, ◌≤◌, Bool, IsFalse, List, [], ◌∷◌, length, map, All, IsPermutation, slice_index, refl}
-use Rattle.std.proofs.Common.{ap, arith, not-suc-le-zero}
-use Rattle.std.proofs.lemmas.List.Elements.{All-nil, All-cons, All-map}
+use Rattle.std.proofs.Common.{◌≡◌, ℕ, zero, suc, ◌<◌, ◌≤◌, Bool, IsFalse, List, [], ◌∷◌, length, map, All, IsPermutation, slice_index}
+use Rattle.std.proofs.{Common.{refl, ap, arith, not-suc-le-zero}, lemmas.List.Elements.{All-nil, All-cons, All-map}}
 use Rattle.std.proofs.lemmas.List.Sorted.{IsPermutation-map}
 use Rattle.er_pair.specs.Pairing.{Pair, positions, all_positions, IsLegalOf, IsLegal, entries}
-use Rattle.er_pair.proofs.Picking.{Rises, Picked, Above-In, Picked-In, Picked-length, Picked-Rises, Rises-range}
-use Rattle.er_pair.proofs.Opening.{Opens, opens, none_legal}
-use Rattle.er_pair.proofs.Opening.Opens.{opened}
-use Rattle.er_pair.proofs.Entries.{entries_at_places}
+use Rattle.er_pair.proofs.{Picking.{Rises, Picked, Above-In, Picked-In, Picked-length, Picked-Rises, Rises-range}, Opening.{Opens, opens}}
+use Rattle.er_pair.proofs.{Opening.none_legal, Opening.Opens.opened, Entries.entries_at_places}
 
 abbrev InOrder : Pair → Type 0
 InOrder p = p.0 < p.1

@@ -1,17 +1,12 @@
 -- What the search answers is the earliest legal pairing of the free positions, or that there is none, in the steps that they need.
 use Rattle.std.proofs.Common.{◌≡◌, ◌⊎◌, inl, inr, ℕ, zero, suc, ◌<◌, ◌≤◌, Bool, false, List, [], ◌∷◌, ◌++◌, length, take, slice_get, Some}
-use Rattle.std.proofs.Common.{None, Option, MatchOption, refl, sym, ap, ◌∙◌, arith, append_assoc, not-suc-le-zero}
-use Rattle.std.proofs.lemmas.Bool.{true≢false, cond_both}
-use Rattle.er_pair.specs.Pairing.{Pair, IsLegalOf, IsEarlier}
-use Rattle.er_pair.specs.Steps.{CanPair, met_at, Needs, Tries}
-use Rattle.er_pair.specs.Steps.Needs.{empty, first_with}
-use Rattle.er_pair.specs.Steps.Tries.{none_left, has_met, partner, dead_end}
-use Rattle.er_pair.specs.inside.Search.{Answer, after_step, tries, search_of}
-use Rattle.er_pair.proofs.Picking.{Rises, Picked, Above-In, Picked-In, Picked-Rises, Picked-length}
-use Rattle.er_pair.proofs.Picking.Picked.{here, there}
-use Rattle.er_pair.proofs.Opening.{Opens, opens, closes, legal_none, none_legal}
-use Rattle.er_pair.proofs.Opening.Opens.{opened}
-use Rattle.er_pair.proofs.Searching.{search_of-none, search_of-cons}
+use Rattle.std.proofs.{Common.{None, Option, MatchOption, refl, sym, ap, ◌∙◌, arith, append_assoc, not-suc-le-zero}, lemmas.Bool.true≢false}
+use Rattle.std.proofs.lemmas.Bool.{cond_both}
+use Rattle.er_pair.specs.{Pairing.{Pair, IsLegalOf, IsEarlier}, Steps.{CanPair, met_at, Needs, Tries}, Steps.Needs.{empty, first_with}}
+use Rattle.er_pair.specs.{Steps.Tries.{none_left, has_met, partner, dead_end}, inside.Search.{Answer, after_step, tries, search_of}}
+use Rattle.er_pair.proofs.{Picking.{Rises, Picked, Above-In, Picked-In, Picked-Rises, Picked-length}, Picking.Picked.{here, there}}
+use Rattle.er_pair.proofs.{Opening.{Opens, opens, closes, legal_none, none_legal}, Opening.Opens.opened, Searching.search_of-none}
+use Rattle.er_pair.proofs.Searching.{search_of-cons}
 
 -- ---- the first of some pairings
 

@@ -1,16 +1,10 @@
 -- Rows to which a position is added.
 use Rattle.std.proofs.Common.{◌≡◌, inl, inr, ℕ, ◌<◌, ◌≤◌, ◌==◌, ◌||◌, ◌&&◌, not, true, false, List, [], length, slice_index, ◌∙◌, arith}
-use Rattle.std.proofs.lemmas.Bool.{cases_lt}
-use Rattle.std.proofs.lemmas.Bool.Decides.{nat_tests}
-use Rattle.std.proofs.lemmas.List.{get_or_past}
-use Rattle.er_pair.specs.declared.meetings.TheConstants.{NUMBERS}
-use Rattle.er_pair.specs.declared.rows.TheConstants.{WORDS}
-use Rattle.er_pair.specs.declared.rows.Cursor.{Cursor}
-use Rattle.er_pair.specs.Met.{has_met}
-use Rattle.er_pair.specs.inside.Seats.{AreByNumber, CountsAll, AreByPosition}
+use Rattle.std.proofs.{lemmas.Bool.cases_lt, lemmas.Bool.Decides.nat_tests, lemmas.List.get_or_past}
+use Rattle.er_pair.specs.{declared.meetings.TheConstants.NUMBERS, declared.rows.TheConstants.WORDS, declared.rows.Cursor.Cursor}
+use Rattle.er_pair.specs.{Met.has_met, inside.Seats.{AreByNumber, CountsAll, AreByPosition}, declared.rows.Row.Row, Rows.has_place}
+use Rattle.er_pair.specs.Rows.{is_ahead, row_at}
 use Rattle.er_pair.proofs.Bits.{no_word}
-use Rattle.er_pair.specs.declared.rows.Row.{Row}
-use Rattle.er_pair.specs.Rows.{has_place, is_ahead, row_at}
 
 -- the position stands with those of the numbers that the walk has passed
 pub record IsSeating (before rows : List Row) (numbers absent : Row) (walk : Cursor) (position : ℕ) : Type 0 where

@@ -1,24 +1,17 @@
 -- The search of the positions that are free and ahead, candidate by candidate.
-use Rattle.std.proofs.Common.{◌≡◌, inl, inr, ℕ, zero, suc, ◌+◌, ◌-◌, ◌*◌, ◌<◌, ◌≤◌, ◌==◌, ◌||◌, ◌&&◌, not, Bool, true, false, List, [], ◌∷◌}
-use Rattle.std.proofs.Common.{◌++◌, length, Option, Some, None, refl, sym, ap, ◌∙◌, arith, set, take, drop, append-nil, length-append}
-use Rattle.std.proofs.Common.{nat_lt}
-use Rattle.std.proofs.lemmas.Bool.{cases_lt, cases_Bool}
-use Rattle.std.proofs.lemmas.Bool.Decides.{nat_tests}
+use Rattle.std.proofs.Common.{◌≡◌, inl, inr, ℕ, zero, suc, ◌+◌, ◌-◌, ◌*◌, ◌<◌, ◌≤◌, ◌==◌, ◌||◌, ◌&&◌, not, Bool, true, false, List, []}
+use Rattle.std.proofs.Common.{◌∷◌, ◌++◌, length, Option, Some, None, refl, sym, ap, ◌∙◌, arith, set, take, drop, append-nil}
+use Rattle.std.proofs.{Common.{length-append, nat_lt}, lemmas.Bool.{cases_lt, cases_Bool}, lemmas.Bool.Decides.nat_tests}
 use Rattle.std.proofs.lemmas.List.{take_all, drop_all, nil_from_length}
 use Rattle.std.specs.Slice.Scan.{HoldsNowhere}
-use Rattle.er_pair.specs.declared.dead_ends.KnownDeadEnd.{KnownDeadEnd}
-use Rattle.er_pair.specs.declared.rows.Cursor.{Cursor}
-use Rattle.er_pair.specs.declared.rows.Row.{Row}
-use Rattle.er_pair.specs.declared.search.Outcome.{Outcome}
-use Rattle.er_pair.specs.declared.search.Outcome.TheVariants.{Paired, DeadEnd, OutOfSteps}
-use Rattle.er_pair.specs.declared.rows.TheConstants.{WORDS}
-use Rattle.er_pair.specs.Pairing.{Pair}
-use Rattle.er_pair.specs.Rows.{has_place, ahead_of, is_later, row_at, IsNoneAhead, IsNext}
-use Rattle.er_pair.specs.inside.Search.{Answer, SearchAnswers, after_step, tries, search_of, met_in, free_ahead, answer_ahead, AreDeadEnds}
-use Rattle.er_pair.proofs.Searching.{search_of-none, search_of-cons}
-use Rattle.er_pair.proofs.Ahead.{ahead-same, later_free}
-use Rattle.er_pair.proofs.Passing.{passing, passing-none, passing-same, passing-append}
 use borrow.Rule.Slice.PartMut.{put_mid}
+use Rattle.er_pair.specs.{declared.dead_ends.KnownDeadEnd.KnownDeadEnd, declared.rows.Cursor.Cursor, declared.rows.Row.Row}
+use Rattle.er_pair.specs.{declared.search.Outcome.Outcome, declared.search.Outcome.TheVariants.{Paired, DeadEnd, OutOfSteps}}
+use Rattle.er_pair.specs.{declared.rows.TheConstants.WORDS, Pairing.Pair, Rows.{has_place, ahead_of, is_later, row_at, IsNoneAhead, IsNext}}
+use Rattle.er_pair.specs.inside.Search.{Answer, SearchAnswers, after_step, tries, search_of, met_in, free_ahead, answer_ahead}
+use Rattle.er_pair.specs.inside.Search.{AreDeadEnds}
+use Rattle.er_pair.proofs.{Searching.{search_of-none, search_of-cons}, Ahead.{ahead-same, later_free}, Passing.{passing, passing-none}}
+use Rattle.er_pair.proofs.Passing.{passing-same, passing-append}
 
 -- ---- the candidates of the first, of the positions that pass
 

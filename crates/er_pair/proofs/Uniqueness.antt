@@ -1,12 +1,9 @@
 -- An event has under its keys one order.
 use Rattle.std.proofs.Common.{◌≡◌, inl, inr, ℕ, suc, true, IsTrue, List, [], ◌∷◌, AllPairs, IsPermutation, refl, sym, ap, ◌∙◌, arith}
-use Rattle.std.proofs.Common.{true≢false}
-use Rattle.std.proofs.lemmas.List.Sorted.{IsPermutation-sym, IsPermutation-trans}
+use Rattle.std.proofs.{Common.true≢false, lemmas.List.Sorted.{IsPermutation-sym, IsPermutation-trans}}
 use Rattle.er_event.specs.Event.{EventValue}
 use Rattle.er_pair.specs.Order.{comes_before, active_numbers, seats_of, IsOrder}
-use Rattle.er_pair.proofs.Picking.{In, Contains-from_In}
-use Rattle.er_pair.proofs.Counting.{In-IsPermutation, IsPermutation-uncons}
-use Rattle.er_pair.proofs.Ordering.{comes_one_way}
+use Rattle.er_pair.proofs.{Picking.{In, Contains-from_In}, Counting.{In-IsPermutation, IsPermutation-uncons}, Ordering.comes_one_way}
 
 module _ (event : EventValue) (key : ℕ → ℕ) where
   abbrev Sorted : List ℕ → Type 0

@@ -1,6 +1,6 @@
 -- What a number with a width writes, and texts that are written piece by piece.
-use Rattle.std.proofs.Common.{◌≡◌, ℕ, List, ◌++◌, refl, ◌∙◌, ap, arith, append_assoc, lit<, decimal}
-use Rattle.std.proofs.Padding.{padded_integral_right, padded_integral_zeros}
+use Rattle.std.proofs.{Common.{◌≡◌, ℕ, List, ◌++◌, refl, ◌∙◌, ap, arith, append_assoc, lit<, decimal}, Padding.padded_integral_right}
+use Rattle.std.proofs.Padding.{padded_integral_zeros}
 use Rattle.std.specs.Fmt.{styled_decimal, format_spec}
 use Rattle.er_paper.specs.Column.{right, two_digits}
 

@@ -1,25 +1,15 @@
 -- Worked examples, computed from the definitions: slips as JSON, tables as CSV, and what is read of both.
-use Rattle.std.specs.Prelude.{◌≡◌, ℕ, Bool, true, false, List, [], ◌∷◌, map, Option, Some, None, Ok, Err, codes, refl}
-use Rattle.std.specs.Str.{is_utf8, chars}
-use Rattle.std.specs.Char.{encode_utf8}
-use Rattle.std.specs.Fmt.{digits}
-use Rattle.csv.specs.Machine.{next_record}
-use Rattle.csv.specs.Reading.{Reached, strip_bom}
-use Rattle.csv.specs.Writing.{escaped, fields_text, is_blank}
-use Rattle.csv.specs.declared.parser.State.TheVariants as st
+use Rattle.std.specs.{Prelude.{◌≡◌, ℕ, Bool, true, false, List, [], ◌∷◌, map, Option, Some, None, Ok, Err, codes, refl}, Str.is_utf8}
+use Rattle.std.specs.{Str.chars, Char.encode_utf8, Fmt.digits}
+use Rattle.csv.specs.{Machine.next_record, Reading.{Reached, strip_bom}, Writing.{escaped, fields_text, is_blank}}
 use Rattle.csv.proofs.RoundTrip.{rows_text}
-use Rattle.er_event.specs.declared.players.Player.{Player}
-use Rattle.er_event.specs.declared.matches.Match.{Match}
-use Rattle.er_event.specs.declared.rounds.Round.{Round}
+use Rattle.er_event.specs.{declared.players.Player.Player, declared.matches.Match.Match, declared.rounds.Round.Round}
+use Rattle.er_event.specs.{declared.scores.Games.Games, declared.slips.SlipRow.SlipRow}
 use Rattle.serde_json.proofs.OnLiterals.{serde_json_on_literals}
-use Rattle.er_event.specs.declared.scores.Games.{Games}
-use Rattle.er_event.specs.declared.slips.SlipRow.{SlipRow}
-use Rattle.er_paper.specs.declared.imports.CsvFault.TheVariants.{BadHeading, BadRow}
-use Rattle.er_paper.specs.declared.imports.PlayerLine.{PlayerLine}
-use Rattle.er_paper.specs.Csv.{HasRecords}
-use Rattle.er_paper.specs.Reading.{number_of, players_of, results_of}
-use Rattle.er_paper.specs.Slip.{slip_text, slip_games}
+use Rattle.er_paper.specs.{declared.imports.CsvFault.TheVariants.{BadHeading, BadRow}, declared.imports.PlayerLine.PlayerLine}
+use Rattle.er_paper.specs.{Csv.HasRecords, Reading.{number_of, players_of, results_of}, Slip.{slip_text, slip_games}}
 use Rattle.er_paper.specs.Tables.{players_heading, player_fields, results_heading, rounds_table}
+use Rattle.csv.specs.declared.parser.State.TheVariants as st
 
 abbrev games : ℕ → ℕ → ℕ → Games
 games x y d = record { x = x; y = y; d = d }

@@ -1,20 +1,13 @@
 -- The fields of a record, and the number that digits are.
 use Rattle.std.proofs.Common.{◌≡◌, ◌≢◌, ℕ, zero, suc, ◌^◌, ◌<◌, ◌≤◌, Bool, true, false, ◌&&◌, if◌then◌else◌, Bor, List, [], ◌∷◌, length}
-use Rattle.std.proofs.Common.{drop, Option, Some, None, Result, Ok, Err, refl, sym, ap, ◌∙◌, arith, rules}
-use Rattle.std.specs.Fmt.{decimal}
-use Rattle.std.specs.Option.{option_map, option_and_then}
-use Rattle.std.specs.Str.{bytes_eq}
-use Rattle.std.specs.Char.{is_ascii_digit}
-use Rattle.std.specs.List.{list_all}
-use Rattle.std.specs.Str.Parse.{digits_value, ParsesUnsigned}
-use Rattle.std.specs.Result.{result_ok}
-use Rattle.std.proofs.lemmas.Bool.Decides.{nat_tests}
+use Rattle.std.proofs.{Common.{drop, Option, Some, None, Result, Ok, Err, refl, sym, ap, ◌∙◌, arith, rules}, lemmas.Bool.Decides.nat_tests}
 use Rattle.std.proofs.lemmas.Str.Parse.{IsNumeralModel, IsDigitsTest, numerals_by_value, parse_digits, digits_value_short}
+use Rattle.std.proofs.lemmas.Fmt.{IsAscii-from_digits, decimal_nonempty, digits_decimal, digits_value-decimal, length-decimal-le}
+use Rattle.std.proofs.lemmas.Str.{IsUtf8-from_ascii}
+use Rattle.std.specs.{Fmt.decimal, Option.{option_map, option_and_then}, Str.{bytes_eq, IsUtf8}, Char.is_ascii_digit, List.list_all}
+use Rattle.std.specs.{Str.Parse.{digits_value, ParsesUnsigned}, Result.result_ok}
 use Rattle.csv.specs.Records.{field_at}
 use Rattle.er_paper.specs.Reading.{number_of, number_within, is_within, are_fields}
-use Rattle.std.proofs.lemmas.Fmt.{IsAscii-from_digits, decimal_nonempty, digits_decimal, digits_value-decimal, length-decimal-le}
-use Rattle.std.specs.Str.{IsUtf8}
-use Rattle.std.proofs.lemmas.Str.{IsUtf8-from_ascii}
 
 and-false : (a : Bool) → (a && false) ≡ false
 and-false true = refl

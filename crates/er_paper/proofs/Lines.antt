@@ -2,8 +2,7 @@
 use Rattle.std.proofs.Common.{◌≡◌, ℕ, zero, suc, ◌+◌, ◌<◌, ◌≤◌, List, [], ◌∷◌, ◌++◌, length, map, drop, get_or, Option, Some, Result, Ok}
 use Rattle.std.proofs.Common.{Err, refl, sym, ap, ap₂, ◌∙◌, arith, append_assoc, drop-cons}
 use Rattle.csv.specs.Records.{Row, fields_of}
-use Rattle.er_paper.specs.declared.imports.CsvFault.{CsvFault}
-use Rattle.er_paper.specs.Reading.{lines_from, with_line}
+use Rattle.er_paper.specs.{declared.imports.CsvFault.CsvFault, Reading.{lines_from, with_line}}
 
 -- lines that were read, and then what the later rows are read as
 abbrev pub after_lines : {L : Type 0} → List L → Result (List L) CsvFault → Result (List L) CsvFault

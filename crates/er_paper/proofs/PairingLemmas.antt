@@ -1,9 +1,7 @@
 -- The lines of matches, one after the other.
 use Rattle.std.proofs.Common.{◌≡◌, ℕ, ◌+◌, ◌<◌, suc, List, [], ◌∷◌, ◌++◌, flat_map, length, take, get_or, sym, ap, ◌∙◌, arith, append-nil}
-use Rattle.std.proofs.lemmas.List.{take_more, length-take-le}
-use Rattle.std.proofs.lemmas.List.Concat.{flat_map-append}
-use Rattle.er_event.specs.declared.matches.Match.{Match}
-use Rattle.er_event.specs.Round.{numbered_from}
+use Rattle.std.proofs.{lemmas.List.{take_more, length-take-le}, lemmas.List.Concat.flat_map-append}
+use Rattle.er_event.specs.{declared.matches.Match.Match, Round.numbered_from}
 
 numbered_from-push : (n : ℕ) (ms : List Match) (m : Match) → numbered_from n (ms ++ m ∷ []) ≡ numbered_from n ms ++ (n + length ms, m) ∷ []
 numbered_from-push n [] m = let same : n ≡ n + 0 = omega arith in ap (λ k. (k, m) ∷ []) same

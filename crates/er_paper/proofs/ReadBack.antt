@@ -1,40 +1,24 @@
 -- What is written of an event is read as what it was made of.
 use Rattle.std.proofs.Common.{◌≡◌, ◌≢◌, ℕ, suc, ◌+◌, ◌^◌, ◌<◌, ◌≤◌, ◌==◌, eqb, Bool, true, false, ◌||◌, if◌then◌else◌, IsTrue, IsFalse}
 use Rattle.std.proofs.Common.{IfSome, List, [], ◌∷◌, ◌++◌, map, flat_map, length, All, AllPairs, Contains, Option, Some, None, Result, Ok}
-use Rattle.std.proofs.Common.{refl, sym, ap, ap₂, subst, ◌∙◌, arith}
-use Rattle.std.specs.List.{AllByRecursion, list_any, range_with_len}
-use Rattle.std.specs.Fmt.{decimal}
-use Rattle.std.proofs.lemmas.Bool.Decides.{nat_tests, Decides-eqb}
-use Rattle.std.proofs.lemmas.Fmt.{decimal_nonempty}
-use Rattle.std.proofs.lemmas.List.{map-append}
-use Rattle.std.proofs.lemmas.List.Elements.{recursion_from_All}
-use Rattle.std.proofs.lemmas.List.FromFn.{get_or-range_with_len, length-range_with_len}
-use Rattle.std.proofs.lemmas.Map.Made.{IsDistinct-from_AllPairs}
+use Rattle.std.proofs.{Common.{refl, sym, ap, ap₂, subst, ◌∙◌, arith}, lemmas.Bool.Decides.{nat_tests, Decides-eqb}}
+use Rattle.std.proofs.{lemmas.Fmt.decimal_nonempty, lemmas.List.map-append, lemmas.List.Elements.recursion_from_All}
+use Rattle.std.proofs.{lemmas.List.FromFn.{get_or-range_with_len, length-range_with_len}, lemmas.Map.Made.IsDistinct-from_AllPairs}
 use Rattle.std.proofs.lemmas.Map.Steps.{length-le_from_distinct_below}
-use Rattle.csv.specs.Reading.{AreRecords, default_config, strip_bom}
-use Rattle.csv.specs.Writing.{escaped, fields_text, is_blank, read_back}
-use Rattle.csv.specs.declared.parser.State.TheVariants as st
+use Rattle.std.specs.{List.{AllByRecursion, list_any, range_with_len}, Fmt.decimal}
+use Rattle.csv.specs.{Reading.{AreRecords, default_config, strip_bom}, Writing.{escaped, fields_text, is_blank, read_back}}
 use Rattle.csv.proofs.RoundTrip.{rows_text}
-use Rattle.er_event.specs.declared.players.Player.{Player}
-use Rattle.er_event.specs.declared.matches.Match.{Match}
-use Rattle.er_event.specs.declared.rounds.Round.{Round}
-use Rattle.er_event.specs.declared.scores.Games.{Games}
-use Rattle.er_event.specs.Name.{is_lawful_name}
-use Rattle.er_event.specs.Round.{is_bye, numbered_from, seats, table_of}
-use Rattle.er_event.specs.Score.{is_swiss_score}
-use Rattle.er_event.specs.Event.{EventValue}
-use Rattle.er_event.specs.Sound.{IsRound, IsSoundButForSeeds, names, numbers}
-use Rattle.er_paper.specs.declared.imports.CsvFault.{CsvFault}
-use Rattle.er_paper.specs.declared.imports.PlayerLine.{PlayerLine}
-use Rattle.er_paper.specs.declared.imports.ResultLine.{ResultLine}
-use Rattle.er_paper.specs.Csv.{HasRecords}
-use Rattle.er_paper.specs.Tables.{players_heading, flag_field, player_fields, players_table, results_heading, score_fields, result_fields}
-use Rattle.er_paper.specs.Tables.{round_table, rounds_table, results_table}
+use Rattle.er_event.specs.{declared.players.Player.Player, declared.matches.Match.Match, declared.rounds.Round.Round}
+use Rattle.er_event.specs.{declared.scores.Games.Games, Name.is_lawful_name, Round.{is_bye, numbered_from, seats, table_of}}
+use Rattle.er_event.specs.{Score.is_swiss_score, Event.EventValue, Sound.{IsRound, IsSoundButForSeeds, names, numbers}}
+use Rattle.er_paper.specs.{declared.imports.CsvFault.CsvFault, declared.imports.PlayerLine.PlayerLine}
+use Rattle.er_paper.specs.{declared.imports.ResultLine.ResultLine, Csv.HasRecords, Tables.{players_heading, flag_field, player_fields}}
+use Rattle.er_paper.specs.Tables.{players_table, results_heading, score_fields, result_fields, round_table, rounds_table, results_table}
 use Rattle.er_paper.specs.Reading.{number_within, lines_from, with_line, full_line, players_of, score_of, result_of, results_of}
 use Rattle.er_paper.specs.ReadBack.{line_of_player, line_of_match, lines_of_round, lines_of_rounds, exported_players, exported_results}
 use Rattle.er_paper.specs.ReadBack.{PlayersReadBack, ResultsReadBack}
-use Rattle.er_paper.proofs.Fields.{within-decimal}
-use Rattle.er_paper.proofs.Rows.{back, one_list}
+use Rattle.er_paper.proofs.{Fields.within-decimal, Rows.{back, one_list}}
+use Rattle.csv.specs.declared.parser.State.TheVariants as st
 
 -- ---- the records of what was written
 

@@ -1,18 +1,12 @@
 -- Many records as one text, and the one list of records of a text.
 use Rattle.std.proofs.Common.{◌≡◌, ℕ, suc, ◌+◌, ◌<◌, List, [], ◌∷◌, ◌++◌, map, flat_map, take, length, get_or, refl, sym, ap, ap₂, subst}
-use Rattle.std.proofs.Common.{◌∙◌, arith, append_assoc, append-nil, Some, None}
-use Rattle.std.proofs.lemmas.List.{map_more, take_more, length-take-le}
-use Rattle.csv.specs.Machine.{Read, next_record}
-use Rattle.csv.specs.Reading.{AreRecords, Reached, default_config}
-use Rattle.csv.specs.Writing.{default_writer, row_text, read_back}
-use Rattle.csv.specs.declared.parser.State.{State}
-use Rattle.csv.specs.declared.parser.State.TheVariants as st
-use Rattle.csv.specs.declared.parser.Config.{Config}
+use Rattle.std.proofs.{Common.{◌∙◌, arith, append_assoc, append-nil, Some, None}, lemmas.List.{map_more, take_more, length-take-le}}
+use Rattle.csv.specs.{Machine.{Read, next_record}, Reading.{AreRecords, Reached, default_config}, Writing.{default_writer, row_text}}
+use Rattle.csv.specs.{Writing.read_back, declared.parser.State.State, declared.parser.Config.Config}
 use Rattle.csv.proofs.RoundTrip.{rows_text, read-write}
-use Rattle.er_event.specs.declared.players.Player.{Player}
-use Rattle.er_event.specs.declared.matches.Match.{Match}
-use Rattle.er_event.specs.declared.rounds.Round.{Round}
+use Rattle.er_event.specs.{declared.players.Player.Player, declared.matches.Match.Match, declared.rounds.Round.Round}
 use Rattle.er_paper.specs.Tables.{players_heading, player_fields, result_fields, round_table, rounds_table}
+use Rattle.csv.specs.declared.parser.State.TheVariants as st
 
 pub rows-push : (rows : List (List (List ℕ))) (row : List (List ℕ))
     → rows_text (rows ++ row ∷ []) ≡ rows_text rows ++ row_text default_writer row

@@ -1,14 +1,10 @@
 -- Bytes that are text, or not, and the games of their JSON.
 use Rattle.std.proofs.Common.{◌≡◌, ℕ, List, Bool, true, false, Option, Some, None, Result, Ok, Err, IfOk, refl, sym, ◌∙◌}
-use Rattle.std.specs.Option.{ok_or}
-use Rattle.er_event.specs.declared.scores.Games.{Games}
-use Rattle.er_paper.specs.declared.slips.SlipFault.{SlipFault}
-use Rattle.er_paper.specs.declared.slips.SlipFault.TheVariants.{Bad}
-use Rattle.std.specs.Str.{IsUtf8, is_utf8}
 use Rattle.std.proofs.lemmas.Str.{is_utf8-from_IsUtf8, IsUtf8-from_is_utf8}
-use Rattle.serde_json.specs.Data.{Data}
-use Rattle.serde_json.specs.Read.{read}
-use Rattle.er_paper.specs.Slip.{games_of, slip_games}
+use Rattle.std.specs.{Option.ok_or, Str.{IsUtf8, is_utf8}}
+use Rattle.er_event.specs.declared.scores.Games.{Games}
+use Rattle.serde_json.specs.{Data.Data, Read.read}
+use Rattle.er_paper.specs.{declared.slips.SlipFault.SlipFault, declared.slips.SlipFault.TheVariants.Bad, Slip.{games_of, slip_games}}
 
 pub games-read : (text : List ℕ) (d : Data) → IsUtf8 text → read text ≡ Some d → slip_games text ≡ games_of d
 unfolding slip_games

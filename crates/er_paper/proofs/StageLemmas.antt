@@ -1,9 +1,7 @@
 -- The lines of stages, one after the other.
 use Rattle.std.proofs.Common.{◌≡◌, ℕ, ◌+◌, ◌<◌, suc, List, [], ◌∷◌, ◌++◌, length, take, get_or, sym, ap, ◌∙◌, arith, append_assoc}
-use Rattle.std.proofs.Common.{append-nil}
-use Rattle.std.proofs.lemmas.List.{take_more, length-take-le}
-use Rattle.er_event.specs.declared.matches.Match.{Match}
-use Rattle.er_event.specs.Event.{EventValue}
+use Rattle.std.proofs.{Common.append-nil, lemmas.List.{take_more, length-take-le}}
+use Rattle.er_event.specs.{declared.matches.Match.Match, Event.EventValue}
 use Rattle.er_paper.specs.Texts.{stage_lines, stages_lines}
 
 stages-push : (e : EventValue) (n : ℕ) (stages : List (List Match)) (stage : List Match)

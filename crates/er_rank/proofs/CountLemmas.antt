@@ -1,17 +1,10 @@
 -- How many matches each player has, one encounter after the other, and when there may be one more.
 use Rattle.std.proofs.Common.{◌≡◌, ℕ, ◌+◌, ◌<◌, ◌≤◌, ◌==◌, cond, List, [], ◌++◌, length, get_or, count_by, All, length-append, arith, inl}
-use Rattle.std.proofs.Common.{inr}
-use Rattle.std.proofs.Math.ListN.{set}
-use Rattle.std.proofs.lemmas.Bool.{cases_eq}
-use Rattle.std.proofs.lemmas.Bool.Decides.{nat_tests}
-use Rattle.std.proofs.lemmas.List.{get_or_append_left, length-set, get_or-set_same, get_or-set_other}
-use Rattle.std.proofs.lemmas.List.Elements.{All-push}
+use Rattle.std.proofs.{Common.inr, Math.ListN.set, lemmas.Bool.cases_eq, lemmas.Bool.Decides.nat_tests, lemmas.List.get_or_append_left}
+use Rattle.std.proofs.{lemmas.List.{length-set, get_or-set_same, get_or-set_other}, lemmas.List.Elements.All-push}
 use Rattle.std.proofs.lemmas.List.Sums.{sum_by-append, sum_by_push}
-use Rattle.er_event.specs.declared.events.TheConstants.{MAX_ROUNDS}
-use Rattle.er_event.specs.declared.totals.Totals.{Totals}
-use Rattle.er_rank.specs.inside.Counting.{with_match, AreCountsOf}
-use Rattle.er_rank.specs.Meeting.{Encounter, IsRecord, AreEncounters}
-use Rattle.er_rank.specs.Tally.{IsKnown}
+use Rattle.er_event.specs.{declared.events.TheConstants.MAX_ROUNDS, declared.totals.Totals.Totals}
+use Rattle.er_rank.specs.{inside.Counting.{with_match, AreCountsOf}, Meeting.{Encounter, IsRecord, AreEncounters}, Tally.IsKnown}
 use Rattle.er_rank.proofs.OpponentLemmas.{All-here}
 
 -- how many of these encounters the player has

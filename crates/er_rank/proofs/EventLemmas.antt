@@ -1,29 +1,18 @@
 -- The tallies and the meetings of a sound event keep the limits.
-use Rattle.std.proofs.Common.{◌≡◌, ℕ, ◌*◌, ◌≤◌, ◌==◌, min, max, suc, Bool, List, [], ◌∷◌, map, filter, length, sum_by, get_or, All, Option}
-use Rattle.std.proofs.Common.{Some, None, refl, sym, ap, ◌∙◌, arith}
+use Rattle.std.proofs.Common.{◌≡◌, ℕ, ◌*◌, ◌≤◌, ◌==◌, min, max, suc, Bool, List, [], ◌∷◌, map, filter, length, sum_by, get_or, All}
+use Rattle.std.proofs.{Common.{Option, Some, None, refl, sym, ap, ◌∙◌, arith}, lemmas.Bool.not-true, lemmas.Bool.Decides.nat_tests}
+use Rattle.std.proofs.{lemmas.List.length-map, lemmas.List.Elements.{All-map, All-filter, filter_passes}, lemmas.List.Sums.sum_by-cons}
+use Rattle.std.proofs.lemmas.List.Sums.{length-filter}
 use Rattle.std.specs.List.{range_with_len}
-use Rattle.std.proofs.lemmas.Bool.{not-true}
-use Rattle.std.proofs.lemmas.Bool.Decides.{nat_tests}
-use Rattle.std.proofs.lemmas.List.{length-map}
-use Rattle.std.proofs.lemmas.List.Elements.{All-map, All-filter, filter_passes}
-use Rattle.std.proofs.lemmas.List.Sums.{sum_by-cons, length-filter}
-use Rattle.er_event.specs.declared.scores.Games.{Games}
-use Rattle.er_event.specs.declared.tallies.Meeting.{Meeting}
-use Rattle.er_event.specs.declared.tallies.Tally.{Tally}
-use Rattle.er_event.specs.Event.{EventValue}
-use Rattle.er_event.specs.Lines.{Line, lines, own_lines}
-use Rattle.er_event.specs.Round.{is_bye}
-use Rattle.er_event.specs.Sound.{IsSoundButForSeeds}
-use Rattle.er_event.specs.Tallies.{tally_by, tallies, counted_matches, meeting_by, meetings}
-use Rattle.er_event.specs.Totals.{points_by, game_points_by, games_by, points_of, game_points_of, games_of, totals}
-use Rattle.er_rank.specs.declared.lists.TheConstants.{MAX_GAMES_OF_MATCH}
-use Rattle.er_rank.specs.Meeting.{encounters, totals_of, IsRecord, AreTallies, AreEncounters, IsKnownTo, AreListsOf, AreLists}
-use Rattle.er_rank.specs.Standings.{opponents}
-use Rattle.er_rank.proofs.MeetingLemmas.{is_met, opponents-met, lawful-matches, known-counted}
-use Rattle.er_rank.proofs.MeritLemmas.{opponents-few}
-use Rattle.er_rank.proofs.OpponentLemmas.{met-count}
-use Rattle.er_rank.proofs.SoundLemmas.{AreWithin-sound, first_numbers, seats_known}
-use Rattle.er_rank.proofs.StandingLemmas.{map-map, map-agree, totals_of-known}
+use Rattle.er_event.specs.{declared.scores.Games.Games, declared.tallies.Meeting.Meeting, declared.tallies.Tally.Tally, Event.EventValue}
+use Rattle.er_event.specs.{Lines.{Line, lines, own_lines}, Round.is_bye, Sound.IsSoundButForSeeds, Tallies.{tally_by, tallies}}
+use Rattle.er_event.specs.{Tallies.{counted_matches, meeting_by, meetings}, Totals.{points_by, game_points_by, games_by, points_of}}
+use Rattle.er_event.specs.Totals.{game_points_of, games_of, totals}
+use Rattle.er_rank.specs.{declared.lists.TheConstants.MAX_GAMES_OF_MATCH, Meeting.{encounters, totals_of, IsRecord, AreTallies}}
+use Rattle.er_rank.specs.{Meeting.{AreEncounters, IsKnownTo, AreListsOf, AreLists}, Standings.opponents}
+use Rattle.er_rank.proofs.{MeetingLemmas.{is_met, opponents-met, lawful-matches, known-counted}, MeritLemmas.opponents-few}
+use Rattle.er_rank.proofs.{OpponentLemmas.met-count, SoundLemmas.{AreWithin-sound, first_numbers, seats_known}, StandingLemmas.map-map}
+use Rattle.er_rank.proofs.StandingLemmas.{map-agree, totals_of-known}
 
 points-low : (seen : Option Games) → points_by seen ≤ 3
 points-low None = omega arith

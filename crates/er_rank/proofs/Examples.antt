@@ -1,17 +1,10 @@
 -- Worked examples 5, 9, 10, 15, 17 and 19, computed from the definitions, and the limit of a match's games.
 use Rattle.std.specs.Prelude.{◌≡◌, ℕ, ◌+◌, Bool, true, false, List, [], ◌∷◌, ◌++◌, map, replicate, count_by, codes, Some, refl}
 use Rattle.er_share.specs.Fraction.{fraction_cmp, percentage, average, hundredths}
-use Rattle.er_event.specs.declared.events.Phase.TheVariants.{Swiss}
-use Rattle.er_event.specs.declared.players.Player.{Player}
-use Rattle.er_event.specs.declared.matches.Match.{Match}
-use Rattle.er_event.specs.declared.rounds.Round.{Round}
-use Rattle.er_event.specs.Bracket.{open_match}
-use Rattle.er_event.specs.Event.{EventValue}
-use Rattle.er_event.specs.Lines.{lines}
-use Rattle.er_event.specs.Totals.{totals}
-use Rattle.er_rank.specs.declared.lists.TheConstants.{MAX_GAMES_OF_MATCH}
-use Rattle.er_rank.specs.declared.rows.Row.{Row}
-use Rattle.er_rank.specs.Standings.{opponents_match_win, game_win, opponents_game_win, is_better, is_listed_before, first_active}
+use Rattle.er_event.specs.{declared.events.Phase.TheVariants.Swiss, declared.players.Player.Player, declared.matches.Match.Match}
+use Rattle.er_event.specs.{declared.rounds.Round.Round, Bracket.open_match, Event.EventValue, Lines.lines, Totals.totals}
+use Rattle.er_rank.specs.{declared.lists.TheConstants.MAX_GAMES_OF_MATCH, declared.rows.Row.Row, Standings.{opponents_match_win, game_win}}
+use Rattle.er_rank.specs.Standings.{opponents_game_win, is_better, is_listed_before, first_active}
 
 -- three that one of the two wins or loses, and three drawn
 pub games_of_a_match : MAX_GAMES_OF_MATCH ≡ 6

@@ -1,35 +1,20 @@
 -- The ranked placings are the standings, and there are no others.
 use Rattle.std.proofs.Common.{◌≡◌, ◌≢◌, ℕ, ◌+◌, ◌*◌, ◌<◌, ◌&&◌, ◌||◌, nat_lt, Bool, true, false, List, map, length, get_or, count_by}
-use Rattle.std.proofs.Common.{AllPairs, Contains, IsTrue, refl, sym, ap, ap₂, ◌∙◌, arith}
-use Rattle.std.specs.Cmp.{then_flip}
-use Rattle.std.specs.List.Sorted.{IsPermutation}
-use Rattle.std.specs.declared.cmp.Ordering.{Ordering}
-use Rattle.std.specs.declared.cmp.Ordering.TheVariants.{Less, Equal, Greater}
-use Rattle.std.specs.Ordering.{ordering_then, ordering_reverse, is_eq, is_gt}
-use Rattle.std.proofs.Math.Nat.{eq_of_mul-eq-mul_right}
-use Rattle.std.proofs.lemmas.Bool.Decides.{nat_tests}
-use Rattle.std.proofs.lemmas.Cmp.{nat_cmp_total}
-use Rattle.std.proofs.lemmas.List.{get_or-map, get_or_default, length-map, same_lists}
-use Rattle.std.proofs.lemmas.List.Elements.{All-map}
-use Rattle.std.proofs.lemmas.List.Sorted.{IsPermutation-map, IsPermutation-sym, IsPermutation-trans, length_permutation, All-permutation}
-use Rattle.er_share.specs.Fraction.{Fraction, fraction_cmp}
-use Rattle.er_share.specs.Share.{IsShareOf, fraction_of}
-use Rattle.er_event.specs.declared.players.Player.{Player}
-use Rattle.er_event.specs.Event.{EventValue}
-use Rattle.er_event.specs.Sound.{numbers, IsSoundButForSeeds}
-use Rattle.er_event.specs.declared.tallies.Tally.{Tally}
-use Rattle.er_event.specs.Tallies.{tally_by, tallies, meetings}
-use Rattle.er_event.specs.Totals.{totals}
-use Rattle.er_rank.specs.declared.placings.Placing.{Placing}
-use Rattle.er_rank.specs.declared.rows.Row.{Row}
-use Rattle.er_rank.specs.Meeting.{Encounter, encounters}
-use Rattle.er_rank.specs.inside.Placing.{ranked, ArePlacingsInOrder}
-use Rattle.er_rank.specs.Standings.{opponents_match_win, opponents_game_win, game_win, standing_cmp, is_better, is_listed_before, IsRowOf}
-use Rattle.er_rank.specs.Standings.{AreStandings, OneStandings, OneTop, first_active}
-use Rattle.er_rank.proofs.PlacingLemmas.{row_in, sorted_apart}
-use Rattle.er_rank.proofs.OrderLemmas.{apart_from_range, one_order}
-use Rattle.er_rank.proofs.SoundLemmas.{first_numbers, numbers_known, number_at}
-use Rattle.er_rank.proofs.StandingLemmas.{IsPlacing, ArePlacings-each, rank-standing, listed_before, map-map}
+use Rattle.std.proofs.{Common.{AllPairs, Contains, IsTrue, refl, sym, ap, ap₂, ◌∙◌, arith}, Math.Nat.eq_of_mul-eq-mul_right}
+use Rattle.std.proofs.{lemmas.Bool.Decides.nat_tests, lemmas.Cmp.nat_cmp_total, lemmas.List.{get_or-map, get_or_default, length-map}}
+use Rattle.std.proofs.{lemmas.List.same_lists, lemmas.List.Elements.All-map, lemmas.List.Sorted.{IsPermutation-map, IsPermutation-sym}}
+use Rattle.std.proofs.lemmas.List.Sorted.{IsPermutation-trans, length_permutation, All-permutation}
+use Rattle.std.specs.{Cmp.then_flip, List.Sorted.IsPermutation, declared.cmp.Ordering.Ordering, declared.cmp.Ordering.TheVariants.Less}
+use Rattle.std.specs.{declared.cmp.Ordering.TheVariants.{Equal, Greater}, Ordering.{ordering_then, ordering_reverse, is_eq, is_gt}}
+use Rattle.er_share.specs.{Fraction.{Fraction, fraction_cmp}, Share.{IsShareOf, fraction_of}}
+use Rattle.er_event.specs.{declared.players.Player.Player, Event.EventValue, Sound.{numbers, IsSoundButForSeeds}}
+use Rattle.er_event.specs.{declared.tallies.Tally.Tally, Tallies.{tally_by, tallies, meetings}, Totals.totals}
+use Rattle.er_rank.specs.{declared.placings.Placing.Placing, declared.rows.Row.Row, Meeting.{Encounter, encounters}, inside.Placing.ranked}
+use Rattle.er_rank.specs.{inside.Placing.ArePlacingsInOrder, Standings.{opponents_match_win, opponents_game_win, game_win, standing_cmp}}
+use Rattle.er_rank.specs.Standings.{is_better, is_listed_before, IsRowOf, AreStandings, OneStandings, OneTop, first_active}
+use Rattle.er_rank.proofs.{PlacingLemmas.{row_in, sorted_apart}, OrderLemmas.{apart_from_range, one_order}, SoundLemmas.first_numbers}
+use Rattle.er_rank.proofs.{SoundLemmas.{numbers_known, number_at}, StandingLemmas.{IsPlacing, ArePlacings-each, rank-standing}}
+use Rattle.er_rank.proofs.StandingLemmas.{listed_before, map-map}
 
 -- ---- the ranked placings are the standings
 

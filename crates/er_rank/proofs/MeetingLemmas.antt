@@ -1,27 +1,17 @@
 -- Whom a player has met by the meetings is whom the player has met by the lines.
-use Rattle.std.proofs.Common.{◌≡◌, ℕ, ◌+◌, ◌<◌, ◌==◌, nat_lt, min, max, suc, Bool, true, not, if◌then◌else◌, List, [], ◌∷◌, ◌++◌, zero, map}
-use Rattle.std.proofs.Common.{filter, flat_map, length, take, get_or, All, Option, Some, None, refl, sym, ap, ap₂, ◌∙◌, arith, append_assoc}
-use Rattle.std.proofs.Common.{append-nil, inl, inr}
-use Rattle.std.proofs.lemmas.Bool.{cases_lt, cases_Bool, ne_eqb, not-true, cond_both, and_parts, and_from}
-use Rattle.std.proofs.lemmas.Bool.Decides.{nat_tests}
-use Rattle.std.proofs.lemmas.List.{map-append, take_more}
-use Rattle.std.proofs.lemmas.List.Concat.{flat_map-append}
-use Rattle.std.proofs.lemmas.List.Elements.{All-nil, All-cons, All-append, filter-append}
-use Rattle.er_event.specs.declared.matches.Match.{Match}
-use Rattle.er_event.specs.declared.rounds.Round.{Round}
-use Rattle.er_event.specs.declared.scores.Games.{Games}
-use Rattle.er_event.specs.declared.tallies.Meeting.{Meeting}
-use Rattle.er_event.specs.declared.totals.Totals.{Totals}
-use Rattle.er_event.specs.Event.{EventValue}
-use Rattle.er_event.specs.Lines as event
-use Rattle.er_event.specs.Lines.{own, lines_of_score, lines_of_match, counted_lines, lines_from}
-use Rattle.er_event.specs.Round.{is_bye, is_counted}
-use Rattle.er_event.specs.Tallies.{counted_matches, meeting_by, meetings}
-use Rattle.er_event.specs.Totals.{totals}
+use Rattle.std.proofs.Common.{◌≡◌, ℕ, ◌+◌, ◌<◌, ◌==◌, nat_lt, min, max, suc, Bool, true, not, if◌then◌else◌, List, [], ◌∷◌, ◌++◌, zero}
+use Rattle.std.proofs.Common.{map, filter, flat_map, length, take, get_or, All, Option, Some, None, refl, sym, ap, ap₂, ◌∙◌, arith}
+use Rattle.std.proofs.{Common.{append_assoc, append-nil, inl, inr}, lemmas.Bool.{cases_lt, cases_Bool, ne_eqb, not-true, cond_both}}
+use Rattle.std.proofs.{lemmas.Bool.{and_parts, and_from}, lemmas.Bool.Decides.nat_tests, lemmas.List.{map-append, take_more}}
+use Rattle.std.proofs.{lemmas.List.Concat.flat_map-append, lemmas.List.Elements.{All-nil, All-cons, All-append, filter-append}}
+use Rattle.er_event.specs.{declared.matches.Match.Match, declared.rounds.Round.Round, declared.scores.Games.Games}
+use Rattle.er_event.specs.{declared.tallies.Meeting.Meeting, declared.totals.Totals.Totals, Event.EventValue, Lines.{own, lines_of_score}}
+use Rattle.er_event.specs.{Lines.{lines_of_match, counted_lines, lines_from}, Round.{is_bye, is_counted}, Tallies.counted_matches}
+use Rattle.er_event.specs.{Tallies.{meeting_by, meetings}, Totals.totals}
 use Rattle.er_rank.specs.Meeting.{Encounter, encounters_of, encounters, opponents_of, IsRecord, IsKnownTo, AreKnownTo}
-use Rattle.er_rank.specs.Standings.{opponents}
-use Rattle.er_rank.specs.Tally.{IsKnown}
+use Rattle.er_rank.specs.{Standings.opponents, Tally.IsKnown}
 use Rattle.er_rank.proofs.OpponentLemmas.{opponents_of-append}
+use Rattle.er_event.specs.Lines as event
 
 abbrev pub is_met : Match → Bool
 is_met m = not (is_bye m)

@@ -1,24 +1,14 @@
 -- Whom each player has met, one encounter after the other.
 use Rattle.std.proofs.Common.{◌≡◌, ℕ, ◌+◌, ◌-◌, ◌<◌, ◌==◌, true, cond, List, [], ◌∷◌, ◌++◌, map, filter, length, take, get_or, count_by}
-use Rattle.std.proofs.Common.{All, sym, ap, ◌∙◌, arith, append-nil, append_assoc, inl, inr, zero, suc}
-use Rattle.std.proofs.Math.ListN.{set}
-use Rattle.std.proofs.lemmas.Bool.{cases_eq, ne_eqb, eq-eqb}
-use Rattle.std.proofs.lemmas.Bool.Decides.{nat_tests}
-use Rattle.std.proofs.lemmas.List.{map-append, length-map, length-set, take_more, get_or-set_same, get_or-set_other}
-use Rattle.std.proofs.lemmas.List.Concat.{flat_map-append}
-use Rattle.std.proofs.lemmas.List.Elements.{filter-append}
-use Rattle.std.proofs.lemmas.List.Sums.{length-filter, sum_by-append, sum_by-cons}
+use Rattle.std.proofs.{Common.{All, sym, ap, ◌∙◌, arith, append-nil, append_assoc, inl, inr, zero, suc}, Math.ListN.set}
+use Rattle.std.proofs.{lemmas.Bool.{cases_eq, ne_eqb, eq-eqb}, lemmas.Bool.Decides.nat_tests, lemmas.List.{map-append, length-map}}
+use Rattle.std.proofs.{lemmas.List.{length-set, take_more, get_or-set_same, get_or-set_other}, lemmas.List.Concat.flat_map-append}
+use Rattle.std.proofs.{lemmas.List.Elements.filter-append, lemmas.List.Sums.{length-filter, sum_by-append, sum_by-cons}}
 use Rattle.std.proofs.lemmas.Slice.Zip.{AllZip-long}
-use Rattle.er_share.specs.Fraction.{Fraction}
-use Rattle.er_share.specs.Mean.{MeanValue, IsMeanOf}
-use Rattle.er_share.specs.Share.{IsShareOf}
-use Rattle.er_event.specs.declared.tallies.Meeting.{Meeting}
-use Rattle.er_event.specs.declared.totals.Totals.{Totals}
-use Rattle.er_rank.specs.declared.opponents.Opponents.{Opponents}
-use Rattle.er_rank.specs.Meeting.{Encounter, encounters_of, encounters, opponents_of, IsRecord, AreEncounters}
-use Rattle.er_rank.specs.inside.Merit.{AreOpponents}
-use Rattle.er_rank.specs.inside.Opponents.{AreOpponentsOf, HasRoom}
-use Rattle.er_rank.specs.Tally.{IsKnown}
+use Rattle.er_share.specs.{Fraction.Fraction, Mean.{MeanValue, IsMeanOf}, Share.IsShareOf}
+use Rattle.er_event.specs.{declared.tallies.Meeting.Meeting, declared.totals.Totals.Totals}
+use Rattle.er_rank.specs.{declared.opponents.Opponents.Opponents, Meeting.{Encounter, encounters_of, encounters, opponents_of, IsRecord}}
+use Rattle.er_rank.specs.{Meeting.AreEncounters, inside.Merit.AreOpponents, inside.Opponents.{AreOpponentsOf, HasRoom}, Tally.IsKnown}
 
 -- as many shares came as there are opponents
 pub count-of : (mean : MeanValue) (f : Totals → Fraction) (totals : List Totals) → IsMeanOf mean (map f totals) → mean.count ≡ length totals

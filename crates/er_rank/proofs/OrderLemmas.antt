@@ -1,16 +1,11 @@
 -- Numbers that stand once each, and lists that an order fixes.
-use Rattle.std.proofs.Common.{◌≡◌, ◌≢◌, ℕ, ◌<◌, ◌==◌, Bool, true, false, cond, List, length, get_or, count_by, AllPairs, Contains, sym, ap}
-use Rattle.std.proofs.Common.{◌∙◌, arith, inl, inr}
-use Rattle.std.specs.List.{range_with_len}
-use Rattle.std.specs.List.Sorted.{IsPermutation}
-use Rattle.std.proofs.lemmas.Bool.{cases_lt, true≢false, false_from_ne_true}
-use Rattle.std.proofs.lemmas.Bool.Decides.{nat_tests, Decides-eqb}
-use Rattle.std.proofs.lemmas.List.{get_or_default, same_lists}
+use Rattle.std.proofs.Common.{◌≡◌, ◌≢◌, ℕ, ◌<◌, ◌==◌, Bool, true, false, cond, List, length, get_or, count_by, AllPairs, Contains, sym}
+use Rattle.std.proofs.{Common.{ap, ◌∙◌, arith, inl, inr}, lemmas.Bool.{cases_lt, true≢false, false_from_ne_true}}
+use Rattle.std.proofs.{lemmas.Bool.Decides.{nat_tests, Decides-eqb}, lemmas.List.{get_or_default, same_lists}}
 use Rattle.std.proofs.lemmas.List.Sorted.{sum_by-IsPermutation, length_permutation, Contains-permutation}
-use Rattle.std.proofs.lemmas.List.Elements.{Contains-get_or}
-use Rattle.std.proofs.lemmas.List.FromFn.{get_or-range_with_len, length-range_with_len}
-use Rattle.std.proofs.lemmas.Map.Keys.{IsDistinct-IsPermutation}
-use Rattle.std.proofs.lemmas.Map.Made.{AllPairs-from_IsDistinct, IsDistinct-from_AllPairs}
+use Rattle.std.proofs.{lemmas.List.Elements.Contains-get_or, lemmas.List.FromFn.{get_or-range_with_len, length-range_with_len}}
+use Rattle.std.proofs.{lemmas.Map.Keys.IsDistinct-IsPermutation, lemmas.Map.Made.{AllPairs-from_IsDistinct, IsDistinct-from_AllPairs}}
+use Rattle.std.specs.{List.range_with_len, List.Sorted.IsPermutation}
 use Rattle.er_rank.proofs.PlacingLemmas.{count_front}
 
 -- the numbers from 1 on, in any order, stand once each

@@ -1,29 +1,18 @@
 -- Placings in order, and their ranks.
-use Rattle.std.proofs.Common.{◌≡◌, ℕ, ◌+◌, ◌-◌, ◌<◌, ◌≤◌, ◌==◌, ◌&&◌, suc, zero, Bool, true, false, cond, List, [], ◌∷◌, ◌++◌, map, length}
-use Rattle.std.proofs.Common.{take, get_or, count_by, All, refl, sym, ap, ◌∙◌, arith}
-use Rattle.std.specs.declared.cmp.Ordering.{Ordering}
-use Rattle.std.specs.declared.cmp.Ordering.TheVariants.{Less, Equal, Greater}
-use Rattle.std.specs.Cmp.{IsTotalOrder, bool_cmp_total, unsigned_ties, both_tied}
-use Rattle.std.specs.Ordering.{ordering_then, ordering_reverse, is_lt, is_eq}
-use Rattle.std.specs.List.Sorted.{IsSorted}
-use Rattle.std.proofs.lemmas.Cmp.{nat_cmp_total, on_total, then_total, back_total, alike_right}
-use Rattle.std.proofs.lemmas.Bool.{true≢false, true_from_ne_false}
-use Rattle.std.proofs.lemmas.Bool.Decides.{nat_tests}
-use Rattle.std.specs.List.{range_with_len}
-use Rattle.std.proofs.lemmas.List.{map_more, map_push, take_all, get_or-map, get_or_read}
-use Rattle.std.proofs.lemmas.List.FromFn.{get_or-range_with_len}
-use Rattle.std.proofs.lemmas.List.Elements.{All-push}
-use Rattle.std.proofs.lemmas.List.Sorted.{sorted_far, ranks_by}
+use Rattle.std.proofs.Common.{◌≡◌, ℕ, ◌+◌, ◌-◌, ◌<◌, ◌≤◌, ◌==◌, ◌&&◌, suc, zero, Bool, true, false, cond, List, [], ◌∷◌, ◌++◌, map}
+use Rattle.std.proofs.{Common.{length, take, get_or, count_by, All, refl, sym, ap, ◌∙◌, arith}, lemmas.Cmp.{nat_cmp_total, on_total}}
+use Rattle.std.proofs.{lemmas.Cmp.{then_total, back_total, alike_right}, lemmas.Bool.{true≢false, true_from_ne_false}}
+use Rattle.std.proofs.{lemmas.Bool.Decides.nat_tests, lemmas.List.{map_more, map_push, take_all, get_or-map, get_or_read}}
+use Rattle.std.proofs.{lemmas.List.FromFn.get_or-range_with_len, lemmas.List.Elements.All-push, lemmas.List.Sorted.{sorted_far, ranks_by}}
 use Rattle.std.proofs.lemmas.List.Sums.{sum_by-cons}
+use Rattle.std.specs.{declared.cmp.Ordering.Ordering, declared.cmp.Ordering.TheVariants.{Less, Equal, Greater}, Cmp.IsTotalOrder}
+use Rattle.std.specs.{Cmp.{bool_cmp_total, unsigned_ties, both_tied}, Ordering.{ordering_then, ordering_reverse, is_lt, is_eq}}
+use Rattle.std.specs.{List.Sorted.IsSorted, List.range_with_len}
 use Rattle.er_share.specs.Order.{share_cmp, share_cmp-total, share_cmp-eq}
 use Rattle.er_event.specs.declared.tallies.Tally.{Tally}
-use Rattle.er_rank.specs.Meeting.{Encounter, opponents_of, totals_of}
-use Rattle.er_rank.specs.inside.Merit.{IsMerit}
-use Rattle.er_rank.specs.Tally.{no_totals}
-use Rattle.er_rank.specs.declared.merits.Merit.{Merit}
-use Rattle.er_rank.specs.declared.placings.Placing.{Placing}
-use Rattle.er_rank.specs.declared.rows.Row.{Row}
-use Rattle.er_rank.specs.inside.Placing.{merit_cmp, placing_cmp, is_above, is_level, row_of, rank_in, ArePlacings}
+use Rattle.er_rank.specs.{Meeting.{Encounter, opponents_of, totals_of}, inside.Merit.IsMerit, Tally.no_totals, declared.merits.Merit.Merit}
+use Rattle.er_rank.specs.{declared.placings.Placing.Placing, declared.rows.Row.Row, inside.Placing.{merit_cmp, placing_cmp, is_above}}
+use Rattle.er_rank.specs.inside.Placing.{is_level, row_of, rank_in, ArePlacings}
 
 pub merit_cmp-total : IsTotalOrder merit_cmp
 merit_cmp-total =

@@ -1,27 +1,15 @@
 -- The lines of a sound event keep the limits.
 use Rattle.std.proofs.Common.{◌≡◌, ◌≢◌, ℕ, ◌+◌, ◌<◌, ◌≤◌, ◌==◌, suc, Bool, cond, List, [], ◌∷◌, flat_map, length, get_or, count_by, All}
-use Rattle.std.proofs.Common.{AllPairs, Contains, IsTrue, IfSome, Option, Some, None, sym, arith, inl, inr}
-use Rattle.std.specs.List.{range_with_len}
-use Rattle.std.proofs.lemmas.Bool.{cases_eq, cond_both}
-use Rattle.std.proofs.lemmas.Bool.Decides.{nat_tests}
-use Rattle.std.proofs.lemmas.List.{get_or-map}
-use Rattle.std.proofs.lemmas.List.Elements.{All-nil, All-cons, All-append}
-use Rattle.std.proofs.lemmas.List.FromFn.{get_or-range_with_len, length-range_with_len}
+use Rattle.std.proofs.{Common.{AllPairs, Contains, IsTrue, IfSome, Option, Some, None, sym, arith, inl, inr}, lemmas.Bool.cases_eq}
+use Rattle.std.proofs.{lemmas.Bool.cond_both, lemmas.Bool.Decides.nat_tests, lemmas.List.get_or-map, lemmas.List.Elements.All-nil}
+use Rattle.std.proofs.{lemmas.List.Elements.{All-cons, All-append}, lemmas.List.FromFn.{get_or-range_with_len, length-range_with_len}}
 use Rattle.std.proofs.lemmas.List.Sums.{sum_by-cons, sum_by-append}
-use Rattle.er_event.specs.declared.players.Player.{Player}
-use Rattle.er_event.specs.declared.matches.Match.{Match}
-use Rattle.er_event.specs.declared.rounds.Round.{Round}
-use Rattle.er_event.specs.declared.scores.Games.{Games}
-use Rattle.er_event.specs.Event.{EventValue}
-use Rattle.er_event.specs.Round.{is_counted, seats}
-use Rattle.er_event.specs.Score.{is_swiss_score}
-use Rattle.er_event.specs.Sound.{numbers, IsRound, IsSoundButForSeeds}
-use Rattle.er_event.specs.Lines.{Line, turned, as_second, lines_of_score, lines_of_match, counted_lines, lines_from, lines}
-use Rattle.er_event.specs.Totals.{games_of}
-use Rattle.er_rank.specs.Meeting.{AreKnownTo}
-use Rattle.er_event.specs.declared.events.TheConstants.{MAX_ROUNDS}
-use Rattle.er_rank.specs.declared.lists.TheConstants.{MAX_GAMES_OF_MATCH}
-use Rattle.er_rank.specs.Tally.{IsKnown}
+use Rattle.std.specs.List.{range_with_len}
+use Rattle.er_event.specs.{declared.players.Player.Player, declared.matches.Match.Match, declared.rounds.Round.Round}
+use Rattle.er_event.specs.{declared.scores.Games.Games, Event.EventValue, Round.{is_counted, seats}, Score.is_swiss_score, Sound.numbers}
+use Rattle.er_event.specs.{Sound.{IsRound, IsSoundButForSeeds}, Lines.{Line, turned, as_second, lines_of_score, lines_of_match}}
+use Rattle.er_event.specs.{Lines.{counted_lines, lines_from, lines}, Totals.games_of, declared.events.TheConstants.MAX_ROUNDS}
+use Rattle.er_rank.specs.{Meeting.AreKnownTo, declared.lists.TheConstants.MAX_GAMES_OF_MATCH, Tally.IsKnown}
 use Rattle.er_rank.proofs.PlacingLemmas.{count_front}
 
 -- the limits that the lines of a sound event keep

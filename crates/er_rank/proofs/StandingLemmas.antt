@@ -1,35 +1,20 @@
 -- Placings stand as the rules say.
 use Rattle.std.proofs.Common.{◌≡◌, ◌≢◌, ℕ, ◌+◌, ◌-◌, ◌<◌, ◌&&◌, ◌||◌, nat_lt, suc, Bool, true, false, cond, List, [], ◌∷◌, map, length}
-use Rattle.std.proofs.Common.{get_or, count_by, All, Contains, refl, sym, ap, ap₂, ◌∙◌, arith}
-use Rattle.std.specs.List.{range_with_len}
-use Rattle.std.specs.List.Sorted.{IsPermutation}
-use Rattle.std.specs.declared.cmp.Ordering.{Ordering}
-use Rattle.std.specs.declared.cmp.Ordering.TheVariants.{Less, Equal, Greater}
-use Rattle.std.specs.Ordering.{nat_cmp, ordering_then, ordering_reverse, is_lt, is_eq, is_gt, bool_cmp}
-use Rattle.std.proofs.lemmas.Bool.Decides.{nat_tests}
-use Rattle.std.proofs.lemmas.List.{get_or-map, get_or_default, length-map}
-use Rattle.std.proofs.lemmas.List.Folds.{fold-map}
-use Rattle.std.proofs.lemmas.List.Sorted.{sum_by-IsPermutation}
-use Rattle.std.proofs.lemmas.List.FromFn.{get_or-map-range_with_len}
-use Rattle.er_share.specs.Share.{IsShareOf}
-use Rattle.er_share.specs.Order.{share_cmp-same}
-use Rattle.er_event.specs.declared.players.Player.{Player}
-use Rattle.er_event.specs.declared.matches.Match.{Match}
-use Rattle.er_event.specs.declared.rounds.Round.{Round}
-use Rattle.er_event.specs.declared.tallies.Tally.{Tally}
-use Rattle.er_event.specs.Event.{EventValue}
-use Rattle.er_event.specs.Sound.{IsSoundButForSeeds}
-use Rattle.er_event.specs.Tallies.{tally_by, tallies, meetings}
-use Rattle.er_event.specs.declared.totals.Totals.{Totals}
-use Rattle.er_event.specs.Totals.{totals}
-use Rattle.er_rank.specs.declared.placings.Placing.{Placing}
-use Rattle.er_rank.specs.Tally.{no_totals, IsKnown, match_win_of, game_win_of}
-use Rattle.er_rank.specs.Meeting.{encounters, opponents_of, totals_of}
-use Rattle.er_rank.specs.inside.Merit.{IsMerit}
-use Rattle.er_rank.specs.inside.Placing.{merit_cmp, placing_cmp, is_above, ArePlacings}
-use Rattle.er_rank.specs.Standings.{game_win, opponents, opponents_match_win, opponents_game_win, standing_cmp, is_better, is_listed_before}
-use Rattle.er_rank.proofs.PlacingLemmas.{merit_cmp-total, first_apart, count_by-agree}
-use Rattle.er_rank.proofs.MeetingLemmas.{opponents-met}
+use Rattle.std.proofs.{Common.{get_or, count_by, All, Contains, refl, sym, ap, ap₂, ◌∙◌, arith}, lemmas.Bool.Decides.nat_tests}
+use Rattle.std.proofs.{lemmas.List.{get_or-map, get_or_default, length-map}, lemmas.List.Folds.fold-map}
+use Rattle.std.proofs.{lemmas.List.Sorted.sum_by-IsPermutation, lemmas.List.FromFn.get_or-map-range_with_len}
+use Rattle.std.specs.{List.range_with_len, List.Sorted.IsPermutation, declared.cmp.Ordering.Ordering}
+use Rattle.std.specs.{declared.cmp.Ordering.TheVariants.{Less, Equal, Greater}, Ordering.{nat_cmp, ordering_then, ordering_reverse, is_lt}}
+use Rattle.std.specs.Ordering.{is_eq, is_gt, bool_cmp}
+use Rattle.er_share.specs.{Share.IsShareOf, Order.share_cmp-same}
+use Rattle.er_event.specs.{declared.players.Player.Player, declared.matches.Match.Match, declared.rounds.Round.Round}
+use Rattle.er_event.specs.{declared.tallies.Tally.Tally, Event.EventValue, Sound.IsSoundButForSeeds, Tallies.{tally_by, tallies, meetings}}
+use Rattle.er_event.specs.{declared.totals.Totals.Totals, Totals.totals}
+use Rattle.er_rank.specs.{declared.placings.Placing.Placing, Tally.{no_totals, IsKnown, match_win_of, game_win_of}, Meeting.encounters}
+use Rattle.er_rank.specs.{Meeting.{opponents_of, totals_of}, inside.Merit.IsMerit, inside.Placing.{merit_cmp, placing_cmp, is_above}}
+use Rattle.er_rank.specs.{inside.Placing.ArePlacings, Standings.{game_win, opponents, opponents_match_win, opponents_game_win}}
+use Rattle.er_rank.specs.Standings.{standing_cmp, is_better, is_listed_before}
+use Rattle.er_rank.proofs.{PlacingLemmas.{merit_cmp-total, first_apart, count_by-agree}, MeetingLemmas.opponents-met}
 
 -- ---- lists
 

@@ -1,28 +1,14 @@
 -- A correction that is sent again at once is taken, and gives the same event.
 use Rattle.std.proofs.Common.{◌≡◌, inl, inr, ℕ, ◌+◌, ◌-◌, ◌==◌, true, false, not, List, [], ◌∷◌, map, get_or, Option, Some, None, is_none}
-use Rattle.std.proofs.Common.{MatchOption, Ok, refl, sym, ap, ap₂, subst, ◌∙◌}
+use Rattle.std.proofs.{Common.{MatchOption, Ok, refl, sym, ap, ap₂, subst, ◌∙◌}, Math.ListN.set, lemmas.List.{set-set, get_or-set_same}}
+use Rattle.std.proofs.{lemmas.Option.slice_get_within, lemmas.Bool.{not-false, cases_Bool}}
 use Rattle.std.specs.List.{slice_get}
-use Rattle.std.proofs.Math.ListN.{set}
-use Rattle.std.proofs.lemmas.List.{set-set, get_or-set_same}
-use Rattle.std.proofs.lemmas.Option.{slice_get_within}
-use Rattle.std.proofs.lemmas.Bool.{not-false, cases_Bool}
-use Rattle.er_event.specs.declared.scores.Games.{Games}
-use Rattle.er_event.specs.declared.matches.Match.{Match}
-use Rattle.er_event.specs.declared.rounds.Round.{Round}
-use Rattle.er_event.specs.declared.commands.Command.TheVariants.{Correct}
-use Rattle.er_event.specs.declared.refusals.Refusal.{Refusal}
-use Rattle.er_event.specs.declared.refusals.Refusal.TheVariants.{IsBye, BadScore, NotReported}
-use Rattle.er_event.specs.Event.{EventValue}
-use Rattle.er_event.specs.Round.{is_bye, numbered_from, is_at, match_in, match_at}
-use Rattle.er_event.specs.Score.{is_swiss_score}
-use Rattle.er_event.specs.Change.{score_table, with_score}
-use Rattle.er_rules.specs.Commands.{first_refusal, is_swiss}
-use Rattle.er_rules.specs.Step.{Steps, Makes, Refuses, checks}
-use Rattle.er_rules.specs.Retry.{RepeatsCorrection}
-use Rattle.er_rules.proofs.Found.{found_stored}
-use Rattle.er_rules.proofs.Keeping.{is_taken, same_Ok, passes}
-use Rattle.er_rules.proofs.Sound.{asked}
-use Rattle.er_rules.proofs.Rescoring.{entered_now, scored_round}
+use Rattle.er_event.specs.{declared.scores.Games.Games, declared.matches.Match.Match, declared.rounds.Round.Round}
+use Rattle.er_event.specs.{declared.commands.Command.TheVariants.Correct, declared.refusals.Refusal.Refusal}
+use Rattle.er_event.specs.{declared.refusals.Refusal.TheVariants.{IsBye, BadScore, NotReported}, Event.EventValue, Round.is_bye}
+use Rattle.er_event.specs.{Round.{numbered_from, is_at, match_in, match_at}, Score.is_swiss_score, Change.{score_table, with_score}}
+use Rattle.er_rules.specs.{Commands.{first_refusal, is_swiss}, Step.{Steps, Makes, Refuses, checks}, Retry.RepeatsCorrection}
+use Rattle.er_rules.proofs.{Found.found_stored, Keeping.{is_taken, same_Ok, passes}, Sound.asked, Rescoring.{entered_now, scored_round}}
 
 twice : (t n : ℕ) (s : Games) (m : Match) → score_table t s (n, score_table t s (n, m)) ≡ score_table t s (n, m)
 twice t n s m = elim (cases_Bool (is_at t (n, m))) [ inl is ↦ rw (is, is) refl | inr other ↦ rw (other, other) refl ]

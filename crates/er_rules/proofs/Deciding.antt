@@ -1,22 +1,13 @@
 -- What is answered to those who ask for a pairing.
 use Rattle.std.proofs.Common.{◌≡◌, ◌⊎◌, ◌↔◌, inl, inr, ℕ, Bool, List, None, Result, Ok, Err, IsErrAnd, refl, sym, ap, ◌∙◌}
-use Rattle.er_event.specs.declared.commands.Command.TheVariants.{Pair}
-use Rattle.er_event.specs.declared.refusals.Refusal.TheVariants as refusal
-use Rattle.er_event.specs.Event.{EventValue}
-use Rattle.er_event.specs.Change.{with_round}
-use Rattle.er_pair.specs.declared.pairings.PairFault.{PairFault}
-use Rattle.er_pair.specs.declared.pairings.PairFault.TheVariants.{NoPairing, Budget, Memory}
-use Rattle.er_pair.specs.declared.pairings.TheConstants.{MAX_STEPS}
-use Rattle.er_pair.specs.Fault.{refusal_of}
-use Rattle.er_pair.specs.Met.{have_met}
-use Rattle.er_pair.specs.Order.{seed_words, IsOrder}
-use Rattle.er_pair.specs.Pairing as pairing
-use Rattle.er_pair.specs.Pairing.{IsLegal}
-use Rattle.er_pair.specs.Steps.{NeedsMore}
-use Rattle.er_rules.specs.Commands.{first_refusal, pair_checks}
-use Rattle.er_rules.specs.Step.{Steps, NeedsMoreSteps, Answers}
-use Rattle.er_rules.specs.Tables.{tables_of}
+use Rattle.er_event.specs.{declared.commands.Command.TheVariants.Pair, Event.EventValue, Change.with_round}
+use Rattle.er_pair.specs.{declared.pairings.PairFault.PairFault, declared.pairings.PairFault.TheVariants.{NoPairing, Budget, Memory}}
+use Rattle.er_pair.specs.{declared.pairings.TheConstants.MAX_STEPS, Fault.refusal_of, Met.have_met, Order.{seed_words, IsOrder}}
+use Rattle.er_pair.specs.{Pairing.IsLegal, Steps.NeedsMore}
+use Rattle.er_rules.specs.{Commands.{first_refusal, pair_checks}, Step.{Steps, NeedsMoreSteps, Answers}, Tables.tables_of}
 use Rattle.er_rules.proofs.Rounds.{IsPairing, tables_are}
+use Rattle.er_event.specs.declared.refusals.Refusal.TheVariants as refusal
+use Rattle.er_pair.specs.Pairing as pairing
 
 pub err_is : {T F : Type 0} (r : Result T F) (x : F) → IsErrAnd r (λ y. y ≡ x) → r ≡ Err x
 err_is (Err y) x h = ap Err h

@@ -1,23 +1,17 @@
 -- Examples of the definitions, which compute: each refusal is that of the first check that fails, in the order of the rules.
-use Rattle.std.specs.Prelude.{◌≡◌, ℕ, true, false, List, [], ◌∷◌, ◌++◌, map, replicate, codes, Option, Some, None, refl}
-use Rattle.std.specs.Str.{is_utf8, chars}
-use Rattle.er_event.specs.declared.events.Phase.{Phase}
-use Rattle.er_event.specs.declared.events.Phase.TheVariants.{Enrolling, Swiss, Playoff, Finished}
-use Rattle.er_event.specs.declared.players.Player.{Player}
-use Rattle.er_event.specs.declared.commands.Command.{Command}
+use Rattle.std.specs.{Prelude.{◌≡◌, ℕ, true, false, List, [], ◌∷◌, ◌++◌, map, replicate, codes, Option, Some, None, refl}, Str.is_utf8}
+use Rattle.std.specs.Str.{chars}
+use Rattle.er_event.specs.{declared.events.Phase.Phase, declared.events.Phase.TheVariants.{Enrolling, Swiss, Playoff, Finished}}
+use Rattle.er_event.specs.{declared.players.Player.Player, declared.commands.Command.Command, declared.commands.Command.TheVariants.Enrol}
+use Rattle.er_event.specs.declared.commands.Command.TheVariants.{Start, Pair, Result, Correct, Drop, Cut}
+use Rattle.er_event.specs.{declared.refusals.Refusal.Refusal, declared.refusals.Refusal.TheVariants.{BadName, NameTaken, PlayersFull}}
+use Rattle.er_event.specs.declared.refusals.Refusal.TheVariants.{NotEnrolling, TooFewPlayers, NotSwiss, WrongRound, RoundOpen}
+use Rattle.er_event.specs.declared.refusals.Refusal.TheVariants.{AllRoundsPaired, NoSuchMatch, BadScore, AlreadyReported, NotReported}
+use Rattle.er_event.specs.declared.refusals.Refusal.TheVariants.{IsBye, NoSuchPlayer, AlreadyDropped, RoundsNotDone, NoCut, TooFewForCut}
+use Rattle.er_event.specs.{declared.refusals.Refusal.TheVariants.NotPlayoff, declared.matches.Match.Match, declared.scores.Games.Games}
+use Rattle.er_event.specs.{Bracket.open_match, Event.EventValue}
+use Rattle.er_rules.specs.{Commands.first_refusal, Step.{checks, with_stage_score}, Tables.tables_of}
 use Rattle.er_event.specs.declared.commands.Command.TheVariants.{Enrol, Start, Pair, Result, Correct, Drop, Cut, Playoff as PlayOff}
-use Rattle.er_event.specs.declared.refusals.Refusal.{Refusal}
-use Rattle.er_event.specs.declared.refusals.Refusal.TheVariants.{BadName, NameTaken, PlayersFull, NotEnrolling, TooFewPlayers, NotSwiss}
-use Rattle.er_event.specs.declared.refusals.Refusal.TheVariants.{WrongRound, RoundOpen, AllRoundsPaired, NoSuchMatch, BadScore}
-use Rattle.er_event.specs.declared.refusals.Refusal.TheVariants.{AlreadyReported, NotReported, IsBye, NoSuchPlayer, AlreadyDropped}
-use Rattle.er_event.specs.declared.refusals.Refusal.TheVariants.{RoundsNotDone, NoCut, TooFewForCut, NotPlayoff}
-use Rattle.er_event.specs.declared.matches.Match.{Match}
-use Rattle.er_event.specs.declared.scores.Games.{Games}
-use Rattle.er_event.specs.Bracket.{open_match}
-use Rattle.er_event.specs.Event.{EventValue}
-use Rattle.er_rules.specs.Commands.{first_refusal}
-use Rattle.er_rules.specs.Step.{checks, with_stage_score}
-use Rattle.er_rules.specs.Tables.{tables_of}
 
 abbrev games : ℕ → ℕ → ℕ → Games
 games x y d = record { x = x; y = y; d = d }

@@ -1,10 +1,7 @@
 -- What is found by a search, and at a place of a list.
-use Rattle.std.proofs.Common.{◌≡◌, ℕ, zero, suc, Bool, true, false, cond, List, [], ◌∷◌, ◌++◌, map, find, get_or, Option, Some, None, refl}
-use Rattle.std.proofs.Common.{sym, subst, arith}
-use Rattle.std.specs.List.{slice_get}
-use Rattle.std.specs.Option.{option_and_then}
-use Rattle.std.proofs.Math.ListN.{set}
-use Rattle.std.proofs.lemmas.Option.{none-some, same_Some, option_and_then_some}
+use Rattle.std.proofs.Common.{◌≡◌, ℕ, zero, suc, Bool, true, false, cond, List, [], ◌∷◌, ◌++◌, map, find, get_or, Option, Some, None}
+use Rattle.std.proofs.{Common.{refl, sym, subst, arith}, Math.ListN.set, lemmas.Option.{none-some, same_Some, option_and_then_some}}
+use Rattle.std.specs.{List.slice_get, Option.option_and_then}
 
 -- where a test rules out what it finds, it is found only where the test fails
 pub unless_some : {A : Type 0} (b : Bool) (o : Option A) (x : A) → cond b None o ≡ Some x → (b ≡ false) × (o ≡ Some x)

@@ -1,28 +1,18 @@
 -- The step keeps the seeds of the playoff.
 use Rattle.std.proofs.Common.{true, false, true≢false, ◌≡◌, inl, inr, ℕ, zero, suc, ◌-◌, not, List, [], ◌∷◌, ◌++◌, get_or, Option, Some}
-use Rattle.std.proofs.Common.{None, MatchOption, Result, Ok, Err, IfOk, OnOk, refl, sym, ap, subst, ◌∙◌}
+use Rattle.std.proofs.{Common.{None, MatchOption, Result, Ok, Err, IfOk, OnOk, refl, sym, ap, subst, ◌∙◌}, Math.ListN.set}
+use Rattle.std.proofs.{lemmas.Option.{none-some, same_Some}, lemmas.List.Elements.All-weaker}
 use Rattle.std.specs.List.{slice_get}
-use Rattle.std.proofs.Math.ListN.{set}
-use Rattle.std.proofs.lemmas.Option.{none-some, same_Some}
-use Rattle.std.proofs.lemmas.List.Elements.{All-weaker}
-use Rattle.er_event.specs.declared.events.Phase.{Phase}
-use Rattle.er_event.specs.declared.events.Phase.TheVariants.{Enrolling, Swiss, Playoff}
-use Rattle.er_event.specs.declared.commands.Command.{Command}
-use Rattle.er_event.specs.declared.commands.Command.TheVariants.{Enrol, Start, Pair, Cut, Playoff as PlayOff}
-use Rattle.er_event.specs.declared.refusals.Refusal.{Refusal}
-use Rattle.er_event.specs.declared.brackets.Bracket.{Bracket}
-use Rattle.er_event.specs.declared.matches.Match.{Match}
-use Rattle.er_event.specs.declared.scores.Games.{Games}
-use Rattle.er_event.specs.Event.{EventValue}
-use Rattle.er_event.specs.Bracket.{SameSlots, open_match, following}
-use Rattle.er_event.specs.Change.{scored, stage_of, scored_slot, one_more, scored_stages}
-use Rattle.er_event.specs.Sound.{IsSoundButForSeeds}
-use Rattle.er_rank.specs.declared.rows.Row.{Row}
-use Rattle.er_rank.specs.Standings.{IsRowOf, IsTop}
+use Rattle.er_event.specs.{declared.events.Phase.Phase, declared.events.Phase.TheVariants.{Enrolling, Swiss, Playoff}}
+use Rattle.er_event.specs.{declared.commands.Command.Command, declared.commands.Command.TheVariants.{Enrol, Start, Pair, Cut}}
+use Rattle.er_event.specs.{declared.refusals.Refusal.Refusal, declared.brackets.Bracket.Bracket, declared.matches.Match.Match}
+use Rattle.er_event.specs.{declared.scores.Games.Games, Event.EventValue, Bracket.{SameSlots, open_match, following}, Change.scored}
+use Rattle.er_event.specs.{Change.{stage_of, scored_slot, one_more, scored_stages}, Sound.IsSoundButForSeeds}
+use Rattle.er_rank.specs.{declared.rows.Row.Row, Standings.{IsRowOf, IsTop}}
 use Rattle.er_bracket.specs.Seeds.{first_stage}
-use Rattle.er_rules.specs.Commands.{Check, first_refusal, is_enrolling, is_swiss}
-use Rattle.er_rules.specs.Step.{Makes, Refuses, Steps, Answers, checks, with_stage_score}
-use Rattle.er_rules.specs.Sound.{HasSeeds, IsSound}
+use Rattle.er_rules.specs.{Commands.{Check, first_refusal, is_enrolling, is_swiss}, Step.{Makes, Refuses, Steps, Answers, checks}}
+use Rattle.er_rules.specs.{Step.with_stage_score, Sound.{HasSeeds, IsSound}}
+use Rattle.er_event.specs.declared.commands.Command.TheVariants.{Enrol, Start, Pair, Cut, Playoff as PlayOff}
 
 -- ---- the standings read neither the phase nor the bracket
 

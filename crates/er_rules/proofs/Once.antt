@@ -1,20 +1,13 @@
 -- A command does one thing to a sound event.
 use Rattle.std.proofs.Common.{◌≡◌, ℕ, List, [], ◌∷◌, ◌++◌, Option, Some, None, MatchOption, Result, Ok, Err, sym, ap, subst, ◌∙◌}
-use Rattle.er_event.specs.declared.commands.Command.{Command}
-use Rattle.er_event.specs.declared.commands.Command.TheVariants.{Pair, Cut}
-use Rattle.er_event.specs.declared.refusals.Refusal.{Refusal}
-use Rattle.er_event.specs.declared.events.Phase.TheVariants.{Playoff}
-use Rattle.er_event.specs.Event.{EventValue}
+use Rattle.er_event.specs.{declared.commands.Command.Command, declared.commands.Command.TheVariants.{Pair, Cut}}
+use Rattle.er_event.specs.{declared.refusals.Refusal.Refusal, declared.events.Phase.TheVariants.Playoff, Event.EventValue}
 use Rattle.er_event.specs.Sound.{IsSoundButForSeeds}
 use Rattle.er_rank.specs.Standings.{HasOneTop}
 use Rattle.er_bracket.specs.Seeds.{first_stage}
-use Rattle.er_pair.specs.Met.{have_met}
-use Rattle.er_pair.specs.Order.{seed_words}
+use Rattle.er_pair.specs.{Met.have_met, Order.seed_words, Pairing.round_of, Laws.{OneOrder, OneEarliest}}
+use Rattle.er_rules.specs.{Commands.first_refusal, Step.{Pairs, Makes, Refuses, Steps, checks}}
 use Rattle.er_pair.specs.Pairing as pairing
-use Rattle.er_pair.specs.Pairing.{round_of}
-use Rattle.er_pair.specs.Laws.{OneOrder, OneEarliest}
-use Rattle.er_rules.specs.Commands.{first_refusal}
-use Rattle.er_rules.specs.Step.{Pairs, Makes, Refuses, Steps, checks}
 
 module _ (one_order : OneOrder) (one_earliest : OneEarliest) (one_top : HasOneTop) (e : EventValue) (sound : IsSoundButForSeeds e) where
   pairs_once : (order : List ℕ) (one other : Result EventValue Refusal) → Pairs e order one → Pairs e order other → one ≡ other

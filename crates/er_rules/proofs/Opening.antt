@@ -1,13 +1,8 @@
 -- The first stage of the seeds of a cut, and the rounds that are done before it.
 use Rattle.std.proofs.Common.{◌≡◌, ◌⊎◌, inl, inr, ℕ, ◌<◌, ◌/◌, ◌==◌, ◌||◌, true, List, [], ◌∷◌, length, flat_map, IsPermutation, refl}
-use Rattle.std.proofs.Common.{arith, lit<}
-use Rattle.std.proofs.lemmas.Bool.{cases_eq, and_parts, eqb-true}
-use Rattle.std.proofs.lemmas.Bool.Decides.{nat_tests}
+use Rattle.std.proofs.{Common.{arith, lit<}, lemmas.Bool.{cases_eq, and_parts, eqb-true}, lemmas.Bool.Decides.nat_tests}
 use Rattle.std.proofs.lemmas.List.Sums.{AllPass-from_list_all}
-use Rattle.er_event.specs.declared.rounds.Round.{Round}
-use Rattle.er_event.specs.Event.{EventValue}
-use Rattle.er_event.specs.Round.{is_counted, seats}
-use Rattle.er_event.specs.Sound.{AllRoundsDone}
+use Rattle.er_event.specs.{declared.rounds.Round.Round, Event.EventValue, Round.{is_counted, seats}, Sound.AllRoundsDone}
 use Rattle.er_bracket.specs.Seeds.{first_stage}
 use Rattle.er_rules.specs.Commands.{all_rounds_done}
 

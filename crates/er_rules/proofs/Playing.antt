@@ -1,21 +1,12 @@
 -- The stage of a match of the playoff: how many slots it has, and that its scores are lawful.
-use Rattle.std.proofs.Common.{◌≡◌, ◌⊎◌, inl, inr, ℕ, ◌-◌, ◌<◌, ◌≤◌, ◌/◌, ◌==◌, ◌||◌, true, false, List, [], ◌∷◌, length, get_or, All, Some}
-use Rattle.std.proofs.Common.{IfSome, IsTrue, refl, sym, subst, arith}
+use Rattle.std.proofs.Common.{◌≡◌, ◌⊎◌, inl, inr, ℕ, ◌-◌, ◌<◌, ◌≤◌, ◌/◌, ◌==◌, ◌||◌, true, false, List, [], ◌∷◌, length, get_or, All}
+use Rattle.std.proofs.{Common.{Some, IfSome, IsTrue, refl, sym, subst, arith}, lemmas.Bool.Decides.nat_tests}
+use Rattle.std.proofs.{lemmas.List.Elements.{All-from_recursion, All-set}, lemmas.Option.{none-some, same_Some, slice_get_within}}
 use Rattle.std.specs.List.{slice_get, AllByRecursion}
-use Rattle.std.proofs.lemmas.Bool.Decides.{nat_tests}
-use Rattle.std.proofs.lemmas.List.Elements.{All-from_recursion, All-set}
-use Rattle.std.proofs.lemmas.Option.{none-some, same_Some, slice_get_within}
-use Rattle.er_event.specs.declared.events.Phase.TheVariants.{Playoff}
-use Rattle.er_event.specs.declared.matches.Match.{Match}
-use Rattle.er_event.specs.declared.scores.Games.{Games}
-use Rattle.er_event.specs.Event.{EventValue}
-use Rattle.er_event.specs.Score.{is_playoff_score}
-use Rattle.er_event.specs.Bracket.{next_stage, FollowOn, slot_at, open_match}
-use Rattle.er_event.specs.Change.{scored, stage_of, scored_slot}
-use Rattle.er_event.specs.Sound.{IsSoundButForSeeds}
-use Rattle.er_rules.proofs.Opening.{IsCut, is_cut}
-use Rattle.er_rules.proofs.Found.{Stored, found_stored}
-use Rattle.er_rules.proofs.SlotLemmas.{same_length}
+use Rattle.er_event.specs.{declared.events.Phase.TheVariants.Playoff, declared.matches.Match.Match, declared.scores.Games.Games}
+use Rattle.er_event.specs.{Event.EventValue, Score.is_playoff_score, Bracket.{next_stage, FollowOn, slot_at, open_match}, Change.scored}
+use Rattle.er_event.specs.{Change.{stage_of, scored_slot}, Sound.IsSoundButForSeeds}
+use Rattle.er_rules.proofs.{Opening.{IsCut, is_cut}, Found.{Stored, found_stored}, SlotLemmas.same_length}
 
 abbrev pub IsSlots : ℕ → Type 0
 IsSlots n = (n ≡ 1) ⊎ (n ≡ 2) ⊎ (n ≡ 4)

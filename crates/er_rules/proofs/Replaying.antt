@@ -1,30 +1,17 @@
 -- A score of the playoff that was entered once is there at every later point.
-use Rattle.std.proofs.Common.{◌≡◌, inl, inr, ℕ, ◌-◌, ◌==◌, ◌||◌, Bool, true, false, cond, not, List, [], ◌∷◌, ◌++◌, Some, None, Result, Ok}
-use Rattle.std.proofs.Common.{Err, refl, sym, ap, subst, ◌∙◌, true≢false}
+use Rattle.std.proofs.Common.{◌≡◌, inl, inr, ℕ, ◌-◌, ◌==◌, ◌||◌, Bool, true, false, cond, not, List, [], ◌∷◌, ◌++◌, Some, None, Result}
+use Rattle.std.proofs.{Common.{Ok, Err, refl, sym, ap, subst, ◌∙◌, true≢false}, Math.ListN.set, lemmas.Bool.{not-false, cases_Bool}}
 use Rattle.std.specs.List.{slice_get}
-use Rattle.std.proofs.Math.ListN.{set}
-use Rattle.std.proofs.lemmas.Bool.{not-false, cases_Bool}
-use Rattle.er_event.specs.declared.scores.Games.{Games}
-use Rattle.er_event.specs.declared.events.Phase.{Phase}
-use Rattle.er_event.specs.declared.events.Phase.TheVariants.{Playoff, Finished}
-use Rattle.er_event.specs.declared.matches.Match.{Match}
-use Rattle.er_event.specs.declared.commands.Command.{Command}
+use Rattle.er_event.specs.{declared.scores.Games.Games, declared.events.Phase.Phase, declared.events.Phase.TheVariants.{Playoff, Finished}}
+use Rattle.er_event.specs.{declared.matches.Match.Match, declared.commands.Command.Command, declared.commands.Command.TheVariants.Pair}
+use Rattle.er_event.specs.{declared.commands.Command.TheVariants.Cut, declared.refusals.Refusal.Refusal}
+use Rattle.er_event.specs.{declared.refusals.Refusal.TheVariants.{NotPlayoff, AlreadyReported, BadScore}, Event.EventValue, Bracket.slot_at}
+use Rattle.er_event.specs.{Bracket.open_match, Score.is_playoff_score, Change.{scored, stage_of, scored_slot}}
+use Rattle.er_rules.specs.{Commands.{first_refusal, is_enrolling, is_swiss, is_playoff, already}, Step.{Steps, Makes, checks, scored_at}}
+use Rattle.er_rules.specs.{Fold.Folds, Retry.IsRetryRefusal}
+use Rattle.er_rules.proofs.{Found.{Stored, found_stored, stored_more, stored_now, stored_stays}, Keeping.{is_taken, same_Ok, stages_in}}
+use Rattle.er_rules.proofs.{Keeping.passes, Sound.asked, Retrying.{kept_on, refused_by, IsOver, over_stays, not_again}, Rescoring.HasScore}
 use Rattle.er_event.specs.declared.commands.Command.TheVariants.{Pair, Cut, Playoff as PlayOff}
-use Rattle.er_event.specs.declared.refusals.Refusal.{Refusal}
-use Rattle.er_event.specs.declared.refusals.Refusal.TheVariants.{NotPlayoff, AlreadyReported, BadScore}
-use Rattle.er_event.specs.Event.{EventValue}
-use Rattle.er_event.specs.Bracket.{slot_at, open_match}
-use Rattle.er_event.specs.Score.{is_playoff_score}
-use Rattle.er_event.specs.Change.{scored, stage_of, scored_slot}
-use Rattle.er_rules.specs.Commands.{first_refusal, is_enrolling, is_swiss, is_playoff, already}
-use Rattle.er_rules.specs.Step.{Steps, Makes, checks, scored_at}
-use Rattle.er_rules.specs.Fold.{Folds}
-use Rattle.er_rules.specs.Retry.{IsRetryRefusal}
-use Rattle.er_rules.proofs.Found.{Stored, found_stored, stored_more, stored_now, stored_stays}
-use Rattle.er_rules.proofs.Keeping.{is_taken, same_Ok, stages_in, passes}
-use Rattle.er_rules.proofs.Sound.{asked}
-use Rattle.er_rules.proofs.Retrying.{kept_on, refused_by, IsOver, over_stays, not_again}
-use Rattle.er_rules.proofs.Rescoring.{HasScore}
 
 abbrev HasPlayedSlot : ℕ → List Match → Type 0
 HasPlayedSlot slot ms = Stored HasScore ms (slot - 1)

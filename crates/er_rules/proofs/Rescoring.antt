@@ -1,29 +1,17 @@
 -- A score that was entered once is there at every later point.
 use Rattle.std.proofs.Common.{◌≡◌, ◌==◌, inl, inr, ℕ, ◌+◌, ◌-◌, false, not, List, [], ◌∷◌, ◌++◌, map, find, get_or, Option, Some, None}
-use Rattle.std.proofs.Common.{Result, Ok, Err, refl, sym, ap, subst, ◌∙◌}
-use Rattle.std.specs.Option.{option_map}
-use Rattle.std.proofs.Math.ListN.{set}
-use Rattle.std.proofs.lemmas.Option.{none-some, same_Some}
+use Rattle.std.proofs.{Common.{Result, Ok, Err, refl, sym, ap, subst, ◌∙◌}, Math.ListN.set, lemmas.Option.{none-some, same_Some}}
 use Rattle.std.proofs.lemmas.Bool.{not-false, cases_Bool, cond_both}
-use Rattle.er_event.specs.declared.scores.Games.{Games}
-use Rattle.er_event.specs.declared.matches.Match.{Match}
-use Rattle.er_event.specs.declared.rounds.Round.{Round}
-use Rattle.er_event.specs.declared.commands.Command.{Command}
+use Rattle.std.specs.Option.{option_map}
+use Rattle.er_event.specs.{declared.scores.Games.Games, declared.matches.Match.Match, declared.rounds.Round.Round}
+use Rattle.er_event.specs.{declared.commands.Command.Command, declared.commands.Command.TheVariants.{Pair, Correct, Cut}}
+use Rattle.er_event.specs.{declared.refusals.Refusal.Refusal, declared.refusals.Refusal.TheVariants.{NotSwiss, AlreadyReported, IsBye}}
+use Rattle.er_event.specs.{declared.refusals.Refusal.TheVariants.BadScore, Event.EventValue, Round.{is_bye, numbered_from, is_at, match_in}}
+use Rattle.er_event.specs.{Round.match_at, Score.is_swiss_score, Change.{scored, score_table}}
+use Rattle.er_rules.specs.{Commands.{is_enrolling, is_swiss, already}, Step.{Steps, Makes, checks}, Fold.Folds, Retry.IsRetryRefusal}
+use Rattle.er_rules.proofs.{Found.{find_mapped, find_passes, Stored, found_stored, stored_more, stored_now, stored_stays}, Keeping.is_taken}
+use Rattle.er_rules.proofs.{Keeping.{same_Ok, passes}, Sound.asked, Retrying.{kept_on, refused_by, begun_stays, swiss_began}}
 use Rattle.er_event.specs.declared.commands.Command.TheVariants.{Pair, Result as Report, Correct, Cut}
-use Rattle.er_event.specs.declared.refusals.Refusal.{Refusal}
-use Rattle.er_event.specs.declared.refusals.Refusal.TheVariants.{NotSwiss, AlreadyReported, IsBye, BadScore}
-use Rattle.er_event.specs.Event.{EventValue}
-use Rattle.er_event.specs.Round.{is_bye, numbered_from, is_at, match_in, match_at}
-use Rattle.er_event.specs.Score.{is_swiss_score}
-use Rattle.er_event.specs.Change.{scored, score_table}
-use Rattle.er_rules.specs.Commands.{is_enrolling, is_swiss, already}
-use Rattle.er_rules.specs.Step.{Steps, Makes, checks}
-use Rattle.er_rules.specs.Fold.{Folds}
-use Rattle.er_rules.specs.Retry.{IsRetryRefusal}
-use Rattle.er_rules.proofs.Found.{find_mapped, find_passes, Stored, found_stored, stored_more, stored_now, stored_stays}
-use Rattle.er_rules.proofs.Keeping.{is_taken, same_Ok, passes}
-use Rattle.er_rules.proofs.Sound.{asked}
-use Rattle.er_rules.proofs.Retrying.{kept_on, refused_by, begun_stays, swiss_began}
 
 -- ---- the tables of a round
 

@@ -1,28 +1,19 @@
 -- A command that was taken once is refused at every later point: enrolment, start, pairing, drop and cut.
 use Rattle.std.proofs.Common.{◌≡◌, inl, inr, ℕ, ◌+◌, ◌-◌, ◌≤◌, ◌==◌, ◌||◌, Bool, true, false, cond, not, List, [], ◌∷◌, length, map, find}
 use Rattle.std.proofs.Common.{Option, Some, None, MatchOption, Result, Ok, Err, refl, sym, ap, ap₂, subst, ◌∙◌, arith, true≢false}
-use Rattle.std.proofs.Common.{length-append, length-set}
+use Rattle.std.proofs.{Common.{length-append, length-set}, lemmas.Slice.Eq.bytes_eq-Decides, lemmas.Bool.{not-false, eqb-true, ne_eqb}}
+use Rattle.std.proofs.{lemmas.Bool.{cases_Bool, cond_both, or_left, or_right}, lemmas.List.Folds.list_any-append}
 use Rattle.std.specs.Str.{bytes_eq}
-use Rattle.std.proofs.lemmas.Slice.Eq.{bytes_eq-Decides}
-use Rattle.std.proofs.lemmas.Bool.{not-false, eqb-true, ne_eqb, cases_Bool, cond_both, or_left, or_right}
-use Rattle.std.proofs.lemmas.List.Folds.{list_any-append}
-use Rattle.er_event.specs.declared.events.Phase.{Phase}
-use Rattle.er_event.specs.declared.events.Phase.TheVariants.{Enrolling, Finished}
-use Rattle.er_event.specs.declared.players.Player.{Player}
-use Rattle.er_event.specs.declared.commands.Command.{Command}
+use Rattle.er_event.specs.{declared.events.Phase.Phase, declared.events.Phase.TheVariants.{Enrolling, Finished}}
+use Rattle.er_event.specs.{declared.players.Player.Player, declared.commands.Command.Command, declared.commands.Command.TheVariants.Enrol}
+use Rattle.er_event.specs.{declared.commands.Command.TheVariants.{Start, Pair, Correct, Drop, Cut}, declared.refusals.Refusal.Refusal}
+use Rattle.er_event.specs.declared.refusals.Refusal.TheVariants.{NameTaken, NotEnrolling, NotSwiss, WrongRound, AlreadyDropped}
+use Rattle.er_event.specs.{Event.EventValue, Name.is_lawful_name, Change.{has_name, dropped_at, new_player}}
+use Rattle.er_rules.specs.{Commands.{first_refusal, is_enrolling, is_swiss, of_player}, Step.{Steps, Makes, Refuses, checks}, Fold.Folds}
+use Rattle.er_rules.specs.Retry.{IsRetryRefusal}
+use Rattle.er_rules.proofs.{Found.{find_mapped, find_passes}, Keeping.{is_taken, same_Ok, AllPass, passes}}
 use Rattle.er_event.specs.declared.commands.Command.TheVariants.{Enrol, Start, Pair, Result as Report, Correct, Drop, Cut}
 use Rattle.er_event.specs.declared.commands.Command.TheVariants.{Playoff as PlayOff}
-use Rattle.er_event.specs.declared.refusals.Refusal.{Refusal}
-use Rattle.er_event.specs.declared.refusals.Refusal.TheVariants.{NameTaken, NotEnrolling, NotSwiss, WrongRound, AlreadyDropped}
-use Rattle.er_event.specs.Event.{EventValue}
-use Rattle.er_event.specs.Name.{is_lawful_name}
-use Rattle.er_event.specs.Change.{has_name, dropped_at, new_player}
-use Rattle.er_rules.specs.Commands.{first_refusal, is_enrolling, is_swiss, of_player}
-use Rattle.er_rules.specs.Step.{Steps, Makes, Refuses, checks}
-use Rattle.er_rules.specs.Fold.{Folds}
-use Rattle.er_rules.specs.Retry.{IsRetryRefusal}
-use Rattle.er_rules.proofs.Found.{find_mapped, find_passes}
-use Rattle.er_rules.proofs.Keeping.{is_taken, same_Ok, AllPass, passes}
 
 -- ---- what a step leaves of an event
 

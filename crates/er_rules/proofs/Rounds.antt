@@ -2,32 +2,22 @@
 use Rattle.std.proofs.Common.{◌≡◌, ◌≢◌, ◌⊎◌, inl, inr, ℕ, ◌+◌, ◌-◌, ◌%◌, ◌<◌, ◌≤◌, ◌==◌, not, Bool, true, false, List, [], ◌∷◌, ◌++◌}
 use Rattle.std.proofs.Common.{length, map, filter, take, drop, flat_map, All, AllPairs, IsTrue, IsFalse, IfSome, IsPermutation, Contains}
 use Rattle.std.proofs.Common.{get_or, slice_index, Some, refl, sym, ap, ◌∙◌, true≢false, arith, length-append, append-nil, append_assoc}
-use Rattle.std.specs.List.{list_any, range_with_len, AllByRecursion}
-use Rattle.std.proofs.lemmas.Bool.{cases_Bool, not-true, not-false, or_parts, eqb-true, eq-eqb}
-use Rattle.std.proofs.lemmas.Bool.Decides.{nat_tests, Decides-eqb}
-use Rattle.std.proofs.lemmas.List.{take-append-drop, take-append-le, get_or-map, get_or_append_left, length-map}
-use Rattle.std.proofs.lemmas.List.Concat.{flat_map-append}
-use Rattle.std.proofs.lemmas.List.Elements.{All-push, All-contains, All-append, All-filter, All-map, All-take, All-weaker}
-use Rattle.std.proofs.lemmas.List.Elements.{All-from_recursion, recursion_from_All, Contains-get_or, filter_passes}
-use Rattle.std.proofs.lemmas.List.FromFn.{length-range_with_len, get_or-range_with_len}
-use Rattle.std.proofs.lemmas.List.Sorted.{IsPermutation-refl, IsPermutation-trans, IsPermutation-append, IsPermutation-append_comm}
-use Rattle.std.proofs.lemmas.List.Sorted.{IsPermutation-filter_both, All-permutation, length_permutation}
-use Rattle.std.proofs.lemmas.Map.Keys.{IsDistinct-IsPermutation}
+use Rattle.std.proofs.{lemmas.Bool.{cases_Bool, not-true, not-false, or_parts, eqb-true, eq-eqb}, lemmas.Bool.Decides.nat_tests}
+use Rattle.std.proofs.{lemmas.Bool.Decides.Decides-eqb, lemmas.List.{take-append-drop, take-append-le, get_or-map, get_or_append_left}}
+use Rattle.std.proofs.{lemmas.List.length-map, lemmas.List.Concat.flat_map-append, lemmas.List.Elements.{All-push, All-contains}}
+use Rattle.std.proofs.lemmas.List.Elements.{All-append, All-filter, All-map, All-take, All-weaker, All-from_recursion, recursion_from_All}
+use Rattle.std.proofs.{lemmas.List.Elements.{Contains-get_or, filter_passes}, lemmas.List.FromFn.length-range_with_len}
+use Rattle.std.proofs.{lemmas.List.FromFn.get_or-range_with_len, lemmas.List.Sorted.{IsPermutation-refl, IsPermutation-trans}}
+use Rattle.std.proofs.lemmas.List.Sorted.{IsPermutation-append, IsPermutation-append_comm, IsPermutation-filter_both, All-permutation}
+use Rattle.std.proofs.{lemmas.List.Sorted.length_permutation, lemmas.Map.Keys.IsDistinct-IsPermutation}
 use Rattle.std.proofs.lemmas.Map.Made.{AllPairs-from_IsDistinct, IsDistinct-from_AllPairs}
-use Rattle.er_event.specs.declared.events.Phase.TheVariants.{Swiss}
-use Rattle.er_event.specs.declared.players.Player.{Player}
-use Rattle.er_event.specs.declared.matches.Match.{Match}
-use Rattle.er_event.specs.declared.rounds.Round.{Round}
-use Rattle.er_event.specs.Event.{EventValue}
-use Rattle.er_event.specs.Score.{is_swiss_score, bye_score}
-use Rattle.er_event.specs.Round.{is_bye, is_counted, is_same_pairing, seats, matches_of}
-use Rattle.er_event.specs.Sound.{numbers, IsRound, IsSoundButForSeeds}
-use Rattle.er_event.specs.Change.{IsNextRound}
-use Rattle.er_pair.specs.Met.{have_met}
-use Rattle.er_pair.specs.Order.{active_numbers, seats_of, IsOrder}
-use Rattle.er_pair.specs.Pairing.{Pair, positions, all_positions, IsEarliest, entries, match_of_pair, round_of}
-use Rattle.er_rules.specs.Commands.{active, newest_is_open}
-use Rattle.er_rules.specs.Tables.{match_of, tables_of}
+use Rattle.std.specs.List.{list_any, range_with_len, AllByRecursion}
+use Rattle.er_event.specs.{declared.events.Phase.TheVariants.Swiss, declared.players.Player.Player, declared.matches.Match.Match}
+use Rattle.er_event.specs.{declared.rounds.Round.Round, Event.EventValue, Score.{is_swiss_score, bye_score}, Round.{is_bye, is_counted}}
+use Rattle.er_event.specs.{Round.{is_same_pairing, seats, matches_of}, Sound.{numbers, IsRound, IsSoundButForSeeds}, Change.IsNextRound}
+use Rattle.er_pair.specs.{Met.have_met, Order.{active_numbers, seats_of, IsOrder}, Pairing.{Pair, positions, all_positions, IsEarliest}}
+use Rattle.er_pair.specs.Pairing.{entries, match_of_pair, round_of}
+use Rattle.er_rules.specs.{Commands.{active, newest_is_open}, Tables.{match_of, tables_of}}
 
 -- ---- the tables are the matches of the pairs, in another order
 

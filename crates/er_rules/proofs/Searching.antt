@@ -1,20 +1,14 @@
 -- `Budget` is no refusal of the step: it says that the search for a pairing has too few steps.
 use Rattle.std.proofs.Common.{◌≡◌, inl, inr, ℕ, Bool, true, false, List, [], ◌∷◌, ◌++◌, Option, Some, None, MatchOption, Result, Ok, Err}
-use Rattle.std.proofs.Common.{refl, ap, subst, true≢false}
-use Rattle.std.proofs.lemmas.Option.{none-some, same_Some}
-use Rattle.er_event.specs.declared.scores.Games.{Games}
-use Rattle.er_event.specs.declared.matches.Match.{Match}
-use Rattle.er_event.specs.declared.players.Player.{Player}
-use Rattle.er_event.specs.declared.commands.Command.{Command}
+use Rattle.std.proofs.{Common.{refl, ap, subst, true≢false}, lemmas.Option.{none-some, same_Some}}
+use Rattle.er_event.specs.{declared.scores.Games.Games, declared.matches.Match.Match, declared.players.Player.Player}
+use Rattle.er_event.specs.{declared.commands.Command.Command, declared.commands.Command.TheVariants.{Enrol, Start, Pair, Correct, Drop}}
+use Rattle.er_event.specs.{declared.commands.Command.TheVariants.Cut, declared.refusals.Refusal.Refusal}
+use Rattle.er_event.specs.{declared.refusals.Refusal.TheVariants.Budget, Event.EventValue, Round.match_at, Bracket.slot_at}
+use Rattle.er_rules.specs.{Commands.{Check, first_refusal, checks_at, already, of_player}, Step.{Answers, Steps, Makes, NeedsMoreSteps}}
+use Rattle.er_rules.specs.Step.{Refuses, checks}
 use Rattle.er_event.specs.declared.commands.Command.TheVariants.{Enrol, Start, Pair, Result as Report, Correct, Drop, Cut}
 use Rattle.er_event.specs.declared.commands.Command.TheVariants.{Playoff as PlayOff}
-use Rattle.er_event.specs.declared.refusals.Refusal.{Refusal}
-use Rattle.er_event.specs.declared.refusals.Refusal.TheVariants.{Budget}
-use Rattle.er_event.specs.Event.{EventValue}
-use Rattle.er_event.specs.Round.{match_at}
-use Rattle.er_event.specs.Bracket.{slot_at}
-use Rattle.er_rules.specs.Commands.{Check, first_refusal, checks_at, already, of_player}
-use Rattle.er_rules.specs.Step.{Answers, Steps, Makes, NeedsMoreSteps, Refuses, checks}
 
 abbrev is_budget : Refusal → Bool
 is_budget (Budget steps) = true

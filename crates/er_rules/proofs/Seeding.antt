@@ -1,29 +1,19 @@
 -- The first players of the standings: they are the event's, once each, and as many as are asked for where so many are active.
-use Rattle.std.proofs.Common.{◌≡◌, ◌≢◌, ℕ, zero, suc, ◌+◌, ◌<◌, ◌≤◌, not, Bool, true, false, List, [], ◌∷◌, length, map, filter, take, All}
-use Rattle.std.proofs.Common.{AllPairs, inr, ◌++◌, ◌/◌, None, refl, Contains, get_or, sym, ap, ◌∙◌, arith}
-use Rattle.std.specs.Cmp.{nat_eq_equiv}
-use Rattle.std.proofs.lemmas.Bool.{cond_both}
-use Rattle.std.proofs.lemmas.Bool.Decides.{Decides-eqb}
-use Rattle.std.proofs.lemmas.List.{get_or-map, get_or_default, get_or-take, length-map, length-take, length-take-le}
-use Rattle.std.proofs.lemmas.List.Elements.{All-contains, All-contains_itself, All-filter, All-map, All-take, All-weaker, filter_passes}
-use Rattle.std.proofs.lemmas.List.FromFn.{get_or-range_with_len}
-use Rattle.std.proofs.lemmas.List.Kept.{AllPairs-filter}
-use Rattle.std.proofs.lemmas.List.Sorted.{All-permutation, Contains-permutation}
+use Rattle.std.proofs.Common.{◌≡◌, ◌≢◌, ℕ, zero, suc, ◌+◌, ◌<◌, ◌≤◌, not, Bool, true, false, List, [], ◌∷◌, length, map, filter, take}
+use Rattle.std.proofs.{Common.{All, AllPairs, inr, ◌++◌, ◌/◌, None, refl, Contains, get_or, sym, ap, ◌∙◌, arith}, lemmas.Bool.cond_both}
+use Rattle.std.proofs.{lemmas.Bool.Decides.Decides-eqb, lemmas.List.{get_or-map, get_or_default, get_or-take, length-map, length-take}}
+use Rattle.std.proofs.{lemmas.List.length-take-le, lemmas.List.Elements.{All-contains, All-contains_itself, All-filter, All-map, All-take}}
+use Rattle.std.proofs.{lemmas.List.Elements.{All-weaker, filter_passes}, lemmas.List.FromFn.get_or-range_with_len}
+use Rattle.std.proofs.{lemmas.List.Kept.AllPairs-filter, lemmas.List.Sorted.{All-permutation, Contains-permutation}}
 use Rattle.std.proofs.lemmas.Map.Made.{IsDistinct-from_AllPairs, is_member-Decides, length-le_from_is_member}
-use Rattle.er_event.specs.declared.players.Player.{Player}
-use Rattle.er_event.specs.declared.matches.Match.{Match}
-use Rattle.er_event.specs.declared.changes.Change.TheVariants.{AddBracket}
-use Rattle.er_event.specs.declared.events.Phase.TheVariants.{Swiss, Playoff}
-use Rattle.er_event.specs.Change.{after, IsOpening}
-use Rattle.er_event.specs.Event.{EventValue}
-use Rattle.er_event.specs.Sound.{numbers, IsSoundButForSeeds}
-use Rattle.er_rank.specs.declared.rows.Row.{Row}
-use Rattle.er_rank.specs.Standings.{IsRowOf, AreStandings, IsTop}
+use Rattle.std.specs.Cmp.{nat_eq_equiv}
+use Rattle.er_event.specs.{declared.players.Player.Player, declared.matches.Match.Match, declared.changes.Change.TheVariants.AddBracket}
+use Rattle.er_event.specs.{declared.events.Phase.TheVariants.{Swiss, Playoff}, Change.{after, IsOpening}, Event.EventValue, Sound.numbers}
+use Rattle.er_event.specs.{Sound.IsSoundButForSeeds, Bracket.open_match}
+use Rattle.er_rank.specs.{declared.rows.Row.Row, Standings.{IsRowOf, AreStandings, IsTop}}
 use Rattle.er_bracket.specs.Seeds.{seeds_by_slot, seeded, first_stage}
-use Rattle.er_event.specs.Bracket.{open_match}
 use Rattle.er_rules.specs.Commands.{active, all_rounds_done}
-use Rattle.er_rules.proofs.Rounds.{apart_moved}
-use Rattle.er_rules.proofs.Opening.{is_cut, seated, opens, rounds_done}
+use Rattle.er_rules.proofs.{Rounds.apart_moved, Opening.{is_cut, seated, opens, rounds_done}}
 
 -- ---- lists
 

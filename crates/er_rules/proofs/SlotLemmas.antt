@@ -1,14 +1,9 @@
 -- Stages with the same players in their slots.
 use Rattle.std.proofs.Common.{◌≡◌, ◌≢◌, inl, inr, ℕ, ◌<◌, ◌≤◌, List, [], ◌∷◌, length, get_or, Some, refl, sym, ap, ◌∙◌, arith}
+use Rattle.std.proofs.{lemmas.Option.{none-some, same_Some}, lemmas.Bool.ne_eqb}
 use Rattle.std.specs.List.{slice_get}
-use Rattle.std.proofs.lemmas.Option.{none-some, same_Some}
-use Rattle.std.proofs.lemmas.Bool.{ne_eqb}
-use Rattle.er_event.specs.declared.events.Phase.{Phase}
-use Rattle.er_event.specs.declared.events.Phase.TheVariants.{Enrolling, Swiss, Playoff, Finished}
-use Rattle.er_event.specs.declared.matches.Match.{Match}
-use Rattle.er_event.specs.Event.{EventValue}
-use Rattle.er_event.specs.Bracket.{SameSlots}
-use Rattle.er_event.specs.Sound.{IsInPlayoff, IsSoundButForSeeds}
+use Rattle.er_event.specs.{declared.events.Phase.Phase, declared.events.Phase.TheVariants.{Enrolling, Swiss, Playoff, Finished}}
+use Rattle.er_event.specs.{declared.matches.Match.Match, Event.EventValue, Bracket.SameSlots, Sound.{IsInPlayoff, IsSoundButForSeeds}}
 use Rattle.er_bracket.specs.Seeds.{first_stage}
 use Rattle.er_rules.proofs.Opening.{is_cut}
 

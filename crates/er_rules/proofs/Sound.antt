@@ -1,38 +1,22 @@
 -- The step keeps an event sound.
-use Rattle.std.proofs.Common.{Result, ◌≡◌, ◌+◌, ◌<◌, ◌≤◌, ◌==◌, nat_le, nat_lt, false, not, List, [], ◌∷◌, ◌++◌, length, Option, Some, None}
-use Rattle.std.proofs.Common.{Ok, refl, sym, ap, subst, ◌∙◌, arith, true≢false, is_none}
-use Rattle.std.proofs.lemmas.Bool.{not-false}
+use Rattle.std.proofs.Common.{Result, ◌≡◌, ◌+◌, ◌<◌, ◌≤◌, ◌==◌, nat_le, nat_lt, false, not, List, [], ◌∷◌, ◌++◌, length, Option, Some}
+use Rattle.std.proofs.{Common.{None, Ok, refl, sym, ap, subst, ◌∙◌, arith, true≢false, is_none}, lemmas.Bool.not-false}
 use Rattle.std.proofs.lemmas.Bool.Decides.{nat_tests}
-use Rattle.er_event.specs.declared.scores.Games.{Games}
-use Rattle.er_event.specs.declared.events.Phase.TheVariants.{Enrolling, Swiss}
-use Rattle.er_event.specs.declared.matches.Match.{Match}
+use Rattle.er_event.specs.{declared.scores.Games.Games, declared.events.Phase.TheVariants.{Enrolling, Swiss}, declared.matches.Match.Match}
 use Rattle.er_event.specs.declared.changes.Change.TheVariants.{AddPlayer, SetDropped, SetPhase, AddRound, SetScore, AddBracket}
-use Rattle.er_event.specs.declared.changes.Change.TheVariants.{SetBracketScore}
-use Rattle.er_event.specs.declared.commands.Command.{Command}
+use Rattle.er_event.specs.{declared.changes.Change.TheVariants.SetBracketScore, declared.commands.Command.Command}
+use Rattle.er_event.specs.declared.commands.Command.TheVariants.{Enrol, Start, Pair, Correct, Drop, Cut}
+use Rattle.er_event.specs.{declared.refusals.Refusal.Refusal, declared.refusals.Refusal.TheVariants.{IsBye, BadScore, NotReported}}
+use Rattle.er_event.specs.{Event.EventValue, Name.is_lawful_name, Score.{is_swiss_score, is_playoff_score}, Round.{is_bye, match_at}}
+use Rattle.er_event.specs.{Bracket.{slot_at, following, is_over}, Change.with_round, Sound.IsSoundButForSeeds, Safe.ChangesKeepSound}
+use Rattle.er_bracket.specs.Seeds.{first_stage}
+use Rattle.er_pair.specs.{Met.have_met, Order.seed_words, Pairing.entries, Laws.{StandOnce, LegalSeats}}
+use Rattle.er_rules.specs.{Commands.{Check, active, already, checks_at}, Step.{Steps, Makes, checks, scored_at}, Sound.IsSound}
+use Rattle.er_rules.specs.Tables.{tables_of}
+use Rattle.er_rules.proofs.{Rounds.{IsPairing, may_come_next, tables_are}, Seeding.{top_opens, begins}, Keeping.{is_taken, same_Ok}}
+use Rattle.er_rules.proofs.Keeping.{AllPass, passes, enrolling_is, swiss_is, step_keeps}
 use Rattle.er_event.specs.declared.commands.Command.TheVariants.{Enrol, Start, Pair, Result as Report, Correct, Drop, Cut}
 use Rattle.er_event.specs.declared.commands.Command.TheVariants.{Playoff as PlayOff}
-use Rattle.er_event.specs.declared.refusals.Refusal.{Refusal}
-use Rattle.er_event.specs.declared.refusals.Refusal.TheVariants.{IsBye, BadScore, NotReported}
-use Rattle.er_event.specs.Event.{EventValue}
-use Rattle.er_event.specs.Name.{is_lawful_name}
-use Rattle.er_event.specs.Score.{is_swiss_score, is_playoff_score}
-use Rattle.er_event.specs.Round.{is_bye, match_at}
-use Rattle.er_event.specs.Bracket.{slot_at, following, is_over}
-use Rattle.er_event.specs.Change.{with_round}
-use Rattle.er_event.specs.Sound.{IsSoundButForSeeds}
-use Rattle.er_event.specs.Safe.{ChangesKeepSound}
-use Rattle.er_bracket.specs.Seeds.{first_stage}
-use Rattle.er_pair.specs.Met.{have_met}
-use Rattle.er_pair.specs.Order.{seed_words}
-use Rattle.er_pair.specs.Pairing.{entries}
-use Rattle.er_pair.specs.Laws.{StandOnce, LegalSeats}
-use Rattle.er_rules.specs.Commands.{Check, active, already, checks_at}
-use Rattle.er_rules.specs.Step.{Steps, Makes, checks, scored_at}
-use Rattle.er_rules.specs.Sound.{IsSound}
-use Rattle.er_rules.specs.Tables.{tables_of}
-use Rattle.er_rules.proofs.Rounds.{IsPairing, may_come_next, tables_are}
-use Rattle.er_rules.proofs.Seeding.{top_opens, begins}
-use Rattle.er_rules.proofs.Keeping.{is_taken, same_Ok, AllPass, passes, enrolling_is, swiss_is, step_keeps}
 
 pub asked : (o : Option Match) (more : Match → List Check) → AllPass (checks_at o more) → (m : Match) × (o ≡ Some m) × AllPass (more m)
 asked None more is = absurd (true≢false is.0)

@@ -1,8 +1,8 @@
 -- Worked examples 11, 12 and 34, computed from the definitions, and the limits.
 use Rattle.std.proofs.Common.{◌≡◌, ℕ, ◌*◌, true, [], ◌∷◌, map, replicate, refl}
 use Rattle.std.specs.Ordering.{is_gt}
-use Rattle.er_share.specs.declared.TheConstants.{MAX_ROUNDS, MAX_GAMES, BASE, WHOLE}
-use Rattle.er_share.specs.Fraction.{Fraction, fraction, IsSame, fraction_cmp, minimum_percentage, percentage, average, hundredths}
+use Rattle.er_share.specs.{declared.TheConstants.{MAX_ROUNDS, MAX_GAMES, BASE, WHOLE}, Fraction.{Fraction, fraction, IsSame, fraction_cmp}}
+use Rattle.er_share.specs.Fraction.{minimum_percentage, percentage, average, hundredths}
 
 -- each limit as the rules have it, so that the code's constant can't move from it
 

@@ -1,13 +1,9 @@
 -- A number of the parts of one whole, against the fraction that it is. The number of parts in a whole is a variable
 -- here, and what a lemma needs of it is a premise.
 use Rattle.std.proofs.Common.{◌≡◌, ℕ, ◌+◌, ◌-◌, ◌*◌, ◌/◌, ◌%◌, ◌<◌, ◌≤◌, max, List, [], ◌∷◌, length, sum, inl, inr, sym, ◌∙◌, ap, arith}
-use Rattle.std.proofs.Common.{zero-add, add-zero}
-use Rattle.std.proofs.Math.Nat.{mul-pos, mul-div_cancel, div-mul_cancel, mul-lt-mul_of_pos_right, lt_of_mul-lt-mul_right, mul-le-mul_right}
-use Rattle.std.proofs.Math.Nat.{le_of_mul-le-mul_right}
-use Rattle.std.proofs.lemmas.Nat.{div-mul-add, div-add-mod', mod_below}
-use Rattle.std.proofs.lemmas.Nat.Gcd.{dvd_of_mod-eq-zero}
-use Rattle.std.proofs.lemmas.Bool.{cases_lt}
-use Rattle.std.proofs.lemmas.Bool.Decides.{nat_tests}
+use Rattle.std.proofs.{Common.{zero-add, add-zero}, Math.Nat.{mul-pos, mul-div_cancel, div-mul_cancel, mul-lt-mul_of_pos_right}}
+use Rattle.std.proofs.{Math.Nat.{lt_of_mul-lt-mul_right, mul-le-mul_right, le_of_mul-le-mul_right}, lemmas.Nat.{div-mul-add, div-add-mod'}}
+use Rattle.std.proofs.{lemmas.Nat.mod_below, lemmas.Nat.Gcd.dvd_of_mod-eq-zero, lemmas.Bool.cases_lt, lemmas.Bool.Decides.nat_tests}
 use Rattle.std.proofs.lemmas.Slice.Zip.{AllZip-long}
 use Rattle.std.specs.List.{AllZip, fold}
 use Rattle.er_share.specs.Fraction.{Fraction, fraction, IsSame, fraction_cmp, plus, minimum_percentage, floored, average, hundredths}

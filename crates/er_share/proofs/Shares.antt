@@ -1,22 +1,15 @@
 -- The fractions that this crate's shares are, what its functions give, and what the layers above can cite.
-use Rattle.std.proofs.Common.{◌≡◌, ℕ, ◌+◌, ◌*◌, ◌/◌, ◌%◌, ◌<◌, ◌≤◌, max, ◌==◌, false, inl, inr, List, [], ◌∷◌, ◌++◌, length, sum, map, refl}
-use Rattle.std.proofs.Common.{sym, ◌∙◌, ap, arith, mul-zero}
-use Rattle.std.proofs.Math.Nat.{mul-mod_left, div-mul_cancel, dvd-mul_right}
-use Rattle.std.proofs.lemmas.Nat.{mul-mod_second}
-use Rattle.std.proofs.lemmas.Nat.Gcd.{dvd_of_mod-eq-zero, dvd_trans}
-use Rattle.std.proofs.lemmas.Bool.{cases_lt}
+use Rattle.std.proofs.Common.{◌≡◌, ℕ, ◌+◌, ◌*◌, ◌/◌, ◌%◌, ◌<◌, ◌≤◌, max, ◌==◌, false, inl, inr, List, [], ◌∷◌, ◌++◌, length, sum, map}
+use Rattle.std.proofs.{Common.{refl, sym, ◌∙◌, ap, arith, mul-zero}, Math.Nat.{mul-mod_left, div-mul_cancel, dvd-mul_right}}
+use Rattle.std.proofs.{lemmas.Nat.mul-mod_second, lemmas.Nat.Gcd.{dvd_of_mod-eq-zero, dvd_trans}, lemmas.Bool.cases_lt}
 use Rattle.std.proofs.lemmas.Bool.Decides.{nat_tests}
-use Rattle.std.specs.List.{AllZip}
-use Rattle.std.specs.Ordering.{nat_cmp}
-use Rattle.er_share.specs.declared.TheConstants.{MAX_ROUNDS, MAX_GAMES, BASE, WHOLE}
-use Rattle.er_share.specs.declared.share.TheConstants.{MINIMUM}
+use Rattle.std.specs.{List.AllZip, Ordering.nat_cmp}
+use Rattle.er_share.specs.{declared.TheConstants.{MAX_ROUNDS, MAX_GAMES, BASE, WHOLE}, declared.share.TheConstants.MINIMUM}
 use Rattle.er_share.specs.Fraction.{Fraction, fraction, fraction_cmp, minimum_percentage, percentage, average, hundredths}
-use Rattle.er_share.specs.Share.{fraction_of, IsShareOf, IsBase}
-use Rattle.er_share.specs.Order.{nat_cmp-mul, share_cmp}
-use Rattle.er_share.proofs.Fractions.{hundredths-same}
-use Rattle.er_share.proofs.Parts.{ArePartsOf, parts_of_parts, ArePartsOf-points, ArePartsOf-minimum, ArePartsOf-floored, ArePartsOf-average}
-use Rattle.er_share.proofs.Parts.{hundredths-parts}
-use Rattle.er_share.proofs.Table.{whole_above, minimum_is_least, minimum_is_base, whole_divides, base_divides}
+use Rattle.er_share.specs.{Share.{fraction_of, IsShareOf, IsBase}, Order.{nat_cmp-mul, share_cmp}}
+use Rattle.er_share.proofs.{Fractions.hundredths-same, Parts.{ArePartsOf, parts_of_parts, ArePartsOf-points, ArePartsOf-minimum}}
+use Rattle.er_share.proofs.{Parts.{ArePartsOf-floored, ArePartsOf-average, hundredths-parts}, Table.{whole_above, minimum_is_least}}
+use Rattle.er_share.proofs.Table.{minimum_is_base, whole_divides, base_divides}
 
 -- ---- base shares
 

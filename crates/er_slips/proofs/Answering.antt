@@ -1,42 +1,26 @@
 -- What the desk answers, and how serving an input ends.
-use Rattle.std.proofs.lemmas.Grind.{common_steps}
-use Rattle.std.proofs.Common.{◌≡◌, ◌⊎◌, inl, inr, ℕ, ◌==◌, false, true≢false, arith, List, [], ◌∷◌, Option, Some, None, Result, Ok, Err}
-use Rattle.std.proofs.Common.{IsTrue, IsFalse, IfOk, IfErr, OnOk, IfSome, MatchResult, Vec, Global, is_ok, refl, sym, ap, subst, ◌∙◌}
-use Rattle.std.specs.Io.KnownBytes.{Keeps}
-use Rattle.std.specs.List.{AllByRecursion}
-use Rattle.std.proofs.lemmas.Bool.Decides.{nat_tests}
-use Rattle.std.specs.declared.alloc.AllocError.{AllocError}
-use Rattle.sqlite.specs.Table.{Table}
-use Rattle.sqlite.specs.Effect.{Database}
-use Rattle.er_event.specs.declared.refusals.Refusal.{Refusal}
-use Rattle.er_event.specs.declared.refusals.Refusal.TheVariants.{Memory, NoSuchMatch, NeedsReopen}
-use Rattle.er_event.specs.declared.commands.Command.TheVariants.{Result as Hand}
-use Rattle.er_event.specs.declared.commands.TheConstants.{MAX_SERIAL}
-use Rattle.er_event.specs.declared.scores.Games.{Games}
-use Rattle.er_event.specs.declared.slips.SlipRow.{SlipRow}
+use Rattle.std.proofs.{lemmas.Grind.common_steps, Common.{◌≡◌, ◌⊎◌, inl, inr, ℕ, ◌==◌, false, true≢false, arith, List, [], ◌∷◌, Option}}
+use Rattle.std.proofs.Common.{Some, None, Result, Ok, Err, IsTrue, IsFalse, IfOk, IfErr, OnOk, IfSome, MatchResult, Vec, Global, is_ok}
+use Rattle.std.proofs.{Common.{refl, sym, ap, subst, ◌∙◌}, lemmas.Bool.Decides.nat_tests}
+use Rattle.std.specs.{Io.KnownBytes.Keeps, List.AllByRecursion, declared.alloc.AllocError.AllocError}
+use Rattle.sqlite.specs.{Table.Table, Effect.Database}
+use Rattle.er_event.specs.{declared.refusals.Refusal.Refusal, declared.refusals.Refusal.TheVariants.{Memory, NoSuchMatch, NeedsReopen}}
+use Rattle.er_event.specs.{declared.commands.TheConstants.MAX_SERIAL, declared.scores.Games.Games, declared.slips.SlipRow.SlipRow}
 use Rattle.er_event.specs.Event.{EventValue}
-use Rattle.er_paper.specs.Slip.{slip_text}
-use Rattle.er_paper.specs.Texts.{rows_text}
+use Rattle.er_paper.specs.{Slip.slip_text, Texts.rows_text}
 use Rattle.er_rank.specs.declared.rows.Row.{Row}
-use Rattle.er_store.specs.Standing.{IsOther, KeepsOthers}
+use Rattle.er_store.specs.{Standing.{IsOther, KeepsOthers}, Slip.FindsSlip}
 use Rattle.sqlite_trees.specs.declared.store.Store.{Ghosts}
-use Rattle.er_desk.specs.declared.desk.Desk.{Desk}
-use Rattle.er_desk.specs.Desk.{Standing, Turn, ShowsEvent, ShowsOwn, point_of, standing, state, Reads, ReadsRows, ReadsSlip}
-use Rattle.er_desk.specs.Headline.{LeavesJust, AreTheStandings}
-use Rattle.er_desk.specs.Reply.{Reply, receipt, reply_to, IsDue}
-use Rattle.er_slips.specs.declared.answer.Answer.{Answer}
-use Rattle.er_slips.specs.declared.request.asked.Asked.{Asked}
-use Rattle.er_slips.specs.declared.request.asked.Asked.TheVariants.{Standings, Pairings, Slip, Report}
-use Rattle.er_slips.specs.declared.request.asked.Fault.{Fault}
-use Rattle.er_slips.specs.declared.request.asked.Unasked.{Unasked}
-use Rattle.er_slips.specs.declared.request.asked.Unasked.TheVariants.{Refused}
-use Rattle.er_slips.specs.declared.serve.Served.{Served}
-use Rattle.er_slips.specs.declared.serve.Served.TheVariants.{Answered, ReadFault, WriteFault}
-use Rattle.er_slips.specs.Request.{Asks, TellsAsked}
-use Rattle.er_slips.specs.Answer.{AnswerValue, answer_value, fault_answer, refusal_answer, slip_answer, text_answer, status_of}
-use Rattle.er_slips.specs.Whole.{ShowsPairings, row_answer, reply_answer, IsAnswered, submitted, IsAnswerUnless503}
-use Rattle.er_store.specs.Slip.{FindsSlip}
+use Rattle.er_desk.specs.{declared.desk.Desk.Desk, Desk.{Standing, Turn, ShowsEvent, ShowsOwn, point_of, standing, state, Reads, ReadsRows}}
+use Rattle.er_desk.specs.{Desk.ReadsSlip, Headline.{LeavesJust, AreTheStandings}, Reply.{Reply, receipt, reply_to, IsDue}}
+use Rattle.er_slips.specs.{declared.answer.Answer.Answer, declared.request.asked.Asked.Asked}
+use Rattle.er_slips.specs.{declared.request.asked.Asked.TheVariants.{Standings, Pairings, Slip, Report}, declared.request.asked.Fault.Fault}
+use Rattle.er_slips.specs.{declared.request.asked.Unasked.Unasked, declared.request.asked.Unasked.TheVariants.Refused}
+use Rattle.er_slips.specs.{declared.serve.Served.Served, declared.serve.Served.TheVariants.{Answered, ReadFault, WriteFault}, Request.Asks}
+use Rattle.er_slips.specs.{Request.TellsAsked, Answer.{AnswerValue, answer_value, fault_answer, refusal_answer, slip_answer, text_answer}}
+use Rattle.er_slips.specs.{Answer.status_of, Whole.{ShowsPairings, row_answer, reply_answer, IsAnswered, submitted, IsAnswerUnless503}}
 use Rattle.er_slips.specs.Serving.{IsRowsAnswer, IsSlipAnswer, AnswersRequest, IsServed, IsUnserved, Writes, EndsServing, IsWritten}
+use Rattle.er_event.specs.declared.commands.Command.TheVariants.{Result as Hand}
 
 pub reopening : (desk : Standing) (Shows : EventValue → AnswerValue → Type 0) (answer : AnswerValue) (why : Refusal)
     → IsTrue desk.stopped × (why ≡ NeedsReopen) → answer ≡ refusal_answer why → ShowsEvent refusal_answer desk Shows answer

@@ -1,31 +1,20 @@
 -- What a head asks for, read from its spans, and the body behind it.
-use Rattle.std.proofs.lemmas.Grind.{common_steps}
-use Rattle.std.proofs.Common.{◌≡◌, ℕ, ◌+◌, ◌-◌, ◌<◌, ◌≤◌, ◌==◌, Bool, true, false, List, [], ◌∷◌, ◌++◌, length, take, drop, get_or, All}
-use Rattle.std.proofs.Common.{slice_range, Option, Some, None, Result, Ok, Err, IfSome, refl, sym, ap, subst, ◌∙◌, arith, length-append}
-use Rattle.std.proofs.Common.{length-drop, append-nil}
-use Rattle.std.proofs.lemmas.List.{drop-append-le, drop-take, take-take, take-append-le, length-take-le, length-take}
+use Rattle.std.proofs.{lemmas.Grind.common_steps, Common.{◌≡◌, ℕ, ◌+◌, ◌-◌, ◌<◌, ◌≤◌, ◌==◌, Bool, true, false, List, [], ◌∷◌, ◌++◌, length}}
+use Rattle.std.proofs.Common.{take, drop, get_or, All, slice_range, Option, Some, None, Result, Ok, Err, IfSome, refl, sym, ap, subst}
+use Rattle.std.proofs.{Common.{◌∙◌, arith, length-append, length-drop, append-nil}, lemmas.List.{drop-append-le, drop-take, take-take}}
+use Rattle.std.proofs.{lemmas.List.{take-append-le, length-take-le, length-take}, lemmas.Bool.Decides.nat_tests, lemmas.Str.IsUtf8-take}
+use Rattle.std.specs.{Str.{IsUtf8, IsCharBoundary}, Io.KnownBytes.{Consumes, IsAtEnd}}
 use Rattle.er_paper.specs.Slip.{slip_games}
-use Rattle.er_slips.specs.declared.request.head.Head.{Head}
-use Rattle.er_slips.specs.declared.request.head.Head.TheVariants.{Found}
-use Rattle.std.specs.Str.{IsUtf8, IsCharBoundary}
-use Rattle.std.specs.Io.KnownBytes.{Consumes, IsAtEnd}
-use Rattle.std.proofs.lemmas.Bool.Decides.{nat_tests}
-use Rattle.std.proofs.lemmas.Str.{IsUtf8-take}
-use Rattle.httparse.specs.Grammar.{RequestHead, ReadsRequest}
-use Rattle.httparse.specs.Spans.{span_bytes, IsHeaderWithin, IsRequestAt}
-use Rattle.httparse.specs.declared.spans.HeaderSpan.{HeaderSpan}
-use Rattle.httparse.specs.declared.spans.RequestSpans.{RequestSpans}
+use Rattle.httparse.specs.{Grammar.{RequestHead, ReadsRequest}, Spans.{span_bytes, IsHeaderWithin, IsRequestAt}}
+use Rattle.httparse.specs.{declared.spans.HeaderSpan.HeaderSpan, declared.spans.RequestSpans.RequestSpans}
 use Rattle.httparse.proofs.GrammarLemmas.{ReadsRequest-append}
-use Rattle.er_slips.specs.declared.request.asked.Fault.{Fault}
-use Rattle.er_slips.specs.declared.request.Next.{Next}
-use Rattle.er_slips.specs.declared.request.Next.TheVariants.{Get, Body}
-use Rattle.er_slips.specs.declared.request.asked.Asked.{Asked}
-use Rattle.er_slips.specs.declared.request.asked.Unasked.{Unasked}
+use Rattle.er_slips.specs.{declared.request.head.Head.Head, declared.request.head.Head.TheVariants.Found}
+use Rattle.er_slips.specs.{declared.request.asked.Fault.Fault, declared.request.Next.Next, declared.request.Next.TheVariants.{Get, Body}}
+use Rattle.er_slips.specs.{declared.request.asked.Asked.Asked, declared.request.asked.Unasked.Unasked}
+use Rattle.er_slips.specs.{declared.request.asked.Fault.TheVariants.BadRequest, declared.request.head.TheConstants.MAX_HEAD, Head.ShowsHead}
+use Rattle.er_slips.specs.{Head.IfFound, Request.{path_of, next_of, asked_with, asked_of, reported, Asks, headed, IsDueUnlessMemory}}
+use Rattle.er_slips.specs.Request.{TellsAsked}
 use Rattle.er_slips.specs.declared.request.asked.Unasked.TheVariants as unasked
-use Rattle.er_slips.specs.declared.request.asked.Fault.TheVariants.{BadRequest}
-use Rattle.er_slips.specs.declared.request.head.TheConstants.{MAX_HEAD}
-use Rattle.er_slips.specs.Head.{ShowsHead, IfFound}
-use Rattle.er_slips.specs.Request.{path_of, next_of, asked_with, asked_of, reported, Asks, headed, IsDueUnlessMemory, TellsAsked}
 
 -- ---- the path is text
 

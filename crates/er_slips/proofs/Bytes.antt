@@ -1,13 +1,10 @@
 -- The bytes that were read, against the whole input.
-use Rattle.std.proofs.KnownBytes.{Consumes-trans}
-use Rattle.std.proofs.Common.{◌≡◌, ℕ, ◌+◌, ◌-◌, ◌≤◌, List, ◌++◌, take, drop, length, take-take, sym, ap, subst, ◌∙◌, arith, Option, Some}
-use Rattle.std.proofs.Common.{None, IfSome, slice_range, length-drop}
-use Rattle.std.proofs.lemmas.List.{take_all}
+use Rattle.std.proofs.{KnownBytes.Consumes-trans, Common.{◌≡◌, ℕ, ◌+◌, ◌-◌, ◌≤◌, List, ◌++◌, take, drop, length, take-take, sym, ap, subst}}
+use Rattle.std.proofs.{Common.{◌∙◌, arith, Option, Some, None, IfSome, slice_range, length-drop}, lemmas.List.take_all, Math.Seq.take-add}
+use Rattle.std.proofs.Math.Seq.{take-append_seam, take-append-add}
 use Rattle.std.specs.Io.KnownBytes.{Consumes}
-use Rattle.std.proofs.Math.Seq.{take-add, take-append_seam, take-append-add}
 use Rattle.httparse.specs.Grammar.{HasNoRequest, print_request}
-use Rattle.er_slips.specs.declared.request.head.TheConstants.{MAX_HEAD}
-use Rattle.er_slips.specs.Head.{HasNoHead}
+use Rattle.er_slips.specs.{declared.request.head.TheConstants.MAX_HEAD, Head.HasNoHead}
 
 pub grown : (old new : List ℕ) (f n : ℕ) → take f new ≡ take f old → take f old ++ slice_range new f (f + n) ≡ take (f + n) new
 grown old new f n kept =

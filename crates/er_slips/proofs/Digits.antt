@@ -1,17 +1,9 @@
 -- What a few digits are.
-use Rattle.std.proofs.lemmas.Grind.{common_steps}
-use Rattle.std.proofs.Common.{◌≡◌, ℕ, ◌^◌, ◌<◌, ◌≤◌, true, List, length, None, Result, Ok, Err, sym, arith, rules}
-use Rattle.std.specs.Char.{is_ascii_digit}
-use Rattle.std.specs.List.{list_all}
-use Rattle.std.specs.Str.{IsUtf8}
-use Rattle.std.specs.Str.Parse.{digits_value, ParsesUnsigned}
-use Rattle.std.specs.Result.{result_ok}
-use Rattle.std.proofs.lemmas.Bool.Decides.{nat_tests}
-use Rattle.std.proofs.lemmas.Fmt.{IsAscii-from_digits}
-use Rattle.std.proofs.lemmas.Str.{IsUtf8-from_ascii}
+use Rattle.std.proofs.{lemmas.Grind.common_steps, Common.{◌≡◌, ℕ, ◌^◌, ◌<◌, ◌≤◌, true, List, length, None, Result, Ok, Err, sym, arith}}
+use Rattle.std.proofs.{Common.rules, lemmas.Bool.Decides.nat_tests, lemmas.Fmt.IsAscii-from_digits, lemmas.Str.IsUtf8-from_ascii}
 use Rattle.std.proofs.lemmas.Str.Parse.{IsNumeralModel, IsDigitsTest, numerals_by_value, parse_digits, digits_value_short}
-use Rattle.er_slips.specs.declared.request.fields.TheConstants.{MAX_BODY}
-use Rattle.er_slips.specs.declared.request.asked.Fault.TheVariants.{TooLarge}
+use Rattle.std.specs.{Char.is_ascii_digit, List.list_all, Str.IsUtf8, Str.Parse.{digits_value, ParsesUnsigned}, Result.result_ok}
+use Rattle.er_slips.specs.{declared.request.fields.TheConstants.MAX_BODY, declared.request.asked.Fault.TheVariants.TooLarge}
 use Rattle.er_slips.specs.Request.{number_of, length_of}
 
 told : IsDigitsTest (λ word. list_all is_ascii_digit word ≡ true)

@@ -1,31 +1,21 @@
 -- Answers, routes and what requests ask for, computed from the definitions.
 use Rattle.std.proofs.Common.{inl}
-use Rattle.std.specs.Prelude.{◌≡◌, ℕ, false, true, List, [], ◌∷◌, map, Some, None, Ok, Err, codes, refl}
-use Rattle.std.specs.Fmt.{digits}
+use Rattle.std.specs.{Prelude.{◌≡◌, ℕ, false, true, List, [], ◌∷◌, map, Some, None, Ok, Err, codes, refl}, Fmt.digits}
 use Rattle.httparse.specs.Grammar.{RequestHead, Field, crlf}
 use Rattle.httparse.proofs.OnLiterals.{httparse_on_literals}
-use Rattle.er_event.specs.declared.events.Phase.TheVariants.{Swiss}
-use Rattle.er_event.specs.declared.players.Player.{Player}
-use Rattle.er_event.specs.declared.scores.Games.{Games}
-use Rattle.er_event.specs.declared.commands.Command.{Command}
-use Rattle.er_event.specs.declared.commands.Command.TheVariants.{Result as Hand}
-use Rattle.er_event.specs.declared.refusals.Refusal.TheVariants.{AlreadyReported, BadScore, NotSwiss, NoSuchMatch, IsBye, SerialFull}
-use Rattle.er_event.specs.declared.refusals.Refusal.TheVariants.{Memory, Store, NeedsReopen}
-use Rattle.er_event.specs.declared.refusals.Cause.TheVariants.{Refused}
-use Rattle.er_event.specs.Change.{with_score}
-use Rattle.er_event.specs.Event.{EventValue}
-use Rattle.er_event.specs.Slip.{slip_of}
-use Rattle.er_paper.specs.Slip.{slip_games, slip_text}
-use Rattle.er_paper.specs.Texts.{pairings_text}
+use Rattle.er_event.specs.{declared.events.Phase.TheVariants.Swiss, declared.players.Player.Player, declared.scores.Games.Games}
+use Rattle.er_event.specs.{declared.commands.Command.Command, declared.refusals.Refusal.TheVariants.{AlreadyReported, BadScore, NotSwiss}}
+use Rattle.er_event.specs.declared.refusals.Refusal.TheVariants.{NoSuchMatch, IsBye, SerialFull, Memory, Store, NeedsReopen}
+use Rattle.er_event.specs.{declared.refusals.Cause.TheVariants.Refused, Change.with_score, Event.EventValue, Slip.slip_of}
+use Rattle.er_paper.specs.{Slip.{slip_games, slip_text}, Texts.pairings_text}
 use Rattle.er_desk.specs.Reply.{IsDue}
-use Rattle.er_slips.specs.declared.request.fields.TheConstants.{MAX_BODY}
-use Rattle.er_slips.specs.declared.request.head.TheConstants.{MAX_HEAD, MAX_FIELDS}
+use Rattle.er_slips.specs.{declared.request.fields.TheConstants.MAX_BODY, declared.request.head.TheConstants.{MAX_HEAD, MAX_FIELDS}}
+use Rattle.er_slips.specs.{declared.request.asked.Asked.TheVariants.Pairings, declared.request.asked.Fault.TheVariants.BadRequest}
+use Rattle.er_slips.specs.{declared.request.asked.Fault.TheVariants.{NotFound, NotAllowed, TooLarge}, Request.{route_of, path_of, asked_of}}
+use Rattle.er_slips.specs.{Request.reported, Answer.{AnswerValue, fault_answer, refusal_answer, receipt_answer, slip_answer, text_answer}}
+use Rattle.er_slips.specs.{Answer.status_of, Whole.{row_answer, pairings_answer}}
+use Rattle.er_event.specs.declared.commands.Command.TheVariants.{Result as Hand}
 use Rattle.er_slips.specs.declared.request.routes.Route.TheVariants as route
-use Rattle.er_slips.specs.declared.request.asked.Asked.TheVariants.{Pairings}
-use Rattle.er_slips.specs.declared.request.asked.Fault.TheVariants.{BadRequest, NotFound, NotAllowed, TooLarge}
-use Rattle.er_slips.specs.Request.{route_of, path_of, asked_of, reported}
-use Rattle.er_slips.specs.Answer.{AnswerValue, fault_answer, refusal_answer, receipt_answer, slip_answer, text_answer, status_of}
-use Rattle.er_slips.specs.Whole.{row_answer, pairings_answer}
 
 -- ---- each limit as the format has it, so that the code's constant can't move from it
 

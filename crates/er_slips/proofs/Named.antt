@@ -1,15 +1,10 @@
 -- The fields of a head, one at a time.
-use Rattle.std.proofs.lemmas.Grind.{common_steps}
-use Rattle.std.proofs.Common.{◌≡◌, ℕ, ◌+◌, ◌<◌, Bool, true, false, ◌||◌, Bor, List, [], ◌∷◌, ◌++◌, codes, take, drop, length, map, filter}
-use Rattle.std.proofs.Common.{get_or, Option, Some, None, Err, refl, sym, ap, ◌∙◌, arith, take-append-drop, if◌then◌else◌}
-use Rattle.std.specs.List.{list_any}
-use Rattle.std.proofs.lemmas.List.{get_or-map}
-use Rattle.std.specs.Option.{is_some}
-use Rattle.httparse.specs.Spans.{header_bytes}
-use Rattle.httparse.specs.declared.spans.HeaderSpan.{HeaderSpan}
-use Rattle.std.proofs.lemmas.List.Elements.{filter-append}
-use Rattle.er_slips.specs.declared.request.asked.Fault.TheVariants.{BadRequest}
-use Rattle.er_slips.specs.Request.{HeadField, is_named, only_length, body_length}
+use Rattle.std.proofs.{lemmas.Grind.common_steps, Common.{◌≡◌, ℕ, ◌+◌, ◌<◌, Bool, true, false, ◌||◌, Bor, List, [], ◌∷◌, ◌++◌, codes, take}}
+use Rattle.std.proofs.Common.{drop, length, map, filter, get_or, Option, Some, None, Err, refl, sym, ap, ◌∙◌, arith, take-append-drop}
+use Rattle.std.proofs.{Common.if◌then◌else◌, lemmas.List.get_or-map, lemmas.List.Elements.filter-append}
+use Rattle.std.specs.{List.list_any, Option.is_some}
+use Rattle.httparse.specs.{Spans.header_bytes, declared.spans.HeaderSpan.HeaderSpan}
+use Rattle.er_slips.specs.{declared.request.asked.Fault.TheVariants.BadRequest, Request.{HeadField, is_named, only_length, body_length}}
 
 abbrev pub refused : HeadField → Bool
 refused field = is_named (codes "transfer-encoding") field

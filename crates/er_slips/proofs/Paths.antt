@@ -1,18 +1,13 @@
 -- Which route a path has, in plain words.
-use Rattle.std.proofs.lemmas.Grind.{common_steps}
-use Rattle.std.proofs.Common.{◌≡◌, ◌≢◌, ℕ, zero, suc, ◌-◌, ◌<◌, Bool, true, false, cond, not, ◌&&◌, ◌||◌, List, [], ◌∷◌, ◌++◌, codes, drop}
-use Rattle.std.proofs.Common.{length, get_or, Option, Some, None, refl, sym, ap, ap₂, ◌∙◌, arith, nat_eq, ◌==◌, ltb, append-nil}
-use Rattle.std.proofs.Common.{length-append, lit<, Fits, w8}
-use Rattle.std.specs.Cmp.Lexicographic.{pointwise}
-use Rattle.std.proofs.lemmas.Bool.Decides.{nat_tests}
-use Rattle.std.specs.List.{starts_with}
-use Rattle.matchit.specs.Rows.{Rows, Seen, prepend, ends, param_token, catch_all_token, rows, rows_of}
-use Rattle.matchit.specs.Seek.{step, or_else, seek, first, after_param, param_step, segment, has_slash, longest_suffix, cuts}
-use Rattle.matchit.specs.Level.{IsText, AreSuffixes}
-use Rattle.matchit.proofs.SeekLemmas.{first-prefix, step-append, step-hit, step-miss, prepend-nil, seek-empty, param_step-empty}
-use Rattle.matchit.proofs.SeekLemmas.{or_else-none, own-append}
-use Rattle.matchit.proofs.ParamLemmas.{after_param-end, after_param-stop, after_param-kid}
+use Rattle.std.proofs.{lemmas.Grind.common_steps, Common.{◌≡◌, ◌≢◌, ℕ, zero, suc, ◌-◌, ◌<◌, Bool, true, false, cond, not, ◌&&◌, ◌||◌, List}}
+use Rattle.std.proofs.Common.{[], ◌∷◌, ◌++◌, codes, drop, length, get_or, Option, Some, None, refl, sym, ap, ap₂, ◌∙◌, arith, nat_eq}
+use Rattle.std.proofs.{Common.{◌==◌, ltb, append-nil, length-append, lit<, Fits, w8}, lemmas.Bool.Decides.nat_tests}
+use Rattle.std.specs.{Cmp.Lexicographic.pointwise, List.starts_with}
+use Rattle.matchit.specs.{Rows.{Rows, Seen, prepend, ends, param_token, catch_all_token, rows, rows_of}, Seek.{step, or_else, seek, first}}
+use Rattle.matchit.specs.{Seek.{after_param, param_step, segment, has_slash, longest_suffix, cuts}, Level.{IsText, AreSuffixes}}
 use Rattle.matchit.specs.Router.{RouteOf, rename, map_key}
+use Rattle.matchit.proofs.SeekLemmas.{first-prefix, step-append, step-hit, step-miss, prepend-nil, seek-empty, param_step-empty}
+use Rattle.matchit.proofs.{SeekLemmas.{or_else-none, own-append}, ParamLemmas.{after_param-end, after_param-stop, after_param-kid}}
 use Rattle.matchit.proofs.RenameLemmas.{first-rename}
 use Rattle.er_slips.specs.Routes.{routes, before, after, is_empty, ends_in_number, after_round, in_rounds, after_root, number_of_route}
 use Rattle.er_slips.specs.Routes.{round_pattern, table_pattern}

@@ -1,21 +1,14 @@
 -- What a retry is answered.
-use Rattle.std.proofs.Common.{arith}
-use Rattle.std.proofs.lemmas.Grind.{common_steps}
-use Rattle.std.proofs.Common.{◌≡◌, ◌⊎◌, inl, inr, ℕ, Option, Some, Result, Ok}
-use Rattle.std.proofs.Common.{Err, ap, subst, ◌∙◌}
-use Rattle.er_event.specs.declared.commands.Command.TheVariants.{Result as Hand}
-use Rattle.er_event.specs.declared.refusals.Refusal.{Refusal}
-use Rattle.er_event.specs.declared.refusals.Refusal.TheVariants.{AlreadyReported, NotSwiss}
-use Rattle.er_event.specs.declared.scores.Games.{Games}
-use Rattle.er_event.specs.Event.{EventValue}
-use Rattle.er_rules.specs.Step as step
+use Rattle.std.proofs.{Common.{arith, ◌≡◌, ◌⊎◌, inl, inr, ℕ, Option, Some, Result, Ok, Err, ap, subst, ◌∙◌}, lemmas.Grind.common_steps}
+use Rattle.er_event.specs.{declared.refusals.Refusal.Refusal, declared.refusals.Refusal.TheVariants.{AlreadyReported, NotSwiss}}
+use Rattle.er_event.specs.{declared.scores.Games.Games, Event.EventValue}
 use Rattle.er_rules.specs.Retry.{IsRetryRefusal, NoDoubleEffect}
 use Rattle.er_desk.specs.Reply.{reply_to}
-use Rattle.er_slips.specs.declared.request.asked.Asked.TheVariants.{Report}
-use Rattle.er_slips.specs.Answer.{AnswerValue, refusal_answer}
-use Rattle.er_slips.specs.Whole.{reply_answer, IsAnswered}
-use Rattle.er_slips.specs.Retry.{HasScore, Retries}
+use Rattle.er_slips.specs.{declared.request.asked.Asked.TheVariants.Report, Answer.{AnswerValue, refusal_answer}, Whole.reply_answer}
+use Rattle.er_slips.specs.{Whole.IsAnswered, Retry.{HasScore, Retries}}
 use Rattle.er_slips.proofs.Unique.{one_asked}
+use Rattle.er_event.specs.declared.commands.Command.TheVariants.{Result as Hand}
+use Rattle.er_rules.specs.Step as step
 
 -- `AlreadyReported` has the score that is stored
 module _ (handed stored : Games) where

@@ -1,9 +1,8 @@
 -- A whole input asks for one thing.
 use Rattle.std.proofs.Common.{◌≡◌, List, ℕ, Result, sym, ap₂, ◌∙◌}
 use Rattle.httparse.proofs.GrammarLemmas.{request_unique}
-use Rattle.er_slips.specs.declared.request.asked.Asked.{Asked}
-use Rattle.er_slips.specs.declared.request.asked.Fault.{Fault}
-use Rattle.er_slips.specs.Request.{Asks, headed, headless, asked_of}
+use Rattle.er_slips.specs.{declared.request.asked.Asked.Asked, declared.request.asked.Fault.Fault, Request.{Asks, headed, headless}}
+use Rattle.er_slips.specs.Request.{asked_of}
 
 pub one_asked : (input : List ℕ) (r q : Result Asked Fault) → Asks input r → Asks input q → r ≡ q
 one_asked input r q (headed h rest is e) (headed k more also f) =

@@ -1,10 +1,7 @@
 -- The parser that a list of names makes, with the names behind references.
-use Rattle.std.proofs.Common.{◌≡◌, ℕ, ◌+◌, ◌<◌, ◌≤◌, List, map, take, length, get_or, sym, ap, ◌∙◌}
-use Rattle.std.specs.Borrow.{Bor}
-use Rattle.std.specs.List.{fold}
-use Rattle.std.proofs.lemmas.List.{take_all}
-use Rattle.std.proofs.lemmas.List.Sums.{fold_more}
-use Rattle.std.proofs.lemmas.List.Folds.{fold-map}
+use Rattle.std.proofs.{Common.{◌≡◌, ℕ, ◌+◌, ◌<◌, ◌≤◌, List, map, take, length, get_or, sym, ap, ◌∙◌}, lemmas.List.take_all}
+use Rattle.std.proofs.{lemmas.List.Sums.fold_more, lemmas.List.Folds.fold-map}
+use Rattle.std.specs.{Borrow.Bor, List.fold}
 use Rattle.clap.specs.Words.{App, Text, with_subcommand}
 use Rattle.er_words.specs.Words.{leaf, bare, with_leaves}
 

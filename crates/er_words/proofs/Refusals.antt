@@ -1,24 +1,16 @@
 -- When the parser refuses words of which none begins with a hyphen: never, where the first names a subcommand.
 use Rattle.std.proofs.Common.{◌≡◌, ℕ, ◌<◌, ◌≤◌, Bool, true, false, ◌&&◌, List, [], ◌∷◌, ◌++◌, length, codes, Option, Some, None, is_some}
 use Rattle.std.proofs.Common.{option_map, refl, sym, ap, ap₂, ◌∙◌, cond, arith, ◌⊎◌, inl, inr, ◌^◌}
-use Rattle.std.specs.List.{fold}
-use Rattle.std.specs.Str.{bytes_eq}
-use Rattle.std.specs.Option.{option_map_or}
-use Rattle.clap.specs.declared.error.ErrorKind.TheVariants.{UnknownArgument, InvalidSubcommand, OutOfMemory}
+use Rattle.std.specs.{List.fold, Str.bytes_eq, Option.option_map_or}
+use Rattle.clap.specs.{declared.error.ErrorKind.TheVariants.{UnknownArgument, InvalidSubcommand, OutOfMemory}, Words.{App, Row, Shape}}
+use Rattle.clap.specs.{Words.{Text, built}, Lexer.usize_max, Simple.{label_of, entered, subcommand_of}, Walk.{Held, Step, Waiting, Walk}}
+use Rattle.clap.specs.Walk.{idle, positional, value, walked, walk_from, nothing_held, word_met, settled, finished, rows_after}
+use Rattle.clap.specs.{Values.kind_of, declared.Error.Error, Kinds.{HasKind, Kinds, or_else, range_kinds}, Faults.{fault_of, walk_fault}}
+use Rattle.clap.specs.Faults.{turn_fault, other_fault, step_fault, level_fault, entered_fault, defaults_fault, settle_fault, values_fault}
+use Rattle.clap.specs.Faults.{check_fault}
 use borrow.Author.Tests.{le-ltb}
-use Rattle.clap.specs.Words.{App, Row, Shape, Text, built}
-use Rattle.clap.specs.Lexer.{usize_max}
-use Rattle.clap.specs.Simple.{label_of, entered, subcommand_of}
-use Rattle.clap.specs.Walk.{Held, Step, Waiting, Walk, idle, positional, value, walked, walk_from, nothing_held, word_met, settled}
-use Rattle.clap.specs.Walk.{finished, rows_after}
-use Rattle.clap.specs.Values.{kind_of}
-use Rattle.clap.specs.declared.Error.{Error}
-use Rattle.clap.specs.Kinds.{HasKind, Kinds, or_else, range_kinds}
-use Rattle.clap.specs.Faults.{fault_of, walk_fault, turn_fault, other_fault, step_fault, level_fault, entered_fault, defaults_fault}
-use Rattle.clap.specs.Faults.{settle_fault, values_fault, check_fault}
 use Rattle.clap.proofs.FaultLemmas.{stopped_fault}
-use Rattle.er_words.specs.Line.{is_option}
-use Rattle.er_words.specs.Words.{names, bare, program, split_of, words_in}
+use Rattle.er_words.specs.{Line.is_option, Words.{names, bare, program, split_of, words_in}}
 use Rattle.er_words.proofs.Walks.{AllPlain, no_dashes, no_long, no_short, plain_met, leaf_rule, leaf_rules, leaf_built, labels}
 use Rattle.er_words.proofs.Walks.{reading_words, first_word, next_word, leaf_walk, is_name, met_name, met_none, name_word, name_walked}
 use Rattle.er_words.proofs.Walks.{whole_walk, entered_is, find_named, subcommand_is, leaf_words}

@@ -1,15 +1,9 @@
 -- A seed, as the crate `hex` decodes it.
 use Rattle.std.proofs.Common.{◌≡◌, ℕ, ◌+◌, ◌*◌, ◌%◌, Bool, true, false, ◌&&◌, cond, List, [], ◌∷◌, length, Option, Some, None, Result, Ok}
-use Rattle.std.proofs.Common.{Err, refl, sym, ap, ◌∙◌, inl, inr, arith}
-use Rattle.std.specs.Char.{is_ascii_hexdigit, digit_value}
-use Rattle.std.specs.List.{list_all}
-use Rattle.std.specs.Result.{result_ok}
-use Rattle.std.proofs.lemmas.Bool.{cases_eq}
-use Rattle.std.proofs.lemmas.Bool.Decides.{nat_tests}
-use Rattle.hex.specs.Hex.{decode_pairs, decode_sized, hex_digit_value, digit_or_error, ◌>>=◌}
-use Rattle.hex.specs.declared.error.FromHexError.{FromHexError}
-use Rattle.hex.proofs.Pairs.{decode_sized-pairs}
-use Rattle.hex.proofs.HexLemmas.{decode_sized-odd, decode_sized-other}
+use Rattle.std.proofs.{Common.{Err, refl, sym, ap, ◌∙◌, inl, inr, arith}, lemmas.Bool.cases_eq, lemmas.Bool.Decides.nat_tests}
+use Rattle.std.specs.{Char.{is_ascii_hexdigit, digit_value}, List.list_all, Result.result_ok}
+use Rattle.hex.specs.{Hex.{decode_pairs, decode_sized, hex_digit_value, digit_or_error, ◌>>=◌}, declared.error.FromHexError.FromHexError}
+use Rattle.hex.proofs.{Pairs.decode_sized-pairs, HexLemmas.{decode_sized-odd, decode_sized-other}}
 use Rattle.er_words.specs.Values.{hex_bytes, seed_of}
 
 -- a digit has its value in either reading

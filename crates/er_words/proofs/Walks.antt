@@ -1,17 +1,12 @@
 -- What the parser makes of words of which none begins with a hyphen.
 use Rattle.std.proofs.Common.{◌≡◌, ℕ, Bool, true, false, List, [], ◌∷◌, ◌++◌, map, codes, Option, Some, None, refl, sym, ap, ◌∙◌, cond}
-use Rattle.std.proofs.Common.{append_assoc, append-nil, option_map, find}
-use Rattle.std.specs.List.{fold, list_any}
-use Rattle.std.specs.Str.{bytes_eq}
-use Rattle.clap.specs.Words.{Rule, Shape, Text, built}
-use Rattle.clap.specs.Lexer.{strip_byte, long_of, short_of}
-use Rattle.std.proofs.lemmas.Slice.Eq.{bytes_eq-Decides}
-use Rattle.clap.specs.Simple.{filled, with_index, label_of, subcommand_of, entered, rows_at}
-use Rattle.clap.specs.Walk.{Held, Names, Step, Waiting, Walk, idle, positional, value, subcommand, walked, walk_from, nothing_held}
-use Rattle.clap.specs.Walk.{word_met, subcommand_met, plain_word, after_step, finished, rows_after, subcommand_or_other, answers_to}
-use Rattle.clap.specs.Faults.{is_simple_and_free}
-use Rattle.er_words.specs.Line.{is_option}
-use Rattle.er_words.specs.Words.{names, leaf, program, words_rule, words_in}
+use Rattle.std.proofs.{Common.{append_assoc, append-nil, option_map, find}, lemmas.Slice.Eq.bytes_eq-Decides}
+use Rattle.std.specs.{List.{fold, list_any}, Str.bytes_eq}
+use Rattle.clap.specs.{Words.{Rule, Shape, Text, built}, Lexer.{strip_byte, long_of, short_of}, Simple.{filled, with_index, label_of}}
+use Rattle.clap.specs.{Simple.{subcommand_of, entered, rows_at}, Walk.{Held, Names, Step, Waiting, Walk, idle, positional, value}}
+use Rattle.clap.specs.Walk.{subcommand, walked, walk_from, nothing_held, word_met, subcommand_met, plain_word, after_step, finished}
+use Rattle.clap.specs.{Walk.{rows_after, subcommand_or_other, answers_to}, Faults.is_simple_and_free}
+use Rattle.er_words.specs.{Line.is_option, Words.{names, leaf, program, words_rule, words_in}}
 
 -- ---- a word with no hyphen in front
 

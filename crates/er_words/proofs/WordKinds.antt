@@ -1,22 +1,16 @@
 -- The kinds of a subcommand's words are those that its line reads.
 use Rattle.std.proofs.Common.{◌≡◌, ℕ, ◌+◌, ◌<◌, ◌≤◌, Bool, true, false, ◌&&◌, List, [], ◌∷◌, length, map, drop, get_or, slice_get, Option}
-use Rattle.std.proofs.Common.{Some, None, is_some, option_map, refl, sym, ap, ◌∙◌}
-use Rattle.std.proofs.Math.ListN.{drop_of_length-le}
+use Rattle.std.proofs.{Common.{Some, None, is_some, option_map, refl, sym, ap, ◌∙◌}, Math.ListN.drop_of_length-le, lemmas.List.at_drop_more}
+use Rattle.std.proofs.{lemmas.List.length-map, lemmas.List.Folds.list_any_at, lemmas.Option.{slice_get_within, slice_get-get_or}}
+use Rattle.std.proofs.lemmas.Option.{slice_get-map, slice_get_read}
 use Rattle.std.specs.List.{list_any}
-use Rattle.std.proofs.lemmas.List.{at_drop_more, length-map}
-use Rattle.std.proofs.lemmas.List.Folds.{list_any_at}
-use Rattle.std.proofs.lemmas.Option.{slice_get_within, slice_get-get_or, slice_get-map, slice_get_read}
 use Rattle.er_event.specs.declared.scores.Games.{Games}
-use Rattle.er_words.specs.declared.line.Line.{Line}
-use Rattle.er_words.specs.declared.usage.Kind.{Kind}
-use Rattle.er_words.specs.declared.usage.Kind.TheVariants.{Text, SmallNumber, Number}
-use Rattle.er_words.specs.declared.usage.UsageFault.{UsageFault}
-use Rattle.er_words.specs.declared.usage.UsageFault.TheVariants.{UnknownSubcommand, LeadingDash, TooFew, TooMany, BadNumber, BadSeed}
-use Rattle.er_words.specs.declared.usage.UsageFault.TheVariants.{BadCount, BadKind}
-use Rattle.er_words.proofs.WordLemmas.{list_any-map}
-use Rattle.er_words.specs.Line.{is_option, result_of, correct_of, playoff_of}
-use Rattle.er_words.specs.Usage.{HasFault, IsOf, Takes, are_of_kinds, is_of_kind}
+use Rattle.er_words.specs.{declared.line.Line.Line, declared.usage.Kind.Kind, declared.usage.Kind.TheVariants.{Text, SmallNumber, Number}}
+use Rattle.er_words.specs.{declared.usage.UsageFault.UsageFault, declared.usage.UsageFault.TheVariants.{UnknownSubcommand, LeadingDash}}
+use Rattle.er_words.specs.{declared.usage.UsageFault.TheVariants.{TooFew, TooMany, BadNumber, BadSeed, BadCount, BadKind}, Line.is_option}
+use Rattle.er_words.specs.{Line.{result_of, correct_of, playoff_of}, Usage.{HasFault, IsOf, Takes, are_of_kinds, is_of_kind}}
 use Rattle.er_words.specs.Values.{all_three, number_below, games_of, report_of, slot_report_of}
+use Rattle.er_words.proofs.WordLemmas.{list_any-map}
 
 and_false : (b : Bool) → (b && false) ≡ false
 and_false true = refl

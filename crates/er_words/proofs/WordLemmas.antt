@@ -1,24 +1,14 @@
 -- Lemmas on words, and on the lines that they are.
 use Rattle.std.proofs.Common.{◌≡◌, ℕ, ◌-◌, ◌^◌, ◌<◌, ◌≤◌, Bool, true, false, ◌||◌, cond, List, [], ◌∷◌, length, map, take, drop, get_or}
 use Rattle.std.proofs.Common.{codes, Bor, Option, Some, None, Result, Ok, Err, refl, sym, ap, subst, ◌∙◌, arith, rules, true≢false}
-use Rattle.std.specs.Char.{is_ascii_digit}
-use Rattle.std.specs.List.{list_all, list_any}
-use Rattle.std.specs.Str.{IsUtf8, is_utf8, bytes_eq}
-use Rattle.std.specs.Str.Parse.{digits_value, ParsesUnsigned}
-use Rattle.std.specs.Result.{IsErrAnd, result_ok}
-use Rattle.std.proofs.lemmas.Bool.{false_from_ne_true}
-use Rattle.std.proofs.lemmas.Bool.Decides.{nat_tests}
-use Rattle.std.proofs.lemmas.List.{take_all}
-use Rattle.std.proofs.lemmas.Slice.Eq.{bytes_eq-Decides}
-use Rattle.std.proofs.lemmas.Str.{is_utf8-from_IsUtf8, IsUtf8-from_is_utf8}
+use Rattle.std.proofs.{lemmas.Bool.false_from_ne_true, lemmas.Bool.Decides.nat_tests, lemmas.List.take_all}
+use Rattle.std.proofs.{lemmas.Slice.Eq.bytes_eq-Decides, lemmas.Str.{is_utf8-from_IsUtf8, IsUtf8-from_is_utf8}}
 use Rattle.std.proofs.lemmas.Str.Parse.{IsNumeralModel, IsDigitsTest, numerals_by_value, parse_digits}
-use Rattle.er_words.specs.declared.line.Line.{Line}
-use Rattle.er_words.specs.declared.line.LineFault.{LineFault}
-use Rattle.er_words.specs.declared.line.LineFault.TheVariants.{Usage, Memory}
-use Rattle.er_words.specs.Values.{number_below}
-use Rattle.er_words.specs.Line.{Subcommand, subcommands, line_by, named_line, names_one, is_option, line_of, Reads}
-use Rattle.er_words.specs.Words.{names, split_of}
-use Rattle.er_words.specs.Fields.{fields_of, with_file, script_line}
+use Rattle.std.specs.{Char.is_ascii_digit, List.{list_all, list_any}, Str.{IsUtf8, is_utf8, bytes_eq}, Str.Parse.digits_value}
+use Rattle.std.specs.{Str.Parse.ParsesUnsigned, Result.{IsErrAnd, result_ok}}
+use Rattle.er_words.specs.{declared.line.Line.Line, declared.line.LineFault.LineFault, declared.line.LineFault.TheVariants.{Usage, Memory}}
+use Rattle.er_words.specs.{Values.number_below, Line.{Subcommand, subcommands, line_by, named_line, names_one, is_option, line_of, Reads}}
+use Rattle.er_words.specs.{Words.{names, split_of}, Fields.{fields_of, with_file, script_line}}
 
 pub list_any-map : {X Y : Type 0} (p : Y → Bool) (f : X → Y) (xs : List X) → list_any p (map f xs) ≡ list_any (λ x. p (f x)) xs
 list_any-map p f [] = refl

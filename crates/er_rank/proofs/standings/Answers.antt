@@ -1,13 +1,8 @@
-use Rattle.std.proofs.Common.{◌≡◌, length, map, filter, List, ap, ◌∙◌}
-use Rattle.std.proofs.lemmas.List.{length-map}
-use Rattle.er_event.specs.declared.rounds.Round.{Round}
-use Rattle.er_event.specs.declared.tallies.Tally.{Tally}
-use Rattle.er_event.specs.Tallies.{tally_by, tallies, counted_matches, meeting_by}
-use Rattle.er_event.specs.Totals.{totals}
+use Rattle.std.proofs.{Common.{◌≡◌, length, map, filter, List, ap, ◌∙◌}, lemmas.List.length-map}
+use Rattle.er_event.specs.{declared.rounds.Round.Round, declared.tallies.Tally.Tally, Tallies.{tally_by, tallies, counted_matches}}
+use Rattle.er_event.specs.{Tallies.meeting_by, Totals.totals}
 use Rattle.er_rank.specs.Meeting.{totals_of, AreListsOf}
-use Rattle.er_rank.proofs.EventLemmas.{AreTallies-event, AreLists-event, meetings-known}
-use Rattle.er_rank.proofs.MeetingLemmas.{is_met}
-use Rattle.er_rank.proofs.SoundLemmas.{seats_known}
+use Rattle.er_rank.proofs.{EventLemmas.{AreTallies-event, AreLists-event, meetings-known}, MeetingLemmas.is_met, SoundLemmas.seats_known}
 use Rattle.er_rank.proofs.standings.Goals.{After-as_slice-3}
 use Rattle.er_rank.proofs.standings.Goals as goal
 

@@ -1,10 +1,6 @@
-use Rattle.std.proofs.Common.{length, sym, ap, subst, ◌∙◌, arith}
-use Rattle.std.proofs.lemmas.Result.{IfOk-weaker}
-use Rattle.er_rank.specs.Meeting.{encounters}
-use Rattle.er_rank.specs.inside.Placing.{ranked, ArePlacingsInOrder}
-use Rattle.er_rank.specs.Standings.{AreStandings}
-use Rattle.er_rank.proofs.ListLemmas.{AreStandings-placings, length-placings, OneStandings-sound}
-use Rattle.er_rank.proofs.standings_of.Goals.{In_ok-placings}
+use Rattle.std.proofs.{Common.{length, sym, ap, subst, ◌∙◌, arith}, lemmas.Result.IfOk-weaker}
+use Rattle.er_rank.specs.{Meeting.encounters, inside.Placing.{ranked, ArePlacingsInOrder}, Standings.AreStandings}
+use Rattle.er_rank.proofs.{ListLemmas.{AreStandings-placings, length-placings, OneStandings-sound}, standings_of.Goals.In_ok-placings}
 use Rattle.er_rank.proofs.standings_of.Goals as goal
 
 placed : (c : In_ok-placings) → ArePlacingsInOrder (encounters c.args.meetings.now) c.args.tallies.now c.in_ok-placings.placings.items

@@ -1,5 +1,4 @@
-use Rattle.std.proofs.Common.{ap, ◌∙◌}
-use Rattle.std.proofs.lemmas.Result.{IfOk-weaker}
+use Rattle.std.proofs.{Common.{ap, ◌∙◌}, lemmas.Result.IfOk-weaker}
 use Rattle.er_rank.specs.Standings.{first_active}
 use Rattle.er_rank.proofs.ListLemmas.{OneTop-one}
 use Rattle.er_rank.proofs.top.Goals as goal

@@ -1,12 +1,7 @@
-use Rattle.std.proofs.Common.{◌≡◌, ◌⊎◌, IfOk, IfErr, Ok, Err, sym, ap, subst}
-use Rattle.std.proofs.lemmas.Result.{IfOk-weaker}
-use Rattle.er_event.specs.declared.changes.Change.{Change}
-use Rattle.er_event.specs.declared.commands.Command.TheVariants.{Pair, Cut, Playoff}
-use Rattle.er_event.specs.declared.commands.Command.{Command}
-use Rattle.er_event.specs.declared.refusals.Refusal.TheVariants.{Memory}
-use Rattle.er_event.specs.Change.{after, Fits}
-use Rattle.er_rules.specs.Step.{Answers, checks}
-use Rattle.er_rules.specs.Sound.{IsSound}
+use Rattle.std.proofs.{Common.{◌≡◌, ◌⊎◌, IfOk, IfErr, Ok, Err, sym, ap, subst}, lemmas.Result.IfOk-weaker}
+use Rattle.er_event.specs.{declared.changes.Change.Change, declared.commands.Command.TheVariants.{Pair, Cut, Playoff}}
+use Rattle.er_event.specs.{declared.commands.Command.Command, declared.refusals.Refusal.TheVariants.Memory, Change.{after, Fits}}
+use Rattle.er_rules.specs.{Step.{Answers, checks}, Sound.IsSound}
 use Rattle.er_rules.proofs.Keeping.{passes, keeps, step_keeps, answers_keep, if_three}
 use Rattle.er_rules.proofs.decide.Goals as goal
 

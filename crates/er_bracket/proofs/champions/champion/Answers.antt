@@ -1,9 +1,6 @@
 use Rattle.std.proofs.Common.{rules, ◌≡◌, ◌≤◌, ℕ, Some, IsSome, option_map, sym, ap, subst, ◌∙◌}
-use Rattle.er_event.specs.declared.events.Phase.{Phase}
-use Rattle.er_event.specs.declared.events.Phase.TheVariants.{Finished}
-use Rattle.er_event.specs.declared.players.TheConstants.{MAX_PLAYERS}
-use Rattle.er_event.specs.declared.brackets.Bracket.{Bracket}
-use Rattle.er_event.specs.Bracket.{winner, last_match}
+use Rattle.er_event.specs.{declared.events.Phase.Phase, declared.events.Phase.TheVariants.Finished}
+use Rattle.er_event.specs.{declared.players.TheConstants.MAX_PLAYERS, declared.brackets.Bracket.Bracket, Bracket.{winner, last_match}}
 use Rattle.er_event.specs.Bracket.{champion, champion_in}
 use Rattle.er_bracket.proofs.WinnerLemmas.{winner-known, some-number}
 use Rattle.er_bracket.proofs.champions.champion.Goals as goal

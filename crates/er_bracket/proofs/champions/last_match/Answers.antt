@@ -1,10 +1,9 @@
-use Rattle.std.proofs.Common.{◌≢◌, length, sym, ap, ◌∙◌, arith}
-use Rattle.std.proofs.lemmas.Bool.Decides.{nat_tests}
+use Rattle.std.proofs.{Common.{◌≢◌, length, sym, ap, ◌∙◌, arith}, lemmas.Bool.Decides.nat_tests}
 use Rattle.er_event.specs.Bracket.{last_match}
 use Rattle.er_bracket.proofs.LastLemmas.{only_match, last-read, only-one, only-else}
-use Rattle.er_bracket.proofs.champions.last_match.Goals as goal
 use Rattle.er_bracket.proofs.champions.last_match.Goals.{in_default-as_slice-via-then-as_slice-lt1-2}
 use Rattle.er_bracket.proofs.champions.last_match.Goals.{in_default-as_slice-via-else-as_slice-lt1-2+else-this-lt2}
+use Rattle.er_bracket.proofs.champions.last_match.Goals as goal
 
 pub returns-in_default-as_slice : goal.returns-in_default-as_slice
 returns-in_default-as_slice c =

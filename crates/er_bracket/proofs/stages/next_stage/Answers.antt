@@ -1,6 +1,4 @@
-use Rattle.std.proofs.Common.{arith}
-use Rattle.std.proofs.lemmas.Grind.{common_steps}
-use Rattle.std.proofs.lemmas.List.Elements.{All-take, All-drop}
+use Rattle.std.proofs.{Common.arith, lemmas.Grind.common_steps, lemmas.List.Elements.{All-take, All-drop}}
 use Rattle.er_bracket.specs.Winners.{IsWon}
 use Rattle.er_bracket.proofs.stages.next_stage.Goals as goal
 

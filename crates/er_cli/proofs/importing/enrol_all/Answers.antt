@@ -1,10 +1,8 @@
 use Rattle.std.proofs.Common.{◌≡◌, ◌+◌, ◌≤◌, IsFalse, None, false, arith, sym, ◌∙◌, ap, subst, not, take}
 use Rattle.er_desk.specs.Desk.{standing}
-use Rattle.er_cli.specs.declared.importing.Tally.{Tally}
-use Rattle.er_cli.specs.Importing.{Enrols, is_stop, names_of}
-use Rattle.er_cli.proofs.Enrolling.{added, ended, found, runs_on}
+use Rattle.er_cli.specs.{declared.importing.Tally.Tally, Importing.{Enrols, is_stop, names_of}}
+use Rattle.er_cli.proofs.{Enrolling.{added, ended, found, runs_on}, importing.enrol_all.Goals.{in-Ok, in-Err}}
 use Rattle.er_cli.proofs.importing.enrol_all.Goals as goal
-use Rattle.er_cli.proofs.importing.enrol_all.Goals.{in-Ok, in-Err}
 
 pub returns-in-Err-2-clause-enrols : goal.returns-in-Err-2-clause-enrols
 returns-in-Err-2-clause-enrols g c =

@@ -1,7 +1,6 @@
 use Rattle.std.proofs.Common.{◌+◌, ◌≤◌, IsFalse, None, take}
 use Rattle.sqlite.specs.State.{HasCleanDisk}
-use Rattle.er_desk.specs.Desk.{ShowsOwn, point_of, standing, state}
-use Rattle.er_desk.specs.Headline.{LeavesJust}
+use Rattle.er_desk.specs.{Desk.{ShowsOwn, point_of, standing, state}, Headline.LeavesJust}
 use Rattle.er_cli.specs.Importing.{Enrols, names_of}
 use Rattle.er_cli.proofs.importing.enrol_all.Given as goal
 

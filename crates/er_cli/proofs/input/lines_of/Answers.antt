@@ -1,6 +1,5 @@
-use Rattle.std.proofs.Common.{◌==◌, length, not, rules, tests}
-use Rattle.std.proofs.lemmas.Iterator.Consumers.{map_from_collect, YieldsList-from_filter, YieldsList-at}
-use Rattle.std.proofs.lemmas.Iterator.Splits.{YieldsList-from_slice_split}
+use Rattle.std.proofs.{Common.{◌==◌, length, not, rules, tests}, lemmas.Iterator.Consumers.{map_from_collect, YieldsList-from_filter}}
+use Rattle.std.proofs.{lemmas.Iterator.Consumers.YieldsList-at, lemmas.Iterator.Splits.YieldsList-from_slice_split}
 use Rattle.er_cli.proofs.input.lines_of.Goals as goal
 
 pub returns : goal.returns

@@ -1,9 +1,6 @@
-use Rattle.std.proofs.Common.{map, List, [], ◌∷◌, ◌++◌, ℕ, ◌+◌, Bor}
-use Rattle.std.proofs.KnownBytes.{Appends-trans}
-use Rattle.std.proofs.lemmas.List.{take_all, take-map}
+use Rattle.std.proofs.{Common.{map, List, [], ◌∷◌, ◌++◌, ℕ, ◌+◌, Bor}, KnownBytes.Appends-trans, lemmas.List.{take_all, take-map}}
 use Rattle.er_cli.specs.Script.{PrintsPart, standing_of}
-use Rattle.er_cli.proofs.Sending.{part_after, err_is}
-use Rattle.er_cli.proofs.Runs.{Runs-push, printed-push, lines-push}
+use Rattle.er_cli.proofs.{Sending.{part_after, err_is}, Runs.{Runs-push, printed-push, lines-push}}
 use Rattle.er_cli.proofs.script.run_lines.Goals as goal
 
 pub answer-answer-requires : goal.answer-answer-requires

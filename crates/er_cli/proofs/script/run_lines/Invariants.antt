@@ -1,9 +1,6 @@
 use Rattle.std.proofs.Common.{List, Bor, ℕ, None, map, take}
-use Rattle.std.specs.Io.KnownBytes.{Appends}
-use Rattle.std.specs.List.{flat_map}
-use Rattle.er_cli.specs.declared.texts.Answer.{Answer}
-use Rattle.er_cli.specs.Script.{IsWritten, RunsLines, standing_of}
-use Rattle.er_cli.specs.Texts.{answer_text}
+use Rattle.std.specs.{Io.KnownBytes.Appends, List.flat_map}
+use Rattle.er_cli.specs.{declared.texts.Answer.Answer, Script.{IsWritten, RunsLines, standing_of}, Texts.answer_text}
 use Rattle.er_cli.proofs.script.run_lines.Given as goal
 
 abbrev pub invariant-loop-line : goal.invariant-loop-line

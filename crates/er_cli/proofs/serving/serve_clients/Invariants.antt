@@ -1,7 +1,6 @@
 use Rattle.std.proofs.Common.{◌≡◌, ◌≤◌, IsTrue, IsFalse}
 use Rattle.sqlite.specs.State.{HasCleanDisk}
-use Rattle.er_desk.specs.Desk.{ShowsOwn, point_of, standing, state}
-use Rattle.er_desk.specs.Headline.{LeavesJust}
+use Rattle.er_desk.specs.{Desk.{ShowsOwn, point_of, standing, state}, Headline.LeavesJust}
 use Rattle.er_cli.specs.Serving.{ConnectsAll}
 use Rattle.er_cli.proofs.serving.serve_clients.Given as goal
 

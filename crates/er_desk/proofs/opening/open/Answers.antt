@@ -1,9 +1,7 @@
 use Rattle.std.proofs.Common.{sym, subst, ◌∙◌}
-use Rattle.sqlite.specs.Effect.{Database}
-use Rattle.sqlite.specs.Files.{over_files, file_state}
+use Rattle.sqlite.specs.{Effect.Database, Files.{over_files, file_state}}
 use Rattle.er_store.specs.Standing.{HasTables, AreKeyed}
-use Rattle.er_desk.specs.Desk.{state}
-use Rattle.er_desk.specs.Opening.{NamesFirstFault}
+use Rattle.er_desk.specs.{Desk.state, Opening.NamesFirstFault}
 use Rattle.er_desk.proofs.Adopting.{if_left, opened_stands, sees_unchanged, sees_kept}
 use Rattle.er_desk.proofs.opening.open.Goals as goal
 

@@ -1,10 +1,9 @@
 use Rattle.std.proofs.Common.{rules, ◌≡◌, ◌∙◌, IsTrue, IsFalse, false, true≢false, sym, subst}
-use Rattle.sqlite.specs.Held as sqlite
 use Rattle.sqlite.specs.State.{State, HasCleanDisk, IsUnchanged}
 use Rattle.er_event.specs.Event.{EventValue}
 use Rattle.er_rank.specs.Meeting.{AreListsOf}
-use Rattle.er_store.specs.Fault.{IsFault}
-use Rattle.er_store.specs.Standing.{StandsFor}
+use Rattle.er_store.specs.{Fault.IsFault, Standing.StandsFor}
+use Rattle.sqlite.specs.Held as sqlite
 use Rattle.er_store.specs.Store as store
 use Rattle.er_desk.proofs.stored.read_standings.Goals as goal
 

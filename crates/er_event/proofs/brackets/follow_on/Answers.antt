@@ -1,9 +1,6 @@
-use Rattle.std.proofs.Common.{◌↔◌, ◌+◌, ◌<◌, ◌≤◌, length, Some, None, IsTrue, refl, sym, ap, ◌∙◌, arith}
-use Rattle.std.specs.List.{slice_get}
-use Rattle.std.proofs.lemmas.Option.{slice_get_read, slice_get_past}
-use Rattle.std.proofs.lemmas.Bool.Decides.{nat_tests}
-use Rattle.er_event.proofs.SlotLemmas.{Stands, stands, follow-here}
-use Rattle.er_event.proofs.brackets.follow_on.Goals.{in-Some, in-None}
+use Rattle.er_event.proofs.Prelude.{◌↔◌, ◌+◌, ◌<◌, ◌≤◌, length, Some, None, IsTrue, refl, sym, ap, ◌∙◌, arith, slice_get, slice_get_read}
+use Rattle.er_event.proofs.Prelude.{slice_get_past, nat_tests}
+use Rattle.er_event.proofs.{SlotLemmas.{Stands, stands, follow-here}, brackets.follow_on.Goals.{in-Some, in-None}}
 use Rattle.er_event.proofs.brackets.follow_on.Goals as goal
 
 pub loop-place-preserved : goal.loop-place-preserved

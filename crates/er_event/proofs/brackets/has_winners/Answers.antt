@@ -1,4 +1,4 @@
-use Rattle.std.proofs.Common.{refl, sym, ◌∙◌, true≢false}
+use Rattle.er_event.proofs.Prelude.{refl, sym, ◌∙◌, true≢false}
 use Rattle.er_event.proofs.SlotLemmas.{winners-length, winners-more, winners-end}
 use Rattle.er_event.proofs.brackets.has_winners.Goals as goal
 

@@ -1,4 +1,4 @@
-use Rattle.std.proofs.Common.{◌↔◌}
+use Rattle.er_event.proofs.Prelude.{◌↔◌}
 use Rattle.er_event.proofs.SlotLemmas.{Winners}
 use Rattle.er_event.proofs.brackets.has_winners.Given as goal
 

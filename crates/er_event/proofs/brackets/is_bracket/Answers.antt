@@ -1,4 +1,4 @@
-use Rattle.std.proofs.Common.{subst, sym, ◌∙◌, true≢false, arith}
+use Rattle.er_event.proofs.Prelude.{subst, sym, ◌∙◌, true≢false, arith}
 use Rattle.er_event.proofs.BracketLemmas.{IsFirst, is-bracket, bracket-first, of-AllLawful}
 use Rattle.er_event.proofs.brackets.is_bracket.Goals.{then-cut-eq0-via-then-cut-eq0, then-cut-eq0-via-else-cut-eq0+then-not-is_first}
 use Rattle.er_event.proofs.brackets.is_bracket.Goals as goal

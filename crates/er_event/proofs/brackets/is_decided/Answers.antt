@@ -1,6 +1,4 @@
-use Rattle.std.proofs.Common.{◌≤◌, length, ap, sym, ◌∙◌, true≢false, arith}
-use Rattle.std.proofs.lemmas.Bool.Decides.{nat_tests}
-use Rattle.er_event.specs.Bracket.{is_over}
+use Rattle.er_event.proofs.Prelude.{◌≤◌, length, ap, sym, ◌∙◌, true≢false, arith, nat_tests, is_over}
 use Rattle.er_event.proofs.SlotLemmas.{decided-last, decided-none}
 use Rattle.er_event.proofs.brackets.is_decided.Goals as goal
 

@@ -1,6 +1,5 @@
-use Rattle.std.proofs.Common.{sym, ◌∙◌, true≢false, arith}
-use Rattle.er_event.proofs.BracketLemmas.{Known-of, of-Known}
-use Rattle.er_event.proofs.brackets.is_first.Goals.{then-first-from-via-then-first-from}
+use Rattle.er_event.proofs.Prelude.{sym, ◌∙◌, true≢false, arith}
+use Rattle.er_event.proofs.{BracketLemmas.{Known-of, of-Known}, brackets.is_first.Goals.then-first-from-via-then-first-from}
 use Rattle.er_event.proofs.brackets.is_first.Goals.{then-first-from-via-else-first-from+then-not-are_known}
 use Rattle.er_event.proofs.brackets.is_first.Goals as goal
 

@@ -1,20 +1,9 @@
-use Rattle.std.proofs.Common.{◌≡◌, inl, inr, ◌≤◌, length, not, Bool, Option, List, sym, ap, subst}
-use Rattle.er_event.specs.declared.changes.Change.TheVariants.{AddPlayer, SetDropped, SetPhase, AddRound, SetScore, AddBracket}
-use Rattle.er_event.specs.declared.changes.Change.TheVariants.{SetBracketScore}
-use Rattle.er_event.specs.declared.events.Phase.{Phase}
-use Rattle.er_event.specs.declared.events.Phase.TheVariants.{Enrolling, Swiss, Playoff, Finished}
-use Rattle.er_event.specs.declared.matches.Match.{Match}
-use Rattle.er_event.specs.Bracket.{following}
-use Rattle.er_event.specs.Change.{stage_of, scored_slot, with_phase, with_bracket_score}
-use Rattle.er_event.specs.Event.{EventValue}
-use Rattle.er_event.specs.Safe.{ChangesKeepSound}
-use Rattle.er_event.specs.Sound.{IsInPlayoff, IsSoundButForSeeds}
-use Rattle.er_event.proofs.AddLemmas.{IsSound-round}
-use Rattle.er_event.proofs.DropLemmas.{IsSound-dropped}
-use Rattle.er_event.proofs.PlayerLemmas.{IsSound-with}
-use Rattle.er_event.proofs.PlayoffLemmas.{opening-fits}
-use Rattle.er_event.proofs.ScoreLemmas.{Fits-score}
-use Rattle.er_event.proofs.SlotScoreLemmas.{Fits-open}
+use Rattle.er_event.proofs.Prelude.{◌≡◌, inl, inr, ◌≤◌, length, not, Bool, Option, List, sym, ap, subst, SetDropped, AddRound, SetScore}
+use Rattle.er_event.proofs.Prelude.{AddBracket, SetBracketScore, Phase, Enrolling, Swiss, Playoff, Finished, Match, following, stage_of}
+use Rattle.er_event.proofs.Prelude.{scored_slot, with_phase, with_bracket_score, EventValue, IsSoundButForSeeds}
+use Rattle.er_event.specs.{declared.changes.Change.TheVariants.{AddPlayer, SetPhase}, Safe.ChangesKeepSound, Sound.IsInPlayoff}
+use Rattle.er_event.proofs.{AddLemmas.IsSound-round, DropLemmas.IsSound-dropped, PlayerLemmas.IsSound-with, PlayoffLemmas.opening-fits}
+use Rattle.er_event.proofs.{ScoreLemmas.Fits-score, SlotScoreLemmas.Fits-open}
 use Rattle.er_event.proofs.laws.changes_keep_sound.Goals as goal
 
 started : (e : EventValue) → IsSoundButForSeeds e → e.phase ≡ Enrolling → 2 ≤ length e.players

@@ -1,9 +1,6 @@
-use Rattle.std.proofs.Common.{◌≢◌, List, AllPairs, flat_map, subst, true≢false, sym, ◌∙◌, refl}
-use Rattle.std.proofs.lemmas.List.{take_all}
-use Rattle.er_event.specs.declared.matches.Match.{Match}
-use Rattle.er_event.specs.Round.{seats}
-use Rattle.er_event.proofs.SeatLemmas.{seats-more, seats-free, seats-apart}
-use Rattle.er_event.proofs.matches.are_seated_once.Goals.{then-played-via-then-played, then-played-via-else-played+then-is_seat_taken}
+use Rattle.er_event.proofs.Prelude.{◌≢◌, List, AllPairs, flat_map, subst, true≢false, sym, ◌∙◌, refl, take_all, Match, seats}
+use Rattle.er_event.proofs.{SeatLemmas.{seats-more, seats-free, seats-apart}, matches.are_seated_once.Goals.then-played-via-then-played}
+use Rattle.er_event.proofs.matches.are_seated_once.Goals.{then-played-via-else-played+then-is_seat_taken}
 use Rattle.er_event.proofs.matches.are_seated_once.Goals as goal
 
 pub returns-then-played : goal.returns-then-played

@@ -1,5 +1,4 @@
-use Rattle.std.proofs.Common.{◌≢◌, flat_map, take, AllPairs}
-use Rattle.er_event.specs.Round.{seats}
+use Rattle.er_event.proofs.Prelude.{◌≢◌, flat_map, take, AllPairs, seats}
 use Rattle.er_event.proofs.matches.are_seated_once.Given as goal
 
 abbrev pub invariant-loop-place : goal.invariant-loop-place

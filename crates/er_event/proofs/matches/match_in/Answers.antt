@@ -1,6 +1,4 @@
-use Rattle.std.proofs.Common.{◌-◌, ◌<◌, ◌≤◌, length, sym, ap, ◌∙◌, arith}
-use Rattle.std.proofs.lemmas.Bool.Decides.{nat_tests}
-use Rattle.er_event.specs.Round.{match_in}
+use Rattle.er_event.proofs.Prelude.{◌-◌, ◌<◌, ◌≤◌, length, sym, ap, ◌∙◌, arith, nat_tests, match_in}
 use Rattle.er_event.proofs.TableLemmas.{match_in-bye, place-seated, place-bye, place-none}
 use Rattle.er_event.proofs.matches.match_in.Goals.{in_default-via-in-Some+else-played-ne0, in_default-via-in_default}
 use Rattle.er_event.proofs.matches.match_in.Goals as goal

@@ -1,5 +1,4 @@
-use Rattle.std.proofs.Common.{◌<◌, length, ◌∙◌, sym, arith}
-use Rattle.std.specs.Str.{IsUtf8}
+use Rattle.er_event.proofs.Prelude.{◌<◌, length, ◌∙◌, sym, arith, IsUtf8}
 use Rattle.er_event.proofs.NameLemmas.{is_lawful_name-parts, is_lawful_name-utf8, is_ok-when}
 use Rattle.er_event.proofs.names.is_lawful.Goals as goal
 

@@ -1,7 +1,4 @@
-use Rattle.std.proofs.Common.{◌≢◌, List, AllPairs, subst, sym, ◌∙◌, refl, true≢false}
-use Rattle.er_event.specs.declared.players.Player.{Player}
-use Rattle.er_event.specs.Sound.{names}
-use Rattle.std.proofs.lemmas.List.{take_all}
+use Rattle.er_event.proofs.Prelude.{◌≢◌, List, AllPairs, subst, sym, ◌∙◌, refl, true≢false, Player, names, take_all}
 use Rattle.er_event.proofs.PartsLemmas.{names-new, names-more}
 use Rattle.er_event.proofs.players.are_distinct.Goals as goal
 

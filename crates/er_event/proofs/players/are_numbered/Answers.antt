@@ -1,4 +1,4 @@
-use Rattle.std.proofs.Common.{◌≡◌, ◌+◌, sym, true≢false, arith}
+use Rattle.er_event.proofs.Prelude.{◌≡◌, ◌+◌, sym, true≢false, arith}
 use Rattle.er_event.proofs.PartsLemmas.{number_at, numbers-more}
 use Rattle.er_event.proofs.players.are_numbered.Goals as goal
 

@@ -1,6 +1,4 @@
-use Rattle.std.proofs.Common.{◌≡◌, take}
-use Rattle.std.specs.List.{range_with_len}
-use Rattle.er_event.specs.Sound.{numbers}
+use Rattle.er_event.proofs.Prelude.{◌≡◌, take, range_with_len, numbers}
 use Rattle.er_event.proofs.players.are_numbered.Given as goal
 
 abbrev pub invariant-loop-place : goal.invariant-loop-place

@@ -1,5 +1,4 @@
-use Rattle.std.proofs.Common.{◌≤◌, ◌-◌, ◌∙◌, sym, ap, arith}
-use Rattle.std.specs.List.{slice_get}
+use Rattle.er_event.proofs.Prelude.{◌≤◌, ◌-◌, ◌∙◌, sym, ap, arith, slice_get}
 use Rattle.er_event.proofs.DropLemmas.{find-below, find-numbered, item-got}
 use Rattle.er_event.proofs.players.player_of.Goals as goal
 

@@ -1,4 +1,4 @@
-use Rattle.std.proofs.Common.{sym, ◌∙◌}
+use Rattle.er_event.proofs.Prelude.{sym, ◌∙◌}
 use Rattle.er_event.proofs.DropLemmas.{All-undropped, undropped-All}
 use Rattle.er_event.proofs.players.suits.Goals as goal
 

@@ -1,8 +1,4 @@
-use Rattle.std.proofs.Common.{length, subst, sym, ◌∙◌, refl, true≢false}
-use Rattle.std.specs.List.{range_with_len}
-use Rattle.std.proofs.lemmas.List.{take_all}
-use Rattle.er_event.specs.declared.events.Phase.TheVariants.{Swiss}
-use Rattle.er_event.specs.Sound.{AreRounds}
+use Rattle.er_event.proofs.Prelude.{length, subst, sym, ◌∙◌, refl, true≢false, range_with_len, take_all, Swiss, AreRounds}
 use Rattle.er_event.proofs.PrefixLemmas.{no_rounds, next_follows, next_rounds, as_swiss}
 use Rattle.er_event.proofs.rounds.are_rounds.Goals as goal
 

@@ -1,7 +1,4 @@
-use Rattle.std.proofs.Common.{take}
-use Rattle.std.specs.List.{range_with_len}
-use Rattle.er_event.specs.declared.events.Phase.TheVariants.{Swiss}
-use Rattle.er_event.specs.Sound.{AreRounds}
+use Rattle.er_event.proofs.Prelude.{take, range_with_len, Swiss, AreRounds}
 use Rattle.er_event.proofs.rounds.are_rounds.Given as goal
 
 abbrev pub invariant-loop-place : goal.invariant-loop-place

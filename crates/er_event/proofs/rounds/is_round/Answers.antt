@@ -1,7 +1,6 @@
-use Rattle.std.proofs.Common.{◌≡◌, length, sym, ◌∙◌, true≢false, arith}
-use Rattle.std.proofs.lemmas.Bool.Decides.{nat_tests}
-use Rattle.er_event.proofs.RoundLemmas.{is_round, round_lawful, round_last}
-use Rattle.er_event.proofs.rounds.is_round.Goals.{then-is_empty-via-then-is_empty, then-is_empty-via-else-is_empty+then-not-are_lawful}
+use Rattle.er_event.proofs.Prelude.{◌≡◌, length, sym, ◌∙◌, true≢false, arith, nat_tests}
+use Rattle.er_event.proofs.{RoundLemmas.{is_round, round_lawful, round_last}, rounds.is_round.Goals.then-is_empty-via-then-is_empty}
+use Rattle.er_event.proofs.rounds.is_round.Goals.{then-is_empty-via-else-is_empty+then-not-are_lawful}
 use Rattle.er_event.proofs.rounds.is_round.Goals as goal
 
 pub returns-then-is_empty : goal.returns-then-is_empty

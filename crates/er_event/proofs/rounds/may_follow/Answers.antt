@@ -1,8 +1,5 @@
-use Rattle.std.proofs.Common.{sym, ◌∙◌, true≢false}
-use Rattle.er_event.specs.declared.rounds.Round.{Round}
-use Rattle.er_event.specs.Round.{is_counted}
-use Rattle.er_event.proofs.RoundLemmas.{All-of, of-All}
-use Rattle.er_event.proofs.AddLemmas.{All-new, new-All}
+use Rattle.er_event.proofs.Prelude.{sym, ◌∙◌, true≢false, Round, is_counted}
+use Rattle.er_event.proofs.{RoundLemmas.{All-of, of-All}, AddLemmas.{All-new, new-All}}
 use Rattle.er_event.proofs.rounds.may_follow.Goals as goal
 
 pub returns-then-not-are_counted : goal.returns-then-not-are_counted

@@ -1,8 +1,4 @@
-use Rattle.std.proofs.Common.{◌∙◌, List, sym, ap, subst}
-use Rattle.er_event.specs.declared.matches.Match.{Match}
-use Rattle.er_event.specs.declared.rounds.Round.{Round}
-use Rattle.er_event.specs.inside.Seen.{IsSeatedOnce}
-use Rattle.er_event.specs.Change.{scored_slot}
+use Rattle.er_event.proofs.Prelude.{◌∙◌, List, sym, ap, subst, Match, Round, IsSeatedOnce, scored_slot}
 use Rattle.er_event.proofs.TotalLemmas.{seated-here, seated-there}
 use Rattle.er_event.proofs.totals.games_at.Goals as goal
 

@@ -1,5 +1,4 @@
-use Rattle.std.proofs.Common.{◌∙◌, ap}
-use Rattle.er_event.specs.Totals.{totals_of}
+use Rattle.er_event.proofs.Prelude.{◌∙◌, ap, totals_of}
 use Rattle.er_event.proofs.TotalLemmas.{apart_at, one_match}
 use Rattle.er_event.proofs.totals.games_of.Goals as goal
 

@@ -1,5 +1,4 @@
-use Rattle.std.proofs.Common.{◌≡◌, ℕ, [], flat_map, take}
-use Rattle.er_event.specs.Lines.{own, lines_of_match}
+use Rattle.er_event.proofs.Prelude.{◌≡◌, ℕ, [], flat_map, take, own, lines_of_match}
 use Rattle.er_event.proofs.totals.games_of.Given as goal
 
 abbrev pub invariant-loop-played : goal.invariant-loop-played

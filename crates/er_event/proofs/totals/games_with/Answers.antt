@@ -1,6 +1,4 @@
-use Rattle.std.proofs.Common.{◌∙◌, ap, arith}
-use Rattle.er_event.specs.Change.{scored_slot}
-use Rattle.er_event.specs.Totals.{totals_of}
+use Rattle.er_event.proofs.Prelude.{◌∙◌, ap, arith, scored_slot, totals_of}
 use Rattle.er_event.proofs.TotalLemmas.{apart_at, one_match, own-all, slot-length}
 use Rattle.er_event.proofs.totals.games_with.Goals as goal
 

@@ -1,6 +1,4 @@
-use Rattle.std.proofs.Common.{◌≡◌, ℕ, [], flat_map, take}
-use Rattle.er_event.specs.Change.{scored_slot}
-use Rattle.er_event.specs.Lines.{own, lines_of_match}
+use Rattle.er_event.proofs.Prelude.{◌≡◌, ℕ, [], flat_map, take, scored_slot, own, lines_of_match}
 use Rattle.er_event.proofs.totals.games_with.Given as goal
 
 abbrev pub invariant-loop-at : goal.invariant-loop-at

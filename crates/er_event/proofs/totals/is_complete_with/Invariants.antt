@@ -1,6 +1,4 @@
-use Rattle.std.proofs.Common.{◌≡◌, true, take}
-use Rattle.er_event.specs.Change.{scored_slot}
-use Rattle.er_event.specs.Round.{is_counted}
+use Rattle.er_event.proofs.Prelude.{◌≡◌, true, take, scored_slot, is_counted}
 use Rattle.er_event.proofs.totals.is_complete_with.Given as goal
 
 abbrev pub invariant-loop-at : goal.invariant-loop-at

@@ -1,11 +1,6 @@
-use Rattle.std.proofs.Common.{◌≡◌, ◌∙◌, ℕ, List, sym, ap, Some}
-use Rattle.er_event.specs.declared.matches.Match.{Match}
-use Rattle.er_event.specs.declared.totals.Totals.{Totals}
-use Rattle.er_event.specs.Lines.{Line, own, counted_lines}
-use Rattle.er_event.specs.Totals.{totals_of, totals_of_games}
-use Rattle.er_event.proofs.TotalLemmas.{totals-more, totals-same, over-more}
+use Rattle.er_event.proofs.Prelude.{◌≡◌, ◌∙◌, ℕ, List, sym, ap, Some, Match, Totals, Line, own, counted_lines, totals_of, totals_of_games}
+use Rattle.er_event.proofs.{TotalLemmas.{totals-more, totals-same, over-more}, totals.totals_in.Goals.{in-Some, in_default}}
 use Rattle.er_event.proofs.totals.totals_in.Goals as goal
-use Rattle.er_event.proofs.totals.totals_in.Goals.{in-Some, in_default}
 
 pub loop-round-preserved : goal.loop-round-preserved
 loop-round-preserved c =

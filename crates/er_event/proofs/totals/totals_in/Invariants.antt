@@ -1,7 +1,4 @@
-use Rattle.std.proofs.Common.{◌≡◌, take}
-use Rattle.er_event.specs.Lines.{own, lines_from}
-use Rattle.er_event.specs.inside.Seen.{AreOver}
-use Rattle.er_event.specs.Totals.{totals_of}
+use Rattle.er_event.proofs.Prelude.{◌≡◌, take, own, lines_from, AreOver, totals_of}
 use Rattle.er_event.proofs.totals.totals_in.Given as goal
 
 abbrev pub invariant-loop-round : goal.invariant-loop-round

@@ -1,11 +1,7 @@
-use Rattle.std.proofs.Common.{◌≡◌, ◌<◌, ◌∙◌, [], length, get_or, ap, Some, arith}
-use Rattle.std.proofs.lemmas.List.{get_or_default}
-use Rattle.er_event.specs.declared.rounds.Round.{Round}
-use Rattle.er_event.specs.inside.Seen.{rescored}
-use Rattle.er_event.specs.Totals.{totals_of_games}
-use Rattle.er_event.proofs.TotalLemmas.{totals-more, totals-same, over-more, rescored-length}
+use Rattle.er_event.proofs.Prelude.{◌≡◌, ◌<◌, ◌∙◌, [], length, get_or, ap, Some, arith, get_or_default, Round, rescored, totals_of_games}
+use Rattle.er_event.proofs.{TotalLemmas.{totals-more, totals-same, over-more, rescored-length}, totals.totals_with.Goals.in-Some}
+use Rattle.er_event.proofs.totals.totals_with.Goals.{in_default}
 use Rattle.er_event.proofs.totals.totals_with.Goals as goal
-use Rattle.er_event.proofs.totals.totals_with.Goals.{in-Some, in_default}
 
 pub loop-at-preserved : goal.loop-at-preserved
 loop-at-preserved c =

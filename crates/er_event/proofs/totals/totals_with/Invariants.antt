@@ -1,7 +1,4 @@
-use Rattle.std.proofs.Common.{◌≡◌, take}
-use Rattle.er_event.specs.Lines.{own, lines_from}
-use Rattle.er_event.specs.inside.Seen.{AreOver, rescored}
-use Rattle.er_event.specs.Totals.{totals_of}
+use Rattle.er_event.proofs.Prelude.{◌≡◌, take, own, lines_from, AreOver, rescored, totals_of}
 use Rattle.er_event.proofs.totals.totals_with.Given as goal
 
 abbrev pub invariant-loop-at : goal.invariant-loop-at

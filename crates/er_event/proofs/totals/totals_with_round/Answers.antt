@@ -1,4 +1,4 @@
-use Rattle.std.proofs.Common.{◌∙◌, sym, None, Some}
+use Rattle.er_event.proofs.Prelude.{◌∙◌, sym, None, Some}
 use Rattle.er_event.proofs.TotalLemmas.{totals-push, plus-none}
 use Rattle.er_event.proofs.totals.totals_with_round.Goals as goal
 

@@ -1,7 +1,5 @@
-use Rattle.std.proofs.Common.{length-set, arith}
-use Rattle.std.proofs.lemmas.List.Elements.{All-set}
-use Rattle.er_pair.specs.declared.dead_ends.KnownDeadEnd.{KnownDeadEnd}
-use Rattle.er_pair.specs.inside.Search.{IsKnown}
+use Rattle.std.proofs.{Common.{length-set, arith}, lemmas.List.Elements.All-set}
+use Rattle.er_pair.specs.{declared.dead_ends.KnownDeadEnd.KnownDeadEnd, inside.Search.IsKnown}
 use Rattle.er_pair.proofs.Ends.{dead_whatever}
 use Rattle.er_pair.proofs.dead_ends.keep.Goals as goal
 

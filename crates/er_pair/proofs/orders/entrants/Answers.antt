@@ -1,8 +1,6 @@
 use Rattle.std.proofs.Common.{rules, ◌≡◌, ◌<◌, List, length, ap, arith}
-use Rattle.er_event.specs.declared.players.Player.{Player}
-use Rattle.er_event.specs.declared.totals.Totals.{Totals}
-use Rattle.er_pair.proofs.Placing.{active_in, active_below, placed_more}
-use Rattle.er_pair.proofs.orders.entrants.Goals.{Else-player}
+use Rattle.er_event.specs.{declared.players.Player.Player, declared.totals.Totals.Totals}
+use Rattle.er_pair.proofs.{Placing.{active_in, active_below, placed_more}, orders.entrants.Goals.Else-player}
 use Rattle.er_pair.proofs.orders.entrants.Goals as goal
 
 -- there is a key for one more

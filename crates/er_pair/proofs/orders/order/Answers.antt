@@ -1,8 +1,5 @@
-use Rattle.std.proofs.Common.{ℕ, Vec, Global, get_or, refl, arith}
-use Rattle.std.proofs.lemmas.Grind.{common_steps}
-use Rattle.std.proofs.lemmas.Result.{IfOk-weaker}
-use Rattle.er_pair.proofs.Ordering.{ordered, few, stands_once}
-use Rattle.er_pair.proofs.Uniqueness.{one_order}
+use Rattle.std.proofs.{Common.{ℕ, Vec, Global, get_or, refl, arith}, lemmas.Grind.common_steps, lemmas.Result.IfOk-weaker}
+use Rattle.er_pair.proofs.{Ordering.{ordered, few, stands_once}, Uniqueness.one_order}
 use Rattle.er_pair.proofs.orders.order.Goals as goal
 
 pub returns : goal.returns

@@ -1,13 +1,9 @@
 use Rattle.std.proofs.Common.{◌≡◌, inr, length, refl, sym, ap, subst, arith, rules}
-use Rattle.er_pair.specs.declared.search.Outcome.TheVariants.{Paired, DeadEnd, OutOfSteps}
-use Rattle.er_pair.specs.declared.pairings.TheConstants.{MAX_STEPS}
-use Rattle.er_pair.specs.Met.{has_met}
-use Rattle.er_pair.specs.Pairing.{all_positions, IsEarliest}
-use Rattle.er_pair.specs.Steps.{met_at, NeedsMore}
-use Rattle.er_pair.specs.inside.Search.{Answer, SearchAnswers, AreDeadEnds, answer_ahead, search_of}
-use Rattle.er_pair.proofs.Entries.{one_earliest, short_needs, more_needed}
-use Rattle.er_pair.proofs.Answering.{as_long, of_order, within_order, paired, unpaired, short_within, fresh_within, fresh_pairs}
-use Rattle.er_pair.proofs.Seating.{first_before_second, each_sits, none_has_met}
+use Rattle.er_pair.specs.{declared.search.Outcome.TheVariants.{Paired, DeadEnd, OutOfSteps}, declared.pairings.TheConstants.MAX_STEPS}
+use Rattle.er_pair.specs.{Met.has_met, Pairing.{all_positions, IsEarliest}, Steps.{met_at, NeedsMore}, inside.Search.Answer}
+use Rattle.er_pair.specs.inside.Search.{SearchAnswers, AreDeadEnds, answer_ahead, search_of}
+use Rattle.er_pair.proofs.{Entries.{one_earliest, short_needs, more_needed}, Answering.{as_long, of_order, within_order, paired, unpaired}}
+use Rattle.er_pair.proofs.{Answering.{short_within, fresh_within, fresh_pairs}, Seating.{first_before_second, each_sits, none_has_met}}
 use Rattle.er_pair.proofs.pairings.first_pairing.Goals.{After-as_mut_slice, In-Paired}
 use Rattle.er_pair.proofs.pairings.first_pairing.Goals as goal
 

@@ -1,9 +1,8 @@
 use Rattle.std.proofs.Common.{◌≡◌, ◌-◌, ◌*◌, ◌<◌, ℕ, length, length-set, set, refl, ◌∙◌, arith}
-use Rattle.er_pair.specs.Pairing.{Pair}
-use Rattle.er_pair.specs.inside.Search.{free_ahead}
-use Rattle.er_pair.proofs.Trying.{IsRest, pairs_none, free_none, free_first, starts, without_step, some_pair, none_is_left, rest_two_by_two}
-use Rattle.er_pair.proofs.Trying.{goes_on, answers_with, rest_size, pair_and_more}
-use Rattle.er_pair.proofs.search.+search.Goals.{Else-steps-eq0, After-but-rest, Joined-more-eq1, then-more-eq1, else-more-eq1}
+use Rattle.er_pair.specs.{Pairing.Pair, inside.Search.free_ahead}
+use Rattle.er_pair.proofs.Trying.{IsRest, pairs_none, free_none, free_first, starts, without_step, some_pair, none_is_left}
+use Rattle.er_pair.proofs.{Trying.{rest_two_by_two, goes_on, answers_with, rest_size, pair_and_more}, search.+search.Goals.Else-steps-eq0}
+use Rattle.er_pair.proofs.search.+search.Goals.{After-but-rest, Joined-more-eq1, then-more-eq1, else-more-eq1}
 use Rattle.er_pair.proofs.search.+search.Goals as goal
 
 -- where there is a partner, there is a pair to write

@@ -1,7 +1,5 @@
-use Rattle.std.proofs.Common.{[], sym, ap, ◌∙◌, arith}
-use Rattle.std.proofs.lemmas.List.{get_or_past}
-use Rattle.er_pair.specs.declared.rows.Row.{Row}
-use Rattle.er_pair.specs.Rows.{has_place}
+use Rattle.std.proofs.{Common.{[], sym, ap, ◌∙◌, arith}, lemmas.List.get_or_past}
+use Rattle.er_pair.specs.{declared.rows.Row.Row, Rows.has_place}
 use Rattle.er_pair.proofs.Bits.{no_word}
 use Rattle.er_pair.proofs.seats.row_of.Goals as goal
 

@@ -1,8 +1,6 @@
-use Rattle.std.proofs.Common.{◌∷◌, [], string_bytes, ap, ◌∙◌, ◌++◌, append_assoc}
+use Rattle.std.proofs.{Common.{◌∷◌, [], string_bytes, ap, ◌∙◌, ◌++◌, append_assoc}, lemmas.Result.IfOk-weaker}
 use Rattle.std.specs.Fmt.{styled_decimal}
-use Rattle.std.proofs.lemmas.Result.{IfOk-weaker}
-use Rattle.er_paper.specs.Column.{right}
-use Rattle.er_paper.specs.Texts.{pairing_line}
+use Rattle.er_paper.specs.{Column.right, Texts.pairing_line}
 use Rattle.er_paper.proofs.ColumnLemmas.{right_4, at_hole}
 use Rattle.er_paper.proofs.brackets.push_slot.Goals as goal
 

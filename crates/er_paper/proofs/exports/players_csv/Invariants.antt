@@ -1,7 +1,6 @@
 use Rattle.std.proofs.Common.{◌≡◌, ◌∷◌, map, take}
 use Rattle.csv.proofs.RoundTrip.{rows_text}
-use Rattle.er_paper.specs.Csv.{IsPlainWriter, written}
-use Rattle.er_paper.specs.Tables.{players_heading, player_fields}
+use Rattle.er_paper.specs.{Csv.{IsPlainWriter, written}, Tables.{players_heading, player_fields}}
 use Rattle.er_paper.proofs.exports.players_csv.Given as goal
 
 abbrev pub invariant-loop-player : goal.invariant-loop-player

@@ -1,8 +1,6 @@
-use Rattle.std.proofs.Common.{◌++◌, flat_map, take, sym, ap, ◌∙◌, arith, append_assoc, ◌≡◌, ◌+◌}
-use Rattle.std.proofs.lemmas.List.{take_all}
+use Rattle.std.proofs.{Common.{◌++◌, flat_map, take, sym, ap, ◌∙◌, arith, append_assoc, ◌≡◌, ◌+◌}, lemmas.List.take_all}
 use Rattle.er_event.specs.Round.{numbered_from}
-use Rattle.er_paper.proofs.PairingLemmas.{lines-more}
-use Rattle.er_paper.proofs.Rows.{result_row, rows-of-round}
+use Rattle.er_paper.proofs.{PairingLemmas.lines-more, Rows.{result_row, rows-of-round}}
 use Rattle.er_paper.specs.Csv.{written}
 use Rattle.er_paper.proofs.exports.push_round.Goals as goal
 

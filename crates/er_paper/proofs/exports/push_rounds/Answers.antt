@@ -1,7 +1,6 @@
 use Rattle.std.proofs.Common.{◌≡◌, ℕ, ◌+◌, ◌++◌, take, sym, ap, ◌∙◌, arith, append_assoc}
 use Rattle.csv.proofs.RoundTrip.{rows_text}
-use Rattle.er_paper.specs.Csv.{written}
-use Rattle.er_paper.specs.Tables.{round_table, rounds_table}
+use Rattle.er_paper.specs.{Csv.written, Tables.{round_table, rounds_table}}
 use Rattle.er_paper.proofs.Rows.{no-rows, rounds-more}
 use Rattle.er_paper.proofs.exports.push_rounds.Goals as goal
 

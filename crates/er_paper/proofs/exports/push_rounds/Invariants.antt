@@ -1,7 +1,6 @@
 use Rattle.std.proofs.Common.{◌≡◌, ◌++◌, take}
 use Rattle.csv.proofs.RoundTrip.{rows_text}
-use Rattle.er_paper.specs.Csv.{IsPlainWriter, written}
-use Rattle.er_paper.specs.Tables.{rounds_table}
+use Rattle.er_paper.specs.{Csv.{IsPlainWriter, written}, Tables.rounds_table}
 use Rattle.er_paper.proofs.exports.push_rounds.Given as goal
 
 abbrev pub invariant-loop-place : goal.invariant-loop-place

@@ -1,8 +1,7 @@
 use Rattle.std.proofs.Common.{◌≡◌, List, [], ◌++◌, ap, ap₂, ◌∙◌, Vec, Global, ℕ}
 use Rattle.csv.proofs.RoundTrip.{rows_text}
 use Rattle.csv.specs.Writing.{default_writer, row_text}
-use Rattle.er_paper.specs.Csv.{written}
-use Rattle.er_paper.specs.Tables.{results_heading, rounds_table, results_csv}
+use Rattle.er_paper.specs.{Csv.written, Tables.{results_heading, rounds_table, results_csv}}
 use Rattle.er_paper.proofs.Rows.{rows-under}
 use Rattle.er_paper.proofs.exports.results_csv.Goals as goal
 

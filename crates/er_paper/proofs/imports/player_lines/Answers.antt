@@ -1,8 +1,6 @@
-use Rattle.std.proofs.Common.{◌≡◌, ◌+◌, ℕ, Some, List, [], ◌∷◌, ◌++◌, refl, sym, ◌∙◌, ap, subst, arith}
-use Rattle.std.proofs.lemmas.Grind.{common_steps}
+use Rattle.std.proofs.{Common.{◌≡◌, ◌+◌, ℕ, Some, List, [], ◌∷◌, ◌++◌, refl, sym, ◌∙◌, ap, subst, arith}, lemmas.Grind.common_steps}
 use Rattle.csv.specs.Records.{fields_of}
-use Rattle.er_paper.specs.Reading.{chosen_line}
-use Rattle.er_paper.specs.declared.imports.PlayerLine.{PlayerLine}
+use Rattle.er_paper.specs.{Reading.chosen_line, declared.imports.PlayerLine.PlayerLine}
 use Rattle.er_paper.proofs.Lines.{Reached, reached-more}
 use Rattle.er_paper.proofs.imports.player_lines.Goals as goal
 

@@ -1,7 +1,6 @@
 use Rattle.std.proofs.Common.{◌≡◌, ◌+◌, ℕ, Some, List, refl, sym, ◌∙◌, subst}
 use Rattle.csv.specs.Records.{fields_of}
-use Rattle.er_paper.specs.Reading.{result_of}
-use Rattle.er_paper.specs.declared.imports.ResultLine.{ResultLine}
+use Rattle.er_paper.specs.{Reading.result_of, declared.imports.ResultLine.ResultLine}
 use Rattle.er_paper.proofs.Lines.{Reached, reached-more}
 use Rattle.er_paper.proofs.imports.result_lines.Goals as goal
 

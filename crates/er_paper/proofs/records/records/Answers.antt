@@ -1,10 +1,8 @@
-use Rattle.std.proofs.Common.{Bor, List, ℕ, ◌≡◌, ◌∙◌, sym, ap, refl, rules, inl, inr, true, map, Some, ◌∷◌, []}
+use Rattle.std.proofs.{Common.{Bor, List, ℕ, ◌≡◌, ◌∙◌, sym, ap, refl, rules, inl, inr, true, map, Some, ◌∷◌, []}, lemmas.List.map-append}
 use Rattle.std.specs.Result.{is_ok}
-use Rattle.std.proofs.lemmas.List.{map-append}
-use Rattle.csv.specs.Reading.{Reached, default_config, strip_bom, with_flexible}
-use Rattle.csv.specs.Records.{fields_of}
-use Rattle.csv.specs.declared.parser.State.TheVariants as st
+use Rattle.csv.specs.{Reading.{Reached, default_config, strip_bom, with_flexible}, Records.fields_of}
 use Rattle.csv.proofs.ReadFacts.{rows-end, rows-more}
+use Rattle.csv.specs.declared.parser.State.TheVariants as st
 use Rattle.er_paper.proofs.records.records.Goals as goal
 
 pub loop-row-init : goal.loop-row-init

@@ -1,7 +1,6 @@
 use Rattle.std.proofs.Common.{◌≡◌, [], ◌∷◌, ◌++◌, length, take, true≢false, sym, ◌∙◌, append_assoc, arith}
 use Rattle.er_rank.specs.Meeting.{encounters, AreEncounters}
-use Rattle.er_rank.proofs.CountLemmas.{AreEncounters-front}
-use Rattle.er_rank.proofs.OpponentLemmas.{first_of, second_of, encounters-more, encounters-split}
+use Rattle.er_rank.proofs.{CountLemmas.AreEncounters-front, OpponentLemmas.{first_of, second_of, encounters-more, encounters-split}}
 use Rattle.er_rank.proofs.lists.are_meetings.Goals.{then-not-count-via-then-not-count, then-not-count-via-else-not-count+then-not-count-2}
 use Rattle.er_rank.proofs.lists.are_meetings.Goals as goal
 

@@ -1,6 +1,5 @@
 use Rattle.std.proofs.Common.{◌≡◌, length, take}
-use Rattle.er_rank.specs.inside.Counting.{AreCountsOf}
-use Rattle.er_rank.specs.Meeting.{encounters, AreEncounters}
+use Rattle.er_rank.specs.{inside.Counting.AreCountsOf, Meeting.{encounters, AreEncounters}}
 use Rattle.er_rank.proofs.lists.are_meetings.Given as goal
 
 abbrev pub invariant-loop-meeting : goal.invariant-loop-meeting

@@ -1,14 +1,11 @@
 use Rattle.std.proofs.Common.{◌≡◌, ℕ, ◌+◌, ◌<◌, false, List, map, length, get_or, All, true≢false, refl, sym, subst, ◌∙◌, arith, inl, inr}
+use Rattle.std.proofs.{lemmas.Bool.cases_eq, lemmas.List.{length-map, get_or-map, get_or_read, same_lists, take_all}}
+use Rattle.std.proofs.{lemmas.List.Elements.All-more, lemmas.List.FromFn.{length-range_with_len, get_or-range_with_len}}
 use Rattle.std.specs.List.{range_with_len}
-use Rattle.std.proofs.lemmas.Bool.{cases_eq}
-use Rattle.std.proofs.lemmas.List.{length-map, get_or-map, get_or_read, same_lists, take_all}
-use Rattle.std.proofs.lemmas.List.Elements.{All-more}
-use Rattle.std.proofs.lemmas.List.FromFn.{length-range_with_len, get_or-range_with_len}
 use Rattle.er_event.specs.declared.tallies.Tally.{Tally}
-use Rattle.er_rank.specs.Meeting.{IsRecord}
-use Rattle.er_rank.specs.Tally.{no_totals}
-use Rattle.er_rank.proofs.PlacingLemmas.{number-here}
-use Rattle.er_rank.proofs.lists.are_tallies.Goals.{then-from-at-via-then-from-at, then-from-at-via-else-from-at+then-not-is_record}
+use Rattle.er_rank.specs.{Meeting.IsRecord, Tally.no_totals}
+use Rattle.er_rank.proofs.{PlacingLemmas.number-here, lists.are_tallies.Goals.then-from-at-via-then-from-at}
+use Rattle.er_rank.proofs.lists.are_tallies.Goals.{then-from-at-via-else-from-at+then-not-is_record}
 use Rattle.er_rank.proofs.lists.are_tallies.Goals as goal
 
 abbrev has_record : Tally → Type 0

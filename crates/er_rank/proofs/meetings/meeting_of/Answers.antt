@@ -1,6 +1,5 @@
 use Rattle.std.proofs.Common.{◌≡◌, ◌-◌, ◌<◌, ℕ, min, max, length, ◌∙◌, arith}
-use Rattle.er_event.specs.declared.tallies.Meeting.{Meeting}
-use Rattle.er_event.specs.declared.totals.Totals.{Totals}
+use Rattle.er_event.specs.{declared.tallies.Meeting.Meeting, declared.totals.Totals.Totals}
 use Rattle.er_rank.proofs.PlacingLemmas.{number-here, totals-here}
 use Rattle.er_rank.proofs.meetings.meeting_of.Goals as goal
 

@@ -1,12 +1,9 @@
-use Rattle.std.proofs.Common.{◌≡◌, ◌++◌, [], List, Bool, if◌then◌else◌, ap, sym, ◌∙◌, append-nil}
-use Rattle.std.proofs.lemmas.List.{take_all}
-use Rattle.er_event.specs.declared.matches.Match.{Match}
-use Rattle.er_event.specs.declared.rounds.Round.{Round}
-use Rattle.er_event.specs.Tallies.{counted_matches}
+use Rattle.std.proofs.{Common.{◌≡◌, ◌++◌, [], List, Bool, if◌then◌else◌, ap, sym, ◌∙◌, append-nil}, lemmas.List.take_all}
+use Rattle.er_event.specs.{declared.matches.Match.Match, declared.rounds.Round.Round, Tallies.counted_matches}
 use Rattle.er_rank.specs.Meeting.{totals_of}
 use Rattle.er_rank.proofs.MeetingLemmas.{made_of, counted_in, counted-more}
-use Rattle.er_rank.proofs.meetings.meetings_of.Goals as goal
 use Rattle.er_rank.proofs.meetings.meetings_of.Goals.{then-is_complete+in_ok-push_meetings, else-is_complete}
+use Rattle.er_rank.proofs.meetings.meetings_of.Goals as goal
 
 pub loop-round-init : goal.loop-round-init
 loop-round-init c = c.new-meetings.ensures.items

@@ -1,13 +1,9 @@
-use Rattle.std.proofs.Common.{◌≡◌, ◌++◌, ◌∷◌, [], List, Bool, not, cond, map, ap, sym, ◌∙◌, append-nil}
-use Rattle.std.proofs.lemmas.Bool.{eq-eqb, ne_eqb}
+use Rattle.std.proofs.{Common.{◌≡◌, ◌++◌, ◌∷◌, [], List, Bool, not, cond, map, ap, sym, ◌∙◌, append-nil}, lemmas.Bool.{eq-eqb, ne_eqb}}
 use Rattle.std.proofs.lemmas.List.{take_all}
-use Rattle.er_event.specs.declared.matches.Match.{Match}
-use Rattle.er_event.specs.declared.tallies.Meeting.{Meeting}
-use Rattle.er_event.specs.Tallies.{meeting_by}
+use Rattle.er_event.specs.{declared.matches.Match.Match, declared.tallies.Meeting.Meeting, Tallies.meeting_by}
 use Rattle.er_rank.specs.Meeting.{totals_of}
-use Rattle.er_rank.proofs.MeetingLemmas.{made_of, met-more}
+use Rattle.er_rank.proofs.{MeetingLemmas.{made_of, met-more}, meetings.push_meetings.Goals.{then-played-ne0+in_ok-push, else-played-ne0}}
 use Rattle.er_rank.proofs.meetings.push_meetings.Goals as goal
-use Rattle.er_rank.proofs.meetings.push_meetings.Goals.{then-played-ne0+in_ok-push, else-played-ne0}
 
 pub loop-played-init : goal.loop-played-init
 loop-played-init c = sym (append-nil c.args.meetings.now.items)

@@ -1,6 +1,5 @@
 use Rattle.std.proofs.Common.{◌≡◌, ◌+◌, ◌-◌, ◌<◌, length, arith}
-use Rattle.er_rank.specs.Meeting.{opponents_of}
-use Rattle.er_rank.specs.inside.Merit.{AreOpponents}
+use Rattle.er_rank.specs.{Meeting.opponents_of, inside.Merit.AreOpponents}
 use Rattle.er_rank.proofs.OpponentLemmas.{AreOpponentsOf-met}
 use Rattle.er_rank.proofs.opponents.meet.Goals as goal
 

@@ -1,8 +1,7 @@
-use Rattle.std.proofs.Common.{◌≡◌, ◌+◌, [], ◌∷◌, ◌++◌, length, take, ap, ◌∙◌, arith}
+use Rattle.std.proofs.{Common.{◌≡◌, ◌+◌, [], ◌∷◌, ◌++◌, length, take, ap, ◌∙◌, arith}, lemmas.List.{length-replicate, get_or-replicate}}
+use Rattle.std.proofs.lemmas.List.{take_all, with_items_is}
 use Rattle.std.specs.Vec.{with_items}
-use Rattle.std.proofs.lemmas.List.{length-replicate, get_or-replicate, take_all, with_items_is}
-use Rattle.er_rank.specs.Meeting.{encounters}
-use Rattle.er_rank.specs.inside.Opponents.{AreOpponentsOf}
+use Rattle.er_rank.specs.{Meeting.encounters, inside.Opponents.AreOpponentsOf}
 use Rattle.er_rank.proofs.OpponentLemmas.{both-here, first-room, second-room, encounters-more, first_of}
 use Rattle.er_rank.proofs.opponents.opponents_of.Goals.{After-meet}
 use Rattle.er_rank.proofs.opponents.opponents_of.Goals as goal

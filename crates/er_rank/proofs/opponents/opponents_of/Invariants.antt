@@ -1,6 +1,5 @@
 use Rattle.std.proofs.Common.{◌≡◌, length, take}
-use Rattle.er_rank.specs.Meeting.{encounters}
-use Rattle.er_rank.specs.inside.Opponents.{AreOpponentsOf}
+use Rattle.er_rank.specs.{Meeting.encounters, inside.Opponents.AreOpponentsOf}
 use Rattle.er_rank.proofs.opponents.opponents_of.Given as goal
 
 abbrev pub invariant-loop-meeting : goal.invariant-loop-meeting

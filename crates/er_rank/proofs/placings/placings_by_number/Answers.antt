@@ -1,6 +1,5 @@
 use Rattle.std.proofs.Common.{◌<◌, length, arith, refl}
-use Rattle.er_rank.specs.Meeting.{opponents_of}
-use Rattle.er_rank.specs.inside.Merit.{AreOpponents}
+use Rattle.er_rank.specs.{Meeting.opponents_of, inside.Merit.AreOpponents}
 use Rattle.er_rank.proofs.PlacingLemmas.{AreFirst-none, AreFirst-more, ArePlacings-first, number-here, totals-here}
 use Rattle.er_rank.proofs.placings.placings_by_number.Goals as goal
 

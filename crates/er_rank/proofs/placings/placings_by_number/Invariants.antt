@@ -1,6 +1,5 @@
 use Rattle.std.proofs.Common.{List}
-use Rattle.er_rank.specs.Meeting.{Encounter}
-use Rattle.er_rank.specs.inside.Opponents.{AreOpponentsOf}
+use Rattle.er_rank.specs.{Meeting.Encounter, inside.Opponents.AreOpponentsOf}
 use Rattle.er_rank.proofs.PlacingLemmas.{AreFirst}
 use Rattle.er_rank.proofs.placings.placings_by_number.Given as goal
 

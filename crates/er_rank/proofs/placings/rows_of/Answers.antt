@@ -1,10 +1,10 @@
 use Rattle.std.proofs.Common.{◌≡◌, ◌++◌, ◌∷◌, [], sym, ap, ◌∙◌, arith}
 use Rattle.er_rank.specs.inside.Placing.{rank_in, row_of}
 use Rattle.er_rank.proofs.PlacingLemmas.{row_in, map-pushed, rank-at_first, rank-at_next, rank-at_level, rank-kept}
-use Rattle.er_rank.proofs.placings.rows_of.Goals as goal
 use Rattle.er_rank.proofs.placings.rows_of.Goals.{then-above-gt0+then-not-is_level_with, else-above-gt0}
 use Rattle.er_rank.proofs.placings.rows_of.Goals.{else-above-gt0-via-then-above-gt0+else-not-is_level_with}
 use Rattle.er_rank.proofs.placings.rows_of.Goals.{else-above-gt0-via-else-above-gt0}
+use Rattle.er_rank.proofs.placings.rows_of.Goals as goal
 
 pub loop-above-preserved : goal.loop-above-preserved
 loop-above-preserved c =

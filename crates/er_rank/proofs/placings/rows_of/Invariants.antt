@@ -1,6 +1,5 @@
 use Rattle.std.proofs.Common.{◌≡◌, ◌<◌, ◌-◌, map, take, get_or}
-use Rattle.er_rank.specs.declared.placings.Placing.{Placing}
-use Rattle.er_rank.specs.inside.Placing.{row_of, rank_in}
+use Rattle.er_rank.specs.{declared.placings.Placing.Placing, inside.Placing.{row_of, rank_in}}
 use Rattle.er_rank.proofs.placings.rows_of.Given as goal
 
 abbrev pub invariant-loop-above : goal.invariant-loop-above

@@ -1,8 +1,5 @@
-use Rattle.std.proofs.Common.{map, ap, ◌∙◌}
-use Rattle.std.proofs.lemmas.List.{take_all}
-use Rattle.er_event.specs.declared.totals.Totals.{Totals}
-use Rattle.er_event.specs.Tallies.{tally_by}
-use Rattle.er_event.specs.Totals.{totals}
+use Rattle.std.proofs.{Common.{map, ap, ◌∙◌}, lemmas.List.take_all}
+use Rattle.er_event.specs.{declared.totals.Totals.Totals, Tallies.tally_by, Totals.totals}
 use Rattle.er_rank.proofs.PlacingLemmas.{map-pushed}
 use Rattle.er_rank.proofs.tallies.tallies_of.Goals as goal
 

@@ -1,10 +1,9 @@
 use Rattle.er_event.specs.declared.commands.Command.TheVariants.{Enrol, Start, Pair, Result as Report, Correct, Drop, Cut}
 use Rattle.er_event.specs.declared.commands.Command.TheVariants.{Playoff as PlayOff}
+use Rattle.er_event.specs.declared.commands.Command.TheVariants.{Enrol, Start, Pair, Correct, Drop, Cut}
 use Rattle.er_rules.specs.Retry.{IsRefusedLater}
-use Rattle.er_rules.proofs.Retrying.{start_again, pair_again, cut_again, enrol_again, drop_again}
-use Rattle.er_rules.proofs.Rescoring.{report_again}
-use Rattle.er_rules.proofs.Replaying.{play_again}
-use Rattle.er_rules.proofs.Correcting.{correct_again}
+use Rattle.er_rules.proofs.{Retrying.{start_again, pair_again, cut_again, enrol_again, drop_again}, Rescoring.report_again}
+use Rattle.er_rules.proofs.{Replaying.play_again, Correcting.correct_again}
 use Rattle.er_rules.proofs.laws.no_double_effect.Goals as goal
 
 all : IsRefusedLater

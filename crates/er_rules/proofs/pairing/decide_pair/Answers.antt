@@ -1,19 +1,12 @@
 use Rattle.std.proofs.Common.{◌≡◌, ℕ, Bool, List, Ok, Err, sym, ap, subst, ◌∙◌}
-use Rattle.er_event.specs.declared.changes.Change.TheVariants.{AddRound}
-use Rattle.er_event.specs.declared.commands.Command.TheVariants.{Pair}
-use Rattle.er_event.specs.declared.matches.Match.{Match}
-use Rattle.er_event.specs.Change.{with_round, Fits}
-use Rattle.er_pair.specs.declared.pairings.PairFault.TheVariants.{NoPairing}
-use Rattle.er_pair.specs.Fault.{refusal_of}
-use Rattle.er_pair.specs.Met.{has_met, have_met}
-use Rattle.er_pair.specs.Order.{seed_words}
-use Rattle.er_pair.specs.Pairing as pairing
+use Rattle.er_event.specs.{declared.changes.Change.TheVariants.AddRound, declared.commands.Command.TheVariants.Pair}
+use Rattle.er_event.specs.{declared.matches.Match.Match, Change.{with_round, Fits}}
+use Rattle.er_pair.specs.{declared.pairings.PairFault.TheVariants.NoPairing, Fault.refusal_of, Met.{has_met, have_met}, Order.seed_words}
 use Rattle.er_pair.specs.Pairing.{IsLegal}
-use Rattle.er_rules.specs.Step.{Answers}
-use Rattle.er_rules.specs.Tables.{tables_of}
-use Rattle.er_rules.proofs.Rounds.{IsPairing, moved, may_come_next}
-use Rattle.er_rules.proofs.Deciding.{IsExact, err_is, refused_by, taken_by}
+use Rattle.er_rules.specs.{Step.Answers, Tables.tables_of}
+use Rattle.er_rules.proofs.{Rounds.{IsPairing, moved, may_come_next}, Deciding.{IsExact, err_is, refused_by, taken_by}}
 use Rattle.er_rules.proofs.pairing.decide_pair.Goals.{After-first_pairing}
+use Rattle.er_pair.specs.Pairing as pairing
 use Rattle.er_rules.proofs.pairing.decide_pair.Goals as goal
 
 -- what the budget's answer says, of the event and its order

@@ -1,8 +1,6 @@
-use Rattle.std.proofs.Common.{◌≡◌, ◌==◌, ◌&&◌, length, true, sym, ap, ◌∙◌, arith}
+use Rattle.std.proofs.{Common.{◌≡◌, ◌==◌, ◌&&◌, length, true, sym, ap, ◌∙◌, arith}, lemmas.Bool.Decides.nat_tests}
 use Rattle.std.specs.List.{list_all}
-use Rattle.std.proofs.lemmas.Bool.Decides.{nat_tests}
-use Rattle.er_event.specs.declared.rounds.Round.{Round}
-use Rattle.er_event.specs.Round.{is_counted}
+use Rattle.er_event.specs.{declared.rounds.Round.Round, Round.is_counted}
 use Rattle.er_rules.proofs.playoff.are_rounds_done.Goals as goal
 
 pub returns : goal.returns

@@ -1,15 +1,10 @@
 use Rattle.std.proofs.Common.{◌≡◌, List, length, Ok, sym, ap, subst, ◌∙◌}
-use Rattle.er_event.specs.declared.changes.Change.TheVariants.{AddBracket}
-use Rattle.er_event.specs.declared.commands.Command.TheVariants.{Cut}
-use Rattle.er_event.specs.declared.matches.Match.{Match}
-use Rattle.er_event.specs.Event.{EventValue}
-use Rattle.er_event.specs.Change.{after, Fits}
+use Rattle.er_event.specs.{declared.changes.Change.TheVariants.AddBracket, declared.commands.Command.TheVariants.Cut}
+use Rattle.er_event.specs.{declared.matches.Match.Match, Event.EventValue, Change.{after, Fits}}
 use Rattle.er_rank.specs.Standings.{IsTop}
 use Rattle.er_bracket.specs.Seeds.{first_stage}
 use Rattle.er_rules.specs.Step.{Steps}
-use Rattle.er_rules.proofs.Seeding.{top_length, top_opens, begins}
-use Rattle.er_rules.proofs.Opening.{IsCut, is_cut}
-use Rattle.er_rules.proofs.playoff.decide_cut.Goals.{After-as_slice}
+use Rattle.er_rules.proofs.{Seeding.{top_length, top_opens, begins}, Opening.{IsCut, is_cut}, playoff.decide_cut.Goals.After-as_slice}
 use Rattle.er_rules.proofs.playoff.decide_cut.Goals as goal
 
 -- the first players of the standings

@@ -1,15 +1,9 @@
 use Rattle.std.proofs.Common.{◌≡◌, ◌≤◌, ℕ, ◌-◌, List, [], Bool, Option, All, IfSome, IsTrue, length, get_or, sym, ap, ap₂, subst, ◌∙◌}
-use Rattle.std.proofs.Common.{arith}
-use Rattle.std.proofs.lemmas.List.{get_or_default, length-set}
-use Rattle.er_event.specs.declared.changes.Change.TheVariants.{SetBracketScore}
-use Rattle.er_event.specs.declared.matches.Match.{Match}
-use Rattle.er_event.specs.declared.scores.Games.{Games}
-use Rattle.er_event.specs.Score.{is_playoff_score}
-use Rattle.er_event.specs.Bracket.{following, is_over}
-use Rattle.er_event.specs.Change.{Fits, stage_of, scored_slot}
+use Rattle.std.proofs.{Common.arith, lemmas.List.{get_or_default, length-set}}
+use Rattle.er_event.specs.{declared.changes.Change.TheVariants.SetBracketScore, declared.matches.Match.Match, declared.scores.Games.Games}
+use Rattle.er_event.specs.{Score.is_playoff_score, Bracket.{following, is_over}, Change.{Fits, stage_of, scored_slot}}
 use Rattle.er_rules.specs.Step.{scored_at}
-use Rattle.er_rules.proofs.Playing.{IsSlots, low_stage, high_stage, slots, lawful}
-use Rattle.er_rules.proofs.playoff.decide_playoff.Goals.{In_ok-scored}
+use Rattle.er_rules.proofs.{Playing.{IsSlots, low_stage, high_stage, slots, lawful}, playoff.decide_playoff.Goals.In_ok-scored}
 use Rattle.er_rules.proofs.playoff.decide_playoff.Goals as goal
 
 abbrev IsLawful : Match → Type 0

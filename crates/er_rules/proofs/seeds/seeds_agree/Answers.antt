@@ -1,12 +1,11 @@
 use Rattle.std.proofs.Common.{rules, ◌≡◌, ◌≢◌, IsTrue, ℕ, List, length, Some, true≢false, sym, ap, subst, ◌∙◌, arith}
-use Rattle.std.specs.List.{slice_get}
 use Rattle.std.proofs.lemmas.Option.{same_Some}
-use Rattle.er_event.specs.declared.matches.Match.{Match}
-use Rattle.er_event.specs.Bracket.{SameSlots}
+use Rattle.std.specs.List.{slice_get}
+use Rattle.er_event.specs.{declared.matches.Match.Match, Bracket.SameSlots}
 use Rattle.er_rank.specs.Standings.{IsTop}
 use Rattle.er_bracket.specs.Seeds.{first_stage}
-use Rattle.er_rules.proofs.SlotLemmas.{same_length, first_read, first_some, no_stage}
-use Rattle.er_rules.proofs.seeds.seeds_agree.Goals.{In_ok-seeds, in-2, in_default-matches}
+use Rattle.er_rules.proofs.{SlotLemmas.{same_length, first_read, first_some, no_stage}, seeds.seeds_agree.Goals.{In_ok-seeds, in-2}}
+use Rattle.er_rules.proofs.seeds.seeds_agree.Goals.{in_default-matches}
 use Rattle.er_rules.proofs.seeds.seeds_agree.Goals as goal
 
 -- the first stage is the event's

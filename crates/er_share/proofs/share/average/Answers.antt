@@ -1,6 +1,4 @@
-use Rattle.std.proofs.Common.{◌≡◌, ◌<◌, sum, length, arith, ◌∙◌, ap}
-use Rattle.std.proofs.lemmas.Bool.Decides.{nat_tests}
-use Rattle.std.proofs.lemmas.List.{take_all}
+use Rattle.std.proofs.{Common.{◌≡◌, ◌<◌, sum, length, arith, ◌∙◌, ap}, lemmas.Bool.Decides.nat_tests, lemmas.List.take_all}
 use Rattle.er_share.proofs.Shares.{IsShareOf-average_of_none, IsShareOf-average, IsShareOf-fractions_of}
 use Rattle.er_share.proofs.share.average.Goals as goal
 

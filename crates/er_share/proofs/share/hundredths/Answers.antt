@@ -1,5 +1,4 @@
-use Rattle.std.proofs.Common.{arith}
-use Rattle.std.proofs.lemmas.Bool.Decides.{nat_tests}
+use Rattle.std.proofs.{Common.arith, lemmas.Bool.Decides.nat_tests}
 use Rattle.er_share.proofs.Shares.{hundredths-share, IsShareOf-fraction_of}
 use Rattle.er_share.proofs.share.hundredths.Goals as goal
 

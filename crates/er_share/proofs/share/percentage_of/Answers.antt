@@ -1,6 +1,5 @@
 use Rattle.std.proofs.Common.{arith}
-use Rattle.er_share.proofs.Table.{minimum_is_base}
-use Rattle.er_share.proofs.Shares.{IsShareOf-minimum, IsShareOf-percentage, IsBase-percentage}
+use Rattle.er_share.proofs.{Table.minimum_is_base, Shares.{IsShareOf-minimum, IsShareOf-percentage, IsBase-percentage}}
 use Rattle.er_share.proofs.share.percentage_of.Goals as goal
 
 pub returns-then-count-eq0-clause-value : goal.returns-then-count-eq0-clause-value

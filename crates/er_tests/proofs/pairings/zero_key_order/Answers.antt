@@ -1,6 +1,4 @@
-use Rattle.std.proofs.Common.{◌∙◌, not, filter, length, sym, ap}
-use Rattle.std.proofs.lemmas.List.{length-map}
-use Rattle.std.proofs.lemmas.List.Sums.{length-filter}
+use Rattle.std.proofs.{Common.{◌∙◌, not, filter, length, sym, ap}, lemmas.List.length-map, lemmas.List.Sums.length-filter}
 use Rattle.er_event.specs.declared.players.Player.{Player}
 use Rattle.er_tests.proofs.pairings.zero_key_order.Goals as goal
 

@@ -1,6 +1,5 @@
 use Rattle.std.proofs.Common.{map, ap, ◌∙◌}
-use Rattle.std.specs.String.{string_bytes}
-use Rattle.std.specs.Global.{Global}
+use Rattle.std.specs.{String.string_bytes, Global.Global}
 use Rattle.er_words.specs.Fields.{fields_of}
 use Rattle.er_words.proofs.WordLemmas.{Reads-script, script_line-no_text, words-fields}
 use Rattle.er_words.proofs.fields.read_line.Goals as goal

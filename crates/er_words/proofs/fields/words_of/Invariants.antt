@@ -1,6 +1,5 @@
 use Rattle.std.proofs.Common.{◌≡◌, ℕ, List, ◌∷◌, Bor, map, take, codes}
-use Rattle.std.specs.String.{string_bytes}
-use Rattle.std.specs.Global.{Global}
+use Rattle.std.specs.{String.string_bytes, Global.Global}
 use Rattle.er_words.proofs.fields.words_of.Given as goal
 
 abbrev pub invariant-loop-value : goal.invariant-loop-value

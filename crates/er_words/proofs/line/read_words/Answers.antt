@@ -1,6 +1,5 @@
 use Rattle.std.proofs.Common.{map, ap, sym, ◌∙◌, Bor, List, ℕ, Some, Err}
-use Rattle.std.specs.String.{string_bytes}
-use Rattle.std.specs.Global.{Global}
+use Rattle.std.specs.{String.string_bytes, Global.Global}
 use Rattle.er_words.proofs.WordLemmas.{Reads-split, Reads-unsplit}
 use Rattle.er_words.proofs.line.read_words.Goals as goal
 

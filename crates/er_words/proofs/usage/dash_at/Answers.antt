@@ -1,6 +1,5 @@
 use Rattle.std.proofs.Common.{sym, ap, ◌∙◌}
-use Rattle.std.specs.String.{string_bytes}
-use Rattle.std.specs.Global.{Global}
+use Rattle.std.specs.{String.string_bytes, Global.Global}
 use Rattle.er_words.specs.Line.{is_option}
 use Rattle.er_words.proofs.WordKinds.{option_among}
 use Rattle.er_words.proofs.usage.dash_at.Goals as goal

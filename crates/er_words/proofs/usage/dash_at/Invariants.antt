@@ -1,7 +1,5 @@
 use Rattle.std.proofs.Common.{◌≡◌, false, take, map}
-use Rattle.std.specs.List.{list_any}
-use Rattle.std.specs.String.{string_bytes}
-use Rattle.std.specs.Global.{Global}
+use Rattle.std.specs.{List.list_any, String.string_bytes, Global.Global}
 use Rattle.er_words.specs.Line.{is_option}
 use Rattle.er_words.proofs.usage.dash_at.Given as goal
 

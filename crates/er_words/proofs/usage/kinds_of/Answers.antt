@@ -1,7 +1,5 @@
 use Rattle.std.proofs.Common.{◌≡◌, ◌⊎◌, inl, inr, ℕ, List, [], ◌∷◌, codes}
-use Rattle.er_words.specs.declared.usage.Kind.TheVariants.{Text, SmallNumber, Number}
-use Rattle.er_words.specs.Line.{line_by, subcommands}
-use Rattle.er_words.specs.Usage.{Takes}
+use Rattle.er_words.specs.{declared.usage.Kind.TheVariants.{Text, SmallNumber, Number}, Line.{line_by, subcommands}, Usage.Takes}
 use Rattle.er_words.proofs.WordKinds.{takes-result, takes-correct, takes-playoff}
 use Rattle.er_words.proofs.usage.kinds_of.Goals as goal
 

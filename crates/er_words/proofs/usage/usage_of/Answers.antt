@@ -1,5 +1,4 @@
-use Rattle.std.specs.String.{string_bytes}
-use Rattle.std.specs.Global.{Global}
+use Rattle.std.specs.{String.string_bytes, Global.Global}
 use Rattle.er_words.proofs.WordLemmas.{names_one-first}
 use Rattle.er_words.proofs.usage.usage_of.Goals as goal
 

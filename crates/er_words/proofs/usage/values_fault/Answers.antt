@@ -1,6 +1,5 @@
 use Rattle.std.proofs.Common.{arith, sym, ap, ◌∙◌, ◌&&◌, Bool, ◌+◌, map, drop}
-use Rattle.std.specs.String.{string_bytes}
-use Rattle.std.specs.Global.{Global}
+use Rattle.std.specs.{String.string_bytes, Global.Global}
 use Rattle.er_words.specs.Usage.{are_of_kinds}
 use Rattle.er_words.proofs.WordKinds.{fault_at, one_more, one_missing, one_too_many, text_at}
 use Rattle.er_words.proofs.usage.values_fault.Goals as goal

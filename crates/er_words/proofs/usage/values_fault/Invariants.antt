@@ -1,6 +1,5 @@
 use Rattle.std.proofs.Common.{◌≡◌, ◌≤◌, ◌+◌, length, map, drop}
-use Rattle.std.specs.String.{string_bytes}
-use Rattle.std.specs.Global.{Global}
+use Rattle.std.specs.{String.string_bytes, Global.Global}
 use Rattle.er_words.specs.Usage.{are_of_kinds}
 use Rattle.er_words.proofs.usage.values_fault.Given as goal
 

@@ -1,8 +1,5 @@
-use Rattle.std.proofs.Common.{◌∙◌, sym, rules, tests}
-use Rattle.std.proofs.lemmas.Iterator.{YieldsList-from_slice}
-use Rattle.std.proofs.lemmas.Iterator.Search.{any_from_yields_List}
-use Rattle.std.specs.String.{string_bytes}
-use Rattle.std.specs.Global.{Global}
+use Rattle.std.proofs.{Common.{◌∙◌, sym, rules, tests}, lemmas.Iterator.YieldsList-from_slice, lemmas.Iterator.Search.any_from_yields_List}
+use Rattle.std.specs.{String.string_bytes, Global.Global}
 use Rattle.er_words.specs.Line.{is_option}
 use Rattle.er_words.proofs.WordLemmas.{list_any-map}
 use Rattle.er_words.proofs.words.has_option.Goals as goal

@@ -1,13 +1,9 @@
-use Rattle.std.proofs.Common.{◌≡◌, ◌<◌, ◌^◌, List, [], length, map, Some, ap, sym, subst, ◌∙◌, arith, inl, inr}
-use Rattle.std.proofs.lemmas.List.{length-map}
-use Rattle.std.specs.String.{string_bytes}
-use Rattle.std.specs.Global.{Global}
-use Rattle.clap.specs.Words.{App, Text, app_of, found_of, is_simple, rows_of, subcommand_of}
-use Rattle.clap.specs.Faults.{is_simple_and_free, fault_of}
-use Rattle.er_words.specs.declared.line.LineFault.TheVariants.{Usage}
-use Rattle.er_words.specs.Words.{program}
-use Rattle.er_words.proofs.Walks.{AllPlain-none, simple_and_free}
-use Rattle.er_words.proofs.Refusals.{unsplit_or_taken, only_memory, fault_as, taken_split, unsplit, both_halves, no_half}
+use Rattle.std.proofs.{Common.{◌≡◌, ◌<◌, ◌^◌, List, [], length, map, Some, ap, sym, subst, ◌∙◌, arith, inl, inr}, lemmas.List.length-map}
+use Rattle.std.specs.{String.string_bytes, Global.Global}
+use Rattle.clap.specs.{Words.{App, Text, app_of, found_of, is_simple, rows_of, subcommand_of}, Faults.{is_simple_and_free, fault_of}}
+use Rattle.er_words.specs.{declared.line.LineFault.TheVariants.Usage, Words.program}
+use Rattle.er_words.proofs.{Walks.{AllPlain-none, simple_and_free}, Refusals.{unsplit_or_taken, only_memory, fault_as, taken_split}}
+use Rattle.er_words.proofs.Refusals.{unsplit, both_halves, no_half}
 use Rattle.er_words.proofs.words.split_words.Goals as goal
 
 pub returns-in-Err-clause-usage : goal.returns-in-Err-clause-usage

@@ -1,8 +1,6 @@
-use Rattle.std.proofs.Common.{rules, ◌≡◌, ap, ap₂, ◌∙◌, Option, Some, None}
+use Rattle.std.proofs.{Common.{rules, ◌≡◌, ap, ap₂, ◌∙◌, Option, Some, None}, lemmas.Result.IfOk-weaker}
 use Rattle.std.specs.Option.{IsSomeAnd}
-use Rattle.std.proofs.lemmas.Result.{IfOk-weaker}
-use Rattle.clap.specs.Words.{App, Rule, app_of, new_app, rule_of, with_rule, with_subcommand}
-use Rattle.clap.specs.Lexer.{usize_max}
+use Rattle.clap.specs.{Words.{App, Rule, app_of, new_app, rule_of, with_rule, with_subcommand}, Lexer.usize_max}
 use Rattle.clap.specs.declared.builder.ValueRange.{ValueRange}
 use Rattle.er_words.specs.Words.{words_rule}
 use Rattle.er_words.proofs.words.with_leaf.Goals as goal

@@ -1,5 +1,4 @@
-use Rattle.std.proofs.Common.{List, [], map, ap, ◌∙◌, codes, Option, unwrap_or}
-use Rattle.std.proofs.lemmas.Result.{IfOk-weaker}
+use Rattle.std.proofs.{Common.{List, [], map, ap, ◌∙◌, codes, Option, unwrap_or}, lemmas.Result.IfOk-weaker}
 use Rattle.clap.specs.Words.{Text, found_of}
 use Rattle.clap.proofs.WalkLemmas.{raw_values-rows}
 use Rattle.er_words.proofs.words.words_of.Goals as goal

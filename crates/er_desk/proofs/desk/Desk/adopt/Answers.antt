@@ -1,10 +1,9 @@
-use Rattle.std.proofs.Common.{◌≡◌, inl, inr, sym, subst, ◌∙◌, refl, true≢false}
-use Rattle.std.proofs.lemmas.Result.{err_from_is_err_and}
+use Rattle.std.proofs.{Common.{◌≡◌, inl, inr, sym, subst, ◌∙◌, refl, true≢false}, lemmas.Result.err_from_is_err_and}
 use Rattle.sqlite.specs.Held.{state}
 use Rattle.er_event.specs.declared.refusals.Place.TheVariants.{BracketTable}
 use Rattle.er_rules.specs.Sound.{HasSeeds}
-use Rattle.er_store.specs.Store as tables
 use Rattle.er_desk.proofs.Adopting.{point_is, shows_as, read_whole, back_clean, back_keeps, back_leaves}
+use Rattle.er_store.specs.Store as tables
 use Rattle.er_desk.proofs.desk.Desk.adopt.Goals as goal
 
 -- ---- the tables are refused

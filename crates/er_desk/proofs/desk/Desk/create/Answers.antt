@@ -1,5 +1,4 @@
-use Rattle.std.proofs.Common.{subst}
-use Rattle.std.proofs.lemmas.Result.{err_from_is_err_and}
+use Rattle.std.proofs.{Common.subst, lemmas.Result.err_from_is_err_and}
 use Rattle.sqlite.specs.Held.{state}
 use Rattle.er_event.specs.Event.{EventValue}
 use Rattle.er_store.specs.Standing.{IsStored, Leaves, Either}

@@ -1,5 +1,4 @@
-use Rattle.std.proofs.Math.Bool.{Bool-set}
-use Rattle.std.proofs.Math.Logic.{∥∥₁_elim}
+use Rattle.std.proofs.{Math.Bool.Bool-set, Math.Logic.∥∥₁_elim}
 use Rattle.er_desk.proofs.desk.Desk.event.Goals as goal
 
 pub returns-clause-repeats : goal.returns-clause-repeats

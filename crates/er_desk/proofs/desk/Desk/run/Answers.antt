@@ -1,12 +1,9 @@
-use Rattle.std.proofs.Common.{◌≡◌, ◌++◌, ◌∷◌, [], ◌+◌, List, take, sym, ap, subst, ◌∙◌, refl, arith, true≢false}
-use Rattle.std.proofs.lemmas.List.{take_more, take_all}
+use Rattle.std.proofs.{Common.{◌≡◌, ◌++◌, ◌∷◌, [], ◌+◌, List, take, sym, ap, subst, ◌∙◌, refl, arith, true≢false}, lemmas.List.take_more}
+use Rattle.std.proofs.lemmas.List.{take_all}
 use Rattle.er_event.specs.declared.commands.Command.{Command}
-use Rattle.er_desk.specs.Reply.{Reply}
-use Rattle.er_desk.specs.Desk.{state, standing}
-use Rattle.er_desk.specs.Run.{Runs}
-use Rattle.er_desk.proofs.Plain.{runs_plain}
-use Rattle.er_desk.proofs.Turns.{keeps_self}
-use Rattle.er_desk.proofs.Running.{CrashesAt, runs_push, was_running, crash_more, crash_end, waits_more, keeps_more}
+use Rattle.er_desk.specs.{Reply.Reply, Desk.{state, standing}, Run.Runs}
+use Rattle.er_desk.proofs.{Plain.runs_plain, Turns.keeps_self, Running.{CrashesAt, runs_push, was_running, crash_more, crash_end}}
+use Rattle.er_desk.proofs.Running.{waits_more, keeps_more}
 use Rattle.er_desk.proofs.desk.Desk.run.Goals as goal
 
 pub loop-command-init : goal.loop-command-init

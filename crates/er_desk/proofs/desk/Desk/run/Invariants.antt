@@ -2,8 +2,7 @@ use Rattle.std.proofs.Common.{◌≡◌, ◌≤◌, IsTrue, IsFalse, length, tak
 use Rattle.std.specs.Vec.{vec_len, vec_capacity}
 use Rattle.sqlite.specs.State.{HasCleanDisk}
 use Rattle.er_store.specs.Standing.{KeepsOthers}
-use Rattle.er_desk.specs.Desk.{ShowsOwn, state, standing}
-use Rattle.er_desk.specs.Run.{Runs}
+use Rattle.er_desk.specs.{Desk.{ShowsOwn, state, standing}, Run.Runs}
 use Rattle.er_desk.proofs.Running.{CrashesAt}
 use Rattle.er_desk.proofs.desk.Desk.run.Given as goal
 

@@ -1,6 +1,6 @@
 use Rattle.std.proofs.Common.{sym, ◌∙◌}
-use Rattle.er_store.specs.Store as tables
 use Rattle.er_desk.proofs.Slips.{read_others}
+use Rattle.er_store.specs.Store as tables
 use Rattle.er_desk.proofs.desk.Desk.slip.Goals as goal
 
 pub returns-clause-found : goal.returns-clause-found

@@ -1,5 +1,4 @@
-use Rattle.std.proofs.Common.{◌≡◌, ◌+◌, ℕ, Bool, inl, inr, refl, sym, subst}
-use Rattle.std.proofs.Math.Logic.{∥∥₁_map}
+use Rattle.std.proofs.{Common.{◌≡◌, ◌+◌, ℕ, Bool, inl, inr, refl, sym, subst}, Math.Logic.∥∥₁_map}
 use Rattle.er_event.specs.Event.{EventValue}
 use Rattle.er_rules.specs.Sound.{IsSound}
 use Rattle.er_store.specs.Standing.{IsStored}

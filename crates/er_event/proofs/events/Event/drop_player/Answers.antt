@@ -1,6 +1,4 @@
-use Rattle.std.proofs.Common.{Contains, sym, subst}
-use Rattle.er_event.specs.Event.{EventValue}
-use Rattle.er_event.specs.Sound.{numbers}
+use Rattle.er_event.proofs.Prelude.{Contains, sym, subst, EventValue, numbers}
 use Rattle.er_event.proofs.DropLemmas.{numbered-within}
 use Rattle.er_event.proofs.events.Event.drop_player.Goals as goal
 

@@ -1,11 +1,7 @@
-use Rattle.std.proofs.Common.{◌∷◌, [], ap, length, subst, sym, ◌∙◌, true≢false}
-use Rattle.std.specs.List.{range_with_len}
-use Rattle.er_event.specs.Event.{EventValue}
-use Rattle.er_event.specs.Bracket.{IsDecided}
-use Rattle.er_event.specs.Sound.{numbers, IsSoundButForSeeds}
-use Rattle.er_event.proofs.BracketLemmas.{bracket-same}
-use Rattle.er_event.proofs.PlayoffLemmas.{sound-opening, opening-done, opening-bracket, opening-undecided, opening-first, no-stage}
-use Rattle.er_event.proofs.PlayoffLemmas.{empty-true, true-empty, not-true, true-not}
+use Rattle.er_event.proofs.Prelude.{◌∷◌, [], ap, length, subst, sym, ◌∙◌, true≢false, range_with_len, EventValue, IsDecided, numbers}
+use Rattle.er_event.proofs.Prelude.{IsSoundButForSeeds}
+use Rattle.er_event.proofs.{BracketLemmas.bracket-same, PlayoffLemmas.{sound-opening, opening-done, opening-bracket, opening-undecided}}
+use Rattle.er_event.proofs.PlayoffLemmas.{opening-first, no-stage, empty-true, true-empty, not-true, true-not}
 use Rattle.er_event.proofs.events.Event.fits_bracket.Goals.{then-not-is_empty-via-then-not-is_empty}
 use Rattle.er_event.proofs.events.Event.fits_bracket.Goals.{then-not-is_empty-via-else-not-is_empty+then-not-has_all_rounds}
 use Rattle.er_event.proofs.events.Event.fits_bracket.Goals as goal

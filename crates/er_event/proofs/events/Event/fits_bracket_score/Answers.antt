@@ -1,16 +1,8 @@
-use Rattle.std.proofs.Common.{◌-◌, ◌≤◌, length, Bor, Option, Some, List, option_map, sym, ap, subst, ◌∙◌, true≢false, arith}
-use Rattle.std.proofs.Math.ListN.{set}
-use Rattle.er_event.specs.declared.matches.Match.{Match}
-use Rattle.er_event.specs.Event.{EventValue}
-use Rattle.er_event.specs.Sound.{IsSoundButForSeeds}
-use Rattle.er_event.specs.declared.changes.Change.TheVariants.{SetBracketScore}
-use Rattle.er_event.specs.Bracket.{IsDecided}
-use Rattle.er_event.specs.Change.{IsEnd, scored, Fits}
-use Rattle.er_event.proofs.SlotLemmas.{Stands}
-use Rattle.er_event.proofs.SlotScoreLemmas.{new_stage, fits-playoff, Fits-last, last-Fits, Fits-later, later-none, later-stands}
-use Rattle.er_event.proofs.SlotScoreLemmas.{later-decided}
-use Rattle.er_event.proofs.EndLemmas.{stage-few, slot-within, slot-set, behind-none, behind-some, later-read, is-none, none-map, same-bools}
-use Rattle.er_event.proofs.EndLemmas.{beq-same, same-beq}
+use Rattle.er_event.proofs.Prelude.{◌-◌, ◌≤◌, length, Bor, Option, Some, List, option_map, sym, ap, subst, ◌∙◌, true≢false, arith, set}
+use Rattle.er_event.proofs.Prelude.{Match, EventValue, IsSoundButForSeeds, SetBracketScore, IsDecided, IsEnd, scored, Fits}
+use Rattle.er_event.proofs.{SlotLemmas.Stands, SlotScoreLemmas.{new_stage, fits-playoff, Fits-last, last-Fits, Fits-later, later-none}}
+use Rattle.er_event.proofs.{SlotScoreLemmas.{later-stands, later-decided}, EndLemmas.{stage-few, slot-within, slot-set, behind-none}}
+use Rattle.er_event.proofs.EndLemmas.{behind-some, later-read, is-none, none-map, same-bools, beq-same, same-beq}
 use Rattle.er_event.proofs.events.Event.fits_bracket_score.Goals.{then-is_some-via-then-is_some}
 use Rattle.er_event.proofs.events.Event.fits_bracket_score.Goals.{then-is_some-via-else-is_some+then-not-follows}
 use Rattle.er_event.proofs.events.Event.fits_bracket_score.Goals as goal

@@ -1,6 +1,4 @@
-use Rattle.std.proofs.Common.{◌≢◌, ◌≤◌, length, sym, ap, ◌∙◌, true≢false, arith}
-use Rattle.std.proofs.lemmas.Bool.Decides.{nat_tests}
-use Rattle.er_event.specs.declared.events.Phase.TheVariants.{Enrolling}
+use Rattle.er_event.proofs.Prelude.{◌≢◌, ◌≤◌, length, sym, ap, ◌∙◌, true≢false, arith, nat_tests, Enrolling}
 use Rattle.er_event.proofs.DropLemmas.{Contains-numbered, numbered-within, IsSound-dropped, some-dropped}
 use Rattle.er_event.proofs.events.Event.fits_dropped.Goals as goal
 

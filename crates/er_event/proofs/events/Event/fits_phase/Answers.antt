@@ -1,12 +1,5 @@
-use Rattle.std.proofs.Common.{◌≡◌, List, [], ◌∷◌, length, not, sym, ap, subst, ◌∙◌, refl, arith}
-use Rattle.std.specs.List.{list_all}
-use Rattle.std.proofs.lemmas.Bool.Decides.{nat_tests}
-use Rattle.er_event.specs.declared.events.Phase.{Phase}
-use Rattle.er_event.specs.declared.events.Phase.TheVariants.{Enrolling}
-use Rattle.er_event.specs.declared.players.Player.{Player}
-use Rattle.er_event.specs.declared.rounds.Round.{Round}
-use Rattle.er_event.specs.Sound.{IsSoundButForSeeds}
-use Rattle.er_event.specs.Change.{with_phase}
+use Rattle.er_event.proofs.Prelude.{◌≡◌, List, [], ◌∷◌, length, not, sym, ap, subst, ◌∙◌, refl, arith, list_all, nat_tests, Phase}
+use Rattle.er_event.proofs.Prelude.{Enrolling, Player, Round, IsSoundButForSeeds, with_phase}
 use Rattle.er_event.proofs.DropLemmas.{All-undropped, undropped-All, IsSound-enrolling}
 use Rattle.er_event.proofs.events.Event.fits_phase.Goals as goal
 

@@ -1,5 +1,4 @@
-use Rattle.std.proofs.Common.{◌≡◌, ◌<◌, length, not, ◌∙◌, sym, ap, arith}
-use Rattle.er_event.specs.Change.{has_name}
+use Rattle.er_event.proofs.Prelude.{◌≡◌, ◌<◌, length, not, ◌∙◌, sym, ap, arith, has_name}
 use Rattle.er_event.proofs.PlayerLemmas.{IsSound-with, IsSound-new}
 use Rattle.er_event.proofs.events.Event.fits_player.Goals as goal
 

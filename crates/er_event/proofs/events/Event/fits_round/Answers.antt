@@ -1,7 +1,4 @@
-use Rattle.std.proofs.Common.{◌≡◌, ◌<◌, length, sym, ap, ◌∙◌, arith, rules}
-use Rattle.std.specs.List.{range_with_len}
-use Rattle.er_event.specs.declared.events.Phase.TheVariants.{Swiss}
-use Rattle.er_event.specs.Event.{EventValue}
+use Rattle.er_event.proofs.Prelude.{◌≡◌, ◌<◌, length, sym, ap, ◌∙◌, arith, rules, range_with_len, Swiss, EventValue}
 use Rattle.er_event.proofs.AddLemmas.{IsSound-round, round-follows}
 use Rattle.er_event.proofs.events.Event.fits_round.Goals as goal
 

@@ -1,5 +1,4 @@
-use Rattle.std.proofs.Common.{◌≡◌, ◌==◌, sym, ◌∙◌, false, arith}
-use Rattle.std.proofs.lemmas.Bool.Decides.{nat_tests}
+use Rattle.er_event.proofs.Prelude.{◌≡◌, ◌==◌, sym, ◌∙◌, false, arith, nat_tests}
 use Rattle.er_event.proofs.ScoreLemmas.{fits-swiss}
 use Rattle.er_event.proofs.events.Event.fits_score.Goals as goal
 

@@ -1,8 +1,4 @@
-use Rattle.std.proofs.Common.{◌≡◌, length, sym, ap, ◌∙◌}
-use Rattle.std.specs.List.{list_all}
-use Rattle.er_event.specs.declared.rounds.Round.{Round}
-use Rattle.er_event.specs.Round.{is_counted}
-use Rattle.er_event.specs.Event.{EventValue}
+use Rattle.er_event.proofs.Prelude.{◌≡◌, length, sym, ap, ◌∙◌, list_all, Round, is_counted, EventValue}
 use Rattle.er_event.proofs.RoundLemmas.{All-of, of-All}
 use Rattle.er_event.proofs.events.Event.has_all_rounds.Goals as goal
 

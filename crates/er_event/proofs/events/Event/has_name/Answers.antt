@@ -1,5 +1,4 @@
-use Rattle.std.proofs.Common.{◌≡◌, ◌∙◌, sym, ap, not}
-use Rattle.er_event.specs.Change.{has_name}
+use Rattle.er_event.proofs.Prelude.{◌≡◌, ◌∙◌, sym, ap, not, has_name}
 use Rattle.er_event.proofs.PlayerLemmas.{IsSound-with}
 use Rattle.er_event.proofs.events.Event.has_name.Goals as goal
 

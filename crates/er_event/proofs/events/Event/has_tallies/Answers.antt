@@ -1,9 +1,6 @@
-use Rattle.std.proofs.Common.{◌≡◌, ℕ, ◌<◌, ◌++◌, ◌∷◌, [], List, map, length, get_or, refl, sym, ap, ap₂, ◌∙◌, arith}
-use Rattle.std.proofs.lemmas.List.{take_more, take_all, map_more, get_or_default}
-use Rattle.er_event.specs.declared.players.Player.{Player}
-use Rattle.er_event.specs.declared.rows.tally.TallyRow.{TallyRow}
-use Rattle.er_event.specs.Rows.{tally_row}
-use Rattle.er_event.specs.Totals.{totals}
+use Rattle.er_event.proofs.Prelude.{◌≡◌, ℕ, ◌<◌, ◌++◌, ◌∷◌, [], List, map, length, get_or, refl, sym, ap, ap₂, ◌∙◌, arith, take_more}
+use Rattle.er_event.proofs.Prelude.{take_all, get_or_default, Player, TallyRow, tally_row, totals}
+use Rattle.std.proofs.lemmas.List.{map_more}
 use Rattle.er_event.proofs.events.Event.has_tallies.Goals as goal
 
 moved : (rows : List TallyRow) (at : ℕ) (d row : TallyRow) → at < length rows → get_or rows at d ≡ row → row ≡ get_or rows at row

@@ -1,7 +1,4 @@
-use Rattle.std.proofs.Common.{◌≡◌, map, take}
-use Rattle.er_event.specs.declared.players.Player.{Player}
-use Rattle.er_event.specs.Rows.{tally_row}
-use Rattle.er_event.specs.Totals.{totals}
+use Rattle.er_event.proofs.Prelude.{◌≡◌, map, take, Player, tally_row, totals}
 use Rattle.er_event.proofs.events.Event.has_tallies.Given as goal
 
 abbrev pub invariant-loop-at : goal.invariant-loop-at

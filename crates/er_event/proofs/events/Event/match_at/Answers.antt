@@ -1,8 +1,4 @@
-use Rattle.std.proofs.Common.{◌≡◌, ◌-◌, ◌<◌, length, get_or, List, sym, ap, subst, ◌∙◌, arith}
-use Rattle.std.proofs.lemmas.Bool.Decides.{nat_tests}
-use Rattle.er_event.specs.declared.matches.Match.{Match}
-use Rattle.er_event.specs.declared.rounds.Round.{Round}
-use Rattle.er_event.specs.Round.{match_in}
+use Rattle.er_event.proofs.Prelude.{◌≡◌, ◌-◌, ◌<◌, length, get_or, List, sym, ap, subst, ◌∙◌, arith, nat_tests, Match, Round, match_in}
 use Rattle.er_event.proofs.ScoreLemmas.{read-match, read-fits}
 use Rattle.er_event.proofs.events.Event.match_at.Goals as goal
 

@@ -1,13 +1,7 @@
-use Rattle.std.proofs.Common.{◌≡◌, ℕ, ◌-◌, [], List, if◌then◌else◌, get_or, sym, ap, subst, ◌∙◌}
-use Rattle.std.proofs.lemmas.List.{get_or_default}
-use Rattle.er_event.specs.declared.changes.Change.TheVariants.{AddRound, SetScore}
-use Rattle.er_event.specs.declared.matches.Match.{Match}
-use Rattle.er_event.specs.declared.rounds.Round.{Round}
-use Rattle.er_event.specs.Change.{Fits}
-use Rattle.er_event.specs.Recounted.{recounted_in, recounted, IsAbsent}
-use Rattle.er_event.specs.Round.{is_counted}
-use Rattle.er_event.proofs.RecountedLemmas.{added-same, added-known, scored-same, scored-known}
-use Rattle.er_event.proofs.RescoredLemmas.{table-within, round-within}
+use Rattle.er_event.proofs.Prelude.{◌≡◌, ℕ, ◌-◌, [], List, if◌then◌else◌, get_or, sym, ap, subst, ◌∙◌, get_or_default, AddRound, SetScore}
+use Rattle.er_event.proofs.Prelude.{Match, Round, Fits, recounted_in, recounted, IsAbsent, is_counted}
+use Rattle.er_event.proofs.{RecountedLemmas.{added-same, added-known, scored-same, scored-known}, RescoredLemmas.table-within}
+use Rattle.er_event.proofs.RescoredLemmas.{round-within}
 use Rattle.er_event.proofs.events.Event.matches_to_recount.Goals as goal
 
 pub matches_to_recount_in-requires : goal.matches_to_recount_in-requires

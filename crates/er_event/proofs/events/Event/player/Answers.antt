@@ -1,5 +1,4 @@
-use Rattle.std.proofs.Common.{◌∙◌, ap, find, ◌==◌}
-use Rattle.er_event.specs.declared.players.Player.{Player}
+use Rattle.er_event.proofs.Prelude.{◌∙◌, ap, find, ◌==◌, Player}
 use Rattle.er_event.proofs.DropLemmas.{found-drops, found-has}
 use Rattle.er_event.proofs.events.Event.player.Goals as goal
 

@@ -1,6 +1,4 @@
-use Rattle.std.proofs.Common.{◌≡◌, rules, [], sym, subst, length}
-use Rattle.er_event.specs.declared.events.parts.PartsFault.TheVariants.{Damaged}
-use Rattle.er_event.specs.Parts.{IsFirstFault}
+use Rattle.er_event.proofs.Prelude.{◌≡◌, rules, [], sym, subst, length, Damaged, IsFirstFault}
 use Rattle.er_event.proofs.ReadingLemmas.{row_there, players_fault, rounds_fault, stages_fault, is_of, is_sound, only_whole}
 use Rattle.er_event.proofs.events.Event.read.Goals as goal
 

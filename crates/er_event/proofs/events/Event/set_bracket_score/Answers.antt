@@ -1,12 +1,6 @@
-use Rattle.std.proofs.Common.{◌≡◌, ap, subst, sym, ◌∙◌, List}
-use Rattle.er_event.specs.declared.matches.Match.{Match}
-use Rattle.er_event.specs.declared.changes.Change.TheVariants.{SetBracketScore}
-use Rattle.er_event.specs.Event.{EventValue}
-use Rattle.er_event.specs.inside.EventFields.{value_of}
-use Rattle.er_event.specs.Sound.{IsSoundButForSeeds}
-use Rattle.er_event.specs.Change.{one_more, with_bracket_score, Fits}
-use Rattle.er_event.proofs.PlayoffLemmas.{in_playoff}
-use Rattle.er_event.proofs.EndLemmas.{slot-more, written-slot}
+use Rattle.er_event.proofs.Prelude.{◌≡◌, ap, subst, sym, ◌∙◌, List, Match, SetBracketScore, EventValue, value_of, IsSoundButForSeeds}
+use Rattle.er_event.proofs.Prelude.{one_more, with_bracket_score, Fits}
+use Rattle.er_event.proofs.{PlayoffLemmas.in_playoff, EndLemmas.{slot-more, written-slot}}
 use Rattle.er_event.proofs.events.Event.set_bracket_score.Goals as goal
 
 pub invariant_of-self : goal.invariant_of-self

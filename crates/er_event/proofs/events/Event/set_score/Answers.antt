@@ -1,9 +1,4 @@
-use Rattle.std.proofs.Common.{sym, ap, subst, ◌∙◌, arith}
-use Rattle.er_event.specs.declared.changes.Change.TheVariants.{SetScore}
-use Rattle.er_event.specs.Event.{EventValue}
-use Rattle.er_event.specs.inside.EventFields.{value_of}
-use Rattle.er_event.specs.Sound.{IsSoundButForSeeds}
-use Rattle.er_event.specs.Change.{with_score, Fits}
+use Rattle.er_event.proofs.Prelude.{sym, ap, subst, ◌∙◌, arith, SetScore, EventValue, value_of, IsSoundButForSeeds, with_score, Fits}
 use Rattle.er_event.proofs.ScoreLemmas.{fits-low, listed-within, written}
 use Rattle.er_event.proofs.events.Event.set_score.Goals as goal
 

@@ -1,8 +1,4 @@
-use Rattle.std.proofs.Common.{List, ap, subst, ◌∙◌}
-use Rattle.er_event.specs.declared.matches.Match.{Match}
-use Rattle.er_event.specs.Event.{EventValue}
-use Rattle.er_event.specs.Bracket.{slot_in}
-use Rattle.er_event.specs.Sound.{IsSoundButForSeeds}
+use Rattle.er_event.proofs.Prelude.{List, ap, subst, ◌∙◌, Match, EventValue, slot_in, IsSoundButForSeeds}
 use Rattle.er_event.proofs.SlotScoreLemmas.{open-fits}
 use Rattle.er_event.proofs.events.Event.slot_at.Goals as goal
 

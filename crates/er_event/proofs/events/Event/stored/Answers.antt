@@ -1,5 +1,4 @@
-use Rattle.std.proofs.Common.{subst}
-use Rattle.er_event.specs.Sound.{IsSoundButForSeeds}
+use Rattle.er_event.proofs.Prelude.{subst, IsSoundButForSeeds}
 use Rattle.er_event.proofs.AddLemmas.{IsSound-round}
 use Rattle.er_event.proofs.events.Event.stored.Goals as goal
 

@@ -1,9 +1,4 @@
-use Rattle.std.proofs.Common.{◌∙◌, List, ap, subst}
-use Rattle.er_event.specs.declared.changes.Change.TheVariants.{SetScore}
-use Rattle.er_event.specs.declared.rounds.Round.{Round}
-use Rattle.er_event.specs.Change.{Fits}
-use Rattle.er_event.specs.Lines.{own, lines_from}
-use Rattle.er_event.specs.Totals.{totals_of}
+use Rattle.er_event.proofs.Prelude.{◌∙◌, List, ap, subst, SetScore, Round, Fits, own, lines_from, totals_of}
 use Rattle.er_event.proofs.RescoredLemmas.{has-table, as-scored, seated-after}
 use Rattle.er_event.proofs.events.Event.totals_after.Goals as goal
 

@@ -1,7 +1,4 @@
-use Rattle.std.proofs.Common.{◌≡◌, ◌+◌, ◌-◌, ◌<◌, length, map, true, sym, ap, subst, ◌∙◌, arith}
-use Rattle.std.proofs.Math.ListN.{set}
-use Rattle.er_event.specs.declared.players.Player.{Player}
-use Rattle.er_event.specs.Change.{dropped_at}
+use Rattle.er_event.proofs.Prelude.{◌≡◌, ◌+◌, ◌-◌, ◌<◌, length, map, true, sym, ap, subst, ◌∙◌, arith, set, Player, dropped_at}
 use Rattle.er_event.proofs.DropLemmas.{set-dropped}
 use Rattle.er_event.proofs.events.apply.drop_listed.Goals as goal
 

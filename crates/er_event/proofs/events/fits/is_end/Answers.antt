@@ -1,10 +1,6 @@
-use Rattle.std.proofs.Common.{Bor, Option, Some, None, List, option_map, sym, ap, subst, ◌∙◌, true≢false}
-use Rattle.er_event.specs.declared.matches.Match.{Match}
-use Rattle.er_event.specs.Change.{IsEnd}
-use Rattle.er_event.proofs.SlotLemmas.{Stands}
-use Rattle.er_event.proofs.BracketLemmas.{Lawful-of, of-Lawful, are_lawful}
-use Rattle.er_event.proofs.EndLemmas.{end-some, some-stands, some-lawful, some-end}
-use Rattle.er_event.proofs.events.fits.is_end.Goals.{then-not-follows-via-then-not-follows}
+use Rattle.er_event.proofs.Prelude.{Bor, Option, Some, None, List, option_map, sym, ap, subst, ◌∙◌, true≢false, Match, IsEnd}
+use Rattle.er_event.proofs.{SlotLemmas.Stands, BracketLemmas.{Lawful-of, of-Lawful, are_lawful}, EndLemmas.{end-some, some-stands}}
+use Rattle.er_event.proofs.{EndLemmas.{some-lawful, some-end}, events.fits.is_end.Goals.then-not-follows-via-then-not-follows}
 use Rattle.er_event.proofs.events.fits.is_end.Goals.{then-not-follows-via-else-not-follows+then-not-are_lawful}
 use Rattle.er_event.proofs.events.fits.is_end.Goals as goal
 

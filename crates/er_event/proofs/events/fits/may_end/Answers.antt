@@ -1,4 +1,4 @@
-use Rattle.std.proofs.Common.{sym, ◌∙◌, true≢false}
+use Rattle.er_event.proofs.Prelude.{sym, ◌∙◌, true≢false}
 use Rattle.er_event.proofs.EndLemmas.{end-none, none-over, beq-same, same-beq}
 use Rattle.er_event.proofs.events.fits.may_end.Goals as goal
 

@@ -1,5 +1,4 @@
-use Rattle.std.proofs.Common.{sym, subst}
-use Rattle.std.specs.Str.{IsUtf8}
+use Rattle.er_event.proofs.Prelude.{sym, subst, IsUtf8}
 use Rattle.er_event.proofs.NameLemmas.{is_lawful_name-utf8}
 use Rattle.er_event.proofs.names.Name.as_str.Goals as goal
 

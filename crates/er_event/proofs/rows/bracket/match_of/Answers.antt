@@ -1,6 +1,4 @@
-use Rattle.std.proofs.Common.{◌≡◌, rules, pos, Some, sym, ap, ◌∙◌}
-use Rattle.std.proofs.lemmas.Option.{same_Some}
-use Rattle.er_event.specs.declared.rows.bracket.BracketRow.{BracketRow}
+use Rattle.er_event.proofs.Prelude.{◌≡◌, rules, pos, Some, sym, ap, ◌∙◌, same_Some, BracketRow}
 use Rattle.er_event.proofs.PairingLemmas.{match_same, never_none}
 use Rattle.er_event.proofs.rows.bracket.match_of.Goals as goal
 

@@ -1,7 +1,4 @@
-use Rattle.std.proofs.Common.{◌≡◌, rules, sym, subst, ◌∙◌, true≢false}
-use Rattle.std.specs.List.{range_with_len}
-use Rattle.er_event.specs.declared.events.parts.PartsFault.TheVariants.{Damaged}
-use Rattle.er_event.specs.Sound.{AreStages}
+use Rattle.er_event.proofs.Prelude.{◌≡◌, rules, sym, subst, ◌∙◌, true≢false, range_with_len, Damaged, AreStages}
 use Rattle.er_event.proofs.StagesShown.{stages_shown}
 use Rattle.er_event.proofs.rows.bracket.read_bracket.Goals as goal
 

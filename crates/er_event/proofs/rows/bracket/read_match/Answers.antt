@@ -1,9 +1,5 @@
-use Rattle.std.proofs.Common.{◌≡◌, sym, ap, ◌∙◌, true≢false}
-use Rattle.std.proofs.lemmas.Option.{same_Some}
-use Rattle.er_event.specs.declared.matches.Match.{Match}
-use Rattle.er_event.specs.Rows.{bracket_row}
-use Rattle.er_event.proofs.PairingLemmas.{never_none}
-use Rattle.er_event.proofs.StageLemmas.{rows_equal, columns_equal}
+use Rattle.er_event.proofs.Prelude.{◌≡◌, sym, ap, ◌∙◌, true≢false, same_Some, Match, bracket_row}
+use Rattle.er_event.proofs.{PairingLemmas.never_none, StageLemmas.{rows_equal, columns_equal}}
 use Rattle.er_event.proofs.rows.bracket.read_match.Goals as goal
 
 pub returns-in_default-clause-exact : goal.returns-in_default-clause-exact

@@ -1,8 +1,5 @@
-use Rattle.std.proofs.Common.{◌≡◌, ◌+◌, ◌++◌, [], ◌∷◌, length, sym, ap, ◌∙◌, append-nil, length-append}
-use Rattle.std.proofs.lemmas.Option.{same_Some}
-use Rattle.er_event.specs.inside.Stages.{slot_rows}
-use Rattle.er_event.proofs.PairingLemmas.{never_none}
-use Rattle.er_event.proofs.StageLemmas.{here_shown, rows_more, nothing_left}
+use Rattle.er_event.proofs.Prelude.{◌≡◌, ◌+◌, ◌++◌, [], ◌∷◌, length, sym, ap, ◌∙◌, append-nil, length-append, same_Some, slot_rows}
+use Rattle.er_event.proofs.{PairingLemmas.never_none, StageLemmas.{here_shown, rows_more, nothing_left}}
 use Rattle.er_event.proofs.rows.bracket.read_slots.Goals as goal
 
 pub returns-in_default-clause-exact : goal.returns-in_default-clause-exact

@@ -1,6 +1,4 @@
-use Rattle.std.proofs.Common.{◌≡◌, ◌+◌, ◌++◌, List, length, take, drop, All}
-use Rattle.er_event.specs.declared.matches.Match.{Match}
-use Rattle.er_event.specs.inside.Stages.{FitsSlotRow, slot_rows}
+use Rattle.er_event.proofs.Prelude.{◌≡◌, ◌+◌, ◌++◌, List, length, take, drop, All, Match, FitsSlotRow, slot_rows}
 use Rattle.er_event.proofs.rows.bracket.read_slots.Given as goal
 
 abbrev pub invariant-loop-place : goal.invariant-loop-place

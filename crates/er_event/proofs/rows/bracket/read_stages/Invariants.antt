@@ -1,7 +1,4 @@
-use Rattle.std.proofs.Common.{◌≡◌, ◌≤◌, ◌+◌, ◌-◌, ◌++◌, List, length, take, drop, All}
-use Rattle.er_event.specs.declared.matches.Match.{Match}
-use Rattle.er_event.specs.Rows.{bracket_rows_from}
-use Rattle.er_event.specs.inside.Stages.{FitStageRows}
+use Rattle.er_event.proofs.Prelude.{◌≡◌, ◌≤◌, ◌+◌, ◌-◌, ◌++◌, List, length, take, drop, All, Match, bracket_rows_from, FitStageRows}
 use Rattle.er_event.proofs.rows.bracket.read_stages.Given as goal
 
 abbrev pub invariant-loop-read : goal.invariant-loop-read

@@ -1,6 +1,4 @@
-use Rattle.std.proofs.Common.{List, subst}
-use Rattle.er_event.specs.declared.rows.event.EventRow.{EventRow}
-use Rattle.er_event.specs.Parts.{IsEventRow}
+use Rattle.er_event.proofs.Prelude.{List, subst, EventRow, IsEventRow}
 use Rattle.er_event.proofs.PartsLemmas.{one_row}
 use Rattle.er_event.proofs.rows.event.read_event.Goals as goal
 

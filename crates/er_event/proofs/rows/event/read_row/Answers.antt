@@ -1,6 +1,5 @@
-use Rattle.std.proofs.Common.{◌≡◌, pos, refl, sym, arith}
+use Rattle.er_event.proofs.Prelude.{◌≡◌, pos, refl, sym, arith, phase_code}
 use Rattle.std.proofs.lemmas.Int.{ints}
-use Rattle.er_event.specs.Rows.{phase_code}
 use Rattle.er_event.proofs.PartsLemmas.{read_is}
 use Rattle.er_event.proofs.rows.event.read_row.Goals as goal
 

@@ -1,7 +1,4 @@
-use Rattle.std.proofs.Common.{◌≡◌, sym, ap, ◌∙◌, true≢false}
-use Rattle.std.proofs.lemmas.Option.{same_Some}
-use Rattle.er_event.specs.declared.matches.Match.{Match}
-use Rattle.er_event.specs.Rows.{pairing_row}
+use Rattle.er_event.proofs.Prelude.{◌≡◌, sym, ap, ◌∙◌, true≢false, same_Some, Match, pairing_row}
 use Rattle.er_event.proofs.PairingLemmas.{never_none, rows_equal, columns_equal}
 use Rattle.er_event.proofs.rows.pairing.read_match.Goals as goal
 

@@ -1,5 +1,4 @@
-use Rattle.std.proofs.Common.{◌≡◌, ◌∙◌, rules}
-use Rattle.er_event.specs.declared.events.parts.PartsFault.TheVariants.{Memory}
+use Rattle.er_event.proofs.Prelude.{◌≡◌, ◌∙◌, rules, Memory}
 use Rattle.er_event.proofs.PairingLemmas.{count_is, first_rows, some_count}
 use Rattle.er_event.proofs.rows.pairing.read_next.Goals as goal
 

@@ -1,9 +1,7 @@
-use Rattle.std.proofs.Common.{List, drop, get_or, inl, inr, ap, sym, ◌∙◌, true≢false}
+use Rattle.er_event.proofs.Prelude.{List, drop, get_or, inl, inr, ap, sym, ◌∙◌, true≢false, PairingRow}
 use Rattle.std.proofs.lemmas.Result.{IfOk-weaker}
-use Rattle.er_event.specs.declared.rows.pairing.PairingRow.{PairingRow}
 use Rattle.er_event.proofs.PairingLemmas.{nothing, bye_or_tables, keyed-tables, with_bye_rows, first_is_bye, first_is_table, found_as}
-use Rattle.er_event.proofs.PairingLemmas.{rest_rows, none_first, some_rows}
-use Rattle.er_event.proofs.rows.pairing.read_round.Goals.{then-is_empty-via-then-is_empty}
+use Rattle.er_event.proofs.{PairingLemmas.{rest_rows, none_first, some_rows}, rows.pairing.read_round.Goals.then-is_empty-via-then-is_empty}
 use Rattle.er_event.proofs.rows.pairing.read_round.Goals.{then-is_empty-via-else-is_empty+then-not-is_bye_row}
 use Rattle.er_event.proofs.rows.pairing.read_round.Goals as goal
 

@@ -1,10 +1,5 @@
-use Rattle.std.proofs.Common.{◌≡◌, ◌≤◌, ◌+◌, ◌++◌, [], ◌∷◌, List, All, length, sym, ap, subst, ◌∙◌, arith, rules, append-nil, length-append}
-use Rattle.std.proofs.lemmas.List.{length-drop}
-use Rattle.std.proofs.lemmas.Grind.{common_steps}
-use Rattle.er_event.specs.declared.matches.Match.{Match}
-use Rattle.er_event.specs.declared.rounds.Round.{Round}
-use Rattle.er_event.specs.declared.events.parts.PartsFault.TheVariants.{Memory}
-use Rattle.er_event.specs.Rows.{keyed_rows_from}
+use Rattle.er_event.proofs.Prelude.{◌≡◌, ◌≤◌, ◌+◌, ◌++◌, [], ◌∷◌, List, All, length, sym, ap, subst, ◌∙◌, arith, rules, append-nil}
+use Rattle.er_event.proofs.Prelude.{length-append, length-drop, common_steps, Match, Round, Memory, keyed_rows_from}
 use Rattle.er_event.proofs.RoundRowLemmas.{Shown, next_shown, rest_from, value_more, drop_more, no_rows, rest_of}
 use Rattle.er_event.proofs.rows.pairing.read_rounds.Goals as goal
 

@@ -1,7 +1,4 @@
-use Rattle.std.proofs.Common.{◌≡◌, ◌≤◌, ◌+◌, ◌-◌, ◌++◌, List, length, take, drop, All}
-use Rattle.er_event.specs.declared.rounds.Round.{Round}
-use Rattle.er_event.specs.Rows.{keyed_rows_from}
-use Rattle.er_event.specs.Pairings.{FitRows}
+use Rattle.er_event.proofs.Prelude.{◌≡◌, ◌≤◌, ◌+◌, ◌-◌, ◌++◌, List, length, take, drop, All, Round, keyed_rows_from, FitRows}
 use Rattle.er_event.proofs.rows.pairing.read_rounds.Given as goal
 
 abbrev pub invariant-loop-read : goal.invariant-loop-read

@@ -1,7 +1,4 @@
-use Rattle.std.proofs.Common.{◌≡◌, rules, sym, subst, ◌∙◌, true≢false, arith}
-use Rattle.std.specs.List.{range_with_len}
-use Rattle.er_event.specs.declared.events.parts.PartsFault.TheVariants.{Damaged}
-use Rattle.er_event.specs.Sound.{AreRounds}
+use Rattle.er_event.proofs.Prelude.{◌≡◌, rules, sym, subst, ◌∙◌, true≢false, arith, range_with_len, Damaged, AreRounds}
 use Rattle.er_event.proofs.ShownLemmas.{rounds_shown}
 use Rattle.er_event.proofs.rows.pairing.read_stored.Goals as goal
 

@@ -1,9 +1,5 @@
-use Rattle.std.proofs.Common.{◌≡◌, ◌+◌, ◌++◌, [], ◌∷◌, length, IsFalse, sym, ap, subst, ◌∙◌, append-nil, length-append}
-use Rattle.std.proofs.lemmas.List.Elements.{All-push}
-use Rattle.std.proofs.lemmas.Option.{same_Some}
-use Rattle.er_event.specs.declared.matches.Match.{Match}
-use Rattle.er_event.specs.Round.{is_bye}
-use Rattle.er_event.specs.Pairings.{AreTables, table_rows}
+use Rattle.er_event.proofs.Prelude.{◌≡◌, ◌+◌, ◌++◌, [], ◌∷◌, length, IsFalse, sym, ap, subst, ◌∙◌, append-nil, length-append, All-push}
+use Rattle.er_event.proofs.Prelude.{same_Some, Match, is_bye, AreTables, table_rows}
 use Rattle.er_event.proofs.PairingLemmas.{never_none, here_shown, rows_more, nothing_left}
 use Rattle.er_event.proofs.rows.pairing.read_tables.Goals as goal
 

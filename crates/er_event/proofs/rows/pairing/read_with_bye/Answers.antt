@@ -1,5 +1,4 @@
-use Rattle.std.proofs.Common.{◌∷◌, sym, ap, ap₂, ◌∙◌}
-use Rattle.er_event.specs.Rows.{keyed_round_rows}
+use Rattle.er_event.proofs.Prelude.{◌∷◌, sym, ap, ap₂, ◌∙◌, keyed_round_rows}
 use Rattle.er_event.proofs.PairingLemmas.{keyed-bye}
 use Rattle.er_event.proofs.rows.pairing.read_with_bye.Goals as goal
 

@@ -1,10 +1,5 @@
-use Rattle.std.proofs.Common.{◌≡◌, inl, inr, length, sym, ◌∙◌, arith}
-use Rattle.er_event.specs.declared.events.Phase.TheVariants.{Enrolling}
-use Rattle.er_event.specs.declared.rounds.Round.{Round}
-use Rattle.er_event.specs.Round.{is_counted}
-use Rattle.er_event.specs.Sound.{IsPlayoff}
-use Rattle.er_event.proofs.RoundLemmas.{All-of, of-All}
-use Rattle.er_event.proofs.PrefixLemmas.{of_swiss}
+use Rattle.er_event.proofs.Prelude.{◌≡◌, inl, inr, length, sym, ◌∙◌, arith, Enrolling, Round, is_counted, IsPlayoff}
+use Rattle.er_event.proofs.{RoundLemmas.{All-of, of-All}, PrefixLemmas.of_swiss}
 use Rattle.er_event.proofs.rows.pairing.suits.Goals as goal
 
 pub returns-then-rounds-limit-2 : goal.returns-then-rounds-limit-2

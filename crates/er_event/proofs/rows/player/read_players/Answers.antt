@@ -1,6 +1,4 @@
-use Rattle.std.proofs.Common.{◌≡◌, rules, sym, subst, ◌∙◌, true≢false}
-use Rattle.er_event.specs.declared.events.parts.PartsFault.TheVariants.{Damaged}
-use Rattle.er_event.specs.Sound.{ArePlayers}
+use Rattle.er_event.proofs.Prelude.{◌≡◌, rules, sym, subst, ◌∙◌, true≢false, Damaged, ArePlayers}
 use Rattle.er_event.proofs.PartsLemmas.{lawful_players, players-same}
 use Rattle.er_event.proofs.rows.player.read_players.Goals as goal
 

@@ -1,10 +1,5 @@
-use Rattle.std.proofs.Common.{◌≡◌, List, [], ◌∷◌, ◌++◌, take, map, All, IsTrue, ◌+◌, sym, ap, subst, ◌∙◌, arith}
-use Rattle.std.proofs.lemmas.List.{take_more, map-append}
-use Rattle.std.proofs.lemmas.List.Elements.{All-push}
-use Rattle.std.proofs.lemmas.Grind.{common_steps}
-use Rattle.er_event.specs.declared.players.Player.{Player}
-use Rattle.er_event.specs.Name.{is_lawful_name}
-use Rattle.er_event.specs.Rows.{player_row}
+use Rattle.er_event.proofs.Prelude.{◌≡◌, List, [], ◌∷◌, ◌++◌, take, map, All, IsTrue, ◌+◌, sym, ap, subst, ◌∙◌, arith, take_more}
+use Rattle.er_event.proofs.Prelude.{map-append, All-push, common_steps, Player, is_lawful_name, player_row}
 use Rattle.er_event.proofs.PartsLemmas.{row_at}
 use Rattle.er_event.proofs.rows.player.read_rows.Goals as goal
 

@@ -1,7 +1,4 @@
-use Rattle.std.proofs.Common.{◌≡◌, ℤ, ◌&&◌, Bool, true, false, refl, sym, subst, ◌∙◌}
-use Rattle.std.specs.Ordering.{int_eq}
-use Rattle.std.proofs.lemmas.Bool.Decides.{Decides-int_eq}
-use Rattle.er_event.specs.declared.rows.tally.TallyRow.{TallyRow}
+use Rattle.er_event.proofs.Prelude.{◌≡◌, ℤ, ◌&&◌, Bool, true, false, refl, sym, subst, ◌∙◌, int_eq, Decides-int_eq, TallyRow}
 use Rattle.er_event.proofs.PairingLemmas.{and_true}
 use Rattle.er_event.proofs.rows.tally.is_row_of.Goals as goal
 

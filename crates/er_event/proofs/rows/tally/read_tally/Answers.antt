@@ -1,4 +1,4 @@
-use Rattle.std.proofs.Common.{rules}
+use Rattle.er_event.proofs.Prelude.{rules}
 use Rattle.er_event.proofs.OverLemmas.{totals-readable}
 use Rattle.er_event.proofs.rows.tally.read_tally.Goals as goal
 

@@ -1,7 +1,6 @@
 use Rattle.std.proofs.Common.{◌≡◌, ◌||◌, ℕ, Bool, take}
 use Rattle.std.specs.List.{list_any}
-use Rattle.er_event.specs.declared.matches.Match.{Match}
-use Rattle.er_event.specs.Round.{matches_of}
+use Rattle.er_event.specs.{declared.matches.Match.Match, Round.matches_of}
 use Rattle.er_pair.specs.Met.{are_pair, has_met}
 use Rattle.er_pair.proofs.meetings.Met.of.Given as goal
 

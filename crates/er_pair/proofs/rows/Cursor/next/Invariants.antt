@@ -1,6 +1,5 @@
 use Rattle.std.proofs.Common.{◌≡◌, ℕ, ◌-◌, ◌<◌}
-use Rattle.er_pair.specs.Rows.{is_ahead}
-use Rattle.er_pair.specs.declared.rows.TheConstants.{WORDS}
+use Rattle.er_pair.specs.{Rows.is_ahead, declared.rows.TheConstants.WORDS}
 use Rattle.er_pair.proofs.rows.Cursor.next.Given as goal
 
 abbrev pub invariant-loop-self : goal.invariant-loop-self

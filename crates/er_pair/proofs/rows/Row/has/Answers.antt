@@ -1,5 +1,4 @@
-use Rattle.std.proofs.Common.{ℕ, ◌==◌, ◌/◌, ◌%◌, get_or, ap}
-use Rattle.std.proofs.lemmas.Nat.Bits.{shr_and_one}
+use Rattle.std.proofs.{Common.{ℕ, ◌==◌, ◌/◌, ◌%◌, get_or, ap}, lemmas.Nat.Bits.shr_and_one}
 use Rattle.er_pair.specs.Rows.{has_place}
 use Rattle.er_pair.proofs.rows.Row.has.Goals as goal
 

@@ -1,6 +1,5 @@
-use Rattle.std.proofs.Common.{◌≡◌, ◌+◌, ◌/◌, ℕ, List, length, length-append, ap, ◌∙◌, arith}
+use Rattle.std.proofs.{Common.{◌≡◌, ◌+◌, ◌/◌, ℕ, List, length, length-append, ap, ◌∙◌, arith}, lemmas.Fmt.decimal_digit}
 use Rattle.std.specs.Fmt.{decimal}
-use Rattle.std.proofs.lemmas.Fmt.{decimal_digit}
 use Rattle.er_paper.proofs.Numerals.{front-shorter, one-more, decimal_short}
 use Rattle.er_paper.proofs.short.ShortText.+push_number.Goals as goal
 

@@ -1,7 +1,5 @@
-use Rattle.std.proofs.Common.{◌≡◌, ◌<◌, sum, length, ap, subst, ◌∙◌, arith}
-use Rattle.std.proofs.lemmas.Bool.Decides.{nat_tests}
-use Rattle.er_share.specs.Mean.{MeanValue}
-use Rattle.er_share.specs.Share.{IsBase}
+use Rattle.std.proofs.{Common.{◌≡◌, ◌<◌, sum, length, ap, subst, ◌∙◌, arith}, lemmas.Bool.Decides.nat_tests}
+use Rattle.er_share.specs.{Mean.MeanValue, Share.IsBase}
 use Rattle.er_share.proofs.Shares.{IsShareOf-average_of_none, IsShareOf-average}
 use Rattle.er_share.proofs.mean.Mean.average.Goals as goal
 

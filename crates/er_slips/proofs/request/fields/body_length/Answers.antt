@@ -1,8 +1,8 @@
 use Rattle.std.proofs.Common.{map, take, sym}
 use Rattle.httparse.specs.Spans.{header_bytes}
 use Rattle.er_slips.proofs.Named.{whole-more, found-same, found-new, refused-at, second-found, was-none, field-below, field-is}
-use Rattle.er_slips.proofs.request.fields.body_length.Goals as goal
 use Rattle.er_slips.proofs.request.fields.body_length.Goals.{then-is_named-2+else-is_some, else-is_named-2}
+use Rattle.er_slips.proofs.request.fields.body_length.Goals as goal
 
 pub returns-then-is_named-clause-value : goal.returns-then-is_named-clause-value
 returns-then-is_named-clause-value c =

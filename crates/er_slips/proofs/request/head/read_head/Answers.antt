@@ -1,7 +1,5 @@
-use Rattle.std.proofs.Common.{◌≡◌, arith, subst, length, take, ◌∙◌}
+use Rattle.std.proofs.{Common.{◌≡◌, arith, subst, length, take, ◌∙◌}, KnownBytes.Consumes-trans, lemmas.List.length-take-le}
 use Rattle.std.specs.Io.KnownBytes.{Consumes}
-use Rattle.std.proofs.KnownBytes.{Consumes-trans}
-use Rattle.std.proofs.lemmas.List.{length-take-le}
 use Rattle.er_slips.specs.declared.request.head.TheConstants.{MAX_HEAD}
 use Rattle.er_slips.proofs.Bytes.{grown, full}
 use Rattle.er_slips.proofs.request.head.read_head.Goals as goal

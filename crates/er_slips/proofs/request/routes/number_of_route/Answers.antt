@@ -1,7 +1,5 @@
 use Rattle.std.proofs.Common.{ℕ, ap, sym, ◌∙◌}
-use Rattle.matchit.specs.Rows.{RowsOf}
-use Rattle.matchit.specs.Router.{RouteOf}
-use Rattle.matchit.specs.Seek.{first}
+use Rattle.matchit.specs.{Rows.RowsOf, Router.RouteOf, Seek.first}
 use Rattle.er_slips.specs.Routes.{number_of_route}
 use Rattle.er_slips.proofs.Paths.{first_routes, found_number, no_number, text_from}
 use Rattle.er_slips.proofs.request.routes.number_of_route.Goals as goal

@@ -1,6 +1,5 @@
-use Rattle.std.proofs.Common.{arith, subst}
+use Rattle.std.proofs.{Common.{arith, subst}, KnownBytes.Appends-trans}
 use Rattle.std.specs.Io.KnownBytes.{Appends}
-use Rattle.std.proofs.KnownBytes.{Appends-trans}
 use Rattle.er_slips.proofs.Bytes.{sent_more}
 use Rattle.er_slips.proofs.serve.sending.send.Goals as goal
 
