@@ -5,6 +5,7 @@ ghost use Rattle.er_rules.specs.Sound.{IsSound};
 ghost use Rattle.er_store.specs.Store as tables;
 
 use crate::stored::read_standings;
+use er_event::laws::events_are_sound;
 use er_event::{Change, Command, Event, MAX_SERIAL, Name, Place, Receipt, Refusal, SlipRow};
 use er_rank::{Row, standings};
 use er_rules::laws::budget_searches;
@@ -265,7 +266,7 @@ impl<S: Alter> Desk<S> {
     {
         // What the tables stand for, a crash leaves, and an event is always sound: these tell the proof.
         shown_is_stored(&self.store);
-        let _ = self.event.phase();
+        events_are_sound(&self.event);
         if self.needs_reopen {
             return Err(Refusal::NeedsReopen);
         }
@@ -301,7 +302,7 @@ impl<S: Alter> Desk<S> {
     {
         // What the tables stand for, a crash leaves, and an event is always sound: these tell the proof.
         shown_is_stored(&self.store);
-        let _ = self.event.phase();
+        events_are_sound(&self.event);
         if self.needs_reopen {
             return Err(Refusal::NeedsReopen);
         }

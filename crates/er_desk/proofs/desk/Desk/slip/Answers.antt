@@ -5,12 +5,12 @@ use Rattle.er_desk.proofs.desk.Desk.slip.Goals as goal
 
 pub returns-clause-found : goal.returns-clause-found
 returns-clause-found g c clean shows = c.slip-read.ensures.found clean c.args.self.now.event c.args.self.now.serial shows.stands
-    c.phase.ensures.sound
+    c.events_are_sound.ensures
 
 pub returns-clause-fails : goal.returns-clause-fails
 returns-clause-fails g c runs clean shows =
     c.slip-read.ensures.good (sym c.args.self.now.told ∙ c.if-self.false) clean c.args.self.now.event c.args.self.now.serial shows.stands
-    c.phase.ensures.sound
+    c.events_are_sound.ensures
 
 pub returns-clause-others : goal.returns-clause-others
 returns-clause-others g c clean shows is_open =

@@ -5,12 +5,12 @@ use Rattle.er_desk.proofs.desk.Desk.stored_standings.Goals as goal
 pub returns-clause-found : goal.returns-clause-found
 returns-clause-found g c clean shows =
     if_ok _ _ c.read_standings-read.result (c.read_standings-read.ensures.found clean c.args.self.now.event c.args.self.now.serial
-    shows.stands c.phase.ensures.sound)
+    shows.stands c.events_are_sound.ensures)
 
 pub returns-clause-fails : goal.returns-clause-fails
 returns-clause-fails g c runs clean shows =
     if_err _ _ c.read_standings-read.result (c.read_standings-read.ensures.found clean c.args.self.now.event c.args.self.now.serial
-    shows.stands c.phase.ensures.sound)
+    shows.stands c.events_are_sound.ensures)
 
 pub returns-clause-others : goal.returns-clause-others
 returns-clause-others g c clean shows is_open =
