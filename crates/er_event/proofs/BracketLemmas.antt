@@ -1,14 +1,10 @@
 -- When stages are a bracket.
-use Rattle.er_event.proofs.Prelude.{arith, common_steps, ◌≡◌, ◌≢◌, ℕ, ◌/◌, ◌<◌, ◌&&◌, Bool, true, false, List, [], ◌∷◌, length, flat_map}
-use Rattle.er_event.proofs.Prelude.{All, AllPairs, Contains, Option, Some, None, IfSome, IsTrue, refl, sym, subst, ◌∙◌, true≢false}
-use Rattle.er_event.proofs.Prelude.{list_all, range_with_len, slice_get, AllByRecursion, All-from_recursion, recursion_from_All, All-weaker}
-use Rattle.er_event.proofs.Prelude.{same_Some, Match, Games, is_playoff_score, is_known, seats, FollowOn, IsBracket}
+use Rattle.er_event.proofs.Prelude.{FollowOn, is_known, seats, is_playoff_score, IsBracket, Match, All, AllPairs, Bool, Contains, IfSome}
+use Rattle.er_event.proofs.Prelude.{IsTrue, List, Some, [], arith, flat_map, length, refl, subst, sym, true, ℕ, ◌&&◌, ◌/◌, ◌<◌, ◌∙◌, ◌∷◌}
+use Rattle.er_event.proofs.Prelude.{◌≡◌, ◌≢◌, common_steps, All-from_recursion, All-weaker, recursion_from_All, same_Some, AllByRecursion}
+use Rattle.er_event.proofs.Prelude.{list_all, range_with_len, slice_get}
+use Rattle.er_event.proofs.RoundLemmas.{contains_known, known_contains, of-All}
 use Rattle.er_event.specs.Match.{is_lawful_slot_score}
-use Rattle.er_event.proofs.RoundLemmas.{of-All, known_contains, contains_known}
-
-and-true : (a b : Bool) → (a && b) ≡ true → (a ≡ true) × (b ≡ true)
-and-true true b h = (refl, h)
-and-true false b h = absurd (true≢false (sym h))
 
 -- ---- who is known
 
@@ -21,10 +17,7 @@ module _ (count : ℕ) where
 
   seats-known : (ms : List Match) → list_all are_known ms ≡ true → AllByRecursion Known (flat_map seats ms)
   seats-known [] h = tt
-  seats-known (m ∷ ms) h =
-      let both = and-true (are_known m) (list_all are_known ms) h in
-      let here = and-true (is_known count m.a) (is_known count m.b) both.0 in
-      (known_contains count m.a here.0, (known_contains count m.b here.1, seats-known ms both.1))
+  seats-known (m ∷ ms) h = grind (arith, common_steps, known_contains count m.a, known_contains count m.b, seats-known ms)
 
   known-seats : (ms : List Match) → AllByRecursion Known (flat_map seats ms) → list_all are_known ms ≡ true
   known-seats [] h = refl
@@ -41,21 +34,14 @@ module _ (count : ℕ) where
 abbrev pub Lawful : Match → Type 0
 Lawful m = IfSome m.score (λ s. IsTrue (is_playoff_score s))
 
-score-lawful : (o : Option Games) → IfSome o (λ s. IsTrue (is_playoff_score s)) → is_lawful_slot_score o ≡ true
-score-lawful None h = refl
-score-lawful (Some s) h = h
-
 abbrev pub are_lawful : List Match → Bool
 are_lawful ms = list_all (λ (m : Match). is_lawful_slot_score m.score) ms
 
-pub Lawful-of : (ms : List Match) → are_lawful ms ≡ true → All Lawful ms
-Lawful-of ms h = grind (arith, common_steps)
-
 pub of-Lawful : (ms : List Match) → All Lawful ms → are_lawful ms ≡ true
-of-Lawful ms h = grind (arith, common_steps, of-All, All-weaker, score-lawful)
+of-Lawful ms h = grind (arith, common_steps, of-All, All-weaker)
 
 pub of-AllLawful : (stages : List (List Match)) → All (λ (stage : List Match). All Lawful stage) stages → list_all are_lawful stages ≡ true
-of-AllLawful stages h = grind (arith, common_steps, of-All, All-weaker, of-Lawful)
+of-AllLawful stages h = grind (arith, common_steps, of-All, All-weaker)
 
 -- ---- the whole
 
@@ -69,8 +55,8 @@ is-bracket count cut stages first some at is lawful follows = grind (arith, comm
 
 pub bracket-first : (count cut : ℕ) (stages : List (List Match)) (first : List Match) → slice_get stages 0 ≡ Some first
     → IsBracket (range_with_len 1 count) cut stages → IsFirst count cut first
-bracket-first count cut stages first at h = subst (IsFirst count cut) (same_Some h.first first (sym h.is_first ∙ at))
-    (h.slots, h.known_players, h.seated_once)
+bracket-first count cut stages first at h =
+    let same = same_Some h.first first (sym h.is_first ∙ at) in subst (IsFirst count cut) same (h.slots, h.known_players, h.seated_once)
 
 pub bracket-same : (known seen : List ℕ) (cut read : ℕ) (stages given : List (List Match)) → known ≡ seen → cut ≡ read → stages ≡ given
     → IsBracket known cut stages → IsBracket seen read given

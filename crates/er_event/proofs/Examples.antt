@@ -1,12 +1,12 @@
 -- Examples of the definitions, which compute, and the limits as the rules have them.
 use Rattle.er_event.proofs.Prelude.{MAX_PLAYERS, MAX_SERIAL, Swiss, Player, Match, PairingRow, BracketRow, Games, open_match, with_player}
-use Rattle.er_event.proofs.Prelude.{with_dropped, with_score, EventValue, Line, is_lawful_name, is_counted, match_at, player_rows}
-use Rattle.er_event.proofs.Prelude.{keyed_pairing_rows, bracket_rows, is_swiss_score, is_playoff_score, totals_of}
+use Rattle.er_event.proofs.Prelude.{with_dropped, with_score, EventValue, Line, is_lawful_name, is_counted, match_at, is_swiss_score}
+use Rattle.er_event.proofs.Prelude.{is_playoff_score, totals_of}
 use Rattle.std.specs.{Prelude.{◌≡◌, ℕ, pos, Bool, true, false, List, [], ◌∷◌, ◌++◌, map, replicate, codes, Some, None, refl}, Str.is_utf8}
 use Rattle.std.specs.Str.{chars}
+use Rattle.er_event.specs.Rows.{player_rows, keyed_pairing_rows, bracket_rows, event_row, pairing_rows}
 use Rattle.er_event.specs.{declared.events.TheConstants.MAX_ROUNDS, declared.events.fits.TheConstants.MAX_SLOTS}
-use Rattle.er_event.specs.{declared.names.TheConstants.MAX_NAME_BYTES, declared.rows.bracket.TheConstants.MAX_STAGES, Rows.event_row}
-use Rattle.er_event.specs.{Rows.pairing_rows, Slip.slip_of}
+use Rattle.er_event.specs.{declared.names.TheConstants.MAX_NAME_BYTES, declared.rows.bracket.TheConstants.MAX_STAGES, Slip.slip_of}
 
 -- ---- each limit as the rules have it, so that the code's constant can't move from it
 

@@ -1,9 +1,9 @@
 -- When bytes are a lawful name, by the tests of its parts.
-use Rattle.er_event.proofs.Prelude.{common_steps, ◌≡◌, ℕ, ◌++◌, take, drop, ap, subst, ◌∙◌, ◌-◌, ◌==◌, ◌≤◌, ◌<◌, true, false, ◌||◌, List}
-use Rattle.er_event.proofs.Prelude.{length, IsTrue, Result, Ok, Err, MatchResult, refl, sym, true≢false, arith, list_all, IsUtf8, nat_tests}
-use Rattle.er_event.proofs.Prelude.{take-append_seam, is_lawful_name}
-use Rattle.std.proofs.{Common.{replicate, slice_index_or, IsOk}, lemmas.Str.{is_utf8-from_IsUtf8, IsUtf8-from_is_utf8}}
-use Rattle.std.proofs.lemmas.List.{drop-replicate}
+use Rattle.er_event.proofs.Prelude.{is_lawful_name, Err, IsTrue, List, MatchResult, Ok, Result, ap, arith, drop, false, length, refl, subst}
+use Rattle.er_event.proofs.Prelude.{sym, take, true, true≢false, ℕ, ◌++◌, ◌-◌, ◌<◌, ◌==◌, ◌||◌, ◌∙◌, ◌≡◌, ◌≤◌, take-append_seam, nat_tests}
+use Rattle.er_event.proofs.Prelude.{common_steps, list_all, IsUtf8}
+use Rattle.std.proofs.{Common.{IsOk, replicate, slice_index_or}, lemmas.List.drop-replicate, lemmas.Str.IsUtf8-from_is_utf8}
+use Rattle.std.proofs.lemmas.Str.{is_utf8-from_IsUtf8}
 use Rattle.er_event.specs.Name.{is_plain_byte, padded}
 
 pub is_lawful_name-parts : (bs : List ℕ) → 0 < length bs → length bs ≤ 60 → IsUtf8 bs → list_all is_plain_byte bs ≡ true

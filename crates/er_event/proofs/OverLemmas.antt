@@ -1,11 +1,11 @@
 -- What the matches of one player can come to at most.
-use Rattle.er_event.proofs.Prelude.{common_steps, ◌≡◌, ◌≢◌, ◌⊎◌, inl, inr, ℕ, suc, ◌+◌, ◌≤◌, Bool, true, false, if◌then◌else◌, List, []}
-use Rattle.er_event.proofs.Prelude.{◌∷◌, ◌++◌, length, flat_map, All, IfSome, Option, Some, None, refl, sym, ap, subst, ◌∙◌, arith, Match}
-use Rattle.er_event.proofs.Prelude.{Round, Games, Totals, EventValue, Line, own, lines_of_score, lines_of_match, counted_lines, lines_from}
-use Rattle.er_event.proofs.Prelude.{is_counted, IsSeatedOnce, AreOver, IsRound, IsSoundButForSeeds, totals_of, totals, plus}
+use Rattle.er_event.proofs.Prelude.{EventValue, Line, counted_lines, lines_from, lines_of_match, lines_of_score, own, IsRound}
+use Rattle.er_event.proofs.Prelude.{IsSoundButForSeeds, totals, totals_of, Match, Round, Games, AreOver, IsSeatedOnce, All, IfSome, List}
+use Rattle.er_event.proofs.Prelude.{None, Option, Some, [], ap, arith, flat_map, inl, inr, length, refl, subst, suc, sym, ℕ, ◌++◌, ◌+◌, ◌∙◌}
+use Rattle.er_event.proofs.Prelude.{◌∷◌, ◌≡◌, ◌≢◌, ◌⊎◌, common_steps}
 use Rattle.std.proofs.lemmas.Bool.{cases_eq}
-use Rattle.er_event.specs.{inside.Seen.AreFew, Tallies.AreReadable}
-use Rattle.er_event.proofs.TotalLemmas.{own-append, totals_of-append, absent, apart_at, one_match}
+use Rattle.er_event.proofs.TotalLemmas.{absent, apart_at, one_match, own-append}
+use Rattle.er_event.specs.{Tallies.AreReadable, inside.Seen.AreFew}
 
 -- no more than so many games of each kind
 abbrev HasFew : Match → Type 0
@@ -56,26 +56,15 @@ round-over player round (m ∷ rest) once few =
 
 counted-over : (player round : ℕ) (r : Round) → IsSeatedOnce r.matches → All HasFew r.matches
     → AreOver 1 (totals_of (own player (counted_lines round r)))
-counted-over player round r once few = by_counted (is_counted r.matches)
-  where
-    by_counted : (counted : Bool) → AreOver 1 (totals_of (own player (if counted then flat_map (lines_of_match round) r.matches else [])))
-    by_counted true = round-over player round r.matches once few
-    by_counted false = none-over 1
-
-plus-over : (n : ℕ) (t u : Totals) → AreOver 1 t → AreOver n u → AreOver (suc n) (plus t u)
-plus-over n t u one more = grind (arith, common_steps)
+counted-over player round r once few = grind (arith, common_steps, round-over player round r.matches once few, none-over)
 
 rounds-over : (player n : ℕ) (rounds : List Round) → All (λ (r : Round). IsSeatedOnce r.matches × All HasFew r.matches) rounds
     → AreOver (length rounds) (totals_of (own player (lines_from n rounds)))
 rounds-over player n [] all = none-over 0
 rounds-over player n (r ∷ later) all =
-    let here = all 0 r (omega arith) in
+    let here = counted-over player n r (all 0 r (omega arith)).0 (all 0 r (omega arith)).1 in
     let more = rounds-over player (n + 1) later (λ k d below. all (suc k) d (omega arith)) in
-    subst (AreOver (suc (length later)))
-    (sym (ap totals_of (own-append player (counted_lines n r) (lines_from (n + 1) later))
-    ∙ totals_of-append (own player (counted_lines n r)) (own player (lines_from (n + 1) later))))
-    (plus-over (length later) (totals_of (own player (counted_lines n r))) (totals_of (own player (lines_from (n + 1) later)))
-    (counted-over player n r here.0 here.1) more)
+    grind (arith, common_steps, own-append)
 
 pub totals-over : (e : EventValue) → IsSoundButForSeeds e → (player : ℕ) → AreOver (length e.stored) (totals e player)
 totals-over e sound player = rounds-over player 1 e.stored
@@ -83,12 +72,4 @@ totals-over e sound player = rounds-over player 1 e.stored
 
 -- so they fit in a row
 pub totals-readable : (e : EventValue) → IsSoundButForSeeds e → (player : ℕ) → AreReadable (totals e player)
-totals-readable e sound player =
-    let over = totals-over e sound player in
-    let few : length e.stored ≤ 9 = omega (arith, sound.rounds.few, sound.set_up.rounds) in
-    record {
-      points = omega (arith, over.points, few);
-      rounds = omega (arith, over.rounds_are, few);
-      game_points = omega (arith, over.game_points, few);
-      games = omega (arith, over.games, few);
-    }
+totals-readable e sound player = grind (arith, common_steps, totals-over e sound player, sound.rounds.few, sound.set_up.rounds)

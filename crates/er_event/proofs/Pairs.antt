@@ -1,49 +1,21 @@
--- Lists in which each element and each later one are related, by recursion.
-use Rattle.er_event.proofs.Prelude.{suc, List, [], ◌∷◌, ◌++◌, AllPairs, arith, not-suc-le-zero, AllByRecursion, All-from_recursion}
-use Rattle.er_event.proofs.Prelude.{recursion_from_All}
-use Rattle.std.proofs.{lemmas.List.Elements.All-from_get_or, lemmas.List.Kept.AllPairs-cons}
+-- What is true of each element of a list, or of each and each later one.
+use Rattle.er_event.proofs.Prelude.{All, AllPairs, Bool, List, [], arith, false, length, length-append, refl, subst, ◌++◌, ◌+◌, ◌∷◌, ◌≡◌}
+use Rattle.er_event.proofs.Prelude.{common_steps, All-cons, All-nil, list_any}
+use Rattle.std.proofs.lemmas.List.{get_or_append_left, get_or_push}
 
-module _ {X : Type 0} where
-  pub all_left : (P : X → Type 0) (xs ys : List X) → AllByRecursion P (xs ++ ys) → AllByRecursion P xs
-  all_left P [] ys h = tt
-  all_left P (x ∷ xs) ys h = (h.0, all_left P xs ys h.1)
+pub All-last : {X : Type 0} (P : X → Type 0) (xs : List X) (x : X) → All P (xs ++ x ∷ []) → P x
+All-last P xs x h = subst P (get_or_push xs x x (length xs) refl) (h (length xs) x (omega (arith, length-append xs (x ∷ []))))
 
-  pub all_right : (P : X → Type 0) (xs ys : List X) → AllByRecursion P (xs ++ ys) → AllByRecursion P ys
-  all_right P [] ys h = h
-  all_right P (x ∷ xs) ys h = all_right P xs ys h.1
+pub none-of : {X : Type 0} (p : X → Bool) (xs : List X) → list_any p xs ≡ false → All (λ x. p x ≡ false) xs
+none-of p [] none = All-nil (λ x. p x ≡ false)
+none-of p (x ∷ xs) none = All-cons (λ y. p y ≡ false) x xs (grind (arith, common_steps)) (none-of p xs (grind (arith, common_steps)))
 
-  pub all_append : (P : X → Type 0) (xs ys : List X) → AllByRecursion P xs → AllByRecursion P ys → AllByRecursion P (xs ++ ys)
-  all_append P [] ys h k = k
-  all_append P (x ∷ xs) ys h k = (h.0, all_append P xs ys h.1 k)
+module _ {X : Type 0} (R : X → X → Type 0) (xs ys : List X) where
+  pub pairs_left : AllPairs R (xs ++ ys) → AllPairs R xs
+  pairs_left h i j d before within = grind (arith, common_steps, h i j d)
 
-  module _ (R : X → X → Type 0) where
-    abbrev pub Rec : List X → Type 0
-    Rec [] = Unit {0}
-    Rec (x ∷ xs) = AllByRecursion (R x) xs × Rec xs
+  pub pairs_across : AllPairs R (xs ++ ys) → All (λ x. All (R x) ys) xs
+  pairs_across h i d below j e within = grind (arith, common_steps, h i (length xs + j) d, get_or_append_left xs ys d i below)
 
-    pub from_rec : (xs : List X) → Rec xs → AllPairs R xs
-    from_rec [] h i j d before within = absurd (not-suc-le-zero within)
-    from_rec (x ∷ xs) h i j d before within = AllPairs-cons R x xs (All-from_recursion (R x) xs h.0) (from_rec xs h.1) i j d before within
-
-    pub to_rec : (xs : List X) → AllPairs R xs → Rec xs
-    to_rec [] h = tt
-    to_rec (x ∷ xs) h = (
-      recursion_from_All (R x) xs (All-from_get_or (R x) xs x (λ i within. h 0 (suc i) x (omega arith) (omega arith))),
-      to_rec xs (λ i j d before within. h (suc i) (suc j) d (omega arith) (omega arith)),
-    )
-
-    pub rec_left : (xs ys : List X) → Rec (xs ++ ys) → Rec xs
-    rec_left [] ys h = tt
-    rec_left (x ∷ xs) ys h = (all_left (R x) xs ys h.0, rec_left xs ys h.1)
-
-    pub rec_right : (xs ys : List X) → Rec (xs ++ ys) → Rec ys
-    rec_right [] ys h = h
-    rec_right (x ∷ xs) ys h = rec_right xs ys h.1
-
-    pub rec_across : (xs ys : List X) → Rec (xs ++ ys) → AllByRecursion (λ x. AllByRecursion (R x) ys) xs
-    rec_across [] ys h = tt
-    rec_across (x ∷ xs) ys h = (all_right (R x) xs ys h.0, rec_across xs ys h.1)
-
-    pub rec_append : (xs ys : List X) → Rec xs → Rec ys → AllByRecursion (λ x. AllByRecursion (R x) ys) xs → Rec (xs ++ ys)
-    rec_append [] ys h k a = k
-    rec_append (x ∷ xs) ys h k a = (all_append (R x) xs ys h.0 a.0, rec_append xs ys h.1 k a.1)
+  pub pairs_append : AllPairs R xs → AllPairs R ys → All (λ x. All (R x) ys) xs → AllPairs R (xs ++ ys)
+  pairs_append h k a i j d before within = grind (arith, common_steps)

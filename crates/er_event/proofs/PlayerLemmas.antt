@@ -1,9 +1,9 @@
 -- An event with one more player is sound exactly where there is room and the name is new.
-use Rattle.er_event.proofs.Prelude.{common_steps, ◌≡◌, ◌≢◌, ℕ, ◌+◌, ◌<◌, Bool, true, false, List, [], ◌∷◌, ◌++◌, length, get_or, IsTrue}
-use Rattle.er_event.proofs.Prelude.{IsFalse, All, AllPairs, refl, sym, ap, ◌∙◌, subst, true≢false, zero, suc, ◌||◌, not, not-suc-le-zero}
-use Rattle.er_event.proofs.Prelude.{arith, length-append, range_with_len, bytes_eq, map-append, All-push, All-weaker, all_pairs_push}
-use Rattle.er_event.proofs.Prelude.{bytes_eq-Decides, Phase, Player, Match, Round, EventValue, is_lawful_name, numbers, names, IsRound}
-use Rattle.er_event.proofs.Prelude.{IsBracket, ArePlayers, AreRounds, AreStages, IsSoundButForSeeds, has_name, with_player}
+use Rattle.er_event.proofs.Prelude.{has_name, with_player, EventValue, is_lawful_name, ArePlayers, AreRounds, AreStages, IsBracket, IsRound}
+use Rattle.er_event.proofs.Prelude.{IsSoundButForSeeds, names, numbers, Phase, Match, Player, Round, All, AllPairs, Bool, IsFalse, IsTrue}
+use Rattle.er_event.proofs.Prelude.{List, [], ap, arith, false, get_or, length, length-append, not, not-suc-le-zero, refl, subst, suc, sym}
+use Rattle.er_event.proofs.Prelude.{true, true≢false, zero, ℕ, ◌++◌, ◌+◌, ◌<◌, ◌∙◌, ◌∷◌, ◌≡◌, ◌≢◌, common_steps, All-push, All-weaker}
+use Rattle.er_event.proofs.Prelude.{all_pairs_push, map-append, bytes_eq-Decides, range_with_len, bytes_eq}
 use Rattle.std.proofs.lemmas.List.Elements.{Contains-append_left}
 use Rattle.er_event.specs.Change.{new_player}
 
@@ -14,11 +14,6 @@ IsRound-known known more matches h = grind (arith, common_steps, All-weaker, Con
 IsBracket-known : (known more : List ℕ) (cut : ℕ) (stages : List (List Match)) → IsBracket known cut stages
     → IsBracket (known ++ more) cut stages
 IsBracket-known known more cut stages h = grind (arith, common_steps, All-weaker, Contains-append_left)
-
-or_false : (a b : Bool) → (a || b) ≡ false → (a ≡ false) × (b ≡ false)
-or_false false false h = (refl, refl)
-or_false false true h = absurd (true≢false h)
-or_false true b h = absurd (true≢false h)
 
 not_true : (b : Bool) → (b ≡ true → ⊥) → b ≡ false
 not_true false h = refl
@@ -36,9 +31,8 @@ range-push a (suc n) = grind (arith, common_steps, range-push (a + 1) n)
 pub has_name-none : (players : List Player) (name : List ℕ) → has_name players name ≡ false → (k : ℕ) (d : List ℕ)
     → k < length (names players) → get_or (names players) k d ≢ name
 has_name-none [] name none k d below same = absurd (not-suc-le-zero below)
-has_name-none (p ∷ ps) name none zero d below same = grind (arith, common_steps, bytes_eq-Decides, or_false)
-has_name-none (p ∷ ps) name none (suc k) d below same =
-    has_name-none ps name (or_false (bytes_eq p.name name) (has_name ps name) none).1 k d (omega arith) same
+has_name-none (p ∷ ps) name none zero d below same = grind (arith, common_steps, bytes_eq-Decides)
+has_name-none (p ∷ ps) name none (suc k) d below same = grind (arith, common_steps, bytes_eq, has_name, has_name-none ps name)
 
 last_name : (players : List Player) (new : Player) (d : List ℕ) → get_or (names (players ++ new ∷ [])) (length players) d ≡ new.name
 last_name [] new d = refl

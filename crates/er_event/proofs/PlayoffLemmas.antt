@@ -1,21 +1,16 @@
 -- An event whose playoff begins, or has one more score, is sound exactly where its checks hold.
-use Rattle.er_event.proofs.Prelude.{common_steps, ◌≡◌, ◌⊎◌, inl, inr, ℕ, zero, suc, ◌<◌, ◌≤◌, ◌==◌, ◌&&◌, Bool, true, false, not, List, []}
-use Rattle.er_event.proofs.Prelude.{◌∷◌, ◌++◌, length, drop, All, Option, Some, None, IsTrue, IfSome, is_some, refl, sym, ap, subst, ◌∙◌}
-use Rattle.er_event.proofs.Prelude.{true≢false, arith, slice_get, AllByRecursion, set, All-from_recursion, recursion_from_All, All-weaker}
-use Rattle.er_event.proofs.Prelude.{none-some, same_Some, nat_tests, Games, Match, Phase, Enrolling, Swiss, Playoff, Finished, AddBracket}
-use Rattle.er_event.proofs.Prelude.{EventValue, is_playoff_score, is_counted, next_stage, SameSlots, FollowOn, last_match, IsDecided}
-use Rattle.er_event.proofs.Prelude.{numbers, is_lawful_cut, IsBracket, IsPlayoff, IsSoundButForSeeds, Fits}
-use Rattle.er_event.specs.{Sound.AllRoundsDone, Change.{with_bracket, IsOpening}}
-use Rattle.er_event.proofs.{ScoreLemmas.slots-refl, SlotLemmas.{follow-split, over-counted, last-after}, BracketLemmas.Lawful}
+use Rattle.er_event.proofs.Prelude.{FollowOn, IsDecided, SameSlots, last_match, next_stage, Fits, EventValue, is_counted, IsBracket}
+use Rattle.er_event.proofs.Prelude.{IsPlayoff, IsSoundButForSeeds, is_lawful_cut, numbers, AddBracket, Phase, Enrolling, Finished, Playoff}
+use Rattle.er_event.proofs.Prelude.{Match, Bool, List, None, Some, [], ap, arith, drop, false, inl, inr, length, not, refl, subst, suc, sym}
+use Rattle.er_event.proofs.Prelude.{true, true≢false, zero, ℕ, ◌++◌, ◌<◌, ◌==◌, ◌∙◌, ◌∷◌, ◌≡◌, ◌≤◌, set, nat_tests, common_steps}
+use Rattle.er_event.proofs.Prelude.{All-weaker, recursion_from_All, gets, none-some, same_Some, AllByRecursion, slice_get}
+use Rattle.er_event.proofs.{BracketLemmas.Lawful, SlotLemmas.{follow-split, last-after, same-seats, slots-refl}}
+use Rattle.er_event.specs.{Change.{IsOpening, with_bracket}, Sound.AllRoundsDone}
 
 -- ---- stages of which one has new scores, with more behind
 
-pub same-trans : (ks ms ns : List Match) → SameSlots ks ms → SameSlots ms ns → SameSlots ks ns
-same-trans [] [] ns a b = b
-same-trans [] (m ∷ ms) ns a b = absurd a
-same-trans (k ∷ ks) [] ns a b = absurd a
-same-trans (k ∷ ks) (m ∷ ms) [] a b = absurd b
-same-trans (k ∷ ks) (m ∷ ms) (n ∷ ns) a b = ((a.0.0 ∙ b.0.0, a.0.1 ∙ b.0.1), same-trans ks ms ns a.1 b.1)
+same-trans : (ks ms ns : List Match) → SameSlots ks ms → SameSlots ms ns → SameSlots ks ns
+same-trans ks ms ns a b = (same-seats ks ns).1 ((same-seats ks ms).0 a ∙ (same-seats ms ns).0 b)
 
 module _ (new : List Match) (more : List (List Match)) where
   pub follow-new : (k : ℕ) (stages : List (List Match)) (old : List Match) → slice_get stages k ≡ Some old → SameSlots new old
@@ -23,8 +18,7 @@ module _ (new : List Match) (more : List (List Match)) where
   follow-new k [] old at same f h = absurd (none-some old at)
   follow-new zero (s ∷ stages) old at same f h = h
   follow-new (suc k) (s ∷ []) old at same f h = absurd (none-some old at)
-  follow-new (suc zero) (s ∷ t ∷ stages) old at same f h =
-      (f.0, f.1, same-trans new t (next_stage s) (subst (SameSlots new) (sym (same_Some t old at)) same) f.2, h)
+  follow-new (suc zero) (s ∷ t ∷ stages) old at same f h = grind (arith, common_steps, next_stage, same-trans, same_Some)
   follow-new (suc (suc k)) (s ∷ t ∷ stages) old at same f h = (f.0, f.1, f.2, follow-new (suc k) (t ∷ stages) old at same f.3 h)
 
   pub drop-new : (k : ℕ) (stages : List (List Match)) (old : List Match) → slice_get stages k ≡ Some old
@@ -32,12 +26,6 @@ module _ (new : List Match) (more : List (List Match)) where
   drop-new k [] old at = absurd (none-some old at)
   drop-new zero (s ∷ stages) old at = refl
   drop-new (suc k) (s ∷ stages) old at = drop-new k stages old at
-
-  pub length-new : (k : ℕ) (stages : List (List Match)) (old : List Match) → slice_get stages k ≡ Some old
-      → k < length (set stages k new ++ more)
-  length-new k [] old at = absurd (none-some old at)
-  length-new zero (s ∷ stages) old at = omega arith
-  length-new (suc k) (s ∷ stages) old at = let rest = length-new k stages old at in omega arith
 
   pub all-new : (P : List Match → Type 0) (k : ℕ) (stages : List (List Match)) → P new → AllByRecursion P more → AllByRecursion P stages
       → AllByRecursion P (set stages k new ++ more)
@@ -70,28 +58,13 @@ follow-drop (suc k) (s ∷ stages) h = follow-drop k stages ((follow-split s sta
 pub last-drop : (k : ℕ) (stages : List (List Match)) → k < length stages → last_match stages ≡ last_match (drop k stages)
 last-drop zero stages within = refl
 last-drop (suc k) [] within = absurd (omega arith)
-last-drop (suc k) (s ∷ []) within = absurd (omega arith)
-last-drop (suc k) (s ∷ t ∷ more) within = last-after s t more ∙ last-drop k (t ∷ more) (omega arith)
+last-drop (suc k) (s ∷ more) within = grind (arith, common_steps, last-after, last-drop k more)
 
 pub drop-here : (k : ℕ) (stages : List (List Match)) (old : List Match) → slice_get stages k ≡ Some old
     → drop k stages ≡ old ∷ drop (suc k) stages
-drop-here k [] old at = absurd (none-some old at)
-drop-here zero (s ∷ stages) old at = ap (λ (t : List Match). t ∷ stages) (same_Some s old at)
-drop-here (suc k) (s ∷ stages) old at = drop-here k stages old at
+drop-here k stages old at = grind (arith, common_steps, gets)
 
 -- ---- an event in the playoff
-
-not-enrolling : (p : Phase) → IsPlayoff p → p ≡ Enrolling → ⊥
-not-enrolling p (inl is) e = let never = sym is ∙ e in cc
-not-enrolling p (inr is) e = let never = sym is ∙ e in cc
-
-pub not-before : (p : Phase) → IsPlayoff p → (p ≡ Enrolling) ⊎ (p ≡ Swiss) → ⊥
-not-before p is (inl e) = not-enrolling p is e
-not-before p (inl is) (inr e) = let never = sym is ∙ e in cc
-not-before p (inr is) (inr e) = let never = sym is ∙ e in cc
-
-none-length : {X : Type 0} (xs : List X) → xs ≡ [] → length xs ≡ 0
-none-length xs e = ap length e
 
 module _ (e : EventValue) (p : Phase) (stages : List (List Match)) where
   abbrev pub in_playoff : EventValue
@@ -99,34 +72,11 @@ module _ (e : EventValue) (p : Phase) (stages : List (List Match)) where
 
   pub sound-playoff : IsSoundButForSeeds e → IsPlayoff p → AllRoundsDone e → IsBracket (numbers e.players) e.cut stages
       → (p ≡ Finished → IsDecided stages) → (p ≡ Playoff → IsDecided stages → ⊥) → IsSoundButForSeeds in_playoff
-  sound-playoff h over done bracket decided undecided = record {
-    set_up = h.set_up;
-    players = record {
-      few = h.players.few;
-      numbered = h.players.numbered;
-      lawful = h.players.lawful;
-      distinct = h.players.distinct;
-      enrolling = λ is. absurd (not-enrolling p over is);
-      started = λ _. h.players.started begun;
-    };
-    rounds = record {
-      few = h.rounds.few;
-      enrolling = λ is. absurd (not-enrolling p over is);
-      each = h.rounds.each;
-      no_repeats = h.rounds.no_repeats;
-      earlier_done = h.rounds.earlier_done;
-      done = λ _. done;
-    };
-    bracket = record {
-      none = λ before. absurd (not-before p over before);
-      bracket = λ _. bracket;
-      decided = decided;
-      undecided = undecided;
-    };
-  }
-    where
-      begun : e.phase ≡ Enrolling → ⊥
-      begun is = let none = none-length e.stored (h.rounds.enrolling is) in let all = done.0 in let some = h.set_up.rounds.0 in omega arith
+  sound-playoff h over done bracket decided undecided =
+      let begun : e.phase ≡ Enrolling → ⊥ = λ is.
+      (let none = ap length (h.rounds.enrolling is) in let all = done.0 in let some = h.set_up.rounds.0 in omega arith) in
+      let two = h.players.started begun in
+      record { set_up = h.set_up; players = grind (arith, h.players); rounds = grind (arith, h.rounds); bracket = grind arith }
 
 -- stages that follow on one another end, so that no stage comes behind them
 pub follow-never : (l : List Match) (later : List (List Match)) (ns : List Match) → FollowOn (l ∷ later)
@@ -148,17 +98,10 @@ module _ (e : EventValue) (ms : List Match) (h : IsSoundButForSeeds e) where
     pub sound-opening : AllRoundsDone e → IsBracket (numbers e.players) e.cut (ms ∷ []) → (IsDecided (ms ∷ []) → ⊥)
         → IsSoundButForSeeds (with_bracket e ms)
     sound-opening done bracket undecided =
-        subst (λ (ss : List (List Match)). IsSoundButForSeeds (in_playoff e Playoff ss)) (sym alone)
-        (sound-playoff e Playoff (ms ∷ []) h (inl refl) done bracket (λ is. absurd (let never = is in cc)) (λ _. undecided))
-
-    pub opening-bracket : IsSoundButForSeeds (with_bracket e ms) → IsBracket (numbers e.players) e.cut (ms ∷ [])
-    opening-bracket s = subst (IsBracket (numbers e.players) e.cut) alone (s.bracket.bracket (inl refl))
+        rw alone (sound-playoff e Playoff (ms ∷ []) h (inl refl) done bracket (grind arith) (λ _. undecided))
 
     pub opening-undecided : IsSoundButForSeeds (with_bracket e ms) → IsDecided (ms ∷ []) → ⊥
     opening-undecided s = subst (λ (ss : List (List Match)). IsDecided ss → ⊥) alone (s.bracket.undecided refl)
-
-  pub opening-done : IsSoundButForSeeds (with_bracket e ms) → AllRoundsDone e
-  opening-done s = s.rounds.done (inl refl)
 
   -- no stage stands before
   pub opening-first : IsSoundButForSeeds (with_bracket e ms) → length e.bracket.stages ≡ 0
@@ -175,9 +118,6 @@ pub no-stage : (stages : List (List Match)) → length stages ≡ 0 → stages �
 no-stage [] is = refl
 no-stage (s ∷ stages) is = absurd (omega arith)
 
-pub empty-true : (n : ℕ) (b : Bool) → n ≡ 0 → b ≡ (n == 0) → b ≡ false → ⊥
-empty-true n b none test some = let is : (n == 0) ≡ true = grind (arith, nat_tests) in true≢false (sym is ∙ (sym test ∙ some))
-
 pub true-empty : (n : ℕ) (b : Bool) → b ≡ (n == 0) → b ≡ true → n ≡ 0
 true-empty n b test is = let zero : (n == 0) ≡ true = sym test ∙ is in grind (arith, nat_tests)
 
@@ -193,10 +133,10 @@ true-not false n e = true≢false (sym e)
 
 all-open : (ms : List Match) → 0 < length ms → AllByRecursion (λ (m : Match). m.score ≡ None) ms → is_counted ms ≡ true → ⊥
 all-open [] some free h = absurd (omega arith)
-all-open (m ∷ ms) some free h = true≢false (sym h ∙ ap (λ (o : Option Games). is_some o && is_counted ms) free.0)
+all-open (m ∷ ms) some free h = grind (arith, common_steps)
 
 open-lawful : (m : Match) → m.score ≡ None → Lawful m
-open-lawful m free = subst (λ (o : Option Games). IfSome o (λ s. IsTrue (is_playoff_score s))) (sym free) tt
+open-lawful m free = grind arith
 
 some-cut : (cut : ℕ) → is_lawful_cut cut ≡ true → 0 < cut → 2 ≤ cut
 some-cut cut set some = grind (arith, nat_tests)
@@ -208,22 +148,4 @@ opening-fits e ms h o =
     let some : 0 < length ms = omega arith in
     let free = all-open ms some (recursion_from_All (λ (m : Match). m.score ≡ None) ms o.unplayed) in
     let lawful = All-weaker (λ (m : Match). m.score ≡ None) Lawful open-lawful ms o.unplayed in
-    record {
-      named = tt;
-      sound = sound-opening e ms h (h.bracket.none (inr o.swiss)) o.done
-          (record {
-            cut_is_played = o.cut;
-            first = ms;
-            is_first = refl;
-            slots = o.slots;
-            known_players = o.known;
-            seated_once = o.seated_once;
-            scores = All-from_recursion (λ (stage : List Match). All Lawful stage) (ms ∷ []) (lawful, tt);
-            follows = λ counted. absurd (free counted);
-          })
-          (λ dec. free (and-first (is_counted ms) (length ms == 1) ((over-counted ms).0 dec)));
-    }
-  where
-    and-first : (a b : Bool) → (a && b) ≡ true → a ≡ true
-    and-first true b h = refl
-    and-first false b h = absurd (true≢false (sym h))
+    record { named = tt; sound = sound-opening e ms h (h.bracket.none (inr o.swiss)) o.done (grind (arith, common_steps)) (grind arith) }

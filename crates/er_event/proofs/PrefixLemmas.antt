@@ -1,11 +1,10 @@
 -- The first rounds of an event's are an event's too.
-use Rattle.er_event.proofs.Prelude.{common_steps, ◌≡◌, ℕ, zero, suc, ◌+◌, ◌-◌, ◌<◌, ◌≤◌, inl, inr, List, [], ◌∷◌, ◌++◌, length, take, drop}
-use Rattle.er_event.proofs.Prelude.{get_or, All, IsTrue, IsFalse, refl, sym, ap, subst, ◌∙◌, arith, take-append-drop, take_more}
-use Rattle.er_event.proofs.Prelude.{flat_map-append, Phase, Enrolling, Swiss, Playoff, Finished, Match, Round, is_counted, is_same_pairing}
-use Rattle.er_event.proofs.Prelude.{matches_of, IsPlayoff, IsRound, AreRounds, MayFollow}
-use Rattle.std.proofs.{lemmas.List.length-take, lemmas.List.Elements.All-take}
-use Rattle.er_event.specs.Sound.{AreDone}
-use Rattle.er_event.proofs.{AddLemmas.{one_more, may_follow}, Pairs.{Rec, from_rec, to_rec, rec_left}}
+use Rattle.er_event.proofs.Prelude.{is_counted, is_same_pairing, matches_of, AreRounds, IsPlayoff, IsRound, Phase, Enrolling, Finished}
+use Rattle.er_event.proofs.Prelude.{Playoff, Swiss, Match, Round, MayFollow, All, AllPairs, IsFalse, IsTrue, List, [], ap, arith, drop}
+use Rattle.er_event.proofs.Prelude.{get_or, inl, inr, length, subst, sym, take, ℕ, ◌++◌, ◌+◌, ◌-◌, ◌<◌, ◌∙◌, ◌∷◌, ◌≡◌, ◌≤◌, common_steps}
+use Rattle.er_event.proofs.Prelude.{All-take, take_more}
+use Rattle.std.proofs.{lemmas.List.Concat.flat_map-append, lemmas.List.{length-take, take-append-drop, take-take}}
+use Rattle.er_event.proofs.{AddLemmas.{may_follow, one_more}, Pairs.pairs_left}
 
 abbrev Differ : Match → Match → Type 0
 Differ m n = IsFalse (is_same_pairing m n)
@@ -13,12 +12,6 @@ Differ m n = IsFalse (is_same_pairing m n)
 not_over : IsPlayoff Swiss → ⊥
 not_over (inl is) = let never : Swiss ≡ Playoff = is in cc
 not_over (inr is) = let never : Swiss ≡ Finished = is in cc
-
-take_twice : (k n : ℕ) (rs : List Round) → k ≤ n → take k (take n rs) ≡ take k rs
-take_twice zero n rs low = refl
-take_twice (suc k) zero rs low = absurd (omega arith)
-take_twice (suc k) (suc n) [] low = refl
-take_twice (suc k) (suc n) (r ∷ rs) low = ap (λ l. r ∷ l) (take_twice k n rs (omega arith))
 
 pub no_rounds : (known : List ℕ) → AreRounds Swiss 0 known []
 no_rounds known = grind (arith, common_steps)
@@ -30,15 +23,14 @@ module _ (phase : Phase) (limit : ℕ) (known : List ℕ) (rounds : List Round) 
       let split : matches_of rounds ≡ matches_of (take i rounds) ++ matches_of (drop i rounds) =
       ap matches_of (sym (take-append-drop i rounds)) ∙ flat_map-append (λ (r : Round). r.matches) (take i rounds) (drop i rounds) in
       let before : take (length (take i rounds) - 1) (take i rounds) ≡ take (length (take i rounds) - 1) (take (length rounds - 1) rounds) =
-      take_twice (length (take i rounds) - 1) i rounds (omega arith)
-      ∙ sym (take_twice (length (take i rounds) - 1) (length rounds - 1) rounds (omega arith)) in
+      take-take (length (take i rounds) - 1) i rounds (omega arith)
+      ∙ sym (take-take (length (take i rounds) - 1) (length rounds - 1) rounds (omega arith)) in
       record {
         few = omega arith;
         enrolling = λ is. absurd (let never : Swiss ≡ Enrolling = is in cc);
         each = All-take (λ (r : Round). IsRound known r.matches) i rounds h.each;
-        no_repeats = from_rec Differ (matches_of (take i rounds))
-            (rec_left Differ (matches_of (take i rounds)) (matches_of (drop i rounds))
-            (subst (Rec Differ) split (to_rec Differ (matches_of rounds) h.no_repeats)));
+        no_repeats =
+            pairs_left Differ (matches_of (take i rounds)) (matches_of (drop i rounds)) (subst (AllPairs Differ) split h.no_repeats);
         earlier_done = subst (All (λ (r : Round). IsTrue (is_counted r.matches))) (sym before)
             (All-take (λ (r : Round). IsTrue (is_counted r.matches)) (length (take i rounds) - 1) (take (length rounds - 1) rounds)
             h.earlier_done);
@@ -52,15 +44,6 @@ module _ (phase : Phase) (limit : ℕ) (known : List ℕ) (rounds : List Round) 
       take_more rounds i r below ∙ ap (λ (q : Round). take i rounds ++ q ∷ []) (sym is) in
       may_follow known (take i rounds) r.matches Swiss (i + 1)
       (subst (AreRounds Swiss (i + 1) known) more (first_rounds (i + 1) (omega arith)))
-
-  -- in whatever phase
-  pub as_swiss : AreRounds Swiss (length rounds) known rounds
-  as_swiss = grind (arith, common_steps)
-
-pub of_swiss : (phase : Phase) (limit : ℕ) (known : List ℕ) (rounds : List Round) → AreRounds Swiss (length rounds) known rounds
-    → length rounds ≤ limit
-    → (phase ≡ Enrolling → rounds ≡ []) → (IsPlayoff phase → AreDone limit rounds) → AreRounds phase limit known rounds
-of_swiss phase limit known rounds h few enrolling done = grind (arith, common_steps)
 
 -- and one round more may be the rounds up to there
 pub next_rounds : (known : List ℕ) (rounds : List Round) (i : ℕ) (r : Round) → i < length rounds → r ≡ get_or rounds i r

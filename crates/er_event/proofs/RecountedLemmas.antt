@@ -1,22 +1,12 @@
 -- Whoever sits at none of the matches that count anew keeps the totals.
-use Rattle.er_event.proofs.Prelude.{common_steps, ◌≡◌, ◌≢◌, ℕ, zero, suc, ◌+◌, ◌-◌, ◌<◌, ◌&&◌, Bool, true, false, if◌then◌else◌, List, []}
-use Rattle.er_event.proofs.Prelude.{◌∷◌, ◌++◌, length, get_or, flat_map, Contains, IsFalse, refl, sym, ap, ap₂, subst, ◌∙◌, arith, set}
-use Rattle.er_event.proofs.Prelude.{get_or_default, All-nil, All-cons, AddRound, SetScore, Match, Round, Games, open_match, scored}
-use Rattle.er_event.proofs.Prelude.{scored_slot, with_round, with_score, Fits, EventValue, Line, own, lines_of_match, counted_lines}
-use Rattle.er_event.proofs.Prelude.{lines_from, recounted_in, recounted, IsAbsent, is_bye, is_counted, numbers, IsRound, IsSoundButForSeeds}
-use Rattle.er_event.proofs.Prelude.{totals_of, totals}
-use Rattle.std.proofs.{Math.Seq.get_or-append_seam, lemmas.List.length-append}
+use Rattle.er_event.proofs.Prelude.{open_match, Fits, scored, scored_slot, with_round, with_score, EventValue, counted_lines, lines_from}
+use Rattle.er_event.proofs.Prelude.{lines_of_match, own, IsAbsent, recounted, recounted_in, is_bye, is_counted, IsRound, IsSoundButForSeeds}
+use Rattle.er_event.proofs.Prelude.{numbers, totals, totals_of, AddRound, SetScore, Match, Round, Games, All, Bool, Contains, IsFalse, List}
+use Rattle.er_event.proofs.Prelude.{[], ap, arith, false, flat_map, get_or, if◌then◌else◌, length, refl, suc, sym, true, zero, ℕ, ◌+◌, ◌-◌}
+use Rattle.er_event.proofs.Prelude.{◌<◌, ◌∙◌, ◌∷◌, ◌≡◌, ◌≢◌, set, common_steps, All-cons, All-nil, get_or_default}
+use Rattle.er_event.proofs.{Pairs.All-last, RescoredLemmas.{as-scored, round-within, table-within}, TotalLemmas.absent_lines}
+use Rattle.er_event.proofs.TotalLemmas.{lines_from-push, own-append}
 use Rattle.er_event.specs.Recounted.{AreOf}
-use Rattle.er_event.proofs.{PairingLemmas.and_true, RescoredLemmas.{as-scored, table-within, round-within}, TotalLemmas.own-append}
-use Rattle.er_event.proofs.TotalLemmas.{absent, lines_from-push}
-
--- no line of one who is absent
-absent_lines : (player round : ℕ) (ms : List Match) → IsAbsent player ms → own player (flat_map (lines_of_match round) ms) ≡ []
-absent_lines player round [] away = refl
-absent_lines player round (m ∷ ms) away =
-    own-append player (lines_of_match round m) (flat_map (lines_of_match round) ms)
-    ∙ ap₂ ◌++◌ (absent player round m (away 0 m (omega arith)).0 (away 0 m (omega arith)).1)
-    (absent_lines player round ms (λ k d below. away (suc k) d (omega arith)))
 
 -- ---- a round that is added
 
@@ -38,40 +28,22 @@ own-set : (player n k : ℕ) (ms : List Match) (new d : Match) → IsAway player
     → own player (flat_map (lines_of_match n) (set ms k new)) ≡ own player (flat_map (lines_of_match n) ms)
 own-set player n k [] new d away before = refl
 own-set player n zero (m ∷ ms) new d away before = grind (arith, common_steps)
-own-set player n (suc k) (m ∷ ms) new d away before =
-    own-append player (lines_of_match n m) (flat_map (lines_of_match n) (set ms k new))
-    ∙ (ap (λ (ls : List Line). own player (lines_of_match n m) ++ ls) (own-set player n k ms new d away (λ below. before (omega arith)))
-    ∙ sym (own-append player (lines_of_match n m) (flat_map (lines_of_match n) ms)))
+own-set player n (suc k) (m ∷ ms) new d away before = grind (arith, common_steps, own-append, own-set player n k ms new d away)
 
 -- a complete round stays complete
 counted-set : (k : ℕ) (ms : List Match) (s : Games) (m : Match) → is_counted ms ≡ true → is_counted (set ms k (scored s m)) ≡ true
 counted-set k [] s m is = refl
-counted-set zero (n ∷ ms) s m is = (and_true _ _ is).1
-counted-set (suc k) (n ∷ ms) s m is = let both = and_true _ _ is in ap₂ ◌&&◌ both.0 (counted-set k ms s m both.1)
+counted-set zero (n ∷ ms) s m is = grind (arith, common_steps)
+counted-set (suc k) (n ∷ ms) s m is = grind (arith, common_steps, counted-set k ms s m)
 
 absent-scored : (player k : ℕ) (ms : List Match) (s : Games) (d : Match) → IsAbsent player ms
     → IsAbsent player (set ms k (scored s (get_or ms k d)))
-absent-scored player k [] s d away = away
-absent-scored player zero (m ∷ ms) s d away =
-    All-cons (λ (n : Match). (n.a ≢ player) × (n.b ≢ player)) (scored s m) ms (away 0 m (omega arith))
-    (λ k d' below. away (suc k) d' (omega arith))
-absent-scored player (suc k) (m ∷ ms) s d away =
-    All-cons (λ (n : Match). (n.a ≢ player) × (n.b ≢ player)) m (set ms k (scored s (get_or ms k d))) (away 0 m (omega arith))
-    (absent-scored player k ms s d (λ j d' below. away (suc j) d' (omega arith)))
-
-never : true ≡ false → ⊥
-never h = cc
+absent-scored player k ms s d away j e below = grind (arith, common_steps, away j e, away k d)
 
 scored-lines : (player n t : ℕ) (ms : List Match) (s : Games) → IsAbsent player (recounted_in ms t s)
     → own player (counted_lines n (record { matches = scored_slot ms t s })) ≡ own player (counted_lines n (record { matches = ms }))
 scored-lines player n t ms s away = by_tests (is_counted ms) refl (is_counted (scored_slot ms t s)) refl away
   where
-    d : Match
-    d = open_match 0 0
-
-    new : Match
-    new = scored s (get_or ms (t - 1) (open_match 0 0))
-
     by_tests : (before : Bool) → is_counted ms ≡ before → (now : Bool) → is_counted (scored_slot ms t s) ≡ now
         → IsAbsent player (if before then get_or ms (t - 1) (open_match 0 0) ∷ [] else if now then ms else [])
         → own player (if now then flat_map (lines_of_match n) (scored_slot ms t s) else []) ≡ own player
@@ -80,8 +52,7 @@ scored-lines player n t ms s away = by_tests (is_counted ms) refl (is_counted (s
         let here = away 0 (open_match 0 0) (omega arith) in
         own-set player n (t - 1) ms (scored s (get_or ms (t - 1) (open_match 0 0))) (open_match 0 0) here (λ below. here)
     by_tests true is false now away =
-        let stays = counted-set (t - 1) ms s (get_or ms (t - 1) (open_match 0 0)) is in
-        absurd (never (sym stays ∙ now))
+        absurd (let never = sym (counted-set (t - 1) ms s (get_or ms (t - 1) (open_match 0 0)) is) ∙ now in cc)
     by_tests false is true now away = absent_lines player n (scored_slot ms t s) (absent-scored player (t - 1) ms s (open_match 0 0) away)
     by_tests false is false now away = refl
 
@@ -91,9 +62,7 @@ scored-rounds : (player n k : ℕ) (rounds : List Round) (new : Round)
 scored-rounds player n k [] new same = refl
 scored-rounds player n zero (r ∷ rounds) new same = grind (arith, common_steps)
 scored-rounds player n (suc k) (r ∷ rounds) new same =
-    own-append player (counted_lines n r) (lines_from (n + 1) (set rounds k new))
-    ∙ (ap (λ (ls : List Line). own player (counted_lines n r) ++ ls) (scored-rounds player (n + 1) k rounds new same)
-    ∙ sym (own-append player (counted_lines n r) (lines_from (n + 1) rounds)))
+    grind (arith, common_steps, counted_lines, lines_from, own-append, scored-rounds player (n + 1) k rounds new same)
 
 pub scored-same : (e : EventValue) (k t : ℕ) (s : Games) (player : ℕ) → Fits e (SetScore k t s)
     → IsAbsent player (recounted e (SetScore k t s))
@@ -106,42 +75,29 @@ scored-same e k t s player fits away =
 
 -- ---- the players of the matches
 
+abbrev IsKnown : EventValue → Match → Type 0
+IsKnown e m = Contains (numbers e.players) m.a × (IsFalse (is_bye m) → Contains (numbers e.players) m.b)
+
 round-of : (e : EventValue) (ms : List Match) → IsRound (numbers e.players) ms → AreOf e ms
 round-of e ms round = λ k d below. (round.first_known k d below, round.second_known k d below)
 
-pub added-known : (e : EventValue) (ms : List Match) → Fits e (AddRound ms) → AreOf e (if is_counted ms then ms else [])
-added-known e ms fits = by_test (is_counted ms)
-  where
-    last : IsRound (numbers e.players) ms
-    last =
-        let r : Round = record { matches = ms } in
-        let here = get_or-append_seam e.stored r [] r in
-        subst (λ (q : Round). IsRound (numbers e.players) q.matches) here
-        (fits.sound.rounds.each (length e.stored) r (omega (arith, length-append e.stored (r ∷ []))))
+of-tests : (P : Match → Type 0) (before now : Bool) (m : Match) (ms : List Match) → (before ≡ true → P m) → All P ms
+    → All P (if before then m ∷ [] else if now then ms else [])
+of-tests P true now m ms here all = All-cons P m [] (here refl) (All-nil P)
+of-tests P false true m ms here all = all
+of-tests P false false m ms here all = All-nil P
 
-    by_test : (counts : Bool) → AreOf e (if counts then ms else [])
-    by_test true = round-of e ms last
-    by_test false = All-nil _
+pub added-known : (e : EventValue) (ms : List Match) → Fits e (AddRound ms) → AreOf e (if is_counted ms then ms else [])
+added-known e ms fits =
+    of-tests (IsKnown e) false (is_counted ms) (open_match 0 0) ms (λ never. absurd (let no = never in cc)) (round-of e ms
+    (All-last (λ (r : Round). IsRound (numbers e.players) r.matches) e.stored (record { matches = ms }) fits.sound.rounds.each))
 
 pub scored-known : (e : EventValue) (k t : ℕ) (s : Games) → IsSoundButForSeeds e → Fits e (SetScore k t s)
     → AreOf e (recounted e (SetScore k t s))
-scored-known e k t s sound fits = by_tests (is_counted ms) (is_counted (scored_slot ms t s))
-  where
-    ms : List Match
-    ms = (get_or e.stored (k - 1) (record { matches = [] })).matches
-
-    round : IsRound (numbers e.players) (get_or e.stored (k - 1) (record { matches = [] })).matches
-    round = sound.rounds.each (k - 1) (record { matches = [] }) (round-within e k t s fits)
-
-    by_tests : (before now : Bool) → AreOf e (if before then get_or (get_or e.stored (k - 1) (record { matches = [] })).matches (t - 1)
-        (open_match 0 0) ∷ [] else if now then (get_or e.stored (k - 1) (record { matches = [] })).matches else [])
-    by_tests true now =
-        let within = table-within e k t s fits (get_or e.stored (k - 1) (record { matches = [] }))
-        (get_or_default e.stored (k - 1) (record { matches = [] }) (get_or e.stored (k - 1) (record { matches = [] }))
-        (round-within e k t s fits)) in
-        All-cons (λ (m : Match). Contains (numbers e.players) m.a × (IsFalse (is_bye m) → Contains (numbers e.players) m.b))
-        (get_or (get_or e.stored (k - 1) (record { matches = [] })).matches (t - 1) (open_match 0 0)) []
-        (round-of e (get_or e.stored (k - 1) (record { matches = [] })).matches round (t - 1) (open_match 0 0)
-        (omega (arith, within.0, within.1))) (All-nil _)
-    by_tests false true = round-of e (get_or e.stored (k - 1) (record { matches = [] })).matches round
-    by_tests false false = All-nil _
+scored-known e k t s sound fits =
+    let r : Round = get_or e.stored (k - 1) (record { matches = [] }) in
+    let all = round-of e r.matches (sound.rounds.each (k - 1) (record { matches = [] }) (round-within e k t s fits)) in
+    let within = table-within e k t s fits r (get_or_default e.stored (k - 1) (record { matches = [] }) r (round-within e k t s fits)) in
+    of-tests (IsKnown e) (is_counted r.matches) (is_counted (scored_slot r.matches t s)) (get_or r.matches (t - 1) (open_match 0 0))
+    r.matches
+    (λ _. all (t - 1) (open_match 0 0) (omega (arith, within.0, within.1))) all

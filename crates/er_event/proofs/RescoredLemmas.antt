@@ -1,9 +1,9 @@
 -- The rounds of an event in which a match gets a score are those of the event after it.
-use Rattle.er_event.proofs.Prelude.{common_steps, ◌≡◌, ℕ, ◌-◌, ◌<◌, ◌≤◌, List, [], length, map, get_or, All, Option, Some, sym, ap, subst}
-use Rattle.er_event.proofs.Prelude.{◌∙◌, arith, set, slice_get, get_or_from_slice_get, Games, Match, Round, SetScore, EventValue}
-use Rattle.er_event.proofs.Prelude.{numbered_from, open_match, scored, score_table, scored_slot, with_score, Fits, IsSeatedOnce, rescored}
-use Rattle.er_event.specs.inside.Seen.{HasTable}
+use Rattle.er_event.proofs.Prelude.{open_match, Fits, score_table, scored, scored_slot, with_score, EventValue, numbered_from, SetScore}
+use Rattle.er_event.proofs.Prelude.{Match, Round, Games, IsSeatedOnce, rescored, All, List, Option, Some, [], ap, arith, get_or, length}
+use Rattle.er_event.proofs.Prelude.{map, subst, sym, ℕ, ◌-◌, ◌<◌, ◌∙◌, ◌≡◌, ◌≤◌, set, common_steps, get_or_from_slice_get, slice_get}
 use Rattle.er_event.proofs.{ScoreLemmas.{Found, found, within-get}, TableLemmas.{at-place, score-place}}
+use Rattle.er_event.specs.inside.Seen.{HasTable}
 
 some-injective : {X : Type 0} (d x y : X) → ◌≡◌ {A = Option X} (Some x) (Some y) → x ≡ y
 some-injective {X} d x y is = grind (arith, common_steps)

@@ -1,12 +1,13 @@
 -- An event with one score set anew is sound exactly where the score is lawful.
-use Rattle.er_event.proofs.Prelude.{common_steps, ◌≡◌, ◌≢◌, ℕ, zero, suc, ◌-◌, ◌==◌, ◌<◌, ◌≤◌, true, false, List, [], ◌∷◌, ◌++◌, length}
-use Rattle.er_event.proofs.Prelude.{take, map, flat_map, get_or, All, AllPairs, Contains, IsTrue, IsFalse, Option, Some, None, IfSome, Bor}
-use Rattle.er_event.proofs.Prelude.{option_map, refl, sym, ap, ap₂, subst, ◌∙◌, true≢false, arith, slice_get, AllByRecursion, set}
-use Rattle.er_event.proofs.Prelude.{length-set, All-from_recursion, recursion_from_All, none-some, get_or_from_slice_get, slice_get_read}
-use Rattle.er_event.proofs.Prelude.{nat_tests, Games, Match, Round, EventValue, is_swiss_score, bye_score, is_bye, is_counted}
-use Rattle.er_event.proofs.Prelude.{is_same_pairing, seats, matches_of, numbered_from, match_in, match_at, SameSlots, numbers, IsRound}
-use Rattle.er_event.proofs.Prelude.{AreRounds, IsSoundButForSeeds, SetScore, scored, score_table, with_score, Fits}
-use Rattle.er_event.proofs.{Pairs.{Rec, from_rec, to_rec}, RoundLemmas.{All-of, of-All}, TableLemmas.{at-place, score-place}}
+use Rattle.er_event.proofs.Prelude.{Fits, score_table, scored, with_score, EventValue, is_bye, is_counted, match_at, match_in, matches_of}
+use Rattle.er_event.proofs.Prelude.{numbered_from, seats, bye_score, is_swiss_score, AreRounds, IsRound, IsSoundButForSeeds, numbers}
+use Rattle.er_event.proofs.Prelude.{SetScore, Match, Round, Games, All, AllPairs, Bor, Contains, IfSome, IsFalse, IsTrue, List, None}
+use Rattle.er_event.proofs.Prelude.{Option, Some, [], ap, arith, false, flat_map, get_or, length, option_map, subst, suc, sym, take, true}
+use Rattle.er_event.proofs.Prelude.{true≢false, zero, ℕ, ◌-◌, ◌<◌, ◌∙◌, ◌∷◌, ◌≡◌, ◌≢◌, ◌≤◌, set, nat_tests, common_steps}
+use Rattle.er_event.proofs.Prelude.{All-from_recursion, recursion_from_All, length-set, get_or_from_slice_get, none-some, slice_get_read}
+use Rattle.er_event.proofs.Prelude.{AllByRecursion, slice_get}
+use Rattle.er_event.proofs.{RoundLemmas.{All-of, of-All}, SeatLemmas.{pairings-same, seats-rounds, seats-set}, TableLemmas.at-place}
+use Rattle.er_event.proofs.TableLemmas.{score-place}
 
 -- ---- one element set anew
 
@@ -37,58 +38,6 @@ module _ {X : Type 0} (P : X → Type 0) (a : X) where
   pub set-All : (i : ℕ) (xs : List X) → i < length xs → All P (set xs i a) → P a
   set-All i xs within h = of-set i xs within (recursion_from_All P (set xs i a) h)
 
--- ---- the same players
-
-abbrev Differ : Match → Match → Type 0
-Differ m n = IsFalse (is_same_pairing m n)
-
-pub slots-refl : (ms : List Match) → SameSlots ms ms
-slots-refl [] = tt
-slots-refl (m ∷ ms) = ((refl, refl), slots-refl ms)
-
-pub slots-set : (n : Match) (i : ℕ) (ms : List Match) → (get_or ms i n).a ≡ n.a → (get_or ms i n).b ≡ n.b → SameSlots ms (set ms i n)
-slots-set n i [] a b = tt
-slots-set n zero (m ∷ ms) a b = ((a, b), slots-refl ms)
-slots-set n (suc i) (m ∷ ms) a b = ((refl, refl), slots-set n i ms a b)
-
-slots-append : (ms ns more : List Match) → SameSlots ms ns → SameSlots (ms ++ more) (ns ++ more)
-slots-append [] [] more h = slots-refl more
-slots-append [] (n ∷ ns) more h = absurd h
-slots-append (m ∷ ms) [] more h = absurd h
-slots-append (m ∷ ms) (n ∷ ns) more h = (h.0, slots-append ms ns more h.1)
-
-slots-after : (more ms ns : List Match) → SameSlots ms ns → SameSlots (more ++ ms) (more ++ ns)
-slots-after [] ms ns h = h
-slots-after (m ∷ more) ms ns h = ((refl, refl), slots-after more ms ns h)
-
-slots-rounds : (r : Round) (j : ℕ) (rs : List Round) → SameSlots (get_or rs j r).matches r.matches
-    → SameSlots (matches_of rs) (matches_of (set rs j r))
-slots-rounds r j [] h = tt
-slots-rounds r zero (s ∷ rs) h = slots-append s.matches r.matches (matches_of rs) h
-slots-rounds r (suc j) (s ∷ rs) h = slots-after s.matches (matches_of rs) (matches_of (set rs j r)) (slots-rounds r j rs h)
-
-pub slots-seats : (ms ns : List Match) → SameSlots ms ns → flat_map seats ms ≡ flat_map seats ns
-slots-seats [] [] h = refl
-slots-seats [] (n ∷ ns) h = absurd h
-slots-seats (m ∷ ms) [] h = absurd h
-slots-seats (m ∷ ms) (n ∷ ns) h = ap₂ ◌∷◌ h.0.0 (ap₂ ◌∷◌ h.0.1 (slots-seats ms ns h.1))
-
-same-pairing : (m n k l : Match) → m.a ≡ n.a → m.b ≡ n.b → k.a ≡ l.a → k.b ≡ l.b → is_same_pairing m k ≡ is_same_pairing n l
-same-pairing m n k l a b c d = rw (a, b, c, d) refl
-
-slots-differ : (m n : Match) → m.a ≡ n.a → m.b ≡ n.b → (ms ns : List Match) → SameSlots ms ns → AllByRecursion (Differ m) ms
-    → AllByRecursion (Differ n) ns
-slots-differ m n a b [] [] h d = tt
-slots-differ m n a b [] (l ∷ ns) h d = absurd h
-slots-differ m n a b (k ∷ ms) [] h d = absurd h
-slots-differ m n a b (k ∷ ms) (l ∷ ns) h d = (sym (same-pairing m n k l a b h.0.0 h.0.1) ∙ d.0, slots-differ m n a b ms ns h.1 d.1)
-
-slots-rec : (ms ns : List Match) → SameSlots ms ns → Rec Differ ms → Rec Differ ns
-slots-rec [] [] h d = tt
-slots-rec [] (n ∷ ns) h d = absurd h
-slots-rec (m ∷ ms) [] h d = absurd h
-slots-rec (m ∷ ms) (n ∷ ns) h d = (slots-differ m n h.0.0 h.0.1 ms ns h.1 d.0, slots-rec ms ns h.1 d.1)
-
 -- ---- the round, and the event, whose match has a new score
 
 module _ (s : Games) (m : Match) (i : ℕ) (ms : List Match) (there : get_or ms i (scored s m) ≡ m) (seat : is_bye m ≡ false) where
@@ -98,8 +47,8 @@ module _ (s : Games) (m : Match) (i : ℕ) (ms : List Match) (there : get_or ms 
   kept : (P : Match → Type 0) → (P m → P (scored s m)) → All P ms → All P new
   kept P here h = All-set P (scored s m) i ms (λ p. here (subst P there p)) h
 
-  slots-new : SameSlots ms new
-  slots-new = slots-set (scored s m) i ms (ap (λ (k : Match). k.a) there) (ap (λ (k : Match). k.b) there)
+  seats-new : flat_map seats ms ≡ flat_map seats new
+  seats-new = seats-set (scored s m) i ms (ap (λ (k : Match). k.a) there) (ap (λ (k : Match). k.b) there)
 
   round-scored : (known : List ℕ) → is_swiss_score s ≡ true → IsRound known ms → IsRound known new
   round-scored known swiss h =
@@ -108,7 +57,7 @@ module _ (s : Games) (m : Match) (i : ℕ) (ms : List Match) (there : get_or ms 
         some = let some = h.some in omega arith;
         first_known = kept (λ (k : Match). Contains known k.a) (λ p. p) h.first_known;
         second_known = kept (λ (k : Match). IsFalse (is_bye k) → Contains known k.b) (λ p. p) h.second_known;
-        seated_once = subst (λ (ps : List ℕ). AllPairs (λ p q. (p ≡ q) → ⊥) ps) (slots-seats ms new slots-new) h.seated_once;
+        seated_once = subst (λ (ps : List ℕ). AllPairs (λ p q. (p ≡ q) → ⊥) ps) seats-new h.seated_once;
         byes_won = kept (λ (k : Match). IsTrue (is_bye k) → k.score ≡ Some bye_score)
             (λ _ bye. absurd (true≢false (sym bye ∙ seat))) h.byes_won;
         scores = kept (λ (k : Match). IfSome k.score (λ t. IsTrue (is_swiss_score t))) (λ _. swiss) h.scores;
@@ -144,10 +93,8 @@ module _ (s : Games) (m : Match) (i : ℕ) (ms : List Match) (there : get_or ms 
           enrolling = λ phase. ap (λ (rs : List Round). set rs j r) (h.enrolling phase);
           each = All-set (λ (q : Round). IsRound (numbers e.players) q.matches) r j e.stored
               (λ is. round-scored (numbers e.players) swiss (subst (IsRound (numbers e.players)) round is)) h.each;
-          no_repeats = from_rec Differ (matches_of rounds)
-              (slots-rec (matches_of e.stored) (matches_of rounds)
-              (slots-rounds r j e.stored (subst (λ (ks : List Match). SameSlots ks new) (sym round) slots-new))
-              (to_rec Differ (matches_of e.stored) h.no_repeats));
+          no_repeats = pairings-same (matches_of e.stored) (matches_of rounds)
+              (seats-rounds r j e.stored (ap (flat_map seats) round ∙ seats-new)) h.no_repeats;
           earlier_done = subst (λ (n : ℕ). All Counted (take (n - 1) rounds)) (sym count)
               (First-set Counted r (length e.stored - 1) j e.stored counted-here h.earlier_done);
           done = λ over. (let all = h.done over in (count ∙ all.0, All-set Counted r j e.stored counted-here all.1));
@@ -199,8 +146,7 @@ module _ (e : EventValue) (k t : ℕ) (s : Games) (m : Match) (is : match_at e k
   With ks = record e { stored = set e.stored (k - 1) (record { matches = ks }) }
 
   pub scored-is : with_score e k t s ≡ With (set ms (t - 1) (scored s m))
-  scored-is = ap With (ap (λ (q : Round). map (score_table t s) (numbered_from 1 q.matches)) (round-is (record { matches = [] }))
-      ∙ score-place s t ms m f.here seat)
+  scored-is = grind (arith, common_steps, numbered_from, round-is, score-place, score_table)
 
   abbrev d : Round
   d = record { matches = set ms (t - 1) (scored s m) }
@@ -221,11 +167,7 @@ module _ (e : EventValue) (k t : ℕ) (s : Games) (m : Match) (is : match_at e k
 
 pub read-match : (e : EventValue) (k t i : ℕ) (q : Round) → k ≢ 0 → i ≡ k → i - 1 < length e.stored → q ≡ get_or e.stored (i - 1) q
     → match_at e k t ≡ match_in q.matches t
-read-match e k t i q some same within is =
-    let at : slice_get e.stored (i - 1) ≡ Some q = slice_get_read e.stored (length e.stored) (i - 1) q refl within is in
-    let there : slice_get e.stored (k - 1) ≡ Some q = ap (λ n. slice_get e.stored (n - 1)) (sym same) ∙ at in
-    let not_zero : (k == 0) ≡ false = grind (arith, nat_tests) in
-    rw (not_zero, there) refl
+read-match e k t i q some same within is = grind (arith, common_steps, nat_tests, slice_get, slice_get_read)
 
 pub read-fits : (e : EventValue) (k t : ℕ) (found : Option (Bor Match)) → IsSoundButForSeeds e
     → match_at e k t ≡ option_map (λ (m : Bor Match). m.now) found

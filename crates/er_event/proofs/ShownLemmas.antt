@@ -1,31 +1,23 @@
 -- The rounds of a sound event can be shown by rows.
-use Rattle.er_event.proofs.Prelude.{common_steps, ◌≡◌, ℕ, ◌<◌, ◌≤◌, Bool, true, false, List, [], ◌∷◌, All, Contains, IsTrue, IsFalse}
-use Rattle.er_event.proofs.Prelude.{IfSome, refl, arith, range_with_len, nat_tests, length-range_with_len, get_or-range_with_len, All-head}
-use Rattle.er_event.proofs.Prelude.{All-tail, All-cons, All-nil, All-weaker, Phase, Match, Round, is_swiss_score, is_bye, IsRound}
-use Rattle.er_event.proofs.Prelude.{AreRounds, FitsRow, FitRows}
+use Rattle.er_event.proofs.Prelude.{FitRows, FitsRow, is_bye, is_swiss_score, AreRounds, IsRound, Phase, Match, Round, All, Bool, Contains}
+use Rattle.er_event.proofs.Prelude.{IfSome, IsFalse, IsTrue, List, arith, get_or, refl, ℕ, ◌<◌, ◌≡◌, ◌≤◌, nat_tests, common_steps}
+use Rattle.er_event.proofs.Prelude.{All-weaker, get_or-range_with_len, length-range_with_len, range_with_len}
 
 module _ (n : ℕ) (few : n ≤ 512) where
   pub below : (k : ℕ) → Contains (range_with_len 1 n) k → k < 65536
   below k has = grind (arith, common_steps, length-range_with_len, get_or-range_with_len)
 
   second_below : (m : Match) (bye : Bool) → is_bye m ≡ bye → (IsFalse (is_bye m) → Contains (range_with_len 1 n) m.b) → m.b < 65536
-  second_below m true is known = let none : m.b ≡ 0 = grind (arith, nat_tests) in omega arith
-  second_below m false is known = below m.b (known is)
+  second_below m bye is known = grind (arith, nat_tests, below m.b)
 
   each_shown : (ms : List Match) → All (λ (m : Match). Contains (range_with_len 1 n) m.a) ms
       → All (λ (m : Match). IsFalse (is_bye m) → Contains (range_with_len 1 n) m.b) ms
       → All (λ (m : Match). IfSome m.score (λ s. IsTrue (is_swiss_score s))) ms → All FitsRow ms
-  each_shown [] a b c = All-nil FitsRow
-  each_shown (m ∷ ms) a b c =
-      All-cons FitsRow m ms
-      (record {
-        first = below m.a (All-head (λ (k : Match). Contains (range_with_len 1 n) k.a) m ms a);
-        second = second_below m (is_bye m) refl (All-head (λ (k : Match). IsFalse (is_bye k) → Contains (range_with_len 1 n) k.b) m ms b);
-        score = All-head (λ (k : Match). IfSome k.score (λ s. IsTrue (is_swiss_score s))) m ms c;
-      })
-      (each_shown ms (All-tail (λ (k : Match). Contains (range_with_len 1 n) k.a) m ms a)
-      (All-tail (λ (k : Match). IsFalse (is_bye k) → Contains (range_with_len 1 n) k.b) m ms b)
-      (All-tail (λ (k : Match). IfSome k.score (λ s. IsTrue (is_swiss_score s))) m ms c))
+  each_shown ms a b c k d within = record {
+    first = below (get_or ms k d).a (a k d within);
+    second = second_below (get_or ms k d) (is_bye (get_or ms k d)) refl (b k d within);
+    score = c k d within;
+  }
 
   round_shown : (ms : List Match) → IsRound (range_with_len 1 n) ms → FitRows ms
   round_shown ms h = record { some = h.some; each = each_shown ms h.first_known h.second_known h.scores; bye_last = h.bye_last }

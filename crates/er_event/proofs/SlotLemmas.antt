@@ -1,22 +1,29 @@
 -- The slots of a next stage, and which stages follow on one another.
-use Rattle.er_event.proofs.Prelude.{common_steps, ◌≡◌, ◌↔◌, ℕ, zero, suc, ◌+◌, ◌*◌, ◌-◌, ◌/◌, ◌<◌, ◌≤◌, Bool, true, List, [], ◌∷◌, length}
-use Rattle.er_event.proofs.Prelude.{drop, get_or, Option, Some, None, IsTrue, refl, sym, ap, ap₂, subst, ◌∙◌, true≢false, arith, slice_get}
-use Rattle.er_event.proofs.Prelude.{length-drop, Match, is_counted, next_stage, SameSlots, FollowOn, IsDecided, last_match, is_over}
-use Rattle.std.proofs.lemmas.List.{drop_more}
-use Rattle.er_event.specs.Bracket.{winner}
+use Rattle.er_event.proofs.Prelude.{FollowOn, IsDecided, SameSlots, is_over, last_match, next_stage, winner, is_counted, seats, Match, Bool}
+use Rattle.er_event.proofs.Prelude.{IsTrue, List, None, Option, Some, [], ap, ap₂, arith, drop, flat_map, get_or, length, refl, subst, suc}
+use Rattle.er_event.proofs.Prelude.{sym, true, true≢false, zero, ℕ, ◌*◌, ◌+◌, ◌-◌, ◌/◌, ◌<◌, ◌↔◌, ◌∙◌, ◌∷◌, ◌≡◌, ◌≤◌, common_steps}
+use Rattle.er_event.proofs.Prelude.{drop_more, length-drop, slice_get}
+use Rattle.er_event.proofs.SeatLemmas.{same-length}
 
 -- ---- the winners, slot by slot
 
-length-next : (ms : List Match) → (length (next_stage ms) * 2 ≤ length ms) × (length ms ≤ length (next_stage ms) * 2 + 1)
+pub length-next : (ms : List Match) → (length (next_stage ms) * 2 ≤ length ms) × (length ms ≤ length (next_stage ms) * 2 + 1)
 length-next [] = (omega arith, omega arith)
 length-next (m ∷ []) = (omega arith, omega arith)
 length-next (m ∷ n ∷ more) = let rest = length-next more in (omega arith, omega arith)
 
+pub same-seats : (ms ns : List Match) → SameSlots ms ns ↔ (flat_map seats ms ≡ flat_map seats ns)
+same-seats [] [] = (λ _. refl, λ _. tt)
+same-seats [] (n ∷ ns) = (λ h. absurd h, λ e. absurd (cc))
+same-seats (m ∷ ms) [] = (λ h. absurd h, λ e. absurd (cc))
+same-seats (m ∷ ms) (n ∷ ns) = let rest = same-seats ms ns in
+    (λ h. ap₂ ◌∷◌ h.0.0 (ap₂ ◌∷◌ h.0.1 (rest.0 h.1)), λ e. (((cc), (cc)), rest.1 (cc)))
+
+pub slots-refl : (ms : List Match) → SameSlots ms ms
+slots-refl ms = (same-seats ms ms).1 refl
+
 pub length-same : (ms ns : List Match) → SameSlots ms ns → length ms ≡ length ns
-length-same [] [] h = refl
-length-same [] (n ∷ ns) h = absurd h
-length-same (m ∷ ms) [] h = absurd h
-length-same (m ∷ ms) (n ∷ ns) h = ap suc (length-same ms ns h.1)
+length-same ms ns h = same-length ms ns ((same-seats ms ns).0 h)
 
 pub winners-length : (ms ns : List Match) → SameSlots ns (next_stage ms) → length ns ≡ length ms / 2
 winners-length ms ns h = let count = length-same ns (next_stage ms) h in let next = length-next ms in omega arith
@@ -66,21 +73,6 @@ pub stands : (a s : List Match) (o p : Option (List Match)) (r t : Bool) → o �
     → IsTrue t ↔ Stands s o
 stands a s o p r t same read is h = grind (arith, common_steps)
 
-get-first : (stages : List (List Match)) (i : ℕ) → slice_get (drop i stages) 0 ≡ slice_get stages i
-get-first [] zero = refl
-get-first [] (suc i) = refl
-get-first (s ∷ stages) zero = refl
-get-first (s ∷ stages) (suc i) = get-first stages i
-
-pub follow-here : (stages : List (List Match)) (i : ℕ) (s : List Match) → i < length stages → s ≡ get_or stages i s
-    → FollowOn (drop i stages) ↔ (Stands s (slice_get stages (i + 1)) × FollowOn (drop (i + 1) stages))
-follow-here stages i s within is =
-    let here : drop i stages ≡ s ∷ drop (i + 1) stages = drop_more stages i s within ∙ ap
-    (λ (t : List Match). t ∷ drop (i + 1) stages) (sym is) in
-    subst (λ (ss : List (List Match)). FollowOn ss ↔ (Stands s (slice_get stages (i + 1)) × FollowOn (drop (i + 1) stages))) (sym here)
-    (subst (λ (o : Option (List Match)). FollowOn (s ∷ drop (i + 1) stages) ↔ (Stands s o × FollowOn (drop (i + 1) stages)))
-    (get-first stages (i + 1)) (follow-split s (drop (i + 1) stages)))
-
 -- ---- the last stage
 
 pub over-counted : (stage : List Match) → IsDecided (stage ∷ []) ↔ (is_over stage ≡ true)
@@ -104,7 +96,3 @@ last-at (s ∷ t ∷ more) (suc i) last end is = last-after s t more ∙ last-at
 pub decided-last : (stages : List (List Match)) (last : List Match) → 1 ≤ length stages → last ≡ get_or stages (length stages - 1) last
     → IsDecided stages ↔ (is_over last ≡ true)
 decided-last stages last some is = grind (arith, common_steps, last-at, over-counted)
-
-pub decided-none : (stages : List (List Match)) → length stages ≡ 0 → IsDecided stages → ⊥
-decided-none [] e h = h
-decided-none (s ∷ stages) e h = absurd (omega arith)

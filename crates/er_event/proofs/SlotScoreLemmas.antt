@@ -1,18 +1,16 @@
 -- An event whose playoff has one more score is sound exactly where the changed stage fits what stands behind it.
-use Rattle.er_event.proofs.Prelude.{common_steps, ◌≡◌, ◌↔◌, inl, inr, ℕ, zero, suc, ◌-◌, ◌<◌, ◌≤◌, ◌==◌, ◌||◌, ◌&&◌, Bool, true, false}
-use Rattle.er_event.proofs.Prelude.{cond, List, [], ◌∷◌, ◌++◌, length, drop, get_or, All, AllPairs, Contains, Option, Some, None, IsTrue}
-use Rattle.er_event.proofs.Prelude.{IfSome, is_some, option_map, Bor, refl, sym, ap, subst, ◌∙◌, true≢false, arith, slice_get}
-use Rattle.er_event.proofs.Prelude.{AllByRecursion, set, All-from_recursion, recursion_from_All, none-some, same_Some}
-use Rattle.er_event.proofs.Prelude.{get_or_from_slice_get, nat_tests, Games, Match, Phase, Finished, SetBracketScore, EventValue}
-use Rattle.er_event.proofs.Prelude.{is_playoff_score, is_counted, open_match, next_stage, SameSlots, FollowOn, last_match, IsDecided}
-use Rattle.er_event.proofs.Prelude.{slot_at, following, is_over, numbers, IsBracket, IsPlayoff, IsSoundButForSeeds, scored, scored_slot}
-use Rattle.er_event.proofs.Prelude.{stage_of, one_more, IsEnd, Fits}
-use Rattle.std.proofs.Common.{nat_lt, MatchOption, IsSome}
-use Rattle.std.specs.Option.{option_and_then}
-use Rattle.er_event.proofs.{ScoreLemmas.{All-set, set-All, slots-refl, slots-set, slots-seats, within-get}, RoundLemmas.All-of}
-use Rattle.er_event.proofs.{SlotLemmas.{Stands, follow-split, over-counted, last-after, length-same}, BracketLemmas.Lawful}
-use Rattle.er_event.proofs.PlayoffLemmas.{follow-new, drop-new, length-new, all-new, all-old, first-new, follow-drop, last-drop}
-use Rattle.er_event.proofs.PlayoffLemmas.{drop-here, follow-never, in_playoff, sound-playoff, started}
+use Rattle.er_event.proofs.Prelude.{FollowOn, IsDecided, SameSlots, following, is_over, last_match, next_stage, open_match, slot_at, Fits}
+use Rattle.er_event.proofs.Prelude.{IsEnd, one_more, scored, scored_slot, stage_of, EventValue, is_counted, is_playoff_score, IsBracket}
+use Rattle.er_event.proofs.Prelude.{IsPlayoff, IsSoundButForSeeds, numbers, SetBracketScore, Phase, Finished, Match, Games, All, Bool, Bor}
+use Rattle.er_event.proofs.Prelude.{IfSome, IsTrue, List, None, Option, Some, [], ap, arith, cond, drop, false, get_or, inr, is_some}
+use Rattle.er_event.proofs.Prelude.{length, option_map, refl, subst, suc, sym, true, ℕ, ◌&&◌, ◌++◌, ◌-◌, ◌<◌, ◌==◌, ◌↔◌, ◌∙◌, ◌∷◌, ◌≡◌, ◌≤◌}
+use Rattle.er_event.proofs.Prelude.{set, nat_tests, common_steps, All-from_recursion, recursion_from_All, get_or_from_slice_get, gets}
+use Rattle.er_event.proofs.Prelude.{AllByRecursion, slice_get}
+use Rattle.std.proofs.Common.{IsSome, MatchOption, nat_lt}
+use Rattle.er_event.proofs.{BracketLemmas.Lawful, PlayoffLemmas.{all-new, all-old, drop-here, drop-new, first-new, follow-drop}}
+use Rattle.er_event.proofs.{PlayoffLemmas.{follow-never, follow-new, in_playoff, last-drop, sound-playoff, started}, RoundLemmas.All-of}
+use Rattle.er_event.proofs.{ScoreLemmas.{All-set, set-All, within-get}, SeatLemmas.seats-set, SlotLemmas.{Stands, follow-split, last-after}}
+use Rattle.er_event.proofs.SlotLemmas.{length-same, same-seats, slots-refl}
 
 abbrev AllLawful : List Match → Type 0
 AllLawful ms = All Lawful ms
@@ -25,7 +23,7 @@ module _ (e : EventValue) (k : ℕ) (old new : List Match) (at : slice_get e.bra
   later = drop (suc k) e.bracket.stages
 
   pub over : IsPlayoff e.phase
-  over = started e h (λ none. none-some old (ap (λ (ss : List (List Match)). slice_get ss k) (sym none) ∙ at))
+  over = started e h (grind (arith, common_steps))
 
   bracket : IsBracket (numbers e.players) e.cut e.bracket.stages
   bracket = h.bracket.bracket over
@@ -42,7 +40,7 @@ module _ (e : EventValue) (k : ℕ) (old new : List Match) (at : slice_get e.bra
     stages = set e.bracket.stages k new ++ more
 
     last-new : last_match stages ≡ last_match (new ∷ (later ++ more))
-    last-new = grind (arith, common_steps, last-drop, length-new, bracket, at, drop-new)
+    last-new = grind (arith, common_steps, last-drop, bracket, at, drop-new)
 
     decided-new : IsDecided stages ≡ IsDecided (new ∷ (later ++ more))
     decided-new = ap (λ (o : Option Match). MatchOption o ⊥ (λ (m : Match). IsSome m.score)) last-new
@@ -57,37 +55,34 @@ module _ (e : EventValue) (k : ℕ) (old new : List Match) (at : slice_get e.bra
     sound-new n =
         let b = bracket in
         let first = first-new new more k e.bracket.stages old b.first at same b.is_first in
-        let sit = sym (slots-seats first.0 b.first first.2) in
-        let ended : (p ≡ Finished) ↔ IsDecided stages = subst (λ (T : Type 0). (p ≡ Finished) ↔ T) (sym decided-new) n.decided in
+        let sit = sym ((same-seats first.0 b.first).0 first.2) in
+        let ended : (p ≡ Finished) ↔ IsDecided stages = rw decided-new n.decided in
         sound-playoff e p stages h is (h.rounds.done over)
         (record {
           cut_is_played = b.cut_is_played;
           first = first.0;
           is_first = first.1;
           slots = length-same first.0 b.first first.2 ∙ b.slots;
-          known_players = subst (All (λ (n : ℕ). Contains (numbers e.players) n)) sit b.known_players;
-          seated_once = subst (λ (ps : List ℕ). AllPairs (λ p q. (p ≡ q) → ⊥) ps) sit b.seated_once;
+          known_players = rw (← sit) b.known_players;
+          seated_once = rw (← sit) b.seated_once;
           scores = All-from_recursion AllLawful stages
               (all-new new more AllLawful k e.bracket.stages n.lawful (recursion_from_All AllLawful more n.behind)
               (recursion_from_All AllLawful e.bracket.stages b.scores));
           follows = follow-new new more k e.bracket.stages old at same b.follows n.follows;
         })
-        ended.0 (λ playing over. absurd (let never = sym playing ∙ ended.1 over in cc))
+        ended.0 (grind arith)
 
     pub new-sound : IsSoundButForSeeds (in_playoff e p stages) → IsNew
     new-sound s =
         let b = s.bracket.bracket is in
         let each = all-old new more AllLawful k e.bracket.stages old at (recursion_from_All AllLawful stages b.scores) in
+        let ended : IsDecided stages → p ≡ Finished = λ over. (let never = s.bracket.undecided in grind arith) in
         record {
           lawful = each.0;
           behind = All-from_recursion AllLawful more each.1;
-          follows = subst FollowOn (drop-new new more k e.bracket.stages old at) (follow-drop k stages b.follows);
-          decided = subst (λ (T : Type 0). (p ≡ Finished) ↔ T) decided-new (s.bracket.decided, ended is s);
+          follows = rw (drop-new new more k e.bracket.stages old at) at (follow-drop k stages b.follows);
+          decided = rw (← decided-new) (s.bracket.decided, ended);
         }
-      where
-        ended : IsPlayoff p → IsSoundButForSeeds (in_playoff e p stages) → IsDecided stages → p ≡ Finished
-        ended (inl playing) s over = absurd (s.bracket.undecided playing over)
-        ended (inr over) s _ = over
 
 -- ---- the slot that is named
 
@@ -96,39 +91,11 @@ pub record FoundSlot (e : EventValue) (stage slot : ℕ) (m : Match) : Type 0 wh
   pub at : slice_get e.bracket.stages (stage - 1) ≡ Some (stage_of e.bracket.stages stage)
   pub here : slice_get (stage_of e.bracket.stages stage) (slot - 1) ≡ Some m
 
-not-zero : (n : ℕ) → (n == 0) ≡ false → 1 ≤ n
-not-zero n h = grind (arith, nat_tests)
-
 pub found-slot : (e : EventValue) (stage slot : ℕ) (m : Match) → slot_at e stage slot ≡ Some m → FoundSlot e stage slot m
-found-slot e stage slot m is = by-zero (stage == 0) (slot == 0) refl refl is
-  where
-    by-stage : (o : Option (List Match)) → slice_get e.bracket.stages (stage - 1) ≡ o
-        → option_and_then (λ (ms : List Match). slice_get ms (slot - 1)) o ≡ Some m
-        → (slice_get e.bracket.stages (stage - 1) ≡ Some (stage_of e.bracket.stages stage))
-        × (slice_get (stage_of e.bracket.stages stage) (slot - 1) ≡ Some m)
-    by-stage None at h = absurd (none-some m h)
-    by-stage (Some ms) at h =
-        let read = get_or_from_slice_get e.bracket.stages (stage - 1) ms [] at in
-        (at ∙ ap Some (sym read), ap (λ (ks : List Match). slice_get ks (slot - 1)) read ∙ h)
-
-    by-zero : (a b : Bool) → (stage == 0) ≡ a → (slot == 0) ≡ b
-        → cond (a || b) None (option_and_then (λ (ms : List Match). slice_get ms (slot - 1)) (slice_get e.bracket.stages (stage - 1)))
-        ≡ Some m → FoundSlot e stage slot m
-    by-zero true b x y h = absurd (none-some m h)
-    by-zero false true x y h = absurd (none-some m h)
-    by-zero false false x y h = let both = by-stage (slice_get e.bracket.stages (stage - 1)) refl h
-        in record { low = (not-zero stage x, not-zero slot y); at = both.0; here = both.1 }
-
-same-sym : (ms ns : List Match) → SameSlots ms ns → SameSlots ns ms
-same-sym [] [] h = tt
-same-sym [] (n ∷ ns) h = absurd h
-same-sym (m ∷ ms) [] h = absurd h
-same-sym (m ∷ ms) (n ∷ ns) h = ((sym h.0.0, sym h.0.1), same-sym ms ns h.1)
+found-slot e stage slot m is = grind (arith, common_steps, gets)
 
 pub all-at : {X : Type 0} (P : X → Type 0) (i : ℕ) (xs : List X) (x : X) → slice_get xs i ≡ Some x → AllByRecursion P xs → P x
-all-at P i [] x at h = absurd (none-some x at)
-all-at P zero (y ∷ xs) x at h = subst P (same_Some y x at) h.0
-all-at P (suc i) (y ∷ xs) x at h = all-at P i xs x at h.1
+all-at P i xs x at h = grind (arith, common_steps, recursion_from_All P, gets)
 
 after-phase : (finished : Bool) (p : Phase) → IsPlayoff p → IsPlayoff (cond finished Finished p)
 after-phase true p is = inr refl
@@ -155,7 +122,8 @@ module _ (e : EventValue) (stage slot : ℕ) (score : Games) (m : Match) (is : s
   same-stage =
       let n : Match = scored score (get_or old_stage (slot - 1) (open_match 0 0)) in
       let reads : get_or old_stage (slot - 1) n ≡ get_or old_stage (slot - 1) (open_match 0 0) = read n ∙ sym (read (open_match 0 0)) in
-      same-sym old_stage new_stage (slots-set n (slot - 1) old_stage (ap (λ (k : Match). k.a) reads) (ap (λ (k : Match). k.b) reads))
+      (same-seats new_stage old_stage).1
+      (sym (seats-set n (slot - 1) old_stage (ap (λ (k : Match). k.a) reads) (ap (λ (k : Match). k.b) reads)))
 
   over-before : IsPlayoff e.phase
   over-before = over e (stage - 1) old_stage new_stage f.at same-stage h
@@ -200,23 +168,20 @@ module _ (e : EventValue) (stage slot : ℕ) (score : Games) (m : Match) (is : s
     module _ (last : behind ≡ []) (now_over : Bool) (ended : IsTrue now_over ↔ (p ≡ Finished)) where
       pub Fits-last : is_playoff_score score ≡ true → IsEnd new_stage next now_over
           → Fits e (SetBracketScore stage slot score next finished)
-      Fits-last playoff end =
-          let tail : behind ++ one_more next ≡ one_more next = ap (λ (ss : List (List Match)). ss ++ one_more next) last in
-          Fits-new (record {
-            lawful = lawful-new playoff;
-            behind = end.scores;
-            follows = subst (λ (ss : List (List Match)). FollowOn (new_stage ∷ ss)) (sym tail) end.follows;
-            decided = subst (λ (ss : List (List Match)). (p ≡ Finished) ↔ IsDecided (new_stage ∷ ss)) (sym tail)
-                (λ fin. end.decided.0 (ended.1 fin), λ dec. ended.0 (end.decided.1 dec));
-          })
+      Fits-last playoff end = Fits-new (record {
+        lawful = lawful-new playoff;
+        behind = end.scores;
+        follows = rw last end.follows;
+        decided = rw last (λ fin. end.decided.0 (ended.1 fin), λ dec. ended.0 (end.decided.1 dec));
+      })
 
       pub last-Fits : Fits e (SetBracketScore stage slot score next finished) → IsEnd new_stage next now_over
       last-Fits fits =
-          let tail : behind ++ one_more next ≡ one_more next = ap (λ (ss : List (List Match)). ss ++ one_more next) last in
           let n = new-Fits fits in
-          let decided = subst (λ (ss : List (List Match)). (p ≡ Finished) ↔ IsDecided (new_stage ∷ ss)) tail n.decided in
+          let decided = rw last at n.decided in
           record {
-            follows = subst (λ (ss : List (List Match)). FollowOn (new_stage ∷ ss)) tail n.follows;
+            follows =
+                rw last at n.follows;
             scores = n.behind;
             decided = (λ yes. decided.0 (ended.0 yes), λ dec. ended.1 (decided.1 dec));
           }
@@ -229,9 +194,6 @@ module _ (old new l : List Match) (rest : List (List Match)) (f : FollowOn (old 
 
   later-follows : FollowOn (new ∷ ((l ∷ rest) ++ [])) → Stands new (Some l)
   later-follows h = ((follow-split new ((l ∷ rest) ++ [])).0 h).0
-
-  last-later : last_match (new ∷ ((l ∷ rest) ++ [])) ≡ last_match (old ∷ l ∷ rest)
-  last-later = grind (arith, common_steps, last-after)
 
   none-behind : (ns : List Match) → FollowOn (new ∷ ((l ∷ rest) ++ ns ∷ [])) → ⊥
   none-behind ns h = follow-never l rest ns f.3 ((follow-split new ((l ∷ rest) ++ ns ∷ [])).0 h).1
@@ -254,7 +216,7 @@ module _ (e : EventValue) (stage slot : ℕ) (score : Games) (m : Match) (is : s
   last-there = decided-old e (stage - 1) old old at (slots-refl old) h ∙ ap (λ (ss : List (List Match)). last_match (old ∷ ss)) there
 
   decided-there : IsDecided (new ∷ ((l ∷ rest) ++ [])) ≡ IsDecided e.bracket.stages
-  decided-there = grind (arith, common_steps, last-later, last-there)
+  decided-there = grind (arith, common_steps, last-there)
 
   module _ (finished : Bool) where
     abbrev q : Phase
@@ -264,78 +226,36 @@ module _ (e : EventValue) (stage slot : ℕ) (score : Games) (m : Match) (is : s
         → Fits e (SetBracketScore stage slot score None finished)
     Fits-later playoff stands decided = Fits-new e stage slot score m is h None finished (record {
       lawful = lawful-new e stage slot score m is h playoff;
-      behind = All-from_recursion AllLawful [] tt;
-      follows = subst (λ (ss : List (List Match)). FollowOn (new ∷ (ss ++ []))) (sym there)
-          (follows-later old new l rest follow-there stands);
-      decided = subst (λ (ss : List (List Match)). (q ≡ Finished) ↔ IsDecided (new ∷ (ss ++ []))) (sym there)
-          (subst (λ (T : Type 0). (q ≡ Finished) ↔ T) (sym decided-there) decided);
+      behind = λ k d below. absurd (omega arith);
+      follows = rw there (follows-later old new l rest follow-there stands);
+      decided = rw (there, decided-there) decided;
     })
 
     pub later-none : (next : Option (List Match)) → Fits e (SetBracketScore stage slot score next finished) → next ≡ None
     later-none None fits = refl
     later-none (Some ns) fits =
         absurd (none-behind old new l rest follow-there ns
-        (subst (λ (ss : List (List Match)). FollowOn (new ∷ (ss ++ ns ∷ []))) there
-        (new-Fits e stage slot score m is h (Some ns) finished fits).follows))
+        (rw there at (new-Fits e stage slot score m is h (Some ns) finished fits).follows))
 
     module _ (fits : Fits e (SetBracketScore stage slot score None finished)) where
       pub later-stands : Stands new (Some l)
-      later-stands = later-follows old new l rest follow-there
-          (subst (λ (ss : List (List Match)). FollowOn (new ∷ (ss ++ []))) there
-          (new-Fits e stage slot score m is h None finished fits).follows)
+      later-stands = later-follows old new l rest follow-there (rw there at (new-Fits e stage slot score m is h None finished fits).follows)
 
       pub later-decided : (q ≡ Finished) ↔ IsDecided e.bracket.stages
-      later-decided = subst (λ (T : Type 0). (q ≡ Finished) ↔ T) decided-there
-          (subst (λ (ss : List (List Match)). (q ≡ Finished) ↔ IsDecided (new ∷ (ss ++ []))) there
-          (new-Fits e stage slot score m is h None finished fits).decided)
+      later-decided = rw (there, decided-there) at (new-Fits e stage slot score m is h None finished fits).decided
 
 -- ---- an open match takes its score
-
-and-first : (a b : Bool) → (a && b) ≡ true → a ≡ true
-and-first true b h = refl
-and-first false b h = absurd (true≢false (sym h))
 
 next-lawful : (ms : List Match) → AllByRecursion Lawful (next_stage ms)
 next-lawful [] = tt
 next-lawful (m ∷ []) = tt
 next-lawful (m ∷ n ∷ more) = (tt, next-lawful more)
 
-next-open : (ms : List Match) → 1 < length ms → is_counted (next_stage ms) ≡ true → ⊥
-next-open [] long h = absurd (omega arith)
-next-open (m ∷ []) long h = absurd (omega arith)
-next-open (m ∷ n ∷ more) long h = true≢false (sym h)
-
 -- a stage whose last score came in ends the bracket, or the winners go on
 module _ (new : List Match) (some : 0 < length new) where
   ends : (c t o : Bool) → is_counted new ≡ c → nat_lt 1 (length new) ≡ t → (length new == 1) ≡ o
       → IsEnd new (cond (c && t) (Some (next_stage new)) None) (c && o)
-  ends false t o counted long one = record {
-    follows = λ is. absurd (true≢false (sym is ∙ counted));
-    scores = All-from_recursion AllLawful [] tt;
-    decided = (
-      λ never. absurd (true≢false (sym never)),
-      λ dec. absurd (true≢false (sym (and-first (is_counted new) (length new == 1) ((over-counted new).0 dec)) ∙ counted)),
-    );
-  }
-  ends true true o counted long one =
-      let two : 1 < length new = grind (arith, nat_tests) in record {
-        follows = (counted, two, slots-refl (next_stage new), λ is. absurd (next-open new two is));
-        scores = All-from_recursion AllLawful (next_stage new ∷ []) (All-from_recursion Lawful (next_stage new) (next-lawful new), tt);
-        decided = (
-          λ yes. absurd (let is : (length new == 1) ≡ true = one ∙ yes in grind (arith, nat_tests)),
-          λ dec. absurd (next-open new two (and-first (is_counted (next_stage new)) (length (next_stage new) == 1)
-              ((over-counted (next_stage new)).0 (subst (λ (x : Option Match). MatchOption x ⊥ (λ (m : Match). IsSome m.score))
-              (last-after new (next_stage new) []) dec)))),
-        );
-      }
-  ends true false o counted long one =
-      let single : length new ≡ 1 = grind (arith, nat_tests) in
-      let is : (length new == 1) ≡ true = grind (arith, nat_tests) in
-      let all : is_over new ≡ true = ap (λ (b : Bool). b && (length new == 1)) counted ∙ is in record {
-        follows = λ _. single;
-        scores = All-from_recursion AllLawful [] tt;
-        decided = (λ _. (over-counted new).1 all, λ _. sym one ∙ is);
-      }
+  ends c t o counted long one = grind (arith, common_steps, last-after, nat_tests, next-lawful, slots-refl)
 
   pub ends-with : IsEnd new (following new) (is_over new)
   ends-with = ends (is_counted new) (nat_lt 1 (length new)) (length new == 1) refl refl refl
@@ -350,10 +270,9 @@ module _ (e : EventValue) (stage slot : ℕ) (score : Games) (m : Match) (is : s
 
   was-open : is_counted was ≡ true → ⊥
   was-open counted =
-      let all = recursion_from_All (λ (k : Match). IsTrue (is_some k.score)) was (All-of (λ (k : Match). is_some k.score) was counted) in
-      let here : is_some m.score ≡ true = all-at (λ (k : Match). IsTrue (is_some k.score)) (slot - 1) was m
-      (found-slot e stage slot m is).here all in
-      true≢false (sym here ∙ ap is_some free)
+      let here = All-of (λ (k : Match). is_some k.score) was counted (slot - 1) m in
+      let there = (found-slot e stage slot m is).here in
+      grind (arith, common_steps, gets)
 
   abbrev rest_of : List (List Match)
   rest_of = drop (suc (stage - 1)) e.bracket.stages
@@ -363,22 +282,18 @@ module _ (e : EventValue) (stage slot : ℕ) (score : Games) (m : Match) (is : s
 
   is-last : (ss : List (List Match)) → rest_of ≡ ss → rest_of ≡ []
   is-last [] eq = eq
-  is-last (l ∷ rest) eq = absurd (was-open (subst (λ (ss : List (List Match)). FollowOn (was ∷ ss)) eq
-      (follow-old e (stage - 1) was was there (slots-refl was) h)).0)
+  is-last (l ∷ rest) eq = absurd (was-open (rw eq at (follow-old e (stage - 1) was was there (slots-refl was) h)).0)
 
   last : rest_of ≡ []
   last = is-last rest_of refl
 
   not-finished : e.phase ≡ Finished → ⊥
   not-finished fin =
-      let same = decided-old e (stage - 1) was was there (slots-refl was) h ∙ ap (λ (ss : List (List Match)). last_match (was ∷ ss)) last in
-      let dec : IsDecided (was ∷ []) = subst (λ (o : Option Match). MatchOption o ⊥ (λ (k : Match). IsSome k.score)) same
-      (h.bracket.decided fin) in
-      was-open (and-first (is_counted was) (length was == 1) ((over-counted was).0 dec))
+      let dec : IsDecided (was ∷ []) = rw (decided-old e (stage - 1) was was there (slots-refl was) h, last) at (h.bracket.decided fin) in
+      was-open (grind arith)
 
   ended : (b : Bool) → IsTrue b ↔ (cond b Finished e.phase ≡ Finished)
-  ended true = (λ _. refl, λ _. refl)
-  ended false = (λ never. absurd (true≢false (sym never)), λ fin. absurd (not-finished fin))
+  ended b = grind (arith, not-finished)
 
   pub Fits-open : is_playoff_score score ≡ true → Fits e (SetBracketScore stage slot score (following now) (is_over now))
   Fits-open playoff =

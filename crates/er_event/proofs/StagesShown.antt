@@ -1,10 +1,10 @@
 -- The stages of a sound event can be shown by rows, and are few.
-use Rattle.er_event.proofs.Prelude.{common_steps, ◌≡◌, ℕ, ◌+◌, ◌*◌, ◌/◌, ◌<◌, ◌≤◌, List, [], ◌∷◌, length, flat_map, All, Contains, IsTrue}
-use Rattle.er_event.proofs.Prelude.{IfSome, Option, Some, None, refl, sym, ap, subst, ◌∙◌, arith, range_with_len, nat_tests, none-some}
-use Rattle.er_event.proofs.Prelude.{same_Some, All-head, All-tail, All-cons, All-nil, Games, Match, is_playoff_score, seats, next_stage}
-use Rattle.er_event.proofs.Prelude.{SameSlots, FollowOn, is_lawful_cut, IsBracket, FitsSlotRow, FitStageRows}
+use Rattle.er_event.proofs.Prelude.{FollowOn, SameSlots, next_stage, open_match, winner, scored, seats, is_playoff_score, IsBracket}
+use Rattle.er_event.proofs.Prelude.{is_lawful_cut, Match, Games, FitStageRows, FitsSlotRow, All, Contains, IfSome, IsTrue, List, Option, []}
+use Rattle.er_event.proofs.Prelude.{ap, arith, flat_map, length, subst, suc, sym, ℕ, ◌/◌, ◌<◌, ◌∙◌, ◌∷◌, ◌≡◌, ◌≤◌, nat_tests, common_steps}
+use Rattle.er_event.proofs.Prelude.{All-cons, All-nil, none-some, same_Some, range_with_len}
+use Rattle.er_event.proofs.{SeatLemmas.{All-seats, seats-All}, ShownLemmas.below, SlotLemmas.{length-next, length-same, same-seats}}
 use Rattle.er_event.specs.Bracket.{winner_with}
-use Rattle.er_event.proofs.ShownLemmas.{below}
 
 -- the two numbers are 16 bits wide
 abbrev IsNarrow : Match → Type 0
@@ -14,70 +14,41 @@ abbrev IsScored : Match → Type 0
 IsScored m = IfSome m.score (λ s. IsTrue (is_playoff_score s))
 
 winner_narrow : (m : Match) (score : Option Games) → IsNarrow m → winner_with m score < 65536
-winner_narrow m None narrow = omega arith
-winner_narrow m (Some s) narrow = grind (arith, common_steps)
+winner_narrow m score narrow = grind (arith, common_steps)
 
 next_narrow : (ms : List Match) → All IsNarrow ms → All IsNarrow (next_stage ms)
 next_narrow [] all = All-nil IsNarrow
 next_narrow (m ∷ []) all = All-nil IsNarrow
 next_narrow (m ∷ n ∷ more) all =
-    let later = All-tail IsNarrow m (n ∷ more) all in
-    All-cons IsNarrow _ (next_stage more)
-    (winner_narrow m m.score (All-head IsNarrow m (n ∷ more) all), winner_narrow n n.score (All-head IsNarrow n more later))
-    (next_narrow more (All-tail IsNarrow n more later))
+    All-cons IsNarrow (open_match (winner m) (winner n)) (next_stage more)
+    (winner_narrow m m.score (all 0 m (omega arith)), winner_narrow n n.score (all 1 n (omega arith)))
+    (next_narrow more (λ k d below. all (suc (suc k)) d (omega arith)))
 
 same_narrow : (ms ns : List Match) → SameSlots ms ns → All IsNarrow ns → All IsNarrow ms
-same_narrow [] ns same all = All-nil IsNarrow
-same_narrow (m ∷ ms) [] same all = absurd same
-same_narrow (m ∷ ms) (n ∷ ns) same all =
-    let here = All-head IsNarrow n ns all in
-    All-cons IsNarrow m ms (subst (λ k. k < 65536) (sym same.0.0) here.0, subst (λ k. k < 65536) (sym same.0.1) here.1)
-    (same_narrow ms ns same.1 (All-tail IsNarrow n ns all))
-
-same_length : (ms ns : List Match) → SameSlots ms ns → length ms ≡ length ns
-same_length [] [] same = refl
-same_length [] (n ∷ ns) same = absurd same
-same_length (m ∷ ms) [] same = absurd same
-same_length (m ∷ ms) (n ∷ ns) same = let rest = same_length ms ns same.1 in omega arith
-
--- a next stage has half the slots
-half : (ms : List Match) → (2 * length (next_stage ms) ≤ length ms) × (length ms ≤ 2 * length (next_stage ms) + 1)
-half [] = (omega arith, omega arith)
-half (m ∷ []) = (omega arith, omega arith)
-half (m ∷ n ∷ more) = let rest = half more in (omega arith, omega arith)
+same_narrow ms ns same all = seats-All (λ k. k < 65536) ms
+    (subst (All (λ k. k < 65536)) (sym ((same-seats ms ns).0 same)) (All-seats (λ k. k < 65536) ns all))
 
 all_shown : (ms : List Match) → All IsNarrow ms → All IsScored ms → All FitsSlotRow ms
-all_shown [] narrow scored = All-nil FitsSlotRow
-all_shown (m ∷ ms) narrow scored = grind (arith, common_steps)
+all_shown ms narrow scored k d below = record { first = (narrow k d below).0; second = (narrow k d below).1; score = scored k d below }
 
 follow_shown : (s : List Match) (more : List (List Match)) → 0 < length s → All IsNarrow s → FollowOn (s ∷ more)
     → All (λ (ms : List Match). All IsScored ms) (s ∷ more) → All FitStageRows (s ∷ more)
 follow_shown s [] some narrow follows scores = grind (arith, common_steps)
 follow_shown s (next ∷ more) some narrow follows scores =
-    let long = follows.1 in
-    let count = same_length next (next_stage s) follows.2 in
-    let halved = half s in
-    All-cons FitStageRows s (next ∷ more) (record {
-      some = some;
-      each = all_shown s narrow (All-head (λ (ms : List Match). All IsScored ms) s (next ∷ more) scores);
-    })
-    (follow_shown next more (omega arith) (same_narrow next (next_stage s) follows.2 (next_narrow s narrow)) follows.3
-    (All-tail (λ (ms : List Match). All IsScored ms) s (next ∷ more) scores))
+    let count = length-same next (next_stage s) follows.2 in
+    let halved = length-next s in
+    All-cons FitStageRows s (next ∷ more) (record { some = some; each = all_shown s narrow (scores 0 s (omega arith)) })
+    (follow_shown next more (omega (arith, follows.1)) (same_narrow next (next_stage s) follows.2 (next_narrow s narrow)) follows.3
+    (λ k d below. scores (suc k) d (omega arith)))
 
 follow_few : (s : List Match) (more : List (List Match)) → length s ≤ 4 → FollowOn (s ∷ more) → length (s ∷ more) ≤ 3
 follow_few s [] few follows = omega arith
 follow_few s (next ∷ []) few follows = omega arith
-follow_few s (next ∷ last ∷ []) few follows = omega arith
-follow_few s (next ∷ last ∷ one ∷ more) few follows = grind (arith, common_steps)
+follow_few s (next ∷ last ∷ more) few follows = grind (arith, common_steps, length-same, length-next)
 
 all_seats : (n : ℕ) → n ≤ 512 → (ms : List Match) → All (λ no. Contains (range_with_len 1 n) no) (flat_map seats ms) → All IsNarrow ms
-all_seats n few [] known = All-nil IsNarrow
-all_seats n few (m ∷ ms) known =
-    let Known = λ (no : ℕ). Contains (range_with_len 1 n) no in
-    let more = flat_map seats ms in
-    let second = All-tail Known m.a (m.b ∷ more) known in
-    All-cons IsNarrow m ms (below n few m.a (All-head Known m.a (m.b ∷ more) known), below n few m.b (All-head Known m.b more second))
-    (all_seats n few ms (All-tail Known m.b more second))
+all_seats n few ms known k d at =
+    let both = seats-All (λ no. Contains (range_with_len 1 n) no) ms known k d at in (below n few _ both.0, below n few _ both.1)
 
 module _ (n cut : ℕ) (few : n ≤ 512) (limit : IsTrue (is_lawful_cut cut)) where
   at_most_8 : cut ≤ 8

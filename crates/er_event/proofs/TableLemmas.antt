@@ -1,8 +1,8 @@
 -- The match of a table stands at the table's place, or is the bye at table 0.
-use Rattle.er_event.proofs.Prelude.{common_steps, ◌≡◌, ◌≢◌, ℕ, zero, suc, ◌+◌, ◌-◌, ◌==◌, ◌<◌, ◌≤◌, Bool, true, false, cond, List, [], ◌∷◌}
-use Rattle.er_event.proofs.Prelude.{length, map, get_or, Option, Some, None, option_map, unwrap_or, find, refl, sym, ap, ap₂, ◌∙◌}
-use Rattle.er_event.proofs.Prelude.{true≢false, arith, slice_get, set, nat_tests, none-some, slice_get_read, slice_get_past, Games, Match}
-use Rattle.er_event.proofs.Prelude.{is_bye, numbered_from, match_in, scored, score_table}
+use Rattle.er_event.proofs.Prelude.{score_table, scored, is_bye, match_in, numbered_from, Match, Games, Bool, List, None, Option, Some, []}
+use Rattle.er_event.proofs.Prelude.{ap, arith, cond, false, find, get_or, length, map, not, option_map, refl, suc, sym, true, true≢false}
+use Rattle.er_event.proofs.Prelude.{unwrap_or, zero, ℕ, ◌+◌, ◌-◌, ◌<◌, ◌==◌, ◌∙◌, ◌∷◌, ◌≡◌, ◌≢◌, ◌≤◌, set, nat_tests, common_steps}
+use Rattle.er_event.proofs.Prelude.{none-some, slice_get_past, slice_get_read, slice_get}
 use Rattle.er_event.specs.Round.{is_at}
 
 -- the match, unless it is a bye
@@ -12,10 +12,6 @@ seated (Some m) = cond (is_bye m) None (Some m)
 
 abbrev found_in : ℕ → ℕ → List Match → Option Match
 found_in n table ms = option_map (λ (found : ℕ × Match). found.1) (find (is_at table) (numbered_from n ms))
-
-not-at : (b : Bool) (n t : ℕ) → (b ≡ false → n ≢ t) → (b ≡ true → t ≢ 0) → (cond b 0 n == t) ≡ false
-not-at true n t later bye = let low = bye refl in grind (arith, nat_tests)
-not-at false n t later bye = let other = later refl in grind (arith, nat_tests)
 
 at-here : (n : ℕ) → (n == n) ≡ true
 at-here n = grind (arith, nat_tests)
@@ -32,7 +28,7 @@ module _ (n t : ℕ) (m : Match) where
 -- no table of these has a lower number, other than 0
 none-below : (n t : ℕ) (ms : List Match) → 1 ≤ t → t < n → found_in n t ms ≡ None
 none-below n t [] some below = refl
-none-below n t (m ∷ ms) some below = grind (arith, common_steps, skipped, not-at, none-below (n + 1) t ms some (omega arith))
+none-below n t (m ∷ ms) some below = grind (arith, common_steps, skipped, none-below (n + 1) t ms some (omega arith))
 
 here : (n : ℕ) (m : Match) (ms : List Match) (b : Bool) → b ≡ is_bye m → 1 ≤ n
     → option_map (λ (found : ℕ × Match). found.1) (cond (cond b 0 n == n) (Some (n, m)) (find (is_at n) (numbered_from (n + 1) ms)))
@@ -44,20 +40,14 @@ here n m ms false is low = taken n n m (n == n) (find (is_at n) (numbered_from (
 found_at : (n i t : ℕ) (ms : List Match) → 1 ≤ n → t ≡ n + i → found_in n t ms ≡ seated (slice_get ms i)
 found_at n i t [] low is = refl
 found_at n zero t (m ∷ ms) low is = ap (λ k. found_in n k (m ∷ ms)) (let e : t ≡ n = omega arith in e) ∙ here n m ms (is_bye m) refl low
-found_at n (suc i) t (m ∷ ms) low is = grind (arith, common_steps, skipped, not-at, found_at (n + 1) i t ms (omega arith) (omega arith))
+found_at n (suc i) t (m ∷ ms) low is = grind (arith, common_steps, skipped, found_at (n + 1) i t ms (omega arith) (omega arith))
 
 pub match_in-place : (ms : List Match) (t : ℕ) → 1 ≤ t → match_in ms t ≡ seated (slice_get ms (t - 1))
 match_in-place ms t low = found_at 1 (t - 1) t ms (omega arith) (omega arith)
 
-step_bye : (n : ℕ) (m : Match) (more : Option (ℕ × Match)) (later : Option Match) (b : Bool) → 1 ≤ n
-    → option_map (λ (found : ℕ × Match). found.1) more ≡ later
-    → option_map (λ (found : ℕ × Match). found.1) (cond (cond b 0 n == 0) (Some (n, m)) more) ≡ cond b (Some m) later
-step_bye n m more later true low same = refl
-step_bye n m more later false low same = skipped n 0 m (n == 0) more (grind (arith, nat_tests)) ∙ same
-
 found_bye : (n : ℕ) (ms : List Match) → 1 ≤ n → found_in n 0 ms ≡ find (λ (m : Match). m.b == 0) ms
 found_bye n [] low = refl
-found_bye n (m ∷ ms) low = grind (arith, common_steps, step_bye, found_bye (n + 1) ms (omega arith))
+found_bye n (m ∷ ms) low = grind (arith, common_steps, found_bye (n + 1) ms (omega arith))
 
 pub match_in-bye : (ms : List Match) → match_in ms 0 ≡ find (λ (m : Match). m.b == 0) ms
 match_in-bye ms = found_bye 1 ms (omega arith)
@@ -93,18 +83,14 @@ module _ (t : ℕ) (s : Games) where
 
   untouched : (n : ℕ) (ms : List Match) → 1 ≤ t → t < n → map (score_table t s) (numbered_from n ms) ≡ ms
   untouched n [] some below = refl
-  untouched n (m ∷ ms) some below = grind (arith, common_steps, kept, not-at, untouched (n + 1) ms some (omega arith))
-
-is_at-own : (n : ℕ) (m : Match) → is_bye m ≡ false → is_at n (n, m) ≡ true
-is_at-own n m seat = rw seat (at-here n)
+  untouched n (m ∷ ms) some below = grind (arith, common_steps, kept, untouched (n + 1) ms some (omega arith))
 
 score-from : (s : Games) (n i t : ℕ) (ms : List Match) (m : Match) → 1 ≤ n → t ≡ n + i → slice_get ms i ≡ Some m → is_bye m ≡ false
     → map (score_table t s) (numbered_from n ms) ≡ set ms i (scored s m)
 score-from s n i t [] m low at is seat = absurd (none-some m is)
-score-from s n zero t (k ∷ ms) m low at is seat = grind (arith, common_steps, here, changed, is_at-own, untouched)
+score-from s n zero t (k ∷ ms) m low at is seat = grind (arith, common_steps, here, changed, untouched)
 score-from s n (suc i) t (k ∷ ms) m low at is seat =
-    ap₂ ◌∷◌ (kept t s k (is_at t (n, k)) (not-at (is_bye k) n t (λ _. omega arith) (λ _. omega arith)))
-    (score-from s (n + 1) i t ms m (omega arith) (omega arith) is seat)
+    grind (arith, common_steps, is_at, is_bye, score-from s (n + 1) i t ms m (omega arith) (omega arith) is seat)
 
 pub score-place : (s : Games) (t : ℕ) (ms : List Match) (m : Match) → match_in ms t ≡ Some m → is_bye m ≡ false
     → map (score_table t s) (numbered_from 1 ms) ≡ set ms (t - 1) (scored s m)

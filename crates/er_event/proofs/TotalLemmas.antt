@@ -1,76 +1,60 @@
 -- Where nobody sits twice, a player has the line of one match of a round alone; the rounds add up.
-use Rattle.er_event.proofs.Prelude.{common_steps, ◌≡◌, ◌≢◌, ◌⊎◌, inl, inr, ℕ, zero, suc, ◌+◌, ◌-◌, ◌<◌, ◌≤◌, ◌==◌, List, [], ◌∷◌, ◌++◌}
-use Rattle.er_event.proofs.Prelude.{length, take, get_or, flat_map, All, Option, Some, None, refl, sym, ap, ap₂, subst, ◌∙◌, arith}
-use Rattle.er_event.proofs.Prelude.{not-suc-le-zero, append-nil, take_more, length-set, get_or_default, filter-append, All-get_or, Match}
-use Rattle.er_event.proofs.Prelude.{Round, Games, Totals, open_match, scored, scored_slot, Line, own, lines_of_score, lines_of_match}
-use Rattle.er_event.proofs.Prelude.{counted_lines, lines_from, seats, totals_of, totals_of_games, plus, IsSeatedOnce, AreOver, rescored}
+use Rattle.er_event.proofs.Prelude.{open_match, scored, scored_slot, Line, counted_lines, lines_from, lines_of_match, lines_of_score, own}
+use Rattle.er_event.proofs.Prelude.{IsAbsent, totals, totals_of, totals_of_games, Match, Round, Games, Totals, AreOver, IsSeatedOnce}
+use Rattle.er_event.proofs.Prelude.{rescored, All, AllPairs, List, None, Option, [], ap, arith, flat_map, get_or, length, refl, subst, suc}
+use Rattle.er_event.proofs.Prelude.{sym, take, zero, ℕ, ◌++◌, ◌+◌, ◌-◌, ◌<◌, ◌==◌, ◌∙◌, ◌∷◌, ◌≡◌, ◌≢◌, ◌≤◌, ◌⊎◌, common_steps, All-get_or}
+use Rattle.er_event.proofs.Prelude.{filter-append, get_or_default, length-set, take_more}
 use Rattle.std.proofs.lemmas.List.{get_or-set_other}
-use Rattle.er_event.proofs.ScoreLemmas.{set-All}
-
-zero-right : (n : ℕ) → n + 0 ≡ n
-zero-right n = omega arith
+use Rattle.er_event.proofs.{ScoreLemmas.set-All, SeatLemmas.{AreApart, sit-apart}}
+use Rattle.er_event.specs.Totals.{plus}
 
 pub own-append : (player : ℕ) (xs ys : List Line) → own player (xs ++ ys) ≡ own player xs ++ own player ys
 own-append player xs ys = filter-append (λ (l : Line). l.player == player) xs ys
 
-pub totals_of-append : (xs ys : List Line) → totals_of (xs ++ ys) ≡ plus (totals_of xs) (totals_of ys)
-totals_of-append xs ys = grind (arith, common_steps)
-
 absent_score : (player round a b : ℕ) (score : Option Games) → a ≢ player → b ≢ player → own player (lines_of_score round a b score) ≡ []
-absent_score player round a b None first second = refl
-absent_score player round a b (Some s) first second = grind (arith, common_steps)
+absent_score player round a b score first second = grind (arith, common_steps)
 
 pub absent : (player round : ℕ) (m : Match) → m.a ≢ player → m.b ≢ player → own player (lines_of_match round m) ≡ []
 absent player round m first second = absent_score player round m.a m.b m.score first second
 
-absent_all : (player round : ℕ) (matches : List Match)
-    → ((k : ℕ) → k < length (flat_map seats matches) → get_or (flat_map seats matches) k 0 ≢ player)
-    → own player (flat_map (lines_of_match round) matches) ≡ []
-absent_all player round [] nowhere = refl
-absent_all player round (m ∷ rest) nowhere =
-    own-append player (lines_of_match round m) (flat_map (lines_of_match round) rest)
-    ∙ ap₂ ◌++◌ (absent player round m (nowhere 0 (omega arith)) (nowhere 1 (omega arith)))
-    (absent_all player round rest (λ k below. nowhere (suc (suc k)) (omega arith)))
+-- no line of one who is absent
+pub absent_lines : (player round : ℕ) (ms : List Match) → IsAbsent player ms → own player (flat_map (lines_of_match round) ms) ≡ []
+absent_lines player round [] away = refl
+absent_lines player round (m ∷ ms) away =
+    let here = absent player round m (away 0 m (omega arith)).0 (away 0 m (omega arith)).1 in
+    let rest = absent_lines player round ms (λ k d below. away (suc k) d (omega arith)) in
+    grind (arith, common_steps, own-append)
 
 -- the two of a match differ
 pub apart_at : (matches : List Match) → IsSeatedOnce matches → (k : ℕ) (m : Match) → k < length matches → m ≡ get_or matches k m → m.a ≢ m.b
-apart_at [] once k m below is = absurd (not-suc-le-zero below)
-apart_at (n ∷ rest) once zero m below is = λ same. once 0 1 0 (omega arith) (omega arith)
-    (ap (λ (x : Match). x.a) (sym is) ∙ (same ∙ ap (λ (x : Match). x.b) is))
-apart_at (n ∷ rest) once (suc k) m below is = apart_at rest
-    (λ i j d before within. once (suc (suc i)) (suc (suc j)) d (omega arith) (omega arith)) k m (omega arith) is
+apart_at ms once k m below is = subst (λ (n : Match). n.a ≢ n.b) (sym is) ((sit-apart ms once).0 k m below)
 
--- a seat of a match at k
-sits_at : (matches : List Match) (k : ℕ) (m : Match) (player : ℕ) → k < length matches → m ≡ get_or matches k m
-    → (player ≡ m.a) ⊎ (player ≡ m.b)
-    → (at : ℕ) × (at < length (flat_map seats matches)) × (get_or (flat_map seats matches) at 0 ≡ player)
-sits_at [] k m player below is sits = absurd (not-suc-le-zero below)
-sits_at (n ∷ rest) zero m player below is (inl same) = (0, omega arith, ap (λ (x : Match). x.a) (sym is) ∙ sym same)
-sits_at (n ∷ rest) zero m player below is (inr same) = (1, omega arith, ap (λ (x : Match). x.b) (sym is) ∙ sym same)
-sits_at (n ∷ rest) (suc k) m player below is sits = let h =
-    sits_at rest k m player (omega arith) is sits in (suc (suc h.0), omega (arith, h.1), h.2)
+-- whoever sits in one of two matches that are apart is absent from the other
+away : (m n : Match) (player : ℕ) → AreApart m n → (player ≡ m.a) ⊎ (player ≡ m.b) → (n.a ≢ player) × (n.b ≢ player)
+away m n player apart sits = grind arith
+
+one_of : (matches : List Match) → AllPairs AreApart matches → (k : ℕ) (m : Match) (player : ℕ) → k < length matches
+    → m ≡ get_or matches k m → (player ≡ m.a) ⊎ (player ≡ m.b)
+    → (round : ℕ) → own player (flat_map (lines_of_match round) matches) ≡ own player (lines_of_match round m)
+one_of [] apart k m player below is sits round = absurd (omega arith)
+one_of (n ∷ rest) apart zero m player below is sits round =
+    let others = absent_lines player round rest (λ j d within. away m (get_or rest j d) player
+    (subst (λ (x : Match). AreApart x (get_or rest j d)) (sym is) (apart 0 (suc j) d (omega arith) (omega arith))) sits) in
+    grind (arith, common_steps, own-append, others)
+one_of (n ∷ rest) apart (suc k) m player below is sits round =
+    let u = apart 0 (suc k) m (omega arith) (omega arith) in
+    let gone = away (get_or rest k m) n player (λ e. u.0 (sym e), λ e. u.2 (sym e), λ e. u.1 (sym e), λ e. u.3 (sym e))
+    (subst (λ (x : Match). (player ≡ x.a) ⊎ (player ≡ x.b)) is sits) in
+    let here = absent player round n gone.0 gone.1 in
+    let later = one_of rest (λ i j d before within. apart (suc i) (suc j) d (omega arith) (omega arith)) k m player (omega arith) is sits
+    round in
+    grind (arith, common_steps, own-append, here, later)
 
 -- the player's lines of a round are those of the match at which the player sits
 pub one_match : (matches : List Match) → IsSeatedOnce matches → (k : ℕ) (m : Match) (player : ℕ) → k < length matches
     → m ≡ get_or matches k m → (player ≡ m.a) ⊎ (player ≡ m.b)
     → (round : ℕ) → own player (flat_map (lines_of_match round) matches) ≡ own player (lines_of_match round m)
-one_match [] once k m player below is sits round = absurd (not-suc-le-zero below)
-one_match (n ∷ rest) once zero m player below is sits round =
-    let nowhere : (k : ℕ) → k < length (flat_map seats rest) → get_or (flat_map seats rest) k 0 ≢ player = λ k within same. elim sits [
-      | inl first ↦ once 0 (suc (suc k)) 0 (omega arith) (omega arith) (ap (λ (x : Match). x.a) (sym is) ∙ (sym first ∙ sym same))
-      | inr second ↦ once 1 (suc (suc k)) 0 (omega arith) (omega arith) (ap (λ (x : Match). x.b) (sym is) ∙ (sym second ∙ sym same))
-    ] in
-    own-append player (lines_of_match round n) (flat_map (lines_of_match round) rest)
-    ∙ (ap₂ ◌++◌ (ap (λ (x : Match). own player (lines_of_match round x)) (sym is)) (absent_all player round rest nowhere)
-    ∙ append-nil (own player (lines_of_match round m)))
-one_match (n ∷ rest) once (suc k) m player below is sits round =
-    let seat = sits_at rest k m player (omega arith) is sits in
-    let none = absent player round n
-    (λ same. once 0 (suc (suc seat.0)) 0 (omega arith) (omega (arith, seat.1)) (same ∙ sym seat.2))
-    (λ same. once 1 (suc (suc seat.0)) 0 (omega arith) (omega (arith, seat.1)) (same ∙ sym seat.2)) in
-    own-append player (lines_of_match round n) (flat_map (lines_of_match round) rest)
-    ∙ ap₂ ◌++◌ none (one_match rest (λ i j d before within. once (suc (suc i)) (suc (suc j)) d (omega arith) (omega arith)) k m player
-    (omega arith) is sits round)
+one_match ms once = one_of ms (sit-apart ms once).1
 
 -- nor in any
 pub own-all : (player : ℕ) (matches : List Match) (i round : ℕ) → length matches ≤ i
@@ -84,17 +68,13 @@ slot-length matches table score = length-set matches (table - 1) (scored score (
 
 pub lines_from-push : (n : ℕ) (rs : List Round) (r : Round)
     → lines_from n (rs ++ r ∷ []) ≡ lines_from n rs ++ counted_lines (n + length rs) r
-lines_from-push n [] r = append-nil (counted_lines n r) ∙ ap (λ (k : ℕ). counted_lines k r) (omega arith)
+lines_from-push n [] r = grind (arith, common_steps)
 lines_from-push n (first ∷ rs) r = grind (arith, common_steps, lines_from-push (n + 1) rs r)
 
 own-more : (player : ℕ) (rounds : List Round) (i : ℕ) (r : Round) → i < length rounds → r ≡ get_or rounds i r
     → own player (lines_from 1 (take (i + 1) rounds)) ≡ own player (lines_from 1 (take i rounds)) ++ own player
     (counted_lines (1 + length (take i rounds)) r)
-own-more player rounds i r below is =
-    ap (λ (front : List Round). own player (lines_from 1 front))
-    (take_more rounds i r below ∙ ap (λ (x : Round). take i rounds ++ x ∷ []) (sym is))
-    ∙ (ap (own player) (lines_from-push 1 (take i rounds) r)
-    ∙ own-append player (lines_from 1 (take i rounds)) (counted_lines (1 + length (take i rounds)) r))
+own-more player rounds i r below is = grind (arith, common_steps, counted_lines, lines_from, lines_from-push, own-append, take_more)
 
 -- one round more
 pub totals-more : (player : ℕ) (rounds : List Round) (i : ℕ) (r : Round) (totals : Totals) (seen : Option Games) → i < length rounds
@@ -102,14 +82,10 @@ pub totals-more : (player : ℕ) (rounds : List Round) (i : ℕ) (r : Round) (to
     → totals ≡ totals_of (own player (lines_from 1 (take i rounds)))
     → ((n : ℕ) → totals_of (own player (counted_lines n r)) ≡ totals_of_games seen)
     → plus totals (totals_of_games seen) ≡ totals_of (own player (lines_from 1 (take (i + 1) rounds)))
-totals-more player rounds i r totals seen below is before value =
-    let n = 1 + length (take i rounds) in
-    ap₂ plus before (sym (value n))
-    ∙ (sym (totals_of-append (own player (lines_from 1 (take i rounds))) (own player (counted_lines n r)))
-    ∙ ap totals_of (sym (own-more player rounds i r below is)))
+totals-more player rounds i r totals seen below is before value = grind (arith, common_steps, own-more player rounds i r below is, value)
 
 pub plus-none : (t : Totals) → plus t (totals_of []) ≡ t
-plus-none t = rw (zero-right t.points, zero-right t.rounds, zero-right t.game_points, zero-right t.games) refl
+plus-none t = grind (arith, common_steps)
 
 -- which adds nothing
 pub totals-same : (player : ℕ) (rounds : List Round) (i : ℕ) (r : Round) (totals : Totals) → i < length rounds → r ≡ get_or rounds i r
@@ -162,7 +138,4 @@ pub totals-push : (player : ℕ) (rounds : List Round) (r : Round) (totals : Tot
     → totals ≡ totals_of (own player (lines_from 1 rounds)) → ((n : ℕ) → totals_of (own player (counted_lines n r)) ≡ totals_of_games seen)
     → plus totals (totals_of_games seen) ≡ totals_of (own player (lines_from 1 (rounds ++ r ∷ [])))
 totals-push player rounds r totals seen before value =
-    let n = 1 + length rounds in
-    ap₂ plus before (sym (value n))
-    ∙ (sym (totals_of-append (own player (lines_from 1 rounds)) (own player (counted_lines n r)))
-    ∙ ap totals_of (sym (ap (own player) (lines_from-push 1 rounds r) ∙ own-append player (lines_from 1 rounds) (counted_lines n r))))
+    grind (arith, common_steps, counted_lines, lines_from, lines_from-push, own-append, totals_of)

@@ -1,4 +1,4 @@
-use Rattle.er_event.proofs.Prelude.{◌≡◌, take}
+use Rattle.er_event.proofs.Prelude.{take, ◌≡◌}
 use Rattle.er_event.proofs.brackets.copy_stages.Given as goal
 
 abbrev pub invariant-loop-stage : goal.invariant-loop-stage

@@ -1,4 +1,4 @@
-use Rattle.er_event.proofs.Prelude.{◌↔◌, drop, FollowOn}
+use Rattle.er_event.proofs.Prelude.{FollowOn, drop, ◌↔◌}
 use Rattle.er_event.proofs.brackets.follow_on.Given as goal
 
 abbrev pub invariant-loop-place : goal.invariant-loop-place

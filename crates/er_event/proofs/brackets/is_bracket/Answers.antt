@@ -1,6 +1,6 @@
-use Rattle.er_event.proofs.Prelude.{subst, sym, ◌∙◌, true≢false, arith}
-use Rattle.er_event.proofs.BracketLemmas.{IsFirst, is-bracket, bracket-first, of-AllLawful}
-use Rattle.er_event.proofs.brackets.is_bracket.Goals.{then-cut-eq0-via-then-cut-eq0, then-cut-eq0-via-else-cut-eq0+then-not-is_first}
+use Rattle.er_event.proofs.Prelude.{arith, subst, sym, true, true≢false, ◌∙◌, common_steps}
+use Rattle.er_event.proofs.BracketLemmas.{IsFirst, bracket-first, is-bracket, of-AllLawful}
+use Rattle.er_event.proofs.brackets.is_bracket.Goals.{then-cut-eq0-via-else-cut-eq0+then-not-is_first, then-cut-eq0-via-then-cut-eq0}
 use Rattle.er_event.proofs.brackets.is_bracket.Goals as goal
 
 pub returns-then-cut-eq0 : goal.returns-then-cut-eq0
@@ -16,16 +16,7 @@ returns-then-cut-eq0 c = (
 )
 
 pub returns-then-not-are_all_lawful : goal.returns-then-not-are_all_lawful
-returns-then-not-are_all_lawful c = (
-  λ never. absurd (true≢false (sym never)),
-  λ is. absurd (true≢false (sym (c.are_all_lawful.ensures ∙ of-AllLawful c.args.stages.now is.scores) ∙ c.if-not-are_all_lawful.true)),
-)
+returns-then-not-are_all_lawful c = grind (arith, common_steps, of-AllLawful c.args.stages.now)
 
 pub returns : goal.returns
-returns c =
-    let first = c.in-Some.first.now in (
-      λ follows. is-bracket c.args.count c.args.cut c.args.stages.now first (omega arith) (sym c.in-Some.ensures.value)
-          (subst (IsFirst c.args.count c.args.cut) c.as_slice.ensures (c.is_first.ensures.0 c.if-not-is_first.false))
-          (sym c.are_all_lawful.ensures ∙ c.if-not-are_all_lawful.false) (c.follow_on.ensures.0 follows),
-      λ is. c.follow_on.ensures.1 is.follows,
-    )
+returns c = grind (arith, common_steps, is-bracket)

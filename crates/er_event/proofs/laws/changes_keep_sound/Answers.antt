@@ -1,42 +1,15 @@
-use Rattle.er_event.proofs.Prelude.{◌≡◌, inl, inr, ◌≤◌, length, not, Bool, Option, List, sym, ap, subst, SetDropped, AddRound, SetScore}
-use Rattle.er_event.proofs.Prelude.{AddBracket, SetBracketScore, Phase, Enrolling, Swiss, Playoff, Finished, Match, following, stage_of}
-use Rattle.er_event.proofs.Prelude.{scored_slot, with_phase, with_bracket_score, EventValue, IsSoundButForSeeds}
-use Rattle.er_event.specs.{declared.changes.Change.TheVariants.{AddPlayer, SetPhase}, Safe.ChangesKeepSound, Sound.IsInPlayoff}
+use Rattle.er_event.proofs.Prelude.{following, scored_slot, stage_of, with_bracket_score, with_phase, EventValue, IsSoundButForSeeds}
+use Rattle.er_event.proofs.Prelude.{AddBracket, AddRound, SetBracketScore, SetDropped, SetScore, Phase, Enrolling, Swiss, Match, Bool, List}
+use Rattle.er_event.proofs.Prelude.{Option, ap, arith, length, not, subst, sym, ◌≡◌, ◌≤◌}
 use Rattle.er_event.proofs.{AddLemmas.IsSound-round, DropLemmas.IsSound-dropped, PlayerLemmas.IsSound-with, PlayoffLemmas.opening-fits}
 use Rattle.er_event.proofs.{ScoreLemmas.Fits-score, SlotScoreLemmas.Fits-open}
+use Rattle.er_event.specs.{Safe.ChangesKeepSound, declared.changes.Change.TheVariants.{AddPlayer, SetPhase}}
 use Rattle.er_event.proofs.laws.changes_keep_sound.Goals as goal
 
 started : (e : EventValue) → IsSoundButForSeeds e → e.phase ≡ Enrolling → 2 ≤ length e.players
     → IsSoundButForSeeds (with_phase e Swiss)
-started e h phase two = record {
-  set_up = h.set_up;
-  players = record {
-    few = h.players.few;
-    numbered = h.players.numbered;
-    lawful = h.players.lawful;
-    distinct = h.players.distinct;
-    enrolling = λ is. absurd (let never : Swiss ≡ Enrolling = is in cc);
-    started = λ _. two;
-  };
-  rounds = record {
-    few = h.rounds.few;
-    enrolling = λ is. absurd (let never : Swiss ≡ Enrolling = is in cc);
-    each = h.rounds.each;
-    no_repeats = h.rounds.no_repeats;
-    earlier_done = h.rounds.earlier_done;
-    done = λ over. absurd (early over);
-  };
-  bracket = record {
-    none = λ _. h.bracket.none (inl phase);
-    bracket = λ over. absurd (early over);
-    decided = λ is. absurd (early (inr is));
-    undecided = λ is. absurd (early (inl is));
-  };
-}
-  where
-    early : IsInPlayoff (with_phase e Swiss) → ⊥
-    early (inl is) = let never : Swiss ≡ Playoff = is in cc
-    early (inr is) = let never : Swiss ≡ Finished = is in cc
+started e h phase two =
+    record { set_up = h.set_up; players = grind (arith, h.players); rounds = grind (arith, h.rounds); bracket = grind (arith, h.bracket) }
 
 keeps : ChangesKeepSound
 keeps e (AddPlayer name) h (lawful, room, new) = IsSound-with e name h lawful room (ap not new)

@@ -1,22 +1,15 @@
-use Rattle.er_event.proofs.Prelude.{◌≢◌, List, AllPairs, flat_map, subst, true≢false, sym, ◌∙◌, refl, take_all, Match, seats}
-use Rattle.er_event.proofs.{SeatLemmas.{seats-more, seats-free, seats-apart}, matches.are_seated_once.Goals.then-played-via-then-played}
-use Rattle.er_event.proofs.matches.are_seated_once.Goals.{then-played-via-else-played+then-is_seat_taken}
+use Rattle.er_event.proofs.Prelude.{seats, Match, AllPairs, List, arith, false, flat_map, refl, subst, sym, true, ◌∙◌, ◌≢◌, common_steps}
+use Rattle.er_event.proofs.Prelude.{take_all}
+use Rattle.er_event.proofs.SeatLemmas.{seats-apart, seats-free, seats-more}
 use Rattle.er_event.proofs.matches.are_seated_once.Goals as goal
 
 pub returns-then-played : goal.returns-then-played
 returns-then-played c =
-    let ms = c.args.matches.now in
-    let at = c.loop-place.place in
-    let m = c.index-matches-place.result in (
-      λ never. absurd (true≢false (sym never)),
-      λ apart. elim c.then-played.branch [
-        | then-played-via-then-played w ↦ absurd (seats-apart ms at m m c.loop-place-test.true (sym c.index-matches-place.is) apart
-            w.if-played.true)
-        | then-played-via-else-played+then-is_seat_taken w ↦ absurd
-            (true≢false (sym w.if-is_seat_taken.true
-            ∙ (w.is_seat_taken.ensures ∙ seats-free ms at m m c.loop-place-test.true (sym c.index-matches-place.is) apart)))
-      ],
-    )
+    let m = c.index-matches-place.result in
+    let is = sym c.index-matches-place.is in
+    let apart = seats-apart c.args.matches.now c.loop-place.place m m c.loop-place-test.true is in
+    let free = seats-free c.args.matches.now c.loop-place.place m m c.loop-place-test.true is in
+    grind (arith, common_steps)
 
 pub loop-place-preserved : goal.loop-place-preserved
 loop-place-preserved c =

@@ -1,4 +1,4 @@
-use Rattle.er_event.proofs.Prelude.{◌≢◌, flat_map, take, AllPairs, seats}
+use Rattle.er_event.proofs.Prelude.{seats, AllPairs, flat_map, take, ◌≢◌}
 use Rattle.er_event.proofs.matches.are_seated_once.Given as goal
 
 abbrev pub invariant-loop-place : goal.invariant-loop-place

@@ -1,4 +1,4 @@
-use Rattle.er_event.proofs.Prelude.{◌≢◌, take, AllPairs, names}
+use Rattle.er_event.proofs.Prelude.{names, AllPairs, take, ◌≢◌}
 use Rattle.er_event.proofs.players.are_distinct.Given as goal
 
 abbrev pub invariant-loop-place : goal.invariant-loop-place

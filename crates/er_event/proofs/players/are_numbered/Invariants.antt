@@ -1,4 +1,4 @@
-use Rattle.er_event.proofs.Prelude.{◌≡◌, take, range_with_len, numbers}
+use Rattle.er_event.proofs.Prelude.{numbers, take, ◌≡◌, range_with_len}
 use Rattle.er_event.proofs.players.are_numbered.Given as goal
 
 abbrev pub invariant-loop-place : goal.invariant-loop-place

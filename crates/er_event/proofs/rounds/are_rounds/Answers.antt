@@ -1,16 +1,10 @@
-use Rattle.er_event.proofs.Prelude.{length, subst, sym, ◌∙◌, refl, true≢false, range_with_len, take_all, Swiss, AreRounds}
-use Rattle.er_event.proofs.PrefixLemmas.{no_rounds, next_follows, next_rounds, as_swiss}
+use Rattle.er_event.proofs.Prelude.{Swiss, arith, false, length, true, common_steps, take_all, range_with_len}
+use Rattle.er_event.proofs.PrefixLemmas.{next_follows, next_rounds, no_rounds}
 use Rattle.er_event.proofs.rounds.are_rounds.Goals as goal
 
 pub returns-then-not-may_follow : goal.returns-then-not-may_follow
-returns-then-not-may_follow c = (
-  λ never. absurd (true≢false (sym never)),
-  λ are.
-      let rounds = c.args.rounds.now in
-      let may = next_follows Swiss (length rounds) (range_with_len 1 c.args.count) rounds are c.loop-place.place c.index-rounds-place.result
-      c.loop-place-test.true c.index-rounds-place.is in
-      absurd (true≢false (sym (c.may_follow.ensures.1 (rw (c.as_slice.ensures) may)) ∙ c.if-not-may_follow.true)),
-)
+returns-then-not-may_follow c =
+    grind (arith, common_steps, next_follows Swiss (length c.args.rounds.now) (range_with_len 1 c.args.count) c.args.rounds.now)
 
 pub loop-place-init : goal.loop-place-init
 loop-place-init c = no_rounds (range_with_len 1 c.args.count)
@@ -22,9 +16,4 @@ loop-place-preserved c =
     c.index-rounds-place.is c.loop-place.invariant follows
 
 pub returns : goal.returns
-returns c =
-    let whole = take_all c.loop-place.place c.args.rounds.now c.loop-place-test.false in (
-      λ _. as_swiss Swiss c.loop-place.place (range_with_len 1 c.args.count) c.args.rounds.now
-          (subst (AreRounds Swiss c.loop-place.place (range_with_len 1 c.args.count)) whole c.loop-place.invariant),
-      λ _. refl,
-    )
+returns c = grind (arith, common_steps, range_with_len, take_all)

@@ -1,4 +1,4 @@
-use Rattle.er_event.proofs.Prelude.{take, range_with_len, Swiss, AreRounds}
+use Rattle.er_event.proofs.Prelude.{AreRounds, Swiss, take, range_with_len}
 use Rattle.er_event.proofs.rounds.are_rounds.Given as goal
 
 abbrev pub invariant-loop-place : goal.invariant-loop-place

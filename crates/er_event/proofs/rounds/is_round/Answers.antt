@@ -1,18 +1,9 @@
-use Rattle.er_event.proofs.Prelude.{◌≡◌, length, sym, ◌∙◌, true≢false, arith, nat_tests}
-use Rattle.er_event.proofs.{RoundLemmas.{is_round, round_lawful, round_last}, rounds.is_round.Goals.then-is_empty-via-then-is_empty}
-use Rattle.er_event.proofs.rounds.is_round.Goals.{then-is_empty-via-else-is_empty+then-not-are_lawful}
+use Rattle.er_event.proofs.Prelude.{arith, false, sym, ◌∙◌, nat_tests, common_steps}
+use Rattle.er_event.proofs.RoundLemmas.{is_round, round_last, round_lawful}
 use Rattle.er_event.proofs.rounds.is_round.Goals as goal
 
 pub returns-then-is_empty : goal.returns-then-is_empty
-returns-then-is_empty c = (
-  λ never. absurd (true≢false (sym never)),
-  λ round. elim c.then-is_empty.branch [
-    | then-is_empty-via-then-is_empty w ↦ absurd (let some = round.some in let none : length c.args.matches.now ≡ 0 = grind
-        (arith, nat_tests) in omega arith)
-    | then-is_empty-via-else-is_empty+then-not-are_lawful w ↦ absurd
-        (true≢false (sym (round_lawful c.args.count c.args.matches.now round) ∙ (sym w.are_lawful.ensures ∙ w.if-not-are_lawful.true)))
-  ],
-)
+returns-then-is_empty c = grind (arith, common_steps, nat_tests, round_lawful)
 
 pub returns : goal.returns
 returns c =

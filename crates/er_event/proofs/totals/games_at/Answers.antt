@@ -1,4 +1,4 @@
-use Rattle.er_event.proofs.Prelude.{◌∙◌, List, sym, ap, subst, Match, Round, IsSeatedOnce, scored_slot}
+use Rattle.er_event.proofs.Prelude.{scored_slot, totals, Match, Round, IsSeatedOnce, List, ap, false, subst, sym, true, ◌∙◌}
 use Rattle.er_event.proofs.TotalLemmas.{seated-here, seated-there}
 use Rattle.er_event.proofs.totals.games_at.Goals as goal
 

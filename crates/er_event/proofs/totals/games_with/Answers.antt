@@ -1,12 +1,9 @@
-use Rattle.er_event.proofs.Prelude.{◌∙◌, ap, arith, scored_slot, totals_of}
+use Rattle.er_event.proofs.Prelude.{scored_slot, totals, totals_of, ap, arith, false, true, ◌∙◌, common_steps}
 use Rattle.er_event.proofs.TotalLemmas.{apart_at, one_match, own-all, slot-length}
 use Rattle.er_event.proofs.totals.games_with.Goals as goal
 
 pub games_seen-requires-clause-apart : goal.games_seen-requires-clause-apart
-games_seen-requires-clause-apart c =
-    let within = slot-length c.args.matches.now c.args.table c.args.score in
-    apart_at (scored_slot c.args.matches.now c.args.table c.args.score) c.requires.seated c.loop-at.at c.match_with.result
-    (omega (arith, within, c.loop-at-test.true)) c.match_with.ensures
+games_seen-requires-clause-apart c = grind (arith, common_steps, apart_at, scored_slot, slot-length)
 
 pub returns-in-Some-clause-value : goal.returns-in-Some-clause-value
 returns-in-Some-clause-value c = λ round.

@@ -1,5 +1,6 @@
-use Rattle.er_event.proofs.Prelude.{◌≡◌, ◌∙◌, ℕ, List, sym, ap, Some, Match, Totals, Line, own, counted_lines, totals_of, totals_of_games}
-use Rattle.er_event.proofs.{TotalLemmas.{totals-more, totals-same, over-more}, totals.totals_in.Goals.{in-Some, in_default}}
+use Rattle.er_event.proofs.Prelude.{Line, counted_lines, own, totals, totals_of, totals_of_games, Match, Totals, List, Some, ap, sym, true}
+use Rattle.er_event.proofs.Prelude.{ℕ, ◌∙◌, ◌≡◌}
+use Rattle.er_event.proofs.{TotalLemmas.{over-more, totals-more, totals-same}, totals.totals_in.Goals.{in-Some, in_default}}
 use Rattle.er_event.proofs.totals.totals_in.Goals as goal
 
 pub loop-round-preserved : goal.loop-round-preserved

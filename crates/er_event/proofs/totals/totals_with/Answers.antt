@@ -1,5 +1,5 @@
-use Rattle.er_event.proofs.Prelude.{◌≡◌, ◌<◌, ◌∙◌, [], length, get_or, ap, Some, arith, get_or_default, Round, rescored, totals_of_games}
-use Rattle.er_event.proofs.{TotalLemmas.{totals-more, totals-same, over-more, rescored-length}, totals.totals_with.Goals.in-Some}
+use Rattle.er_event.proofs.Prelude.{totals, Round, rescored, Some, [], arith, get_or, length, true, ◌<◌, ◌∙◌, ◌≡◌, get_or_default}
+use Rattle.er_event.proofs.{TotalLemmas.{over-more, rescored-length, totals-more, totals-same}, totals.totals_with.Goals.in-Some}
 use Rattle.er_event.proofs.totals.totals_with.Goals.{in_default}
 use Rattle.er_event.proofs.totals.totals_with.Goals as goal
 
@@ -15,14 +15,13 @@ loop-at-preserved c =
     let inv = c.loop-at.invariant in
     elim c.match-games_at.branch [
       | in-Some w ↦ record {
-        value = w.totals-is ∙ (w.with-totals.ensures.value
-            ∙ totals-more c.args.player rounds i r c.loop-at.totals (Some w.in-Some.games) below is inv.value
-            (λ n. w.in-Some.ensures.value r is n));
+        value = w.totals-is ∙ (w.with-totals.ensures.value ∙ totals-more c.args.player rounds i r c.loop-at.totals (Some w.in-Some.games)
+            below is inv.value (w.in-Some.ensures.value r is));
         over = rw w.totals-is (w.with-totals.ensures.more i inv.over);
       }
       | in_default w ↦ record {
         value = w.totals-is ∙ totals-same c.args.player rounds i r c.loop-at.totals below is inv.value
-            (λ n. c.games_at.ensures.value r is n ∙ ap totals_of_games w.in_default.is);
+            (rw w.in_default.is at (c.games_at.ensures.value r is));
         over = rw w.totals-is (over-more i c.loop-at.totals inv.over);
       }
     ]

@@ -1,5 +1,5 @@
-use Rattle.er_event.proofs.Prelude.{◌∙◌, sym, None, Some}
-use Rattle.er_event.proofs.TotalLemmas.{totals-push, plus-none}
+use Rattle.er_event.proofs.Prelude.{totals, None, Some, sym, ◌∙◌}
+use Rattle.er_event.proofs.TotalLemmas.{plus-none, totals-push}
 use Rattle.er_event.proofs.totals.totals_with_round.Goals as goal
 
 pub returns-in-Some : goal.returns-in-Some

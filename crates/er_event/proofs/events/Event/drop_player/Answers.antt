@@ -1,4 +1,4 @@
-use Rattle.er_event.proofs.Prelude.{Contains, sym, subst, EventValue, numbers}
+use Rattle.er_event.proofs.Prelude.{EventValue, numbers, Contains, subst, sym}
 use Rattle.er_event.proofs.DropLemmas.{numbered-within}
 use Rattle.er_event.proofs.events.Event.drop_player.Goals as goal
 

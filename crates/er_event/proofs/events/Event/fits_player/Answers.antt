@@ -1,5 +1,5 @@
-use Rattle.er_event.proofs.Prelude.{◌≡◌, ◌<◌, length, not, ◌∙◌, sym, ap, arith, has_name}
-use Rattle.er_event.proofs.PlayerLemmas.{IsSound-with, IsSound-new}
+use Rattle.er_event.proofs.Prelude.{has_name, ap, arith, length, not, sym, ◌<◌, ◌∙◌, ◌≡◌}
+use Rattle.er_event.proofs.PlayerLemmas.{IsSound-new, IsSound-with}
 use Rattle.er_event.proofs.events.Event.fits_player.Goals as goal
 
 pub returns-then-players-from : goal.returns-then-players-from

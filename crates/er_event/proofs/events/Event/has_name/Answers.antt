@@ -1,4 +1,4 @@
-use Rattle.er_event.proofs.Prelude.{◌≡◌, ◌∙◌, sym, ap, not, has_name}
+use Rattle.er_event.proofs.Prelude.{has_name, ap, not, sym, ◌∙◌, ◌≡◌}
 use Rattle.er_event.proofs.PlayerLemmas.{IsSound-with}
 use Rattle.er_event.proofs.events.Event.has_name.Goals as goal
 

@@ -1,4 +1,4 @@
-use Rattle.er_event.proofs.Prelude.{◌≡◌, map, take, Player, tally_row, totals}
+use Rattle.er_event.proofs.Prelude.{tally_row, totals, Player, map, take, ◌≡◌}
 use Rattle.er_event.proofs.events.Event.has_tallies.Given as goal
 
 abbrev pub invariant-loop-at : goal.invariant-loop-at

@@ -1,5 +1,6 @@
-use Rattle.er_event.proofs.Prelude.{◌≡◌, ◌-◌, ◌<◌, length, get_or, List, sym, ap, subst, ◌∙◌, arith, nat_tests, Match, Round, match_in}
-use Rattle.er_event.proofs.ScoreLemmas.{read-match, read-fits}
+use Rattle.er_event.proofs.Prelude.{match_at, match_in, Match, Round, List, ap, arith, false, get_or, length, subst, sym, ◌-◌, ◌<◌, ◌∙◌}
+use Rattle.er_event.proofs.Prelude.{◌≡◌, nat_tests}
+use Rattle.er_event.proofs.ScoreLemmas.{read-fits, read-match}
 use Rattle.er_event.proofs.events.Event.match_at.Goals as goal
 
 pub returns-clause-fits : goal.returns-clause-fits

@@ -1,19 +1,11 @@
-use Rattle.er_event.proofs.Prelude.{◌≡◌, ℕ, ◌-◌, [], List, if◌then◌else◌, get_or, sym, ap, subst, ◌∙◌, get_or_default, AddRound, SetScore}
-use Rattle.er_event.proofs.Prelude.{Match, Round, Fits, recounted_in, recounted, IsAbsent, is_counted}
-use Rattle.er_event.proofs.{RecountedLemmas.{added-same, added-known, scored-same, scored-known}, RescoredLemmas.table-within}
-use Rattle.er_event.proofs.RescoredLemmas.{round-within}
+use Rattle.er_event.proofs.Prelude.{Fits, IsAbsent, recounted, recounted_in, is_counted, AddRound, SetScore, Match, List, [], ap, arith}
+use Rattle.er_event.proofs.Prelude.{get_or, if◌then◌else◌, subst, ◌∙◌, common_steps, get_or_default}
+use Rattle.er_event.proofs.{RecountedLemmas.{added-known, added-same, scored-known, scored-same}, RescoredLemmas.round-within}
+use Rattle.er_event.proofs.RescoredLemmas.{table-within}
 use Rattle.er_event.proofs.events.Event.matches_to_recount.Goals as goal
 
 pub matches_to_recount_in-requires : goal.matches_to_recount_in-requires
-matches_to_recount_in-requires c =
-    let score = c.in-SetScore in
-    let event = c.args.self.now in
-    let fits : Fits event (SetScore score.round score.table score.score) = subst (Fits event) score.is c.requires in
-    let round = c.index-stored-from.result in
-    let is : round ≡ get_or event.stored (score.round - 1) round =
-    c.index-stored-from.is ∙ (ap (λ (rs : List Round). get_or rs (c.from.result - 1) round) c.stored-stored.ensures.value ∙ ap
-    (λ (k : ℕ). get_or event.stored (k - 1) round) c.from.ensures) in
-    rw (c.from-in-SetScore.ensures, c.as_slice-in-SetScore.ensures) (table-within event score.round score.table score.score fits round is)
+matches_to_recount_in-requires c = grind (arith, common_steps, get_or, table-within)
 
 pub returns-in-AddRound-clause-known : goal.returns-in-AddRound-clause-known
 returns-in-AddRound-clause-known c =
@@ -23,29 +15,11 @@ returns-in-AddRound-clause-known c =
     rw are (added-known c.args.self.now ms fits)
 
 pub returns-in-AddRound-clause-others : goal.returns-in-AddRound-clause-others
-returns-in-AddRound-clause-others c = λ player away.
-    let ms = c.in-AddRound.matches in
-    let are = c.counted_at_once.ensures ∙ ap (λ (xs : List Match). if is_counted xs then xs else []) c.as_slice.ensures in
-    rw c.in-AddRound.is (added-same c.args.self.now ms player (subst (IsAbsent player) are away))
+returns-in-AddRound-clause-others c = grind (arith, common_steps, added-same, is_counted)
 
 -- the matches that the code gives
 given : goal.returns-in-SetScore-clause-value
-given c =
-    let score = c.in-SetScore in
-    let event = c.args.self.now in
-    let fits : Fits event (SetScore score.round score.table score.score) = subst (Fits event) score.is c.requires in
-    let round = c.index-stored-from.result in
-    let is : round ≡ get_or event.stored (score.round - 1) (record { matches = [] }) =
-    c.index-stored-from.is ∙ (ap (λ (rs : List Round). get_or rs (c.from.result - 1) round) c.stored-stored.ensures.value
-    ∙ (ap (λ (k : ℕ). get_or event.stored (k - 1) round) c.from.ensures
-    ∙ get_or_default event.stored (score.round - 1) round (record { matches = [] })
-    (round-within event score.round score.table score.score fits))) in
-    c.matches_to_recount_in.ensures
-    ∙ (ap (λ (ms : List Match). recounted_in ms c.from-in-SetScore.result score.score)
-    (c.as_slice-in-SetScore.ensures ∙ ap (λ (r : Round). r.matches) is)
-    ∙ (ap (λ (t : ℕ). recounted_in (get_or event.stored (score.round - 1) (record { matches = [] })).matches t score.score)
-    c.from-in-SetScore.ensures
-    ∙ ap (recounted event) (sym score.is)))
+given c = grind (arith, common_steps, get_or, get_or_default, recounted_in, round-within)
 
 pub returns-in-SetScore-clause-value : goal.returns-in-SetScore-clause-value
 returns-in-SetScore-clause-value = given

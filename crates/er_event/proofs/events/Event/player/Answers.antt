@@ -1,4 +1,4 @@
-use Rattle.er_event.proofs.Prelude.{◌∙◌, ap, find, ◌==◌, Player}
+use Rattle.er_event.proofs.Prelude.{Player, ap, find, ◌==◌, ◌∙◌}
 use Rattle.er_event.proofs.DropLemmas.{found-drops, found-has}
 use Rattle.er_event.proofs.events.Event.player.Goals as goal
 

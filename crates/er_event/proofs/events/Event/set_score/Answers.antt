@@ -1,18 +1,13 @@
-use Rattle.er_event.proofs.Prelude.{sym, ap, subst, ◌∙◌, arith, SetScore, EventValue, value_of, IsSoundButForSeeds, with_score, Fits}
+use Rattle.er_event.proofs.Prelude.{Fits, with_score, EventValue, IsSoundButForSeeds, SetScore, value_of, ap, arith, subst, sym, ◌∙◌}
+use Rattle.er_event.proofs.Prelude.{common_steps}
 use Rattle.er_event.proofs.ScoreLemmas.{fits-low, listed-within, written}
 use Rattle.er_event.proofs.events.Event.set_score.Goals as goal
 
 pub overflow_sub-from-2 : goal.overflow_sub-from-2
-overflow_sub-from-2 c =
-    let low = fits-low c.args.self c.args.round c.args.table c.args.score c.requires in
-    omega (arith, c.from-2.ensures)
+overflow_sub-from-2 c = grind (arith, common_steps, fits-low)
 
 pub score_match-requires : goal.score_match-requires
-score_match-requires c =
-    let e = value_of c.self.inside in
-    let fits = subst (λ (v : EventValue). Fits v (SetScore c.args.round c.args.table c.args.score)) (sym c.self.view_is) c.requires in
-    listed-within e c.args.round c.args.table c.args.score fits c.from.result c.from-2.result c.index_mut-listed.result.now c.from.ensures
-    c.from-2.ensures c.index_mut-listed.ensures.value
+score_match-requires c = grind (arith, common_steps, listed-within, value_of)
 
 pub invariant_of-self : goal.invariant_of-self
 invariant_of-self c =

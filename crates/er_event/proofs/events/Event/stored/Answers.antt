@@ -1,4 +1,4 @@
-use Rattle.er_event.proofs.Prelude.{subst, IsSoundButForSeeds}
+use Rattle.er_event.proofs.Prelude.{IsSoundButForSeeds, subst}
 use Rattle.er_event.proofs.AddLemmas.{IsSound-round}
 use Rattle.er_event.proofs.events.Event.stored.Goals as goal
 

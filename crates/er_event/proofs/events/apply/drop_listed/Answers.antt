@@ -1,4 +1,4 @@
-use Rattle.er_event.proofs.Prelude.{◌≡◌, ◌+◌, ◌-◌, ◌<◌, length, map, true, sym, ap, subst, ◌∙◌, arith, set, Player, dropped_at}
+use Rattle.er_event.proofs.Prelude.{dropped_at, Player, ap, arith, length, map, subst, sym, true, ◌+◌, ◌-◌, ◌<◌, ◌∙◌, ◌≡◌, set}
 use Rattle.er_event.proofs.DropLemmas.{set-dropped}
 use Rattle.er_event.proofs.events.apply.drop_listed.Goals as goal
 

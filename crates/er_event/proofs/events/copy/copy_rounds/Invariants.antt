@@ -1,4 +1,4 @@
-use Rattle.er_event.proofs.Prelude.{◌≡◌, take}
+use Rattle.er_event.proofs.Prelude.{take, ◌≡◌}
 use Rattle.er_event.proofs.events.copy.copy_rounds.Given as goal
 
 abbrev pub invariant-loop-round : goal.invariant-loop-round

@@ -1,22 +1,15 @@
-use Rattle.er_event.proofs.Prelude.{◌≡◌, ◌∙◌, rules, Memory}
-use Rattle.er_event.proofs.StageLemmas.{count_is, first_rows, some_count}
+use Rattle.er_event.proofs.Prelude.{arith, common_steps}
+use Rattle.er_event.proofs.{RowLemmas.{count_is, first_rows, some_count}, StageLemmas.stages_in_turn}
 use Rattle.er_event.proofs.rows.bracket.read_next.Goals as goal
 
 pub returns-then-count-eq0-clause-exact : goal.returns-then-count-eq0-clause-exact
 returns-then-count-eq0-clause-exact c ms later shown all are =
-    absurd (some_count c.args.stage c.args.rows.now ms later shown all are c.rows_of_stage-count.result c.rows_of_stage-count.ensures
-    c.if-count-eq0.true)
+    grind (arith, common_steps, some_count stages_in_turn c.args.stage c.args.rows.now ms later shown all are)
 
 pub returns-in_err-matches-clause-exact : goal.returns-in_err-matches-clause-exact
 returns-in_err-matches-clause-exact c ms later shown all are =
-    let why : c.in_err-matches.field-0.0 ≡ Memory =
-    c.in_err-matches.ensures.exact ms shown.each
-    (first_rows c.args.stage c.args.rows.now ms later shown all are c.rows_of_stage-count.result c.rows_of_stage-count.ensures) in
-    search (rules, why)
+    grind (arith, common_steps, first_rows stages_in_turn c.args.stage c.args.rows.now ms later shown all are)
 
 pub returns-clause-exact : goal.returns-clause-exact
-returns-clause-exact c ms later shown all are = (
-  c.in_ok-matches.ensures.exact ms shown.each (first_rows c.args.stage c.args.rows.now ms later shown all are c.rows_of_stage-count.result
-      c.rows_of_stage-count.ensures),
-  c.rows_of_stage-count.ensures ∙ count_is c.args.stage c.args.rows.now ms later shown all are,
-)
+returns-clause-exact c ms later shown all are =
+    grind (arith, common_steps, count_is stages_in_turn c.args.stage c.args.rows.now ms later shown all are)

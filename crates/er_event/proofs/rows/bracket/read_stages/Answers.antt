@@ -1,6 +1,7 @@
-use Rattle.er_event.proofs.Prelude.{◌≡◌, ◌≤◌, ◌+◌, ◌++◌, [], ◌∷◌, List, All, length, sym, ap, subst, ◌∙◌, arith, rules, append-nil}
-use Rattle.er_event.proofs.Prelude.{length-append, length-drop, common_steps, Match, Memory, bracket_rows_from, FitStageRows}
-use Rattle.er_event.proofs.StageLemmas.{next_shown, rest_from, value_more, drop_more, no_rows, rest_of}
+use Rattle.er_event.proofs.Prelude.{bracket_rows_from, Memory, Match, FitStageRows, List, [], ap, arith, drop, false, get_or, length, refl}
+use Rattle.er_event.proofs.Prelude.{rules, subst, sym, take, true, ◌++◌, ◌+◌, ◌∙◌, ◌∷◌, ◌≡◌, ◌≤◌, common_steps, All-drop, length-drop}
+use Rattle.er_event.proofs.Prelude.{take_more, take_rest}
+use Rattle.er_event.proofs.{RowLemmas.{drop_next, next_shown, next_within, none_left, value_more}, StageLemmas.stages_in_turn}
 use Rattle.er_event.proofs.rows.bracket.read_stages.Goals as goal
 
 pub loop-read-init : goal.loop-read-init
@@ -9,20 +10,22 @@ loop-read-init c =
       omega arith,
       subst (λ (rs : List (List Match)). length rs ≤ 3) (sym none) (omega arith),
       ap (bracket_rows_from 1) (sym none),
-      λ rs all few are. (
-        rs,
-        ap (λ l. l ++ rs) (sym none),
-        are ∙ ap (λ (l : List (List Match)). bracket_rows_from (length l + 1) rs) (sym none),
-      ),
+      λ rs all few are. subst (λ (l : List (List Match)). (l ≡ take (length l) rs)
+          × (c.args.rows.now ≡ bracket_rows_from (length l + 1) (drop (length l) rs))) (sym none) (refl, are),
     )
 
 pub returns-in_err-matches-clause-exact : goal.returns-in_err-matches-clause-exact
 returns-in_err-matches-clause-exact c rs all few are =
+    let rows = c.args.rows.now in
+    let read = c.loop-read.read in
+    let items = c.loop-read.stages.items in
+    let k = c.len-in-loop-read.result in
+    let k_is : k ≡ length items = c.len-in-loop-read.ensures ∙ c.loop-read.stages.ok.0 in
     let left = c.loop-read.invariant.3 rs all few are in
-    let next = next_shown c.args.rows.now c.loop-read.read c.loop-read.stages.items c.len-in-loop-read.result
-    (c.len-in-loop-read.ensures ∙ c.loop-read.stages.ok.0) rs left.0 c.loop-read-test.true all left.1 left.2 in
-    let why : c.in_err-matches.field-0.0 ≡ Memory =
-    c.in_err-matches.ensures.exact next.stage next.later next.shown next.all next.rows_are in
+    let within = next_within stages_in_turn rows read items k k_is rs all left.1 c.loop-read-test.true in
+    let why : c.in_err-matches.field-0.0 ≡ Memory = c.in_err-matches.ensures.exact (get_or rs k []) (drop (k + 1) rs)
+    (all k [] within) (All-drop FitStageRows (k + 1) rs all)
+    (next_shown stages_in_turn rows read items k k_is rs all left.1 [] within) in
     search (rules, why)
 
 pub loop-read-preserved : goal.loop-read-preserved
@@ -35,27 +38,24 @@ loop-read-preserved c =
     let ms = c.in_ok-matches.matches in
     let count = c.in_ok-matches.count in
     let value = c.in_ok-matches.ensures.value in
-    let pushed : c.push.new.self.items ≡ items ++ ms ∷ [] = grind (arith, common_steps) in
-    let grown : length c.push.new.self.items ≡ length items + 1 = ap length pushed ∙ length-append items (ms ∷ []) in (
-      (let fits = value.2 in let len = ap length (rest_from rows read items k k_is) in let rest = length-drop read rows in omega arith),
+    let r = ms in
+    let pushed : c.push.new.self.items ≡ items ++ r ∷ [] = grind (arith, common_steps) in
+    let grown : length c.push.new.self.items ≡ k + 1 = grind (arith, common_steps) in (
+      (let fits = value.2 in let len = ap length (take_rest rows read) in let rest = length-drop read rows in omega arith),
       (let room = c.if-len-from.false in let from = c.from.ensures in let len = c.len.ensures in omega arith),
-      value_more rows read items k k_is ms count c.loop-read.invariant.2 value.0 ∙ ap (bracket_rows_from 1) (sym pushed),
+      value_more stages_in_turn rows read items k k_is r count c.loop-read.invariant.2 value.0 ∙ ap (bracket_rows_from 1) (sym pushed),
       λ rs all few are.
           let left = c.loop-read.invariant.3 rs all few are in
-          let next = next_shown rows read items k k_is rs left.0 c.loop-read-test.true all left.1 left.2 in
-          let found = c.in_ok-matches.ensures.exact next.stage next.later next.shown next.all next.rows_are in
-          let same : ms ≡ next.stage = found.0 in (
-            next.later,
-            next.split ∙ ap (λ (l : List (List Match)). l ++ next.later) (ap (λ (s : List Match). items ++ s ∷ []) (sym same) ∙ sym pushed),
-            drop_more rows read items k k_is next.stage count next.later next.rows_are found.1 ∙ ap
-                (λ (l : List (List Match)). bracket_rows_from (length l + 1) next.later)
-                (ap (λ (s : List Match). items ++ s ∷ []) (sym same) ∙ sym pushed),
+          let within = next_within stages_in_turn rows read items k k_is rs all left.1 c.loop-read-test.true in
+          let found = c.in_ok-matches.ensures.exact (get_or rs k r) (drop (k + 1) rs) (all k r within)
+          (All-drop FitStageRows (k + 1) rs all) (next_shown stages_in_turn rows read items k k_is rs all left.1 r within) in (
+            grind (arith, common_steps, take_more),
+            drop_next stages_in_turn rows read items k k_is rs all left.1 r count _ within found.1 grown,
           ),
     )
 
 pub returns-clause-exact : goal.returns-clause-exact
 returns-clause-exact c rs all few are =
     let left = c.loop-read.invariant.3 rs all few are in
-    let none = no_rows c.args.rows.now c.loop-read.read (length c.loop-read.stages.items + 1) left.0
-    (rest_of c.loop-read.stages.items left.0 (subst (All FitStageRows) left.1 all)) c.loop-read-test.false left.2 in
-    sym (left.1 ∙ (ap (λ l. c.loop-read.stages.items ++ l) none ∙ append-nil c.loop-read.stages.items))
+    left.0 ∙ none_left stages_in_turn c.args.rows.now c.loop-read.read c.loop-read.stages.items (length c.loop-read.stages.items) refl rs
+    all left.1 c.loop-read-test.false

@@ -1,4 +1,4 @@
-use Rattle.er_event.proofs.Prelude.{List, subst, EventRow, IsEventRow}
+use Rattle.er_event.proofs.Prelude.{IsEventRow, EventRow, List, subst}
 use Rattle.er_event.proofs.PartsLemmas.{one_row}
 use Rattle.er_event.proofs.rows.event.read_event.Goals as goal
 

@@ -1,13 +1,13 @@
-use Rattle.er_event.proofs.Prelude.{List, drop, get_or, inl, inr, ap, sym, ◌∙◌, true≢false, PairingRow}
-use Rattle.std.proofs.lemmas.Result.{IfOk-weaker}
-use Rattle.er_event.proofs.PairingLemmas.{nothing, bye_or_tables, keyed-tables, with_bye_rows, first_is_bye, first_is_table, found_as}
-use Rattle.er_event.proofs.{PairingLemmas.{rest_rows, none_first, some_rows}, rows.pairing.read_round.Goals.then-is_empty-via-then-is_empty}
+use Rattle.er_event.proofs.Prelude.{is_bye, PairingRow, List, ap, arith, drop, false, get_or, inl, inr, sym, true, true≢false, ◌∙◌}
+use Rattle.er_event.proofs.Prelude.{common_steps, take_rest}
+use Rattle.er_event.proofs.PairingLemmas.{bye_or_tables, first_is_bye, first_is_table, found_as, keyed-tables, none_first, nothing}
+use Rattle.er_event.proofs.PairingLemmas.{some_rows, with_bye_rows}
 use Rattle.er_event.proofs.rows.pairing.read_round.Goals.{then-is_empty-via-else-is_empty+then-not-is_bye_row}
+use Rattle.er_event.proofs.rows.pairing.read_round.Goals.{then-is_empty-via-then-is_empty}
 use Rattle.er_event.proofs.rows.pairing.read_round.Goals as goal
 
 pub returns-then-is_empty-clause-value : goal.returns-then-is_empty-clause-value
-returns-then-is_empty-clause-value c = IfOk-weaker c.read_tables.result _ _
-    (λ ms read. read.0 ∙ sym (keyed-tables c.args.round ms read.1)) c.read_tables.ensures.value
+returns-then-is_empty-clause-value c = grind (arith, common_steps, keyed-tables)
 
 pub returns-then-is_empty-clause-exact : goal.returns-then-is_empty-clause-exact
 returns-then-is_empty-clause-exact c ms shown are =
@@ -31,5 +31,5 @@ returns-clause-exact c ms shown are =
           in true≢false (sym c.if-not-is_bye_row.false ∙ (c.is_bye_row.ensures r 0 first.0 first.2 ∙ first.1)))
       | inr w ↦ found_as _ c.read_with_bye.result w.are (c.read_with_bye.ensures.exact w.tables w.bye w.shown w.no_byes w.bye_shown w.is_bye
           (ap (λ (rs : List PairingRow). get_or rs 0 nothing) (with_bye_rows r rows ms w are))
-          (rest_rows rows ∙ ap (drop 1) (with_bye_rows r rows ms w are)))
+          (take_rest rows 1 ∙ ap (drop 1) (with_bye_rows r rows ms w are)))
     ]

@@ -1,14 +1,14 @@
-use Rattle.er_event.proofs.Prelude.{◌≡◌, ◌+◌, ◌++◌, [], ◌∷◌, length, IsFalse, sym, ap, subst, ◌∙◌, append-nil, length-append, All-push}
-use Rattle.er_event.proofs.Prelude.{same_Some, Match, is_bye, AreTables, table_rows}
-use Rattle.er_event.proofs.PairingLemmas.{never_none, here_shown, rows_more, nothing_left}
+use Rattle.er_event.proofs.Prelude.{open_match, AreTables, table_rows, is_bye, pairing_row, Match, IsFalse, [], ap, ap₂, arith, false}
+use Rattle.er_event.proofs.Prelude.{get_or, subst, sym, true, ◌++◌, ◌∙◌, ◌∷◌, ◌≡◌, common_steps, All-push, take_more, same_Some}
+use Rattle.er_event.proofs.{PairingLemmas.{never_none, nothing}, RowLemmas.{all_shown, here_shown, rows_more}}
 use Rattle.er_event.proofs.rows.pairing.read_tables.Goals as goal
 
 pub returns-in_default-clause-exact : goal.returns-in_default-clause-exact
 returns-in_default-clause-exact c ms shown tables are =
-    let left = c.loop-place.invariant.3 ms shown tables are in
-    let here = here_shown c.args.round c.loop-place.place c.args.rows.now c.loop-place-test.true c.loop-place.matches ms left.0 shown tables
-    left.1 left.2 in
-    never_none c.read_table.result here.0 c.in_default.is (c.read_table.ensures.exact here.0 here.2 here.3 here.4)
+    let here = here_shown (pairing_row c.args.round) nothing c.args.rows.now c.loop-place.place c.loop-place-test.true ms (open_match 0 0)
+    are in
+    never_none c.read_table.result _ c.in_default.is (c.read_table.ensures.exact (get_or ms c.loop-place.place (open_match 0 0))
+    (shown c.loop-place.place (open_match 0 0) here.0) (tables c.loop-place.place (open_match 0 0) here.0) here.1)
 
 pub loop-place-preserved : goal.loop-place-preserved
 loop-place-preserved c =
@@ -16,24 +16,20 @@ loop-place-preserved c =
     let rows = c.args.rows.now in
     let items = c.loop-place.matches in
     let m = c.in-Some.played in
-    let read = c.in-Some.ensures.value in
-    let pushed = c.in_ok-push.ensures.ok in
-    let count : length c.push.new.self ≡ at + 1 =
-    ap length pushed ∙ (length-append items (m ∷ []) ∙ ap (λ n. n + 1) c.loop-place.invariant.0) in (
-      count,
-      subst AreTables (sym pushed) (All-push (λ (k : Match). IsFalse (is_bye k)) items m c.loop-place.invariant.1 read.1),
-      rows_more c.args.round at rows c.loop-place-test.true items m c.loop-place.invariant.0 c.loop-place.invariant.2 read.0
+    let pushed = c.in_ok-push.ensures.ok in (
+      grind (arith, common_steps),
+      subst AreTables (sym pushed)
+          (All-push (λ (k : Match). IsFalse (is_bye k)) items m c.loop-place.invariant.1 c.in-Some.ensures.value.1),
+      rows_more (pairing_row c.args.round) nothing rows at c.loop-place-test.true items m c.loop-place.invariant.0 c.loop-place.invariant.2
+          c.in-Some.ensures.value.0
           ∙ ap (table_rows c.args.round 1) (sym pushed),
       λ ms shown tables are.
-          let left = c.loop-place.invariant.3 ms shown tables are in
-          let here = here_shown c.args.round at rows c.loop-place-test.true items ms left.0 shown tables left.1 left.2 in
-          let found : m ≡ here.0 = same_Some m here.0 (sym c.in-Some.is ∙ c.read_table.ensures.exact here.0 here.2 here.3 here.4) in
-          (here.1, here.5 ∙ ap (λ l. l ++ here.1) (ap (λ k. items ++ k ∷ []) (sym found) ∙ sym pushed), here.6),
+          let here = here_shown (pairing_row c.args.round) nothing rows at c.loop-place-test.true ms m are in
+          let found : m ≡ get_or ms at m =
+          same_Some m _ (sym c.in-Some.is ∙ c.read_table.ensures.exact _ (shown at m here.0) (tables at m here.0) here.1) in
+          pushed ∙ (ap₂ (λ xs k. xs ++ k ∷ []) (c.loop-place.invariant.3 ms shown tables are) found ∙ sym (take_more ms at m here.0)),
     )
 
 pub returns-clause-exact : goal.returns-clause-exact
-returns-clause-exact c ms shown tables are =
-    let left = c.loop-place.invariant.3 ms shown tables are in
-    let none = nothing_left c.args.round (c.loop-place.place + 1) c.loop-place.place c.args.rows.now left.0 c.loop-place-test.false
-    left.2 in
-    sym (left.1 ∙ (ap (λ l. c.loop-place.matches ++ l) none ∙ append-nil c.loop-place.matches))
+returns-clause-exact c ms shown tables are = c.loop-place.invariant.3 ms shown tables are
+    ∙ all_shown (pairing_row c.args.round) nothing c.args.rows.now c.loop-place.place ms c.loop-place-test.false are

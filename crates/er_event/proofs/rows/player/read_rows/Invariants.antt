@@ -1,4 +1,4 @@
-use Rattle.er_event.proofs.Prelude.{◌≡◌, take, map, All, IsTrue, Player, is_lawful_name, player_row}
+use Rattle.er_event.proofs.Prelude.{is_lawful_name, player_row, Player, All, IsTrue, map, take, ◌≡◌}
 use Rattle.er_event.proofs.rows.player.read_rows.Given as goal
 
 abbrev pub invariant-loop-row : goal.invariant-loop-row

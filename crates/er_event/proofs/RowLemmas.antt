@@ -1,0 +1,148 @@
+-- Rows, of whichever table, that show matches one after the other, and groups of them in turn.
+use Rattle.er_event.proofs.Prelude.{numbered_from, Match, All, Bool, List, [], ap, ap₂, arith, drop, false, get_or, length, length-append}
+use Rattle.er_event.proofs.Prelude.{map, refl, subst, suc, sym, take, true, zero, ℕ, ℤ, ◌&&◌, ◌++◌, ◌+◌, ◌-◌, ◌<◌, ◌∙◌, ◌∷◌, ◌≡◌, ◌≤◌}
+use Rattle.er_event.proofs.Prelude.{length-map, take-append_seam, Decides-int_eq, common_steps, All-drop, All-head, drop_all, drop_more}
+use Rattle.er_event.proofs.Prelude.{length-drop, map-append, take_all, take_more, take_rest, Decides, AllByRecursion, is_of}
+use Rattle.std.proofs.{Math.Seq.{drop-append_seam, drop-drop, take-add}, lemmas.Bool.Decides.Decides-and}
+use Rattle.std.specs.{List.prefix_len, Ordering.int_eq}
+
+-- ---- rows that agree in each column
+
+-- whether the two of each pair, a column of two rows, are the same
+abbrev pub agree : List (ℤ × ℤ) → Bool
+agree [] = true
+agree (p ∷ []) = int_eq p.0 p.1
+agree (p ∷ q ∷ more) = int_eq p.0 p.1 && agree (q ∷ more)
+
+pub agree-Decides : (columns : List (ℤ × ℤ)) → Decides (agree columns) (AllByRecursion (λ (p : ℤ × ℤ). p.0 ≡ p.1) columns)
+agree-Decides [] = (λ _. tt, λ _. refl)
+agree-Decides (p ∷ []) = let same = Decides-int_eq p.0 p.1 in (λ is. (same.0 is, tt), λ is. same.1 is.0)
+agree-Decides (p ∷ q ∷ more) = Decides-and _ _ (Decides-int_eq p.0 p.1) (agree-Decides (q ∷ more))
+
+-- ---- the rows of matches one after the other
+
+pub length-numbered : (n : ℕ) (ms : List Match) → length (numbered_from n ms) ≡ length ms
+length-numbered n [] = refl
+length-numbered n (m ∷ ms) = ap suc (length-numbered (n + 1) ms)
+
+pub numbered-push : (n : ℕ) (ms : List Match) (m : Match) → numbered_from n (ms ++ m ∷ []) ≡ numbered_from n ms ++ (n + length ms, m) ∷ []
+numbered-push n [] m = let e : n ≡ n + 0 = omega arith in ap (λ k. (k, m) ∷ []) e
+numbered-push n (k ∷ ms) m = grind (arith, common_steps, numbered-push (n + 1) ms m)
+
+module _ {R : Type 0} (row_of : ℕ × Match → R) (d : R) where
+  shown-from : (n i : ℕ) (ms : List Match) (e : Match) → i < length ms
+      → get_or (map row_of (numbered_from n ms)) i d ≡ row_of (n + i, get_or ms i e)
+  shown-from n i [] e below = absurd (omega arith)
+  shown-from n zero (m ∷ ms) e below = let at : n ≡ n + 0 = omega arith in ap (λ k. row_of (k, m)) at
+  shown-from n (suc i) (m ∷ ms) e below =
+      let at : n + 1 + i ≡ n + suc i = omega arith in shown-from (n + 1) i ms e (omega arith) ∙ ap (λ k. row_of (k, get_or ms i e)) at
+
+  module _ (rows : List R) (i : ℕ) (below : i < length rows) where
+    pub rows_more : (items : List Match) (m : Match) → length items ≡ i → take i rows ≡ map row_of (numbered_from 1 items)
+        → get_or rows i d ≡ row_of (i + 1, m) → take (i + 1) rows ≡ map row_of (numbered_from 1 (items ++ m ∷ []))
+    rows_more items m count before here =
+        let at : i + 1 ≡ 1 + length items = omega arith in
+        take_more rows i d below
+        ∙ (ap₂ (λ (xs : List R) (x : R). xs ++ x ∷ []) before (here ∙ ap (λ k. row_of (k, m)) at)
+        ∙ (sym (map-append row_of (numbered_from 1 items) ((1 + length items, m) ∷ [])) ∙ ap (map row_of) (sym (numbered-push 1 items m))))
+
+    -- the match that stands here
+    pub here_shown : (ms : List Match) (e : Match) → rows ≡ map row_of (numbered_from 1 ms)
+        → (i < length ms) × (get_or rows i d ≡ row_of (i + 1, get_or ms i e))
+    here_shown ms e are =
+        let count = ap length are ∙ (length-map (numbered_from 1 ms) row_of ∙ length-numbered 1 ms) in
+        let at : 1 + i ≡ i + 1 = omega arith in
+        let within : i < length ms = omega arith in
+        (within, ap (λ (rs : List R). get_or rs i d) are ∙ (shown-from 1 i ms e within ∙ ap (λ k. row_of (k, get_or ms i e)) at))
+
+  pub all_shown : (rows : List R) (i : ℕ) (ms : List Match) → length rows ≤ i → rows ≡ map row_of (numbered_from 1 ms) → take i ms ≡ ms
+  all_shown rows i ms short are =
+      let count = ap length are ∙ (length-map (numbered_from 1 ms) row_of ∙ length-numbered 1 ms) in take_all i ms (omega arith)
+
+-- ---- groups of rows in turn
+
+-- each group has a row, and its rows tell its number
+pub record AreInTurn {G R : Type 0} (Shown : G → Type 0) (entries : G → List (ℕ × Match)) (row : ℕ → ℕ × Match → R)
+    (is_of : ℕ → R → Bool) (all : ℕ → List G → List R) : Type 0 where
+  pub none : (n : ℕ) → all n [] ≡ []
+  pub more : (n : ℕ) (g : G) (gs : List G) → all n (g ∷ gs) ≡ map (row n) (entries g) ++ all (n + 1) gs
+  pub some : (g : G) → Shown g → 0 < length (entries g)
+  pub own : (n : ℕ) (x : ℕ × Match) → is_of n (row n x) ≡ true
+  pub other : (n : ℕ) (x : ℕ × Match) → is_of n (row (n + 1) x) ≡ false
+
+module _ {G R : Type 0} {Shown : G → Type 0} {entries : G → List (ℕ × Match)} {row : ℕ → ℕ × Match → R} {is_of : ℕ → R → Bool}
+    {all : ℕ → List G → List R} (t : AreInTurn Shown entries row is_of all) where
+  abbrev rows_of : ℕ → G → List R
+  rows_of n g = map (row n) (entries g)
+
+  own_rows : (n : ℕ) (xs : List (ℕ × Match)) (ys : List R) → prefix_len (is_of n) ys ≡ 0
+      → prefix_len (is_of n) (map (row n) xs ++ ys) ≡ length (map (row n) xs)
+  own_rows n [] ys e = e
+  own_rows n (x ∷ xs) ys e = let here = t.own n x in rw here (let rest = own_rows n xs ys e in omega arith)
+
+  leads : (n : ℕ) (xs : List (ℕ × Match)) (ys : List R) → 0 < length xs → prefix_len (is_of n) (map (row (n + 1)) xs ++ ys) ≡ 0
+  leads n [] ys some = absurd (omega arith)
+  leads n (x ∷ xs) ys some = let here = t.other n x in rw here
+
+  later_none : (n : ℕ) (gs : List G) → All Shown gs → prefix_len (is_of n) (all (n + 1) gs) ≡ 0
+  later_none n [] shown = ap (prefix_len (is_of n)) (t.none (n + 1))
+  later_none n (g ∷ gs) shown = ap (prefix_len (is_of n)) (t.more (n + 1) g gs)
+      ∙ leads n (entries g) (all (n + 1 + 1) gs) (t.some g (All-head Shown g gs shown))
+
+  module _ (n : ℕ) (rows : List R) (g : G) (later : List G) (shown : Shown g) (rest : All Shown later)
+      (are : rows ≡ rows_of n g ++ all (n + 1) later) (count : ℕ) (is : count ≡ prefix_len (is_of n) rows) where
+    pub count_is : count ≡ length (rows_of n g)
+    count_is = is ∙ (ap (prefix_len (is_of n)) are ∙ own_rows n (entries g) (all (n + 1) later) (later_none n later rest))
+
+    pub first_rows : take count rows ≡ rows_of n g
+    first_rows = ap₂ take count_is are ∙ take-append_seam (rows_of n g) (all (n + 1) later)
+
+    pub some_count : count ≡ 0 → ⊥
+    some_count none = let some = t.some g shown in let count = count_is in let long = length-map (entries g) (row n) in omega arith
+
+  push : (n : ℕ) (gs : List G) (g : G) → all n (gs ++ g ∷ []) ≡ all n gs ++ rows_of (n + length gs) g
+  push n [] g = grind (arith, common_steps, t.more n g [], t.none (n + 1), t.none n)
+  push n (h ∷ gs) g = grind (arith, common_steps, t.more n h gs, t.more n h (gs ++ g ∷ []), push (n + 1) gs g)
+
+  all_none : (n : ℕ) (gs : List G) → All Shown gs → length (all n gs) ≡ 0 → gs ≡ []
+  all_none n [] shown none = refl
+  all_none n (g ∷ gs) shown none =
+      let some = t.some g (All-head Shown g gs shown) in let long = length-map (entries g) (row n) in
+      absurd (omega (arith, simp length-append at (ap length (t.more n g gs))))
+
+  module _ (rows : List R) (read : ℕ) (items : List G) (k : ℕ) (k_is : k ≡ length items) where
+    pub value_more : (g : G) (count : ℕ) → take read rows ≡ all 1 items
+        → take count (take (length rows - read) (drop read rows)) ≡ rows_of (k + 1) g → take (read + count) rows ≡ all 1 (items ++ g ∷ [])
+    value_more g count before here =
+        let at : k + 1 ≡ 1 + length items = omega arith in
+        take-add read count rows ∙ (ap₂ ◌++◌ before (ap (take count) (sym (take_rest rows read)) ∙ (here ∙ ap (λ n. rows_of n g) at))
+        ∙ sym (push 1 items g))
+
+    module _ (gs : List G) (shown : All Shown gs) (before : drop read rows ≡ all (length items + 1) (drop (length items) gs)) where
+      left : drop read rows ≡ all (k + 1) (drop k gs)
+      left = subst (λ n. drop read rows ≡ all (n + 1) (drop n gs)) (sym k_is) before
+
+      -- the group that comes next
+      pub next_within : read < length rows → k < length gs
+      next_within more =
+          let none : length gs ≤ k → ⊥ = λ past.
+          (let len = ap length (left ∙ (ap (all (k + 1)) (drop_all k gs past) ∙ t.none (k + 1))) in
+          let count = length-drop read rows in omega arith) in
+          omega arith
+
+      pub next_shown : (d : G) → k < length gs
+          → take (length rows - read) (drop read rows) ≡ rows_of (k + 1) (get_or gs k d) ++ all (k + 1 + 1) (drop (k + 1) gs)
+      next_shown d within = take_rest rows read ∙ (left ∙ (ap (all (k + 1)) (drop_more gs k d within)
+          ∙ t.more (k + 1) (get_or gs k d) (drop (k + 1) gs)))
+
+      pub drop_next : (d : G) (count n : ℕ) → k < length gs → count ≡ length (rows_of (k + 1) (get_or gs k d)) → n ≡ k + 1
+          → drop (read + count) rows ≡ all (n + 1) (drop n gs)
+      drop_next d count n within is next = subst (λ m. drop (read + count) rows ≡ all (m + 1) (drop m gs)) (sym next)
+          (sym (drop-drop count read rows) ∙ (ap₂ drop is (sym (take_rest rows read) ∙ next_shown d within)
+          ∙ drop-append_seam (rows_of (k + 1) (get_or gs k d)) (all (k + 1 + 1) (drop (k + 1) gs))))
+
+      pub none_left : length rows ≤ read → take (length items) gs ≡ gs
+      none_left short =
+          let none = ap length (all_none (k + 1) (drop k gs) (All-drop Shown k gs shown)
+          (sym (ap length left) ∙ ap length (drop_all read rows short))) in
+          take_all (length items) gs (let count = length-drop k gs in omega arith)
