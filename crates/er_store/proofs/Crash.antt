@@ -1,8 +1,12 @@
--- What a crash leaves of a change.
-use Rattle.er_store.proofs.Names.{refl, ◌≡◌, ◌⊎◌, inl, inr, ℕ, true, false, IsTrue, sym, ap, subst, ◌∙◌, arith, Trees, Database, IsDatabase}
-use Rattle.er_store.proofs.Names.{State, HasCleanDisk, Survives, survives_then, EventValue, StandsFor, IsStored, Shows, IsReady}
+-- What a crash, or a step within a transaction, leaves of a change.
+use Rattle.er_store.proofs.Prelude.{common_steps, refl, ◌≡◌, ◌⊎◌, inl, inr, ℕ, true, false, IsTrue, sym, ◌∙◌, arith, Trees, State}
+use Rattle.er_store.proofs.Prelude.{HasCleanDisk, Survives, survives_then, EventValue, IsStored, Shows, IsReady, List, Result, Err}
+use Rattle.er_store.proofs.Prelude.{true≢false, Row, Error, Held, state, Ghosts, KeepsTables, Stays}
+use Rattle.sqlite.specs.{State.{KeepsCommit, IsRolledBack, ExecutesInside}, Steps.FailsToCommit}
 use Rattle.er_store.specs.Standing.{Either}
 use Rattle.sqlite.specs.State as sqlite
+
+-- ---- what a crash leaves of a change
 
 -- while the store is open, a crash leaves the last commit alone
 abbrev pub Settles : State → Type 0
@@ -12,24 +16,11 @@ pub was_clean : {a b : State} {P : Trees → Type 0} → Survives a b P → HasC
 was_clean s clean = let rises = s.clean in omega arith
 
 pub survives_self : (s : State) → Survives s s (λ _. ⊥)
-survives_self s = record {
-  clean = omega arith;
-  shield = λ h. h;
-  counts = omega arith;
-  limit = refl;
-  closes = λ _ is_open. inl is_open;
-  crash = λ _ db may. inl may;
-}
-
-pub stored_at : (db : Database) (e : EventValue) (s : ℕ) → IsDatabase db → StandsFor db e s → (trees : Trees) → trees ≡ db.trees
-    → IsStored e s trees
-stored_at db e s sound stands trees is = subst (IsStored e s) (sym is) (record { schema = db.schema; sound = sound; stands = stands })
+survives_self s = grind (arith, common_steps)
 
 pub shows_leaves : (s : State) (e : EventValue) (serial : ℕ) → Settles s → Shows s e serial → (trees : Trees) → s.may_leave trees
     → IsStored e serial trees
-shows_leaves s e serial settles shows trees may =
-    stored_at s.now e serial shows.sound shows.stands trees
-    (settles trees shows.is_open may ∙ ap (λ (d : Database). d.trees) (sym shows.settled))
+shows_leaves s e serial settles shows trees may = grind (arith, common_steps)
 
 pub only : {A : Type 0} → A ⊎ ⊥ → A
 only (inl a) = a
@@ -38,22 +29,13 @@ only (inr none) = absurd none
 module _ {last end : State} {e : EventValue} {s : ℕ} (ready : IsReady last e s) where
   -- once it is committed, the connection sees it
   pub written : sqlite.Shows last end last.now last.now false → Shows end e s
-  written done = record {
-    is_open = done.is_open;
-    sound = subst IsDatabase (sym done.now_is) ready.sound;
-    settled = done.now_is ∙ sym done.committed_is;
-    stands = subst (λ d. StandsFor d e s) (sym done.now_is) ready.stands;
-  }
+  written done = grind (arith, common_steps)
 
   -- a crash leaves what it could before, or the event
   pub leaves_either : (start : State) (Before : Trees → Type 0) → ((trees : Trees) → start.may_leave trees → Before trees)
       → Survives start last (λ _. ⊥) → Survives last end (λ db. db ≡ last.now.trees)
       → HasCleanDisk end → (trees : Trees) → end.may_leave trees → Either Before (IsStored e s) trees
-  leaves_either start Before before quiet commits clean trees may =
-      elim (commits.crash clean trees may) [
-        | inl early ↦ inl (before trees (only (quiet.crash (was_clean commits clean) trees early)))
-        | inr now ↦ inr (stored_at last.now e s ready.sound ready.stands trees now)
-      ]
+  leaves_either start Before before quiet commits clean trees may = grind (arith, common_steps)
 
 pub survives_both : {a b c : State} → Survives a b (λ _. ⊥) → Survives b c (λ _. ⊥) → Survives a c (λ _. ⊥)
 survives_both {a} {b} {c} = survives_then a b c (λ _. ⊥) (λ _. ⊥) (λ _. ⊥) (λ _ db none. none) (λ _ db none. none)
@@ -63,3 +45,38 @@ pub leaves_old : (old end : State) (e : EventValue) (s : ℕ) → Settles old �
     → Survives (record old { in_transaction = true }) end (λ _. ⊥) → HasCleanDisk end → (trees : Trees) → end.may_leave trees
     → IsStored e s trees
 leaves_old old end e s settles was quiet clean trees may = shows_leaves old e s settles was trees (only (quiet.crash clean trees may))
+
+-- ---- what a step within a transaction leaves of the last commit, whatever it does and however it ends
+
+pub commit_stays : (s : State) → KeepsCommit s s
+commit_stays s = record { was_open = λ is_open. is_open; committed = λ _. refl }
+
+-- a statement in a transaction, or in one that a failure ended
+pub step_keeps : {S : Type 0} (g : Ghosts S) (old new : Held S) (sql : List ℕ) (params : Row) (r : Result ℕ Error) (e : Error)
+    → ((state g old).in_transaction ≡ false → (r ≡ Err e) × (new ≡ old))
+    → (IsTrue (state g old).in_transaction → ExecutesInside 0 sql params (state g old) (state g new) r)
+    → KeepsCommit (state g old) (state g new)
+step_keeps g old new sql params r e ended runs = grind (arith, common_steps)
+
+pub stays_self : (s : State) → Stays s s
+stays_self s = record { committed = λ _. commit_stays s; survives = survives_self s }
+
+-- one step after another
+pub stays_then : {a b c : State} → Stays a b → Stays b c → Stays a c
+stays_then {a} {b} {c} p q = grind (arith, common_steps)
+
+-- what a transaction leaves that was undone
+undone_keeps : (old : State) {last end : State} → KeepsCommit (record old { in_transaction = true }) last → IsRolledBack last end
+    → KeepsTables old end
+undone_keeps old kept rolled settled is_open = grind (arith, common_steps)
+
+-- one that was dropped
+pub dropped_keeps : (old : State) {last end : State} {P : Trees → Type 0} → Stays (record old { in_transaction = true }) last
+    → Survives last end P → (HasCleanDisk end → IsRolledBack last end) → HasCleanDisk end → KeepsTables old end
+dropped_keeps old stays survives undone clean = undone_keeps old (stays.committed (was_clean survives clean)) (undone clean)
+
+-- and one that was not committed
+pub uncommitted_keeps : (old : State) {last : State} (end : State) (e : Error) → IsTrue last.in_transaction
+    → KeepsCommit (record old { in_transaction = true }) last → FailsToCommit last end e → KeepsTables old end
+uncommitted_keeps old end e inside kept (inl fails) = undone_keeps old kept fails.3
+uncommitted_keeps old end e inside kept (inr none) = absurd (true≢false (sym inside ∙ none.1))

@@ -1,18 +1,16 @@
 -- What each statement does to the tables.
-use Rattle.er_store.proofs.Names.{◌≡◌, ℕ, pos, List, [], ◌∷◌, map, slice_get, Bool, true, false, Ok, Err, Result, is_ok, true≢false, IsTrue}
-use Rattle.er_store.proofs.Names.{refl, sym, ap, subst, ◌∙◌, ◌≤◌, is_eq, IsPermutation-sym, Int, Text, Row, column, value_cmp-Int, Term}
-use Rattle.er_store.proofs.Names.{eval_all, Table, Schema, Update, cast_row, next_rowid, rowid, without_rowid, has_rowid, put_row, State}
-use Rattle.er_store.proofs.Names.{one_permutation, Value, Query, Index, View, EventTable, Phase, PairingRow, BracketRow, EventValue}
-use Rattle.er_store.proofs.Names.{with_phase, flag, event_row, TallyRow, event, player, pairing, bracket, tally, insert_event}
-use Rattle.er_store.proofs.Names.{insert_player, insert_pairing, insert_slot, insert_tally, set_serial, set_phase, number, event_columns}
-use Rattle.er_store.proofs.Names.{pairing_columns, bracket_columns, tally_columns, event_places, stored_event, stored_player}
-use Rattle.er_store.proofs.Names.{stored_pairing, stored_slot, stored_tally, columns_at, HasTables, StandsWith, CanRead, Puts, Ran}
-use Rattle.er_store.proofs.Names.{BringsToWith, SelectsWith}
-use Rattle.sqlite.specs.Order.{value_cmp}
+use Rattle.er_store.proofs.Prelude.{◌≡◌, ℕ, pos, List, [], ◌∷◌, map, slice_get, Bool, true, false, Ok, Err, Result, is_ok, true≢false}
+use Rattle.er_store.proofs.Prelude.{IsTrue, refl, sym, ap, subst, ◌∙◌, ◌≤◌, is_eq, IsPermutation-sym, Int, Text, Row, column, value_cmp-Int}
+use Rattle.er_store.proofs.Prelude.{Term, eval_all, Table, Schema, Update, next_rowid, rowid, without_rowid, has_rowid, put_row, State}
+use Rattle.er_store.proofs.Prelude.{one_permutation, Value, Query, Index, View, EventTable, Phase, PairingRow, BracketRow, EventValue}
+use Rattle.er_store.proofs.Prelude.{with_phase, flag, event_row, TallyRow, event, player, pairing, bracket, tally, insert_event}
+use Rattle.er_store.proofs.Prelude.{insert_player, insert_pairing, insert_slot, insert_tally, set_serial, set_phase, number, event_columns}
+use Rattle.er_store.proofs.Prelude.{pairing_columns, bracket_columns, tally_columns, event_places, stored_event, stored_player}
+use Rattle.er_store.proofs.Prelude.{stored_pairing, stored_slot, stored_tally, columns_at, HasTables, StandsWith, CanRead, Puts, Ran}
+use Rattle.er_store.proofs.Prelude.{BringsToWith, SelectsWith, value_cmp}
 use Rattle.er_event.specs.Rows.{phase_code}
-use Rattle.er_store.proofs.{Values.cast_int, Values.cast_null, Inserts.puts_one, Updates.event_rows, Updates.replaces, Meaning.Means}
-use Rattle.er_store.proofs.{Meaning.full, Meaning.event_query, Meaning.serial_terms, Meaning.phase_terms, Meaning.readable}
-use Rattle.er_store.proofs.{Meaning.WritesMean, Meaning.writes_mean, Together.row_set, Selecting.selects}
+use Rattle.er_store.proofs.{Writing.{cast_int, cast_null, puts_one, event_rows, replaces}, Meaning.{Means, full, event_query, serial_terms}}
+use Rattle.er_store.proofs.{Meaning.{phase_terms, readable, WritesMean, writes_mean}, Together.row_set, Selecting.selects}
 
 -- what holds of each schema with the four tables in front holds of this one
 pub at_ours : (schema : Schema) (has : HasTables schema) (P : Schema → Type 0) → P (full has.others schema.indexes schema.views) → P schema
@@ -100,29 +98,20 @@ sets_event terms v phase t low {old = old} {e = e} {s} stands means shows ran =
     let f = with_phase e phase in
     let it = one_of event_places (old.now.trees 0) (event_columns (event_row 1 e s))
     (one_permutation _ _ (IsPermutation-sym _ _ (stands.rows EventTable))) in
-    let cast : cast_row (event 0) (stored_event f t) ≡ stored_event f t =
-    simp (cast_int, cast_null) in
     let set = replaces (event 0) (pos 1) (stored_event f t) means has (ap (λ ts. slice_get ts 0) has.are) (λ x other. other.0)
-    (λ rows answer. event_rows terms old.now.trees (v ∷ []) it.0 rows it.1 answer ∙ ap (λ x. x ∷ []) (shows it.0 it.2)) cast ran in
+    (λ rows answer. event_rows terms old.now.trees (v ∷ []) it.0 rows it.1 answer ∙ ap (λ x. x ∷ []) (shows it.0 it.2))
+    (simp (cast_int, cast_null)) ran in
     let cols = it.2 in
-    row_set phase t low stands set.goes (set.rows ∙ (ap (λ rs. put_row (stored_event f t) (without_rowid (pos 1) rs)) it.1
+    row_set stands phase t low set.goes (set.rows ∙ (ap (λ rs. put_row (stored_event f t) (without_rowid (pos 1) rs)) it.1
     ∙ ap (put_row (stored_event f t)) (taken_out it.0 (cc))))
-
-serial_shows : (r : Row) (e : EventValue) (s t : ℕ) → map (column r) event_places ≡ event_columns (event_row 1 e s)
-    → eval_all serial_terms ((number t ∷ []) ∷ r ∷ []) ≡ number 1 ∷ stored_event e t
-serial_shows r e s t h = cc
 
 pub serial_set : (t : ℕ) → t ≤ 999999 → {old new : State} {e : EventValue} {s : ℕ} {kept : List TallyRow} → StandsWith old.now e s kept
     → Ran set_serial (number t ∷ []) old new → BringsToWith old new e t kept
 serial_set t low {e = e} {s} stands =
-    sets_event serial_terms (number t) e.phase t low stands (meant stands.tables).serial (λ r h. serial_shows r e s t h)
-
-phase_shows : (r : Row) (e : EventValue) (s : ℕ) (phase : Phase) → map (column r) event_places ≡ event_columns (event_row 1 e s)
-    → eval_all phase_terms ((number (phase_code phase) ∷ []) ∷ r ∷ []) ≡ number 1 ∷ stored_event (with_phase e phase) s
-phase_shows r e s phase h = cc
+    sets_event serial_terms (number t) e.phase t low stands (meant stands.tables).serial (λ r h. cc)
 
 pub phase_set : (phase : Phase) {old new : State} {e : EventValue} {s : ℕ} {kept : List TallyRow} → StandsWith old.now e s kept
     → Ran set_phase (number (phase_code phase) ∷ []) old new → BringsToWith old new (with_phase e phase) s kept
 phase_set phase {e = e} {s} stands =
     sets_event phase_terms (number (phase_code phase)) phase s stands.low stands (meant stands.tables).phase
-    (λ r h. phase_shows r e s phase h)
+    (λ r h. cc)

@@ -1,58 +1,130 @@
--- A read of tables that stand for an event gives its rows, in order.
-use Rattle.er_store.proofs.Names.{◌≡◌, ◌≢◌, ℕ, ℤ, pos, List, [], ◌∷◌, map, length, All, refl, sym, ap, ap₂, subst, arith, Less, IsTrue}
-use Rattle.er_store.proofs.Names.{true, filter, IsUtf8, AllByRecursion, range_with_len, IsPermutation-sym, IsPermutation-trans}
-use Rattle.er_store.proofs.Names.{All-from_recursion, recursion_from_All, nat_tests, Error, SqliteFailure, Row, column, Value, Int, Text}
-use Rattle.er_store.proofs.Names.{IsAscending, Database, numbered, one_permutation, BracketTable, EventTable, PlayerTable, TallyTable}
-use Rattle.er_store.proofs.Names.{EventValue, Player, Match, PlayerRow, PairingRow, BracketRow, is_lawful_name, numbers, names}
-use Rattle.er_store.proofs.Names.{IsSoundButForSeeds, numbered_from, TallyRow, event_row, player_row, player_rows, bracket_row}
-use Rattle.er_store.proofs.Names.{bracket_rows, tally_row, tally_rows, stage_rows, totals, event_columns, player_columns, pairing_columns}
-use Rattle.er_store.proofs.Names.{bracket_columns, tally_columns, columns_at, event_places, player_places, bracket_places, tally_places}
-use Rattle.er_store.proofs.Names.{StandsFor, by_first, by_first_two, Lists, out_of_memory}
+-- What the reading statements show, and that it is the rows of an event in order.
+use Rattle.er_store.proofs.Prelude.{common_steps, ◌≡◌, ◌+◌, ◌<◌, ℕ, List, [], ◌∷◌, map, length, get_or, flat_map, refl, sym, ap, ap₂, subst}
+use Rattle.er_store.proofs.Prelude.{◌∙◌, arith, Ordering, Bool, true, false, cond, None, ordering_then, AllByRecursion, IsPermutation}
+use Rattle.er_store.proofs.Prelude.{IsSorted, IsPermutation-map, All-permutation, All-from_recursion, recursion_from_All, Row, column, col}
+use Rattle.er_store.proofs.Prelude.{eval_all, IsAnswer, output, output_cmp, Output, overlay, Trees, columns_at, by_first, by_first_two}
+use Rattle.er_store.proofs.Prelude.{Lists, first_columns, table_query, all-map, value_cmp, ◌≢◌, Less, IsTrue, filter, IsUtf8}
+use Rattle.er_store.proofs.Prelude.{range_with_len, IsPermutation-sym, IsPermutation-trans, nat_tests, Error, SqliteFailure, IsAscending}
+use Rattle.er_store.proofs.Prelude.{Database, numbered, one_permutation, BracketTable, EventTable, PlayerTable, TallyTable, EventValue}
+use Rattle.er_store.proofs.Prelude.{Player, Match, PlayerRow, is_lawful_name, numbers, names, IsSoundButForSeeds, numbered_from, event_row}
+use Rattle.er_store.proofs.Prelude.{player_row, player_rows, bracket_row, bracket_rows, tally_row, tally_rows, stage_rows, totals}
+use Rattle.er_store.proofs.Prelude.{event_columns, player_columns, bracket_columns, tally_columns, event_places, player_places}
+use Rattle.er_store.proofs.Prelude.{bracket_places, tally_places, StandsFor, out_of_memory}
+use Rattle.std.proofs.{Common.{unwrap_or, is_lt}, Math.ListN.{get_or-map, length-map}, lemmas.Str.IsUtf8-from_is_utf8}
+use Rattle.std.specs.Prelude.{All}
 use Rattle.sqlite.specs.declared.error.ErrorCode.TheVariants.{OutOfMemory}
 use Rattle.er_event.specs.declared.rows.event.EventRow.{EventRow}
-use Rattle.std.proofs.lemmas.Str.{IsUtf8-from_is_utf8}
-use Rattle.er_store.proofs.{Rising.numbered_rise, Rising.listed_by_one, Rising.listed_by_two, Rising.IsBelow, Rising.tested_rise}
-use Rattle.er_store.proofs.{Rising.rises_from, Grouped.bracket_rows_are}
 use Rattle.sqlite_keyed.proofs.ListLemmas.{map-map}
+use Rattle.er_store.proofs.Grouped.{numbered_rise, listed_by_one, listed_by_two, IsBelow, tested_rise, rises_from, bracket_rows_are}
+
+-- ---- the rows of one table, in the order of its key
+
+-- no table is laid over those of the file
+neither : (b : Bool) (rows : List Row) → unwrap_or (cond b None None) rows ≡ rows
+neither true rows = refl
+neither false rows = refl
+
+pub bare : (trees : Trees) (tree : ℕ) → overlay trees [] tree ≡ trees tree
+bare trees tree = neither _ (trees tree)
+
+terms_shown : (r : Row) (places : List ℕ) → eval_all (map (col 1) places) ([] ∷ r ∷ []) ≡ map (column r) places
+terms_shown r [] = refl
+terms_shown r (place ∷ places) = ap (λ values. column r place ∷ values) (terms_shown r places)
+
+-- what a row is sorted by stands first in what is shown of it
+pub record IsSortedByKeys (tree : ℕ) (places keys : List ℕ) (order : Row → Row → Ordering) : Type 1 where
+  pub Keyed : Output → Type 0
+  pub keyed : (r : Row) → Keyed (output (table_query tree places keys) ([] ∷ r ∷ []))
+  pub agrees : (o p : Output) → Keyed o → Keyed p → is_lt (order o.1 p.1) ≡ is_lt (output_cmp (table_query tree places keys) o p)
+
+pub sorted_rows : (Keyed : Output → Type 0) (cmp : Output → Output → Ordering) (order : Row → Row → Ordering)
+    → ((o p : Output) → Keyed o → Keyed p → is_lt (order o.1 p.1) ≡ is_lt (cmp o p))
+    → (outs : List Output) → All Keyed outs → IsSorted cmp outs → IsSorted order (map (λ (o : Output). o.1) outs)
+sorted_rows Keyed cmp order agrees outs keyed sorted k d low high =
+    let e : Output = (d, d) in
+    let len : k + 1 < length outs = subst (λ n. k + 1 < n) (length-map {A = Output} {B = Row} outs (λ o. o.1)) high in
+    let here = keyed k e (omega arith) in
+    let next = keyed (k + 1) e len in
+    ap₂ (λ x y. is_lt (order x y)) (get_or-map (λ (o : Output). o.1) outs (k + 1) e) (get_or-map (λ (o : Output). o.1) outs k e)
+    ∙ (agrees (get_or outs (k + 1) e) (get_or outs k e) next here ∙ sorted k e low len)
+
+module _ (tree : ℕ) (places keys : List ℕ) (order : Row → Row → Ordering) (by : IsSortedByKeys tree places keys order) where
+  -- each row once, with its key and what is shown of it
+  abbrev each : List Row → List Output
+  each rows = map (output (table_query tree places keys)) (flat_map (λ r. ([] ∷ r ∷ []) ∷ []) rows)
+
+  each_shown : (rows : List Row) → map (λ (o : Output). o.1) (each rows) ≡ columns_at places rows
+  each_shown [] = refl
+  each_shown (r ∷ rows) = ap₂ ◌∷◌ (terms_shown r places) (each_shown rows)
+
+  each_keyed : (rows : List Row) → AllByRecursion by.Keyed (each rows)
+  each_keyed [] = tt
+  each_keyed (r ∷ rows) = (by.keyed r, each_keyed rows)
+
+  pub answer_lists : (trees : Trees) (rows : List Row) → IsAnswer (table_query tree places keys) (overlay trees []) [] rows
+      → Lists order (columns_at places (trees tree)) rows
+  answer_lists trees rows a =
+      let kept : a.kept ≡ each (trees tree) = a.distinct
+      ∙ (ap (map (output (table_query tree places keys))) a.grouped ∙ ap each (bare trees tree)) in
+      let same = subst (λ l. IsPermutation l a.ordered) kept a.same in
+      let keyed = All-permutation by.Keyed (each (trees tree)) a.ordered same
+      (All-from_recursion by.Keyed (each (trees tree)) (each_keyed (trees tree))) in
+      record {
+        same = subst (λ l. IsPermutation l rows) (each_shown (trees tree))
+            (subst (IsPermutation (map (λ (o : Output). o.1) (each (trees tree)))) (sym a.shown)
+            (IsPermutation-map (λ (o : Output). o.1) _ _ same));
+        sorted = subst (IsSorted order) (sym a.shown)
+            (sorted_rows by.Keyed (output_cmp (table_query tree places keys)) order by.agrees a.ordered keyed a.sorted);
+      }
+
+-- ---- the two kinds of key
+
+first_agrees : (o p : Output) → column o.0 0 ≡ column o.1 0 → column p.0 0 ≡ column p.1 0
+    → is_lt (by_first o.1 p.1) ≡ is_lt (ordering_then (value_cmp (column o.0 0) (column p.0 0)) Rattle.std.proofs.Common.Equal)
+first_agrees o p a b = grind (arith, common_steps)
+
+pub two_agree : (o p : Output) → (column o.0 0 ≡ column o.1 0) × (column o.0 1 ≡ column o.1 1)
+    → (column p.0 0 ≡ column p.1 0) × (column p.0 1 ≡ column p.1 1) → is_lt (by_first_two o.1 p.1)
+    ≡ is_lt (ordering_then (value_cmp (column o.0 0) (column p.0 0))
+    (ordering_then (value_cmp (column o.0 1) (column p.0 1)) Rattle.std.proofs.Common.Equal))
+two_agree o p a b = grind (arith, common_steps)
+
+pub sorted_by_one : (tree place : ℕ) (places : List ℕ) → IsSortedByKeys tree (place ∷ places) (place ∷ []) by_first
+sorted_by_one tree place places = record {
+  Keyed = λ o. column o.0 0 ≡ column o.1 0;
+  keyed = λ r. refl;
+  agrees = first_agrees;
+}
+
+pub sorted_by_two : (tree first second : ℕ) (places : List ℕ)
+    → IsSortedByKeys tree (first ∷ second ∷ places) (first ∷ second ∷ []) by_first_two
+sorted_by_two tree first second places = record {
+  Keyed = λ o. (column o.0 0 ≡ column o.1 0) × (column o.0 1 ≡ column o.1 1);
+  keyed = λ r. (refl, refl);
+  agrees = two_agree;
+}
+
+-- ---- as typed rows
+
+whole : (width : ℕ) (rows : List Row) → AllByRecursion (λ row. first_columns width row ≡ row) rows → map (first_columns width) rows ≡ rows
+whole width [] all = refl
+whole width (r ∷ rows) all = ap₂ ◌∷◌ all.0 (whole width rows all.1)
+
+shown_whole : (width : ℕ) (places : List ℕ) (rows : List Row)
+    → ((r : Row) → first_columns width (map (column r) places) ≡ map (column r) places)
+    → AllByRecursion (λ row. first_columns width row ≡ row) (columns_at places rows)
+shown_whole width places rows all = all-map (λ row. first_columns width row ≡ row) (λ r. map (column r) places) all rows
+
+-- the rows that are listed have the columns that are shown, and no more
+pub listed_whole : (order : Row → Row → Ordering) (width : ℕ) (places : List ℕ) (rows listed : List Row)
+    → ((r : Row) → first_columns width (map (column r) places) ≡ map (column r) places)
+    → Lists order (columns_at places rows) listed → map (first_columns width) listed ≡ listed
+listed_whole order width places rows listed all h =
+    let P : Row → Type 0 = λ row. first_columns width row ≡ row in
+    whole width listed (recursion_from_All P listed (All-permutation P (columns_at places rows) listed h.same
+    (All-from_recursion P (columns_at places rows) (shown_whole width places rows all))))
 
 -- ---- rows that show the same are the same
-
-abbrev pub int_of : Value → ℤ
-int_of (Int n) = n
-int_of _ = pos 0
-
-abbrev pub text_of : Value → List ℕ
-text_of (Text bytes) = bytes
-text_of _ = []
-
--- each value of a typed row is in its columns
-pub event_columns-same : (r s : EventRow) → event_columns r ≡ event_columns s → r ≡ s
-event_columns-same r s h =
-    let of_columns : Row → EventRow = λ row.
-    let at = λ (k : ℕ). int_of (column row k) in
-    record { id = at 0; version = at 1; serial = at 2; name = text_of (column row 3); rounds = at 4; cut = at 5; phase = at 6 } in
-    ap of_columns h
-
-pub player_columns-same : (r s : PlayerRow) → player_columns r ≡ player_columns s → r ≡ s
-player_columns-same r s h =
-    let of_columns : Row → PlayerRow = λ row.
-    let at = λ (k : ℕ). int_of (column row k) in
-    record { no = at 0; name = text_of (column row 1); dropped = at 2 } in
-    ap of_columns h
-
-pub pairing_columns-same : (r s : PairingRow) → pairing_columns r ≡ pairing_columns s → r ≡ s
-pairing_columns-same r s h =
-    let of_columns : Row → PairingRow = λ row.
-    let at = λ (k : ℕ). int_of (column row k) in
-    record { round = at 0; tab = at 1; lo = at 2; hi = at 3; swapped = at 4; done = at 5; x = at 6; y = at 7; d = at 8 } in
-    ap of_columns h
-
-pub bracket_columns-same : (r s : BracketRow) → bracket_columns r ≡ bracket_columns s → r ≡ s
-bracket_columns-same r s h =
-    let of_columns : Row → BracketRow = λ row.
-    let at = λ (k : ℕ). int_of (column row k) in
-    record { stage = at 0; slot = at 1; a = at 2; b = at 3; done = at 4; x = at 5; y = at 6; d = at 7 } in
-    ap of_columns h
 
 pub map-same : {T S : Type 0} (columns : T → S) → ((r s : T) → columns r ≡ columns s → r ≡ s) → (xs ys : List T)
     → map columns xs ≡ map columns ys → xs ≡ ys
@@ -79,13 +151,6 @@ players_exact db e s listed stands numbered h =
     (numbered_rise (λ p. player_columns (player_row p)) (λ p. refl) 1 e.players numbered)) (stands.rows PlayerTable) h
 
 -- ---- the totals
-
-pub tally_columns-same : (r s : TallyRow) → tally_columns r ≡ tally_columns s → r ≡ s
-tally_columns-same r s h =
-    let of_columns : Row → TallyRow = λ row.
-    let at = λ (k : ℕ). int_of (column row k) in
-    record { no = at 0; points = at 1; rounds = at 2; gamepoints = at 3; games = at 4 } in
-    ap of_columns h
 
 pub tallies_exact : (db : Database) (e : EventValue) (s : ℕ) (listed : List Row) → StandsFor db e s
     → numbers e.players ≡ range_with_len 1 (length e.players)

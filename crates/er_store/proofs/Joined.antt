@@ -1,26 +1,103 @@
 -- What the join of a slip reads of tables that stand for an event.
-use Rattle.er_store.proofs.Names.{◌≡◌, ◌≢◌, ◌⊎◌, inl, inr, ℕ, suc, pos, ◌==◌, ◌<◌, ◌≤◌, min, max, nat_lt, Bool, true, false, cond, List, []}
-use Rattle.er_store.proofs.Names.{◌∷◌, ◌++◌, map, flat_map, filter, length, get_or, Result, Ok, Err, IfErr, MatchResult, Option, Some, None}
-use Rattle.er_store.proofs.Names.{option_map, option_to_list, All, Contains, IfSome, IsTrue, IsFalse, refl, sym, ap, ap₂, subst, ◌∙◌, arith}
-use Rattle.er_store.proofs.Names.{take, AllByRecursion, range_with_len, IsPermutation, IsPermutation-sym, All-nil, All-cons}
-use Rattle.er_store.proofs.Names.{All-from_recursion, All-weaker, recursion_from_All, nat_tests, Value, Text, Row, column, IsAnswer}
-use Rattle.er_store.proofs.Names.{or_nulls, overlay, Database, filter-map, IsPermutation-filter, PairingTable, PlayerTable, Match, Round}
-use Rattle.er_store.proofs.Names.{PairingRow, Games, SlipRow, EventValue, MayStand, is_lawful_name, is_bye, seats, is_at, table_of}
-use Rattle.er_store.proofs.Names.{match_at, pairing_row, pairing_rows, bye_score, slip_of, numbers, names, IsRound, IsSoundButForSeeds}
-use Rattle.er_store.proofs.Names.{IsUtf8, NamedPairing, first_columns, number, pairing_columns, named_columns, columns_at, player_places}
-use Rattle.er_store.proofs.Names.{pairing_places, StandsFor, Side, number_in, name_in, match_of, is_swapped, named_pairing, named_pairings}
-use Rattle.er_store.proofs.Names.{IsPlayer, IsLawful, Refusal, Memory, Store, IsFault}
-use Rattle.std.proofs.{Common.AllPairs, lemmas.List.Elements.All-from_get_or}
+use Rattle.er_store.proofs.Prelude.{◌≡◌, Bool, true, false, ◌&&◌, cond, if◌then◌else◌, List, [], ◌∷◌, ◌++◌, map, filter, flat_map, refl, ap}
+use Rattle.er_store.proofs.Prelude.{ap₂, subst, ◌∙◌, arith, list_all, IsPermutation, Binary, Value, Row, column, is_true, Env, eval_all}
+use Rattle.er_store.proofs.Prelude.{holds, IsAnswer, Output, output, page, or_nulls, overlay, Trees, one_permutation, Compare, Eq, binary}
+use Rattle.er_store.proofs.Prelude.{numbered, pairing, Player, common_steps, ◌≢◌, ◌⊎◌, inl, inr, ℕ, suc, ◌==◌, ◌<◌, ◌≤◌, min, max, nat_lt}
+use Rattle.er_store.proofs.Prelude.{length, get_or, Result, Ok, Err, IfErr, MatchResult, Option, Some, None, option_map, option_to_list}
+use Rattle.er_store.proofs.Prelude.{All, Contains, IfSome, IsTrue, IsFalse, sym, AllByRecursion, range_with_len, IsPermutation-sym, All-nil}
+use Rattle.er_store.proofs.Prelude.{All-cons, All-from_recursion, All-weaker, recursion_from_All, nat_tests, Text, Database, filter-map}
+use Rattle.er_store.proofs.Prelude.{IsPermutation-filter, PairingTable, PlayerTable, Match, Round, Games, SlipRow, EventValue, MayStand}
+use Rattle.er_store.proofs.Prelude.{is_lawful_name, is_bye, seats, is_at, match_at, pairing_row, pairing_rows, bye_score, slip_of, numbers}
+use Rattle.er_store.proofs.Prelude.{names, IsRound, IsSoundButForSeeds, IsUtf8, NamedPairing, first_columns, number, pairing_columns}
+use Rattle.er_store.proofs.Prelude.{named_columns, columns_at, player_places, pairing_places, StandsFor, Side, number_in, name_in, match_of}
+use Rattle.er_store.proofs.Prelude.{is_swapped, named_pairing, named_pairings, IsPlayer, IsLawful, Refusal, Memory, Store, IsFault}
+use Rattle.std.proofs.{lemmas.List.Sorted.length_permutation, Common.AllPairs, lemmas.List.Elements.All-from_get_or}
 use Rattle.std.specs.Option.{ok_or}
-use Rattle.er_event.specs.{Match.is_known, Match.is_lawful_match, Match.is_lawful_score, Score.is_swiss_score, Slip.name_of, Slip.second_of}
-use Rattle.er_event.specs.{Slip.slip_row, declared.refusals.Cause.TheVariants.Refused, declared.refusals.Refusal.TheVariants.NoSuchMatch}
-use Rattle.er_store.proofs.{Exact.map-same, Exact.lawful-utf8, Exact.pairing_columns-same, Meaning.slip_query, Where.one_picked}
-use Rattle.er_store.proofs.{Picking.picks, Picking.picks_one, Picking.picks_none, Picking.row_of, Picking.rows_of, Picking.within}
-use Rattle.er_store.proofs.{PickingTable.picks_table, PickingTable.rows_at, Alone.all_bye_last, Alone.Finds, Alone.finds, Alone.numbered_at}
-use Rattle.er_store.proofs.{Alone.numbered-match, Alone.table_alone, Alone.picked-name, Alone.picked-lawful, Joining.numbered_as}
-use Rattle.er_store.proofs.{Joining.none_permuted, Joining.slip_one, Joining.slip_none, TableLemmas.refused, Choosing.cond_of}
-use Rattle.er_store.proofs.{Choosing.max_is, Choosing.of_max, Choosing.min_is, Choosing.of_min, Choosing.either_of}
+use Rattle.sqlite_keyed.proofs.SliceLemmas.{All-find}
+use Rattle.sqlite_trees.proofs.ListLemmas.{all_from_map}
+use Rattle.er_event.specs.{Match.{is_known, is_lawful_match, is_lawful_score}, Score.is_swiss_score, Slip.{name_of, second_of, slip_row}}
+use Rattle.er_event.specs.{declared.refusals.Cause.TheVariants.Refused, declared.refusals.Refusal.TheVariants.NoSuchMatch}
+use Rattle.er_store.proofs.{Meaning.{slip_query, slip_terms, score_tests}, Exact.{map-same, lawful-utf8}, Setting.one_picked, Picking.picks}
+use Rattle.er_store.proofs.{Picking.{picks_one, picks_none, row_of, rows_of, within}, PickingMatch.{picks_table, rows_at, Finds}}
+use Rattle.er_store.proofs.{Keyed.{all_bye_last, finds, numbered_at, numbered-match, table_alone}, TableLemmas.refused, SlipLemmas.cond_of}
+use Rattle.er_store.proofs.SlipLemmas.{of_max, of_min, either_of}
 use Rattle.er_store.specs.{Rows.text_or_null, Slip.FindsSlip}
+use Rattle.er_event.specs.Slip.{name_in as name_found}
+
+-- ---- the rows that are joined, where the test looks at the first alone
+
+module _ (test : Row → Bool) (lows : Row → List Row) (highs : Row → List Row) (params : Row) where
+  -- each pair of rows beside this one
+  abbrev pub beside : Row → List Env
+  beside p = flat_map (λ l. flat_map (λ h. (params ∷ p ∷ l ∷ h ∷ []) ∷ []) (highs p)) (lows p)
+
+  abbrev tested : Bool → Row → List Env
+  tested b p = flat_map (λ l. flat_map (λ h. if b then (params ∷ p ∷ l ∷ h ∷ []) ∷ [] else []) (highs p)) (lows p)
+
+  abbrev none : Row → List Env
+  none r = []
+
+  nothing : (hs : List Row) → flat_map none hs ≡ []
+  nothing [] = refl
+  nothing (h ∷ hs) = nothing hs
+
+  abbrev none_of : List Row → Row → List Env
+  none_of hs l = flat_map none hs
+
+  nothing_at_all : (hs ls : List Row) → flat_map (none_of hs) ls ≡ []
+  nothing_at_all hs [] = refl
+  nothing_at_all hs (l ∷ ls) = ap₂ (λ (xs ys : List Env). xs ++ ys) (nothing hs) (nothing_at_all hs ls)
+
+  pub joined : (rows : List Row) → flat_map (λ p. tested (test p) p) rows ≡ flat_map beside (filter test rows)
+  joined [] = refl
+  joined (p ∷ rows) = by_test (test p) (joined rows)
+    where
+      by_test : (b : Bool) → flat_map (λ q. tested (test q) q) rows ≡ flat_map beside (filter test rows)
+          → tested b p ++ flat_map (λ q. tested (test q) q) rows ≡ flat_map beside (cond b (p ∷ filter test rows) (filter test rows))
+      by_test true more = ap (λ es. beside p ++ es) more
+      by_test false more = ap₂ (λ (xs ys : List Env). xs ++ ys) (nothing_at_all (highs p) (lows p)) more
+
+  pub joined_one : (rows : List Row) (p l h : Row) → filter test rows ≡ p ∷ [] → lows p ≡ l ∷ [] → highs p ≡ h ∷ []
+      → flat_map (λ q. tested (test q) q) rows ≡ (params ∷ p ∷ l ∷ h ∷ []) ∷ []
+  joined_one rows p l h one low high =
+      joined rows ∙ (ap (flat_map beside) one
+      ∙ ap₂ (λ (ls hs : List Row). flat_map (λ x. flat_map (λ y. (params ∷ p ∷ x ∷ y ∷ []) ∷ []) hs) ls ++ []) low high)
+
+-- ---- the rows of the query
+
+-- those whose number is this value, or one of NULLs
+abbrev pub numbered_as : Value → List Row → List Row
+numbered_as n rows = or_nulls (filter (λ r. is_true (binary (Compare Eq Binary) (column r 0) n) && true) rows)
+
+abbrev pub asks : Row → Row → Bool
+asks params p = list_all (holds (params ∷ p ∷ [])) score_tests
+
+pub slip_one : (db : Trees) (params p l h : Row) (rows : List Row) → filter (asks params) (db 3) ≡ p ∷ []
+    → numbered_as (column p 3) (db 1) ≡ l ∷ [] → numbered_as (column p 4) (db 1) ≡ h ∷ []
+    → IsAnswer slip_query (overlay db []) params rows → rows ≡ eval_all slip_terms (params ∷ p ∷ l ∷ h ∷ []) ∷ []
+slip_one db params p l h rows one low high a =
+    let e : Env = params ∷ p ∷ l ∷ h ∷ [] in
+    let staged : a.staged ≡ e ∷ [] = a.grouped ∙ joined_one (asks params) (λ r. numbered_as (column r 3) (db 1))
+    (λ r. numbered_as (column r 4) (db 1)) params (db 3) p l h one low high in
+    let o : Output = ([], eval_all slip_terms e) in
+    let kept : a.kept ≡ o ∷ [] = a.distinct ∙ ap (map (output slip_query)) staged in
+    let ordered = one_permutation o a.ordered (subst (λ k. IsPermutation k a.ordered) kept a.same) in
+    a.shown ∙ ap (λ xs. page slip_query params (map (λ (q : Output). q.1) xs)) ordered
+
+pub none_permuted : {X : Type 0} (ys : List X) → IsPermutation [] ys → ys ≡ []
+none_permuted [] same = refl
+none_permuted (y ∷ ys) same = absurd (let len = length_permutation [] (y ∷ ys) same in omega (arith, len))
+
+pub slip_none : (db : Trees) (params : Row) (rows : List Row) → filter (asks params) (db 3) ≡ []
+    → IsAnswer slip_query (overlay db []) params rows → rows ≡ []
+slip_none db params rows none a =
+    let lows : Row → List Row = λ r. numbered_as (column r 3) (db 1) in
+    let highs : Row → List Row = λ r. numbered_as (column r 4) (db 1) in
+    let staged : a.staged ≡ [] = a.grouped
+    ∙ (joined (asks params) lows highs params (db 3) ∙ ap (flat_map (beside (asks params) lows highs params)) none) in
+    let kept : a.kept ≡ [] = a.distinct ∙ ap (map (output slip_query)) staged in
+    let ordered = none_permuted a.ordered (subst (λ k. IsPermutation k a.ordered) kept a.same) in
+    a.shown ∙ ap (λ xs. page slip_query params (map (λ (q : Output). q.1) xs)) ordered
 
 -- ---- a test that picks none
 
@@ -62,8 +139,13 @@ module _ (e : EventValue) (sound : IsSoundButForSeeds e) where
   lawful_player n known =
       let size = some_number n known in
       let one = picks_one e.players n sound.players.numbered known in
-      let all = recursion_from_All (λ name. IsTrue (is_lawful_name name)) (names e.players) sound.players.lawful in
-      (size.0, size.1, picked-lawful n e.players one.it one.alone all)
+      let all = recursion_from_All (λ name. IsTrue (is_lawful_name name)) (names e.players) sound.players.lawful in (
+        size.0,
+        size.1,
+        rw one.first (All-find (λ (p : Player). IsTrue (is_lawful_name p.name)) (λ p. p.no == n) e.players one.it
+            (All-from_recursion (λ (p : Player). IsTrue (is_lawful_name p.name)) e.players
+            (all_from_map (λ name. IsTrue (is_lawful_name name)) (λ (p : Player). p.name) e.players all)) one.first),
+      )
 
   lawful_side : (n : ℕ) → Known e n → IfSome (second_of e n) IsPlayer
   lawful_side n (inl none) = subst (λ k. IfSome (second_of e k) IsPlayer) (sym none) tt
@@ -80,7 +162,7 @@ module _ (e : EventValue) (sound : IsSoundButForSeeds e) where
       let one = picks_one e.players n sound.players.numbered known in
       let it = one_picked player_places (picks n) (db.trees 1) (rows_of e.players) (row_of one.it) (stands.rows PlayerTable) one.alone in
       let name : column it.0 2 ≡ Text one.it.name = ap (λ (r : Row). column r 1) it.2 in
-      let own = ap Text (sym (picked-name n e.players one.it one.alone)) in
+      let own = ap (λ (o : Option Player). Text (name_found o)) (sym one.first) in
       let named = ap (λ (o : Side). text_or_null (name_in o)) (sym (somebody n known)) in
       (it.0, ap or_nulls it.1, name ∙ (own ∙ named))
 
@@ -143,14 +225,8 @@ all_matches e sound =
 
 -- ---- the slip of a match
 
--- the number of the match in its round matters for no bye
-table_same : (t : ℕ) (n : ℕ × Match) → is_at t n ≡ true → table_of n ≡ table_of (t, n.1)
-table_same t n at = grind (arith, nat_tests)
-
 row_same : (k t : ℕ) (n : ℕ × Match) → is_at t n ≡ true → pairing_row k n ≡ pairing_row k (t, n.1)
-row_same k t n at =
-    ap (λ j. (let r : PairingRow = pairing_row k n in let s : PairingRow = record r { tab = Rattle.std.proofs.Common.pos j } in s))
-    (table_same t n at)
+row_same k t n at = grind (arith, common_steps)
 
 bye_at_none : (t : ℕ) (n : ℕ × Match) → is_at t n ≡ true → 1 ≤ n.0 → is_bye n.1 ≡ (t == 0)
 bye_at_none t n at low = grind (arith, nat_tests)
@@ -161,16 +237,13 @@ number_second e n = cond_of number_in (n == 0) None (Some (n, name_of e n)) ∙ 
 same_match : (e : EventValue) (k t : ℕ) (m : Match) → match_of (slip_row e k t m) ≡ m
 same_match e k t m = ap (λ b. (let it : Match = record { a = m.a; b = b; score = m.score } in it)) (number_second e m.b)
 
-module _ (e : EventValue) (sound : IsSoundButForSeeds e) (k t : ℕ) (n : ℕ × Match) (found : Finds (IsMatch (numbers e.players)) t n) where
+module _ (e : EventValue) (sound : IsSoundButForSeeds e) (k t : ℕ) (n : ℕ × Match)
+    (found : Finds (IsMatch (numbers e.players)) (is_at t) n) where
   abbrev slip : SlipRow
   slip = slip_row e k t n.1
 
   known_second : Known e n.1.b
-  known_second = by_bye (is_bye n.1) refl
-    where
-      by_bye : (b : Bool) → is_bye n.1 ≡ b → Known e n.1.b
-      by_bye true is = let none : n.1.b ≡ 0 = grind (arith, nat_tests) in inl none
-      by_bye false is = inr (found.0.second is)
+  known_second = grind (arith, common_steps)
 
   pub slip_lawful : IsLawful slip
   slip_lawful = record {
@@ -184,9 +257,6 @@ module _ (e : EventValue) (sound : IsSoundButForSeeds e) (k t : ℕ) (n : ℕ ×
   abbrev swapped : Bool
   swapped = nat_lt (number_in (second_of e n.1.b)) n.1.a
 
-  is_second : swapped ≡ nat_lt n.1.b n.1.a
-  is_second = ap (λ b. nat_lt b n.1.a) (number_second e n.1.b)
-
   known_low : Known e (min n.1.a n.1.b)
   known_low = of_min (Known e) n.1.a n.1.b (inr found.0.first) known_second
 
@@ -196,18 +266,11 @@ module _ (e : EventValue) (sound : IsSoundButForSeeds e) (k t : ℕ) (n : ℕ ×
   abbrev name_at : ℕ → Option (List ℕ)
   name_at j = name_in (second_of e j)
 
-  first_name : name_at n.1.a ≡ Some (name_of e n.1.a)
-  first_name = ap name_in (somebody e sound n.1.a found.0.first)
-
   low_name : name_at (min n.1.a n.1.b) ≡ (named_pairing slip).lo_name
-  low_name =
-      ap name_at (min_is n.1.a n.1.b) ∙ (cond_of name_at (nat_lt n.1.b n.1.a) n.1.b n.1.a
-      ∙ ap₂ (λ b x. cond b (name_at n.1.b) x) (sym is_second) first_name)
+  low_name = grind (arith, common_steps)
 
   high_name : name_at (max n.1.a n.1.b) ≡ (named_pairing slip).hi_name
-  high_name =
-      ap name_at (max_is n.1.a n.1.b) ∙ (cond_of name_at (nat_lt n.1.b n.1.a) n.1.a n.1.b
-      ∙ ap₂ (λ b x. cond b x (name_at n.1.b)) (sym is_second) first_name)
+  high_name = grind (arith, common_steps)
 
   slip_pairing : pairing_row k n ≡ (named_pairing slip).pairing
   slip_pairing = row_same k t n found.1 ∙ ap (λ m. pairing_row k (t, m)) (sym (same_match e k t n.1))
@@ -240,47 +303,23 @@ slip_exact db e s k t rows stands sound a =
     (finds (IsMatch (numbers e.players)) t e k (all_matches e sound))
   where
     by_case : (o : Option (ℕ × Match)) → rows_at e k t ≡ map (λ n. pairing_columns (pairing_row k n)) (option_to_list o)
-        → match_at e k t ≡ option_map (λ (n : ℕ × Match). n.1) o → IfSome o (Finds (IsMatch (numbers e.players)) t)
+        → match_at e k t ≡ option_map (λ (n : ℕ × Match). n.1) o → IfSome o (Finds (IsMatch (numbers e.players)) (is_at t))
         → rows ≡ map named_columns (named_pairings e k t)
-    by_case None alone is found =
-        slip_none db.trees (number k ∷ number t ∷ []) rows
-        (none_picked pairing_places (picks_table k t) (db.trees 3) (map pairing_columns (pairing_rows e))
-        (stands.rows PairingTable) alone) a
-        ∙ ap (λ (o : Option Match). map named_columns (map named_pairing (option_to_list (option_map (slip_row e k t) o)))) (sym is)
-    by_case (Some n) alone is found =
-        slip_read e sound k t n found db s rows stands alone a
-        ∙ ap (λ (o : Option Match). map named_columns (map named_pairing (option_to_list (option_map (slip_row e k t) o)))) (sym is)
+    by_case None alone is found = rw is (slip_none db.trees (number k ∷ number t ∷ []) rows (none_picked pairing_places (picks_table k t)
+        (db.trees 3) (map pairing_columns (pairing_rows e)) (stands.rows PairingTable) alone) a)
+    by_case (Some n) alone is found = rw is (slip_read e sound k t n found db s rows stands alone a)
 
 pub slips_lawful : (e : EventValue) (k t : ℕ) → IsSoundButForSeeds e → IfSome (slip_of e k t) IsLawful
-slips_lawful e k t sound = by_case (numbered_at e k t) (numbered-match e k t)
-    (finds (IsMatch (numbers e.players)) t e k (all_matches e sound))
-  where
-    by_case : (o : Option (ℕ × Match)) → match_at e k t ≡ option_map (λ (n : ℕ × Match). n.1) o
-        → IfSome o (Finds (IsMatch (numbers e.players)) t) → IfSome (slip_of e k t) IsLawful
-    by_case None is found = subst (λ (o : Option Match). IfSome (option_map (slip_row e k t) o) IsLawful) (sym is) tt
-    by_case (Some n) is found = subst (λ (o : Option Match). IfSome (option_map (slip_row e k t) o) IsLawful) (sym is)
-        (slip_lawful e sound k t n found)
+slips_lawful e k t sound = rw (numbered-match e k t) ((elim (numbered_at e k t) as (λ o. IfSome o
+    (Finds (IsMatch (numbers e.players)) (is_at t)) → IfSome (option_map (slip_row e k t) (option_map (λ n. n.1) o)) IsLawful) [
+      | None ↦ λ found. tt
+      | Some n ↦ λ found. slip_lawful e sound k t n found
+    ]) (finds (IsMatch (numbers e.players)) t e k (all_matches e sound)))
 
 -- ---- as typed rows
 
-abbrev text_in : Value → Option (List ℕ)
-text_in (Text bytes) = Some bytes
-text_in _ = None
-
-text_back : (o : Option (List ℕ)) → text_in (text_or_null o) ≡ o
-text_back None = refl
-text_back (Some bytes) = refl
-
-named_columns-same : (r s : NamedPairing) → named_columns r ≡ named_columns s → r ≡ s
-named_columns-same r s h =
-    let pairing : r.pairing ≡ s.pairing = pairing_columns-same r.pairing s.pairing (ap (take 9) h) in
-    let lo : r.lo_name ≡ s.lo_name = sym (text_back r.lo_name) ∙ (ap (λ (row : Row). text_in (column row 9)) h ∙ text_back s.lo_name) in
-    let hi : r.hi_name ≡ s.hi_name = sym (text_back r.hi_name) ∙ (ap (λ (row : Row). text_in (column row 10)) h ∙ text_back s.hi_name) in
-    ap₂ (λ (p : PairingRow) (names : Option (List ℕ) × Option (List ℕ)).
-    (let row : NamedPairing = record { pairing = p; lo_name = names.0; hi_name = names.1 } in row)) pairing (ap₂ (λ l h. (l, h)) lo hi)
-
 pub named_typed : (typed rows : List NamedPairing) → map named_columns typed ≡ map named_columns rows → typed ≡ rows
-named_typed typed rows = map-same named_columns named_columns-same typed rows
+named_typed typed rows = map-same named_columns (λ r s h. grind (arith, common_steps)) typed rows
 
 pub named_whole : (rows : List NamedPairing) → map (first_columns 11) (map named_columns rows) ≡ map named_columns rows
 named_whole [] = refl
@@ -294,12 +333,7 @@ abbrev HasText : NamedPairing → Type 0
 HasText r = IfSome r.lo_name IsUtf8 × IfSome r.hi_name IsUtf8
 
 slip_text : (slip : SlipRow) → IsLawful slip → HasText (named_pairing slip)
-slip_text slip lawful =
-    let second = name_utf8 slip.second lawful.second in
-    let first = lawful-utf8 slip.first.1 lawful.first.2 in (
-      either_of (λ (o : Option (List ℕ)). IfSome o IsUtf8) (is_swapped slip) (name_in slip.second) (Some slip.first.1) second first,
-      either_of (λ (o : Option (List ℕ)). IfSome o IsUtf8) (is_swapped slip) (Some slip.first.1) (name_in slip.second) first second,
-    )
+slip_text slip lawful = grind (arith, common_steps, either_of, is_swapped, lawful-utf8, name_in, name_utf8)
 
 pub named_text : (e : EventValue) (k t : ℕ) → IsSoundButForSeeds e → All HasText (named_pairings e k t)
 named_text e k t sound = by_case (slip_of e k t) (slips_lawful e k t sound)
@@ -311,11 +345,7 @@ named_text e k t sound = by_case (slip_of e k t) (slips_lawful e k t sound)
 -- ---- what is found
 
 pub slip_names : (e : EventValue) (k t : ℕ) → IfSome (slip_of e k t) (λ slip. (slip.round ≡ k) × (slip.table ≡ t))
-slip_names e k t = by_case (match_at e k t)
-  where
-    by_case : (o : Option Match) → IfSome (option_map (slip_row e k t) o) (λ slip. (slip.round ≡ k) × (slip.table ≡ t))
-    by_case None = tt
-    by_case (Some m) = (refl, refl)
+slip_names e k t = grind (arith, common_steps)
 
 pub no_slip : (found : Option SlipRow) (rows : List NamedPairing) → rows ≡ map named_pairing (option_to_list found) → length rows < 1
     → found ≡ None

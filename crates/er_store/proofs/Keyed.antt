@@ -1,14 +1,108 @@
--- A read of the pairings gives them in the order of their key.
-use Rattle.er_store.proofs.Names.{◌≡◌, ℕ, ◌+◌, List, [], ◌∷◌, Bool, true, false, cond, ◌++◌, map, filter, not, ◌⊎◌, inl, inr, refl, sym, ap}
-use Rattle.er_store.proofs.Names.{subst, arith, AllByRecursion, IsPermutation, IsPermutation-refl, IsPermutation-trans, IsPermutation-map}
-use Rattle.er_store.proofs.Names.{recursion_from_All, nat_tests, Row, column, IsAscending, Database, PairingTable, EventValue, Match, Round}
-use Rattle.er_store.proofs.Names.{PairingRow, is_bye, numbered_from, table_of, IsSoundButForSeeds, pairing_row, round_rows, pairing_rows}
-use Rattle.er_store.proofs.Names.{pairing_rows_from, pairing_columns, columns_at, pairing_places, number, StandsFor, by_first_two, Lists}
-use Rattle.er_store.proofs.Names.{first, all_weaker}
-use Rattle.std.proofs.lemmas.List.Sorted.{IsPermutation-append, IsPermutation-filter_both}
+-- Which row a round and a table pick, and the order in which the pairings are read.
+use Rattle.er_store.proofs.Prelude.{if◌then◌else◌, ◌≡◌, ℕ, zero, suc, ◌+◌, ◌-◌, ◌≤◌, ◌==◌, Bool, true, false, cond, List, [], ◌∷◌, ◌++◌}
+use Rattle.er_store.proofs.Prelude.{map, filter, find, length, take, Option, Some, None, option_map, option_to_list, slice_get, All, IfSome}
+use Rattle.er_store.proofs.Prelude.{IsFalse, refl, sym, ap, subst, ◌∙◌, arith, AllByRecursion, All-nil, All-head, All-tail, All-weaker}
+use Rattle.er_store.proofs.Prelude.{nat_tests, Row, column, Match, Round, PairingRow, EventValue, is_bye, numbered_from, is_at, match_in}
+use Rattle.er_store.proofs.Prelude.{match_at, pairing_row, round_rows, pairing_rows, numbers, IsRound, IsSoundButForSeeds, pairing_columns}
+use Rattle.er_store.proofs.Prelude.{common_steps, not, ◌⊎◌, inl, inr, IsPermutation, IsPermutation-refl, IsPermutation-trans}
+use Rattle.er_store.proofs.Prelude.{IsPermutation-map, recursion_from_All, IsAscending, Database, PairingTable, table_of, pairing_rows_from}
+use Rattle.er_store.proofs.Prelude.{columns_at, pairing_places, number, StandsFor, by_first_two, Lists, first, all_weaker}
+use Rattle.er_store.proofs.Prelude.{IsPermutation-filter_both}
+use Rattle.std.specs.Option.{option_and_then}
+use Rattle.std.proofs.lemmas.List.Sorted.{IsPermutation-append}
 use Rattle.er_event.specs.Rows.{by_key, keyed_round_rows, keyed_rows_from, keyed_pairing_rows}
-use Rattle.er_store.proofs.{Alone.ByeLast, Alone.last_head, Alone.last_tail, Alone.all_bye_last, Grouped.rows_from, Rising.listed_by_two}
-use Rattle.er_store.proofs.{Rising.IsBelow, Rising.tested_rise, Rising.rises_from, Rising.below_tested}
+use Rattle.er_store.proofs.PickingMatch.{picks_table, rows_at, one_at, table_tells, table_told, of_round, pairings_shown, all_picked}
+use Rattle.er_store.proofs.{PickingMatch.{passing, Finds, found_in}, Grouped.{rows_from, listed_by_two, IsBelow, tested_rise, rises_from}}
+use Rattle.er_store.proofs.Grouped.{below_tested}
+
+-- ---- at most one match is at a table
+
+abbrev Seated : Match → Type 0
+Seated m = IsFalse (is_bye m)
+
+-- no match but the last is a bye
+abbrev pub ByeLast : List Match → Type 0
+ByeLast ms = All (λ (m : Match). IsFalse (is_bye m)) (take (length ms - 1) ms)
+
+pub all_bye_last : (e : EventValue) → IsSoundButForSeeds e → All (λ (r : Round). ByeLast r.matches) e.stored
+all_bye_last e sound = All-weaker (λ (r : Round). IsRound (numbers e.players) r.matches) (λ (r : Round). ByeLast r.matches)
+    (λ r h. h.bye_last) e.stored sound.rounds.each
+
+one_less : (n : Match) (ms : List Match) → length (n ∷ ms) - 1 ≡ length ms
+one_less n ms = omega arith
+
+bye_last : (m n : Match) (ms : List Match) → ByeLast (m ∷ n ∷ ms) → All Seated (m ∷ take (length ms) (n ∷ ms))
+bye_last m n ms h = subst (λ k. All Seated (take k (m ∷ n ∷ ms))) (one_less m (n ∷ ms)) h
+
+pub last_tail : (m : Match) (ms : List Match) → ByeLast (m ∷ ms) → ByeLast ms
+last_tail m [] h = All-nil Seated
+last_tail m (n ∷ ms) h = subst (λ k. All Seated (take k (n ∷ ms))) (sym (one_less n ms))
+    (All-tail Seated m (take (length ms) (n ∷ ms)) (bye_last m n ms h))
+
+pub last_head : (m n : Match) (ms : List Match) → ByeLast (m ∷ n ∷ ms) → IsFalse (is_bye m)
+last_head m n ms h = All-head Seated m (take (length ms) (n ∷ ms)) (bye_last m n ms h)
+
+-- the matches at this table, of which there is one or none
+one_at_table : (t n : ℕ) (ms : List Match) → 1 ≤ n → ByeLast ms
+    → filter (is_at t) (numbered_from n ms) ≡ option_to_list (find (is_at t) (numbered_from n ms))
+one_at_table (suc t) n ms low last = one_at (suc t) (is_at (suc t)) (table_tells (suc t) (omega arith)) n ms
+one_at_table zero n [] low last = refl
+one_at_table zero n (m ∷ []) low last = grind (arith, nat_tests)
+one_at_table zero n (m ∷ x ∷ xs) low last =
+    let seated = last_head m x xs last in
+    grind (arith, nat_tests, one_at_table zero (n + 1) (x ∷ xs) (omega arith) (last_tail m (x ∷ xs) last))
+
+-- the numbered match at this table of the round
+abbrev numbered_in : List Match → ℕ → Option (ℕ × Match)
+numbered_in ms t = find (is_at t) (numbered_from 1 ms)
+
+-- and that of the round at this place
+abbrev in_rounds : List Round → ℕ → ℕ → Option (ℕ × Match)
+in_rounds rounds i t = option_and_then (λ (r : Round). numbered_in r.matches t) (slice_get rounds i)
+
+-- the stored match at this table of this round, with its number in the round
+abbrev pub numbered_at : EventValue → ℕ → ℕ → Option (ℕ × Match)
+numbered_at e k t = cond (k == 0) None (in_rounds e.stored (k - 1) t)
+
+-- the rows that a round and a table pick: one, or none
+pub table_alone : (e : EventValue) (k t : ℕ) → All (λ (r : Round). ByeLast r.matches) e.stored
+    → rows_at e k t ≡ map (λ n. pairing_columns (pairing_row k n)) (option_to_list (numbered_at e k t))
+table_alone e k t last =
+    ap (filter (picks_table k t)) (sym (pairings_shown e.stored))
+    ∙ all_picked of_round (λ j n. pairing_columns (pairing_row j n)) k t (is_at t) (table_told k t) e.stored
+    ∙ ap (map (λ n. pairing_columns (pairing_row k n))) (by_zero (k == 0))
+  where
+    in_round : (i : ℕ) (rounds : List Round) → All (λ (r : Round). ByeLast r.matches) rounds
+        → passing of_round (is_at t) k (slice_get rounds i) ≡ option_to_list (in_rounds rounds i t)
+    in_round i [] all = refl
+    in_round zero (r ∷ rounds) all = one_at_table t 1 r.matches (omega arith) (All-head (λ (q : Round). ByeLast q.matches) r rounds all)
+    in_round (suc i) (r ∷ rounds) all = in_round i rounds (All-tail (λ (q : Round). ByeLast q.matches) r rounds all)
+
+    by_zero : (b : Bool) → passing of_round (is_at t) k (if b then None else slice_get e.stored (k - 1))
+        ≡ option_to_list (cond b None (in_rounds e.stored (k - 1) t))
+    by_zero true = refl
+    by_zero false = in_round (k - 1) e.stored last
+
+-- it is the match of that table
+pub numbered-match : (e : EventValue) (k t : ℕ) → match_at e k t ≡ option_map (λ (n : ℕ × Match). n.1) (numbered_at e k t)
+numbered-match e k t = by_zero (k == 0) (slice_get e.stored (k - 1))
+  where
+    by_zero : (b : Bool) (o : Option Round) → cond b None (option_and_then (λ (r : Round). match_in r.matches t) o)
+        ≡ option_map (λ (n : ℕ × Match). n.1) (cond b None (option_and_then (λ (r : Round). numbered_in r.matches t) o))
+    by_zero true o = refl
+    by_zero false None = refl
+    by_zero false (Some r) = refl
+
+-- ---- what holds of the matches holds of the one at a table
+
+module _ (P : Match → Type 0) (t : ℕ) where
+  found_at : (i : ℕ) (rounds : List Round) → All (λ (r : Round). All P r.matches) rounds → IfSome (in_rounds rounds i t) (Finds P (is_at t))
+  found_at i [] all = tt
+  found_at zero (r ∷ rounds) all = found_in P (is_at t) 1 r.matches (omega arith) (All-head (λ (q : Round). All P q.matches) r rounds all)
+  found_at (suc i) (r ∷ rounds) all = found_at i rounds (All-tail (λ (q : Round). All P q.matches) r rounds all)
+
+  pub finds : (e : EventValue) (k : ℕ) → All (λ (r : Round). All P r.matches) e.stored → IfSome (numbered_at e k t) (Finds P (is_at t))
+  finds e k all = grind (arith, common_steps, found_at, is_at)
 
 -- ---- the same rows
 
@@ -49,11 +143,7 @@ AtMostBye ns = (ns ≡ []) ⊎ ((k : ℕ × Match) × (ns ≡ k ∷ []) × (is_b
 
 one_bye : (n : ℕ) (ms : List Match) → ByeLast ms → AtMostBye (byes n ms)
 one_bye n [] last = inl refl
-one_bye n (m ∷ []) last = by_bye (is_bye m) refl
-  where
-    by_bye : (b : Bool) → is_bye m ≡ b → AtMostBye (cond {A = List (ℕ × Match)} b ((n, m) ∷ []) [])
-    by_bye true is = inr ((n, m), refl, is)
-    by_bye false is = inl refl
+one_bye n (m ∷ []) last = grind (arith, common_steps)
 one_bye n (m ∷ x ∷ xs) last = let seated = last_head m x xs last in rw seated (one_bye (n + 1) (x ∷ xs) (last_tail m (x ∷ xs) last))
 
 -- these are ahead of the tables, and all rise

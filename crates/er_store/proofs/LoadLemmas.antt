@@ -1,20 +1,19 @@
--- What the four reads of a load give together.
-use Rattle.er_store.proofs.Names.{◌≡◌, ◌⊎◌, inl, inr, ℕ, List, Result, Ok, Err, IfErr, OnOk, IsErrAnd, refl, sym, ap, subst, ◌∙◌, Database}
-use Rattle.er_store.proofs.Names.{State, IsUnchanged, store_error, Row, Error, StoreError, OutOfMemory, Place, EventValue, HasTables}
-use Rattle.er_store.proofs.Names.{StandsFor, out_of_memory, IsReadRefused, KeepsTables, IsFault, reading_refusal}
-use Rattle.std.proofs.Common.{OnErr}
-use Rattle.sqlite.specs.State.{IsNotRun}
+-- What a read leaves, why it is refused, and rows as typed rows.
+use Rattle.er_store.proofs.Prelude.{arith, common_steps, ◌≡◌, ◌⊎◌, inl, inr, ℕ, List, Result, Ok, Err, IfErr, IsErrAnd, refl, sym, ap}
+use Rattle.er_store.proofs.Prelude.{subst, ◌∙◌, Database, State, IsUnchanged, Row, Error, Place, EventValue, HasTables, StandsFor}
+use Rattle.er_store.proofs.Prelude.{out_of_memory, IsReadRefused, KeepsTables, IsFault, reading_refusal, IsNotRun, Bool, true, false, []}
+use Rattle.er_store.proofs.Prelude.{is_ok, IsOk, true≢false, Schema, CompileError, understood, ◌≢◌, ◌<◌, zero, suc, ◌∷◌, map, length}
+use Rattle.er_store.proofs.Prelude.{get_or, All, not-suc-le-zero, All-head, All-tail}
+use Rattle.std.proofs.Common.{OnOk, OnErr}
+use Rattle.sqlite.specs.declared.error.Error.TheVariants.{SqlInputError, MultipleStatement}
 
-store_fault : (table : Place) (cause : StoreError) → IsFault (reading_refusal table (store_error cause))
-store_fault table OutOfMemory = inl refl
-store_fault table _ = inr refl
+-- ---- what the four reads of a load give together
 
 -- a read of tables that stand is never refused as damage
 pub read_fault : (table : Place) (old new : State) (e : Error) → (e ≡ out_of_memory) ⊎ IsReadRefused old new e
     → IsFault (reading_refusal table e)
 read_fault table old new e (inl memory) = inl (ap (reading_refusal table) memory)
-read_fault table old new e (inr (inl fails)) =
-    subst (λ (x : Error). IsFault (reading_refusal table x)) (sym fails.1) (store_fault table fails.0)
+read_fault table old new e (inr (inl fails)) = grind (arith, common_steps)
 read_fault table old new e (inr (inr stopped)) = inr (ap (reading_refusal table) stopped.0)
 
 -- ---- what a read leaves
@@ -29,14 +28,11 @@ pub unchanged_keeps : (old new : State) → IsUnchanged old new → KeepsTables 
 unchanged_keeps old new same settled is_open = (same.0.now_is, same.0.committed_is ∙ sym settled)
 
 pub refused_keeps : (old new : State) (e : Error) → IsReadRefused old new e → KeepsTables old new
-refused_keeps old new e (inl fails) settled is_open = let undone = fails.3.undone is_open in
-    (undone.0 ∙ sym settled, undone.1 ∙ sym settled)
+refused_keeps old new e (inl fails) settled is_open = grind (arith, common_steps)
 refused_keeps old new e (inr stopped) settled is_open = unchanged_keeps old new stopped.2 settled is_open
 
 pub then_keeps : (old mid new : State) → IsUnchanged old mid → KeepsTables mid new → KeepsTables old new
-then_keeps old mid new same keeps settled is_open =
-    let kept = keeps (same.0.now_is ∙ (settled ∙ sym same.0.committed_is)) is_open in
-    (kept.0 ∙ same.0.now_is, kept.1 ∙ same.0.now_is)
+then_keeps old mid new same keeps settled is_open = grind (arith, common_steps)
 
 -- and so does what is not run
 pub not_run_keeps : (old new : State) (sql : List ℕ) (params : Row) (e : Error) → IsNotRun old new sql params e → KeepsTables old new
@@ -56,3 +52,44 @@ all_err (Err e) p = p
 pub told : {A E : Type 0} (r : Result A E) (e : E) (P : E → Type 0) → IsErrAnd r (λ x. x ≡ e) → P e → IfErr r P
 told (Ok a) e P is p = tt
 told (Err x) e P is p = subst P (sym is) p
+
+-- ---- what a look for the event's table tells
+
+is_input : Error → Bool
+is_input (SqlInputError fault) = true
+is_input _ = false
+
+input_is_no : (fault : CompileError) (e : Error) → is_input e ≡ false → SqlInputError fault ≡ e → ⊥
+unfolding is_input
+input_is_no fault e other same = true≢false (ap is_input same ∙ other)
+
+-- a text that is no statement
+pub not_understood : (old new : State) (sql : List ℕ) (fault : CompileError) → IsNotRun old new sql [] (SqlInputError fault)
+    → (IsOk (understood old.now.schema sql) → ⊥) × IsUnchanged old new
+unfolding IsNotRun is_input
+not_understood old new sql fault (inl (inl (f, is, same), unchanged)) = (λ ok. true≢false (sym ok ∙ ap is_ok is), unchanged)
+not_understood old new sql fault (inl (inr (c, is, inl (long, same)), unchanged)) = absurd (input_is_no fault MultipleStatement refl same)
+not_understood old new sql fault (inl (inr (c, is, inr (inl (counts, same))), unchanged)) = absurd (input_is_no fault _ refl same)
+not_understood old new sql fault (inl (inr (c, is, inr (inr (timed, same))), unchanged)) = absurd (input_is_no fault _ refl same)
+not_understood old new sql fault (inr (cause, same, has, rolled, tells)) = grind (arith, common_steps)
+
+pub schema_kept : (old new : State) (schema : Schema) → IsUnchanged old new → old.now.schema ≡ schema → new.now.schema ≡ schema
+schema_kept old new schema unchanged is = ap (λ (d : Database). d.schema) unchanged.0.now_is ∙ is
+
+-- ---- rows as typed rows
+
+module _ {T : Type 0} (columns : T → Row) (IsText : T → Type 0) where
+  -- the typed row of one of the rows
+  at_place : (typed : List T) (at : ℕ) (row : Row) → at < length (map columns typed) → All IsText typed
+      → (r : T) × (get_or (map columns typed) at row ≡ columns r) × IsText r
+  at_place [] at row below texts = absurd (not-suc-le-zero below)
+  at_place (t ∷ ts) zero row below texts = (t, refl, All-head IsText t ts texts)
+  at_place (t ∷ ts) (suc at) row below texts = at_place ts at row (omega arith) (All-tail IsText t ts texts)
+
+  -- where one row is refused, the rows are not those of lawful ones
+  pub not_typed : (rows : List Row) (at : ℕ) (row : Row) (e : Error) → at < length rows → row ≡ get_or rows at row
+      → (e ≢ out_of_memory → (r : T) → IsText r → row ≢ columns r)
+      → e ≢ out_of_memory → (typed : List T) → All IsText typed → rows ≢ map columns typed
+  not_typed rows at row e below is refused unless typed texts are =
+      let it = at_place typed at row (subst (λ (all : List Row). at < length all) are below) texts in
+      refused unless it.0 it.2 (is ∙ ap (λ (all : List Row). get_or all at row) are ∙ it.1)

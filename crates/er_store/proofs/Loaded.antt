@@ -1,17 +1,44 @@
--- What the rows of a sound event tell.
-use Rattle.er_store.proofs.Names.{◌≡◌, ◌≤◌, inl, inr, ℕ, List, ap, subst, IsPermutation-sym, IsPermutation-trans, Database, Parts, Place}
-use Rattle.er_store.proofs.Names.{EventTable, PlayerTable, PairingTable, BracketTable, TallyTable, TallyRow, EventValue, tally_rows}
-use Rattle.er_store.proofs.Names.{parts_of, IsSoundButForSeeds, IsPermutation, rows_in, rows_with, ShowsEvent, IsRowFault}
-use Rattle.er_event.specs.Parts.{HasRoundRows, IsFirstFault}
-use Rattle.er_store.specs.Loading.{ListsParts, ListsTallies}
+-- What the rows of a sound event tell, and a crash leaves of it.
+use Rattle.er_store.proofs.Prelude.{common_steps, ◌≡◌, ℕ, List, [], ◌∷◌, refl, sym, ap, ap₂, ◌∙◌, arith, Row, Trees, Table, Schema}
+use Rattle.er_store.proofs.Prelude.{Database, EventValue, HasTables, StandsFor, IsStored, ◌≤◌, inl, inr, subst, IsPermutation-sym}
+use Rattle.er_store.proofs.Prelude.{IsPermutation-trans, Parts, Place, EventTable, PlayerTable, PairingTable, BracketTable, TallyTable}
+use Rattle.er_store.proofs.Prelude.{TallyRow, tally_rows, IsSoundButForSeeds, IsRowFault}
+use Rattle.std.specs.List.{AllZip}
+use Rattle.sqlite_catalog.specs.Listing.{IsSound, IsTableRow}
+use Rattle.er_event.specs.Parts.{parts_of, HasRoundRows, IsFirstFault}
+use Rattle.er_store.specs.Loading.{ShowsEvent, ListsParts, ListsTallies}
 use Rattle.er_store.proofs.Keyed.{keyed_permutes}
+
+-- ---- what a crash leaves stands for the event again where it is opened
+
+same_table : (row : Row) (a b : Table) → IsTableRow row a → IsTableRow row b → a ≡ b
+same_table row a b p q = grind (arith, common_steps)
+
+same_tables : (rows : List Row) (xs ys : List Table) → AllZip IsTableRow rows xs → AllZip IsTableRow rows ys → xs ≡ ys
+same_tables [] [] [] p q = refl
+same_tables [] [] (y ∷ ys) p q = absurd q
+same_tables [] (x ∷ xs) ys p q = absurd p
+same_tables (r ∷ rows) [] ys p q = absurd p
+same_tables (r ∷ rows) (x ∷ xs) [] p q = absurd q
+same_tables (r ∷ rows) (x ∷ xs) (y ∷ ys) p q = ap₂ ◌∷◌ (same_table r x y p.0 q.0) (same_tables rows xs ys p.1 q.1)
+
+-- trees list one list of tables
+pub schemas_agree : (a b : Schema) (db : Trees) → IsSound a db → IsSound b db → a.tables ≡ b.tables
+schemas_agree a b db p q = same_tables _ a.tables b.tables p.lists.listed.tables q.lists.listed.tables
+
+has_again : (a b : Schema) → a.tables ≡ b.tables → HasTables a → HasTables b
+has_again a b same has = record { others = has.others; are = sym same ∙ has.are; apart = has.apart }
+
+-- a database whose trees are stored stands for the event, whatever schema was read of them
+pub stands_again : (db : Database) (e : EventValue) (s : ℕ) → IsSound db.schema db.trees → IsStored e s db.trees → StandsFor db e s
+stands_again db e s sound it = grind (arith, common_steps, has_again, schemas_agree)
+
+-- ---- what the rows of a sound event tell
 
 pub no_fault : (parts : Parts) (e : EventValue) (s : ℕ) → s ≤ 999999 → IsSoundButForSeeds e → parts ≡ parts_of e s → (place : Place)
     → IsFirstFault parts place → ⊥
-no_fault parts e s low sound are = at_fault
-  where
-    rounds : HasRoundRows parts e
-    rounds = record {
+no_fault parts e s low sound are =
+    let rounds : HasRoundRows parts e = record {
       players = record {
         event = record { serial = s; low = low; set_up = sound.set_up; row = ap (λ (p : Parts). p.event) are };
         rows = ap (λ (p : Parts). p.players) are;
@@ -19,14 +46,14 @@ no_fault parts e s low sound are = at_fault
       };
       rows = ap (λ (p : Parts). p.pairings) are;
       rounds = sound.rounds;
-    }
-
-    at_fault : (place : Place) → IsFirstFault parts place → ⊥
-    at_fault EventTable h = h e rounds.players.event
-    at_fault PlayerTable h = h.1 e rounds.players
-    at_fault PairingTable h = h.1 e rounds
-    at_fault BracketTable h = h.1 e (record { rounds = rounds; rows = ap (λ (p : Parts). p.bracket) are; bracket = sound.bracket })
-    at_fault TallyTable h = h
+    } in
+    elim [
+      | EventTable ↦ λ h. h e rounds.players.event
+      | PlayerTable ↦ λ h. h.1 e rounds.players
+      | PairingTable ↦ λ h. h.1 e rounds
+      | BracketTable ↦ λ h. h.1 e (record { rounds = rounds; rows = ap (λ (p : Parts). p.bracket) are; bracket = sound.bracket })
+      | TallyTable ↦ λ h. h
+    ]
 
 -- nor are the totals of another
 pub no_row_fault : (parts : Parts) (e : EventValue) (s : ℕ) → s ≤ 999999 → IsSoundButForSeeds e → parts ≡ parts_of e s
@@ -38,14 +65,15 @@ no_row_fault parts e s low sound are rows counted place (inr totals) = totals.1.
 pub shows_event : (db : Database) (parts : Parts) (e : EventValue) (s : ℕ) → s ≤ 999999 → IsSoundButForSeeds e → parts ≡ parts_of e s
     → ListsParts db parts → (rows : List TallyRow) → rows ≡ tally_rows e → ListsTallies db rows → ShowsEvent db e s
 shows_event db parts e s low sound are lists rows counted totals =
-    record { low = low; sound = sound; rows = all }
-  where
-    whole : ListsParts db (parts_of e s)
-    whole = subst (ListsParts db) are lists
-
-    all : (table : Place) → IsPermutation (rows_in db table) (rows_with e s (tally_rows e) table)
-    all EventTable = whole.event.same
-    all PlayerTable = whole.players.same
-    all PairingTable = IsPermutation-trans _ _ _ whole.pairings.same (IsPermutation-sym _ _ (keyed_permutes e))
-    all BracketTable = whole.bracket.same
-    all TallyTable = (subst (ListsTallies db) counted totals).same
+    let whole = subst (ListsParts db) are lists in
+    record {
+      low = low;
+      sound = sound;
+      rows = elim [
+        | EventTable ↦ whole.event.same
+        | PlayerTable ↦ whole.players.same
+        | PairingTable ↦ IsPermutation-trans _ _ _ whole.pairings.same (IsPermutation-sym _ _ (keyed_permutes e))
+        | BracketTable ↦ whole.bracket.same
+        | TallyTable ↦ (subst (ListsTallies db) counted totals).same
+      ];
+    }

@@ -1,14 +1,13 @@
 -- What the texts mean, whatever other tables there are.
-use Rattle.er_store.proofs.Names.{map, ◌≡◌, ℕ, refl, [], ◌∷◌, List, pos, false, is_ok, sym, ◌∙◌, true≢false, Table, Schema, Term, col}
-use Rattle.er_store.proofs.Names.{Query, Command, Insert, Update, Values, Null, Int, Binary, Index, View, Compare, Eq, Gt, ToNumeric}
-use Rattle.er_store.proofs.Names.{IsPlain, command_of, with_ours, CanRead, table_query, SelectsWith, Selects, number, event_places}
-use Rattle.er_store.proofs.Names.{player_places, pairing_places, bracket_places, tally_places, no_schema, insert_event, insert_player}
-use Rattle.er_store.proofs.Names.{set_serial, set_phase, set_dropped, set_score, insert_pairing, insert_slot, set_slot_score, insert_tally}
-use Rattle.er_store.proofs.Names.{set_tally, read_event, read_players, read_pairings, read_bracket, read_tallies, read_meetings, read_slip}
-use Rattle.std.proofs.Common.{lit≤, codes}
-use Rattle.sqlite.specs.{Term.lit, Term.op1, Term.op2, Query.Join, Query.inner, Query.left, Query.end, Listing.understood}
-use Rattle.sqlite.specs.{Listing.listing_schema}
-use Rattle.sqlite_tied.specs.Compute.{everything}
+use Rattle.er_store.proofs.Prelude.{map, ◌≡◌, ℕ, refl, [], ◌∷◌, List, pos, false, is_ok, sym, ◌∙◌, true≢false, Table, Schema, Term, col}
+use Rattle.er_store.proofs.Prelude.{Query, Command, Insert, Update, Values, Null, Int, Binary, Index, View, Compare, Eq, Gt, ToNumeric}
+use Rattle.er_store.proofs.Prelude.{IsPlain, command_of, with_ours, CanRead, table_query, SelectsWith, Selects, number, event_places}
+use Rattle.er_store.proofs.Prelude.{player_places, pairing_places, bracket_places, tally_places, no_schema, insert_event, insert_player}
+use Rattle.er_store.proofs.Prelude.{set_serial, set_phase, set_dropped, set_score, insert_pairing, insert_slot, set_slot_score}
+use Rattle.er_store.proofs.Prelude.{insert_tally, set_tally, read_event, read_players, read_pairings, read_bracket, read_tallies}
+use Rattle.er_store.proofs.Prelude.{read_meetings, read_slip, understood, listing_schema, everything}
+use Rattle.std.proofs.Common.{lit≤}
+use Rattle.sqlite.specs.{Term.{lit, op1, op2}, Query.{Join, inner, left, end}}
 use Rattle.er_store.specs.{inside.Queries.plain_query, Tables.find_event}
 
 abbrev pub player_terms : List Term
@@ -138,48 +137,31 @@ module _ (others : List Table) (indexes : List Index) (views : List View) where
 
   pub event_selected : Selects read_event (table_query 0 event_places (0 ∷ [])) full
   unfolding understood everything
-  event_selected =
-      let names = codes "id" ∷ codes "version" ∷ codes "serial" ∷ codes "name" ∷ codes "rounds" ∷ codes "cut" ∷ codes "phase" ∷ [] in
-      record { names = names; is = refl; plain = (refl, refl); unlisted = refl; whole = (lit≤ tt, refl); typed = refl }
+  event_selected = record { names = _; is = refl; plain = (refl, refl); unlisted = refl; whole = (lit≤ tt, refl); typed = refl }
 
   pub players_selected : Selects read_players (table_query 1 player_places (0 ∷ [])) full
   unfolding understood everything
-  players_selected =
-      let names = codes "no" ∷ codes "name" ∷ codes "dropped" ∷ [] in
-      record { names = names; is = refl; plain = (refl, refl); unlisted = refl; whole = (lit≤ tt, refl); typed = refl }
+  players_selected = record { names = _; is = refl; plain = (refl, refl); unlisted = refl; whole = (lit≤ tt, refl); typed = refl }
 
   pub tallies_selected : Selects read_tallies (table_query 8 tally_places (0 ∷ [])) full
   unfolding understood everything
-  tallies_selected =
-      let names = codes "no" ∷ codes "points" ∷ codes "rounds" ∷ codes "gamepoints" ∷ codes "games" ∷ [] in
-      record { names = names; is = refl; plain = (refl, refl); unlisted = refl; whole = (lit≤ tt, refl); typed = refl }
+  tallies_selected = record { names = _; is = refl; plain = (refl, refl); unlisted = refl; whole = (lit≤ tt, refl); typed = refl }
 
   pub pairings_selected : Selects read_pairings (table_query 3 pairing_places (1 ∷ 2 ∷ [])) full
   unfolding understood everything
-  pairings_selected =
-      let names = codes "round" ∷ codes "tab" ∷ codes "lo" ∷ codes "hi" ∷ codes "swapped" ∷ codes "done" ∷ codes "x" ∷ codes "y" ∷ codes
-      "d" ∷ [] in
-      record { names = names; is = refl; plain = (refl, refl); unlisted = refl; whole = (lit≤ tt, refl); typed = refl }
+  pairings_selected = record { names = _; is = refl; plain = (refl, refl); unlisted = refl; whole = (lit≤ tt, refl); typed = refl }
 
   pub bracket_selected : Selects read_bracket (table_query 6 bracket_places (1 ∷ 2 ∷ [])) full
   unfolding understood everything
-  bracket_selected =
-      let names = codes "stage" ∷ codes "slot" ∷ codes "a" ∷ codes "b" ∷ codes "done" ∷ codes "x" ∷ codes "y" ∷ codes "d" ∷ [] in
-      record { names = names; is = refl; plain = (refl, refl); unlisted = refl; whole = (lit≤ tt, refl); typed = refl }
+  bracket_selected = record { names = _; is = refl; plain = (refl, refl); unlisted = refl; whole = (lit≤ tt, refl); typed = refl }
 
   pub slip_selected : (round table : ℕ) → SelectsWith (number round ∷ number table ∷ []) read_slip slip_query full
   unfolding understood everything
-  slip_selected round table =
-      let names = codes "round" ∷ codes "tab" ∷ codes "lo" ∷ codes "hi" ∷ codes "swapped" ∷ codes "done" ∷ codes "x" ∷ codes "y" ∷ codes
-      "d" ∷ codes "name" ∷ codes "name" ∷ [] in
-      record { names = names; is = refl; plain = (refl, refl); unlisted = refl; whole = (lit≤ tt, refl); typed = refl }
+  slip_selected round table = record { names = _; is = refl; plain = (refl, refl); unlisted = refl; whole = (lit≤ tt, refl); typed = refl }
 
   pub meetings_selected : Selects read_meetings meeting_query full
   unfolding understood everything
-  meetings_selected =
-      let names = codes "round" ∷ codes "tab" ∷ codes "done" ∷ codes "no" ∷ codes "points" ∷ codes "rounds" ∷ codes "gamepoints" ∷ codes
-      "games" ∷ codes "no" ∷ codes "points" ∷ codes "rounds" ∷ codes "gamepoints" ∷ codes "games" ∷ [] in
-      record { names = names; is = refl; plain = (refl, refl); unlisted = refl; whole = (lit≤ tt, refl); typed = refl }
+  meetings_selected = record { names = _; is = refl; plain = (refl, refl); unlisted = refl; whole = (lit≤ tt, refl); typed = refl }
 
   -- the table can be read
   pub readable : CanRead full

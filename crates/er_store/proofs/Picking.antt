@@ -1,11 +1,42 @@
 -- How a WHERE picks the one row of a player, among rows that the players' numbers lead.
-use Rattle.er_store.proofs.Names.{number, player_columns, filter, List, Contains, zero, cond, Bool, drop, refl, subst, ap₂, pos, false}
-use Rattle.er_store.proofs.Names.{length, map, ℕ, arith, Some, not-suc-le-zero, true, suc, not, get_or, sym, ap, ◌-◌, ◌≤◌, ◌+◌, [], ◌∙◌}
-use Rattle.er_store.proofs.Names.{◌++◌, ◌≡◌, ◌≢◌, ◌==◌, ◌∷◌, ◌<◌, ◌&&◌, length-map, get_or-range_with_len, length-range_with_len, ne_eqb}
-use Rattle.er_store.proofs.Names.{nat_tests, range_with_len, IsPermutation, is_eq, dropped_at, numbers, Player, player_row, value_cmp-Int}
-use Rattle.er_store.proofs.Names.{is_true, from_truth, Row, column, Binary, Null, Value, Eq, Compare, map-map, filter_none}
-use Rattle.er_store.proofs.Swaps.{swaps-before, swaps-as, None_of, swaps-alone, swaps-replaced, Swaps}
-use Rattle.sqlite.specs.{Ops.binary, Order.value_cmp}
+use Rattle.er_store.proofs.Prelude.{common_steps, after, IsPermutation-map, IsPermutation-sym, map-append, filter, List, Bool, refl, subst}
+use Rattle.er_store.proofs.Prelude.{true, not, false, sym, map, ap, ◌≡◌, ◌∷◌, [], ◌∙◌, ◌++◌, IsPermutation, Row, filter-map, arith}
+use Rattle.er_store.proofs.Prelude.{nat_tests, IsPermutation-filter_both, number, player_columns, Contains, zero, cond, drop, ap₂, pos}
+use Rattle.er_store.proofs.Prelude.{length, ℕ, Some, not-suc-le-zero, suc, get_or, ◌-◌, ◌≤◌, ◌+◌, ◌==◌, ◌<◌, ◌&&◌, length-map}
+use Rattle.er_store.proofs.Prelude.{get_or-range_with_len, length-range_with_len, ne_eqb, range_with_len, is_eq, dropped_at, numbers}
+use Rattle.er_store.proofs.Prelude.{Player, player_row, value_cmp-Int, is_true, from_truth, column, Binary, Null, Value, Eq, Compare}
+use Rattle.er_store.proofs.Prelude.{map-map, binary, value_cmp, find, slice_get, filter_same}
+use Rattle.sqlite_keyed.proofs.ListLemmas.{slice_get-filter}
+
+-- ---- among rows that a test picks one of, that one gives way to another
+
+-- what is shown of each before and after, which differs where the test picks it
+module _ {X : Type 0} (columns after : X → Row) (test : Row → Bool) (xs : List X) (it : X)
+    (others : (x : X) → test (columns x) ≡ false → after x ≡ columns x) (alone : filter (λ x. test (columns x)) xs ≡ it ∷ []) where
+  pub picked-alone : filter test (map columns xs) ≡ columns it ∷ []
+  picked-alone = filter-map test columns xs ∙ ap (map columns) alone
+
+  abbrev rest : List X → List X
+  rest ys = filter (λ x. not (test (columns x))) ys
+
+  kept : (ys : List X) → map after (rest ys) ≡ map columns (rest ys)
+  kept [] = refl
+  kept (y ∷ ys) = grind (arith, nat_tests, kept ys, others y)
+
+  double : (b : Bool) → b ≡ not (not b)
+  double true = refl
+  double false = refl
+
+  pub picked-replaced : IsPermutation (filter (λ r. not (test r)) (map columns xs) ++ after it ∷ []) (map after xs)
+  picked-replaced =
+      let both = IsPermutation-map after xs _ (IsPermutation-filter_both (λ x. not (test (columns x))) (λ x. test (columns x))
+      (λ x. double (test (columns x))) xs) in
+      let are : map after (rest xs ++ filter (λ x. test (columns x)) xs) ≡ filter (λ r. not (test r)) (map columns xs) ++ after it ∷ [] =
+      ap (λ ys. map after (rest xs ++ ys)) alone ∙ map-append after (rest xs) (it ∷ [])
+      ∙ ap (λ ys. ys ++ after it ∷ []) (kept xs ∙ sym (filter-map (λ r. not (test r)) columns xs)) in
+      IsPermutation-sym _ _ (subst (IsPermutation (map after xs)) are both)
+
+-- ---- how a WHERE picks the one row of a player, among rows that the players' numbers lead
 
 -- the test of the WHERE
 abbrev pub picks : ℕ → Row → Bool
@@ -51,98 +82,80 @@ pub first_number : (p : Player) (ps : List Player) (a : ℕ) → numbers (p ∷ 
 first_number p ps a e = (ap (λ (ns : List ℕ). get_or ns 0 0) e, ap (Rattle.std.specs.Prelude.drop 1) e)
 
 pub within : (n k : ℕ) → Contains (range_with_len 1 n) k → (1 ≤ k) × (k ≤ n)
-within n k has =
-    let len = length-range_with_len 1 n in
-    let below = has.1 in
-    let at = get_or-range_with_len 1 n has.0 k (omega arith) in
-    let is = has.2 in
-    (omega arith, omega arith)
+within n k has = grind (arith, common_steps, get_or-range_with_len, length-range_with_len)
+
+abbrev pub has_number : ℕ → Player → Bool
+has_number k p = p.no == k
+
+-- a number below them all is nobody's
+none_below : (k a : ℕ) (ps : List Player) → k < a → numbers ps ≡ range_with_len a (length ps) → filter (has_number k) ps ≡ []
+none_below k a [] low numbered = refl
+none_below k a (p ∷ ps) low numbered =
+    let both = first_number p ps a numbered in
+    let no = both.0 in
+    grind (arith, nat_tests, none_below k (a + 1) ps (omega arith) both.1)
+
+record HasOne (k : ℕ) (ps : List Player) : Type 0 where
+  it : Player
+  is : it.no ≡ k
+  alone : filter (has_number k) ps ≡ it ∷ []
+
+one_numbered : (k a i : ℕ) (ps : List Player) → k ≡ a + i → i < length ps → numbers ps ≡ range_with_len a (length ps) → HasOne k ps
+one_numbered k a i [] at below numbered = absurd (not-suc-le-zero below)
+one_numbered k a zero (p ∷ ps) at below numbered =
+    let both = first_number p ps a numbered in
+    let here : (p.no == k) ≡ true = same_number p.no k (omega (arith, both.0)) in
+    record { it = p; is = omega (arith, both.0); alone = rw (here, none_below k (a + 1) ps (omega arith) both.1) refl }
+one_numbered k a (suc i) (p ∷ ps) at below numbered =
+    let both = first_number p ps a numbered in
+    let more = one_numbered k (a + 1) i ps (omega arith) (omega arith) both.1 in
+    record { it = more.it; is = more.is; alone = rw (ne_eqb p.no k (λ e. absurd (omega (arith, both.0)))) more.alone }
 
 -- a row for each player, before and after, which changes for one number alone
 pub record AreRowsBy (before after : Player → Row) (k : ℕ) : Type 0 where
   pub numbered : (p : Player) → column (before p) 0 ≡ number p.no
-  pub others : (p : Player) → p.no ≢ k → after p ≡ before p
+  pub others : (p : Player) → has_number k p ≡ false → after p ≡ before p
 
 -- the number picks one player's row alone, and the rows of the others with the new one are those after
-pub record PicksRow (k : ℕ) (before after : Player → Row) (old new : List Row) : Type 0 where
+pub record PicksRow (k : ℕ) (before after : Player → Row) (ps : List Player) (old new : List Row) : Type 0 where
   pub it : Player
   pub is : it.no ≡ k
+  pub first : find (has_number k) ps ≡ Some it
   pub alone : filter (picks k) old ≡ before it ∷ []
   pub replaced : IsPermutation (filter (is_another k) old ++ after it ∷ []) new
 
-module _ (before after : Player → Row) (k : ℕ) (are : AreRowsBy before after k) where
-  told : (p : Player) (b : Bool) → (p.no == k) ≡ b → picks k (before p) ≡ b
-  told p b is = picks-number k p.no (before p) (are.numbered p) ∙ is
-
-  -- a number below them all picks none
-  none_below : (a : ℕ) (ps : List Player) → k < a → numbers ps ≡ range_with_len a (length ps)
-      → None_of (picks k) (map before ps) × (map after ps ≡ map before ps)
-  none_below a [] low numbered = (tt, refl)
-  none_below a (p ∷ ps) low numbered =
-      let both = first_number p ps a numbered in
-      let apart : p.no ≢ k = λ e. absurd (omega (arith, both.0)) in
-      let more = none_below (a + 1) ps (omega arith) both.1 in
-      ((told p false (ne_eqb p.no k apart), more.0), ap₂ ◌∷◌ (are.others p apart) more.1)
-
-  swaps_at : (ps : List Player) (a i : ℕ) → k ≡ a + i → i < length ps → numbers ps ≡ range_with_len a (length ps)
-      → (it : Player) × (it.no ≡ k) × Swaps (picks k) (map before ps) (map after ps) (before it) (after it)
-  swaps_at [] a i at below numbered = absurd (not-suc-le-zero below)
-  swaps_at (p ∷ ps) a zero at below numbered =
-      let both = first_number p ps a numbered in
-      let is : p.no ≡ k = omega (arith, both.0) in
-      let more = none_below (a + 1) ps (omega arith) both.1 in (
-        p,
-        is,
-        record {
-          before = [];
-          after = map before ps;
-          was = refl;
-          is = ap (λ rows. after p ∷ rows) more.1;
-          picked = told p true (grind (arith, nat_tests));
-          none_before = tt;
-          none_after = more.0;
-        },
-      )
-  swaps_at (p ∷ ps) a (suc i) at below numbered =
-      let both = first_number p ps a numbered in
-      let apart : p.no ≢ k = λ e. absurd (omega (arith, both.0)) in
-      let more = swaps_at ps (a + 1) i (omega arith) (omega arith) both.1 in (
-        more.0,
-        more.1,
-        swaps-as (picks k) refl (ap (λ row. row ∷ map after ps) (are.others p apart))
-            (swaps-before (picks k) (before p ∷ []) (told p false (ne_eqb p.no k apart), tt) more.2),
-      )
-
-  -- one of them is picked by number
-  pub picks_row : (ps : List Player) → numbers ps ≡ range_with_len 1 (length ps) → Contains (numbers ps) k
-      → {old new : List Row} → old ≡ map before ps → new ≡ map after ps → PicksRow k before after old new
-  picks_row ps numbered known was is =
-      let here = within (length ps) k (subst (λ (ns : List ℕ). Contains ns k) numbered known) in
-      let low = here.0 in
-      let high = here.1 in
-      let it = swaps_at ps 1 (k - 1) (omega arith) (omega arith) numbered in
-      let swaps = swaps-as (picks k) was is it.2 in
-      record { it = it.0; is = it.1; alone = swaps-alone (picks k) swaps; replaced = swaps-replaced (picks k) swaps }
+-- one of them is picked by number
+pub picks_row : (before after : Player → Row) (k : ℕ) → AreRowsBy before after k → (ps : List Player)
+    → numbers ps ≡ range_with_len 1 (length ps) → Contains (numbers ps) k → {old new : List Row} → old ≡ map before ps
+    → new ≡ map after ps → PicksRow k before after ps old new
+picks_row before after k are ps numbered known was is =
+    let here = within (length ps) k (subst (λ (ns : List ℕ). Contains ns k) numbered known) in
+    let low = here.0 in
+    let high = here.1 in
+    let one = one_numbered k 1 (k - 1) ps (omega arith) (omega arith) numbered in
+    let told = λ (p : Player). picks-number k p.no (before p) (are.numbered p) in
+    let others = λ (p : Player) (no : picks k (before p) ≡ false). are.others p (sym (told p) ∙ no) in
+    let alone = filter_same (λ (p : Player). picks k (before p)) (has_number k) told ps ∙ one.alone in
+    record {
+      it = one.it;
+      is = one.is;
+      first = sym (slice_get-filter (has_number k) ps) ∙ ap (λ all. slice_get all 0) one.alone;
+      alone = rw was (picked-alone before after (picks k) ps one.it others alone);
+      replaced = rw (was, is) (picked-replaced before after (picks k) ps one.it others alone);
+    }
 
 -- ---- one of them is dropped
 
-are_dropped : (k : ℕ) → AreRowsBy row_of (λ p. row_of (dropped_at k p)) k
-are_dropped k = record {
-  numbered = λ p. refl;
-  others = λ p apart. ap (λ (b : Bool). row_of (cond b (record p { dropped = true }) p)) (ne_eqb p.no k apart);
-}
+pub picks_one : (ps : List Player) (k : ℕ) → numbers ps ≡ range_with_len 1 (length ps) → Contains (numbers ps) k
+    → PicksRow k row_of (λ p. row_of (dropped_at k p)) ps (rows_of ps) (rows_of (map (dropped_at k) ps))
+picks_one ps k numbered known = grind (arith, common_steps, dropped_at, map-map, picks_row, player_columns, player_row)
 
 -- no player has a number below 1
 pub picks_none : (ps : List Player) (k : ℕ) → k < 1 → numbers ps ≡ range_with_len 1 (length ps) → filter (picks k) (rows_of ps) ≡ []
 picks_none ps k low numbered =
-    ap (filter (picks k)) (map-map player_columns player_row ps)
-    ∙ filter_none (picks k) (map row_of ps) (none_below row_of (λ p. row_of (dropped_at k p)) k (are_dropped k) 1 ps low numbered).0
-
-pub picks_one : (ps : List Player) (k : ℕ) → numbers ps ≡ range_with_len 1 (length ps) → Contains (numbers ps) k
-    → PicksRow k row_of (λ p. row_of (dropped_at k p)) (rows_of ps) (rows_of (map (dropped_at k) ps))
-picks_one ps k numbered known =
-    picks_row row_of (λ p. row_of (dropped_at k p)) k (are_dropped k) ps numbered known (map-map player_columns player_row ps)
-    (ap (map player_columns) (map-map player_row (dropped_at k) ps) ∙ map-map player_columns (λ p. player_row (dropped_at k p)) ps)
+    ap (filter (picks k)) (map-map player_columns player_row ps) ∙ filter-map (picks k) row_of ps
+    ∙ ap (map row_of) (filter_same (λ p. picks k (row_of p)) (has_number k) (λ p. picks-number k p.no (row_of p) refl) ps
+    ∙ none_below k 1 ps low numbered)
 
 -- ---- what a drop leaves
 

@@ -1,25 +1,26 @@
--- Why a read of the tables is refused.
-use Rattle.er_store.proofs.Names.{◌≡◌, inl, inr, ℕ, List, [], ◌∷◌, length, Ok, IsSome, sym, ap, subst, ◌∙◌, append-nil, refl, Row, Query}
-use Rattle.er_store.proofs.Names.{IsAnswer, overlay, timed, Select, RefusesToRead, Trees, Error, SqliteFailure, OperationInterrupted, Null}
-use Rattle.er_store.proofs.Names.{State, FailsToShow, IsPlain, command_of, IsReadRefused, Takes, Selects, SelectsWith, table_query}
-use Rattle.std.proofs.Common.{subst₂}
-use Rattle.sqlite.specs.{Program.ProgramOverflows, Effect.RefusesQuery, Listing.understood, Listing.IsSourceOf, State.FailsToQuery}
-use Rattle.sqlite.specs.{State.IsNotRun, State.IsNoStatement, State.Shown}
+-- Why a read of the tables is refused, and what that says of the file.
+use Rattle.er_store.proofs.Prelude.{arith, common_steps, ◌≡◌, inl, inr, ℕ, List, [], length, sym, ap, subst, ◌∙◌, refl, Row, Query}
+use Rattle.er_store.proofs.Prelude.{IsAnswer, overlay, timed, Select, Trees, Error, SqliteFailure, Null, State, IsPlain, IsReadRefused}
+use Rattle.er_store.proofs.Prelude.{Takes, Selects, SelectsWith, table_query, understood, FailsToQuery, IsNotRun, Shown, ◌≢◌, ◌⊎◌, All, map}
+use Rattle.er_store.proofs.Prelude.{Bool, true, false, None, Option, true≢false, Database, Command, ShowsRows, first, Refusal, Memory}
+use Rattle.er_store.proofs.Prelude.{Damaged, Place, Parts, TallyRow, out_of_memory, reading_refusal, IsRowFault, first_columns}
+use Rattle.er_store.proofs.Prelude.{begins_select, Form, Shape}
+use Rattle.sqlite.specs.{Effect.RefusesToRead, declared.error.ErrorCode.TheVariants.OperationInterrupted, State.FailsToShow}
+use Rattle.sqlite.specs.{State.{IsNoStatement, store_error}, Program.ProgramOverflows}
 use Rattle.sqlite.proofs.Callers.{reads_as}
-use Rattle.er_store.proofs.Meaning.{meeting_query, slip_query}
+use Rattle.sqlite_trees.specs.{declared.error.StoreError.StoreError, declared.error.StoreError.TheVariants.OutOfMemory}
+use Rattle.sqlite_schema.specs.declared.command.Command.TheVariants.{Rows}
+use Rattle.er_store.proofs.{Meaning.{meeting_query, slip_query}, Selecting.never_returns}
+use Rattle.er_store.specs.Damage.{Answered, IsUnread, IsRefused, IsMisreadAs, MayRead}
+use Rattle.sqlite.specs.declared.error.ErrorCode.TheVariants as code
+
+-- ---- why a read of the tables is refused
 
 -- a text that is one statement, with as many parameters as are given, is a statement
 is_statement : (old : State) (sql : List ℕ) (params : Row) (e : Error) → IsPlain (understood old.now.schema sql)
     → Takes (length params) sql (understood old.now.schema sql) → ¬ IsNoStatement old sql params e
 is_statement old sql params e plain takes (inl fault) = rw fault.1 at plain
-is_statement old sql params e plain takes (inr (c, is, why)) =
-    let t : Takes (length params) sql (Ok c) = subst (Takes (length params) sql) is takes in
-    let p : IsPlain (Ok c) = subst IsPlain is plain in
-    elim why [ inl longer ↦ longer.0 t.0 | inr other ↦ elim other [ inl counts ↦ counts.0 (sym t.1) | inr timed ↦ timed.0 p.1 ] ]
-
-untimed : (params : Row) (formats : List (List ℕ)) (now : ℕ) → formats ≡ [] → timed params formats now ≡ params
-untimed params [] now none = append-nil params
-untimed params (f ∷ formats) now none = absurd (cc)
+is_statement old sql params e plain takes (inr (c, is, why)) = grind (arith, common_steps)
 
 -- a query of one table sums nothing
 sums_nothing : (trees : Trees) (tree : ℕ) (places keys : List ℕ) → ¬ ProgramOverflows trees [] [] [] (table_query tree places keys)
@@ -35,26 +36,12 @@ answers {sql} {params} {q} old new {rows} it h =
 
 module _ (q : Query) (params : Row) (sums : (trees : Trees) → ¬ ProgramOverflows trees params [] [] q) {sql : List ℕ} (old new : State)
     (e : Error) (it : SelectsWith params sql q old.now.schema) where
-  only_limit : RefusesQuery old.step_limit old.now (record { lets = []; body = q }) params e
-      → (e ≡ SqliteFailure OperationInterrupted) × IsSome old.step_limit
-  only_limit (inl kind) = let never = kind.1 in let typed = it.typed in absurd (cc)
-  only_limit (inr (inl big)) = absurd (sums old.now.trees big.1)
-  only_limit (inr (inr stopped)) = stopped
-
   -- by memory, the file or the device, or by the limit on steps
   pub query_refused : FailsToQuery sql params old new e → IsReadRefused old new e
   unfolding FailsToQuery IsNotRun
   query_refused (inl (inl no_statement)) = absurd (is_statement old sql params e it.plain it.whole no_statement.0)
   query_refused (inl (inr fails)) = inl fails
-  query_refused (inr (c, s, shows)) =
-      let known : Ok c ≡ understood old.now.schema sql = sym s.is in
-      let bare = subst IsPlain (sym known) it.plain in
-      let kind : c.command ≡ Select (record { lets = []; body = q }) it.names = ap command_of known ∙ it.is in
-      let failed = subst (FailsToShow old new sql c (timed params c.formats s.now) e) bare.0 shows in
-      let db : failed.0 ≡ old.now = subst (λ b. IsSourceOf b old.now failed.0) it.unlisted failed.1 in
-      let why = subst (λ p. RefusesToRead old.step_limit c.command failed.0 p e) (untimed params c.formats s.now bare.1) failed.2 in
-      let stopped = only_limit (subst₂ (λ k d. RefusesToRead old.step_limit k d params e) kind db why) in
-      inr (stopped.0, stopped.1, failed.3)
+  query_refused (inr (c, s, shows)) = grind (arith, common_steps)
 
 pub read_refused : (tree : ℕ) (places keys : List ℕ) {sql : List ℕ} (old new : State) (e : Error)
     → Selects sql (table_query tree places keys) old.now.schema → FailsToQuery sql [] old new e → IsReadRefused old new e
@@ -78,3 +65,88 @@ meeting_sums trees (inr fold) = fold.4.4.4
 pub meetings_refused : {sql : List ℕ} (old new : State) (e : Error)
     → Selects sql meeting_query old.now.schema → FailsToQuery sql [] old new e → IsReadRefused old new e
 meetings_refused old new e = query_refused meeting_query [] meeting_sums old new e
+
+-- ---- what a refusal of a read says of the file, whatever its schema is
+
+-- the table that is named is the one that was read
+pub damaged_place : (place : Place) (e : Error) (at : Place) → reading_refusal place e ≡ Damaged at → at ≡ place
+damaged_place place (SqliteFailure code.OutOfMemory) at h = cc
+damaged_place place _ at h = cc
+
+is_damage : Refusal → Bool
+is_damage (Damaged table) = true
+is_damage _ = false
+
+module _ (place at : Place) where
+  never : (e f : Error) → e ≡ f → is_damage (reading_refusal place f) ≡ false → reading_refusal place e ≡ Damaged at → ⊥
+  unfolding is_damage
+  never e f same not_so h = true≢false (sym (ap is_damage h) ∙ (ap (λ x. is_damage (reading_refusal place x)) same ∙ not_so))
+
+  store_never : (e : Error) (cause : StoreError) → e ≡ store_error cause → reading_refusal place e ≡ Damaged at → ⊥
+  unfolding is_damage
+  store_never e OutOfMemory same h = never e _ same refl h
+  store_never e _ same h = never e _ same refl h
+
+  pub memory_never : (e : Error) → reading_refusal place e ≡ Damaged at → e ≢ out_of_memory
+  unfolding is_damage
+  memory_never e h same = never e out_of_memory same refl h
+
+  -- no limit on steps is met
+  unlimited : (limit : Option ℕ) (command : Command) (db : Database) (params : Row) (e : Error) → RefusesToRead limit command db params e
+      → reading_refusal place e ≡ Damaged at → RefusesToRead None command db params e
+  unfolding is_damage
+  unlimited limit (Select q names) db params e (inl kind) h = inl kind
+  unlimited limit (Select q names) db params e (inr (inl big)) h = inr (inl big)
+  unlimited limit (Select q names) db params e (inr (inr stopped)) h = grind (arith, common_steps)
+  unlimited limit (Rows values width names) db params e stopped h = absurd (never e (SqliteFailure OperationInterrupted) stopped.0 refl h)
+  unlimited limit _ db params e same h = same
+
+  -- a refusal that means damage is of the statement
+  pub refused_damage : (sql : List ℕ) (old new : State) (e : Error) → begins_select (first sql) ≡ true → FailsToQuery sql [] old new e
+      → reading_refusal place e ≡ Damaged at → IsUnread old.now sql ⊎ IsRefused old.now sql
+  unfolding FailsToQuery IsNotRun
+  refused_damage sql old new e is (inl (inl (inl (fault, no_text, same), same_state))) h = inl (inl (fault, no_text))
+  refused_damage sql old new e is (inl (inl (inr (c, text, inl (long, same)), same_state))) h = inl (inr (c, text, inl long))
+  refused_damage sql old new e is (inl (inl (inr (c, text, inr (inl (counts, same))), same_state))) h = grind (arith, common_steps)
+  refused_damage sql old new e is (inl (inl (inr (c, text, inr (inr (clock, same))), same_state))) h = inl (inr (c, text, inr (inr clock)))
+  refused_damage sql old new e is (inl (inr fails)) h = absurd (store_never e fails.0 fails.1 h)
+  refused_damage sql old new e is (inr (c, s, shows)) h =
+      let failed = subst (FailsToShow old new sql c (timed [] c.formats s.now) e) (never_returns old.now.schema sql c is s.is) shows in
+      inr (record {
+        compiled = c;
+        is = s.is;
+        now = s.now;
+        source = failed.0;
+        from = failed.1;
+        error = e;
+        refuses = unlimited old.step_limit c.command failed.0 (timed [] c.formats s.now) e failed.2 h;
+      })
+
+-- and the rows that a read shows are an answer
+pub shown_answers : (sql : List ℕ) (old new : State) (rows : List Row) → begins_select (first sql) ≡ true → Shown sql [] old new rows
+    → Answered old.now sql rows
+unfolding Shown
+shown_answers sql old new rows is h =
+    let read = subst (ShowsRows old new sql h.0 (timed [] h.0.formats h.1.now) rows) (never_returns old.now.schema sql h.0 is h.1.is) h.2 in
+    record { compiled = h.0; is = h.1.is; now = h.1.now; source = read.0; from = read.1; reads = read.2 }
+
+-- ---- what the typed rows of a read say
+
+module _ {R : Type 0} (form : Form R) (table : Shape R) (old new : State) (rows given : List Row)
+    (is : begins_select (first table.read) ≡ true) (same : given ≡ rows) (shown : Shown table.read [] old new rows) where
+  pub may_read : (typed : List R) → map form.columns typed ≡ map (first_columns form.width) given → MayRead form table old.now typed
+  may_read typed are = (rows, shown_answers table.read old new rows is shown, are ∙ ap (map (first_columns form.width)) same)
+
+  pub has_wrong_kind : (place at : Place) (e : Error)
+      → (e ≢ out_of_memory → (typed : List R) → All form.is_text typed → given ≢ map form.columns typed)
+      → reading_refusal place e ≡ Damaged at → IsMisreadAs form table old.now
+  has_wrong_kind place at e refused h = grind (arith, common_steps, memory_never, shown_answers)
+
+-- ---- the first table at fault
+
+-- they were all read, and their rows are checked
+pub first_of : (parts : Parts) (rows given : List TallyRow) → given ≡ rows → (why : Refusal)
+    → (why ≡ Memory) ⊎ ((place : Place) × (why ≡ Damaged place) × IsRowFault parts given place)
+    → (place : Place) → why ≡ Damaged place → IsRowFault parts rows place
+first_of parts rows given same why (inl memory) place h = absurd (cc)
+first_of parts rows given same why (inr (at, is, fault)) place h = grind (arith, common_steps)

@@ -1,19 +1,20 @@
--- A SELECT changes nothing, whatever the schema is.
-use Rattle.er_store.proofs.Names.{◌≡◌, inl, inr, ℕ, List, Bool, true, false, if◌then◌else◌, Ok, Err, None, refl, sym, ap, subst, Command}
-use Rattle.er_store.proofs.Names.{Compiled, first, Schema, Row, Error, timed, State, Survives, ShowsRows, FailsToShow, IsUnchanged}
-use Rattle.er_store.proofs.Names.{KeepsTables, begins_select, read_event, read_players, read_pairings, read_bracket, read_tallies}
-use Rattle.er_store.proofs.Names.{read_meetings, read_slip}
+-- A SELECT changes nothing, whatever the schema is, and its rows may be read one at a time.
+use Rattle.er_store.proofs.Prelude.{arith, common_steps, ◌≡◌, inl, inr, ℕ, List, true, Ok, Err, None, refl, sym, ap, subst, Command}
+use Rattle.er_store.proofs.Prelude.{Compiled, first, Schema, Row, Error, timed, State, Survives, ShowsRows, IsUnchanged, KeepsTables}
+use Rattle.er_store.proofs.Prelude.{begins_select, read_event, read_players, read_pairings, read_bracket, read_tallies, read_meetings}
+use Rattle.er_store.proofs.Prelude.{read_slip, understood, listing_schema, CommitsShowing, Shown, FailsToQuery, IsNotRun, everything, []}
+use Rattle.er_store.proofs.Prelude.{◌∷◌, ◌++◌, map, Result, Select, HasGiven, Held, state, Query, Trees, command_of, Ghosts, CompileError}
+use Rattle.er_store.proofs.Prelude.{IsReadRefused, Selects}
 use Rattle.sqlite_ast.specs.declared.Statement.{Statement}
 use Rattle.sqlite_syntax.specs.declared.statement.Parsed.{Parsed}
-use Rattle.sqlite_resolve.specs.{Compile.planned, Compile.meaning, Compile.returning, Compile.compiled, Compile.with_command}
-use Rattle.sqlite_resolve.specs.{Lowering.Checked, Lowering.and_then}
-use Rattle.sqlite.specs.{Listing.understood, Listing.listing_schema, Listing.if_select, Listing.is_select, State.CommitsShowing}
-use Rattle.sqlite.specs.{State.Shown, State.FailsToQuery, State.IsNotRun}
-use Rattle.sqlite.proofs.StateLemmas.{survives_weaker}
-use Rattle.sqlite_tied.specs.Compute.{everything}
+use Rattle.sqlite_resolve.specs.{Compile.{planned, meaning, returning, compiled, with_command}, Lowering.{Checked, and_then}}
+use Rattle.sqlite.specs.{Listing.if_select, Given.{Returns, HasBegun}}
+use Rattle.sqlite.proofs.{StateLemmas.survives_weaker, Callers.{begins_shown, given_begin}}
 use Rattle.er_store.specs.inside.Lookup.{is_select_by}
 use Rattle.er_store.proofs.LoadLemmas.{unchanged_keeps, refused_keeps}
 use Rattle.sqlite_ast.specs.declared.Statement.TheVariants as written
+
+-- ---- a SELECT changes nothing, whatever the schema is
 
 -- each statement that reads begins with SELECT
 pub record AreSelects : Type 0 where
@@ -44,31 +45,17 @@ planned_select schema p c _ same is h = absurd (cc)
 compiled_select : (schema : Schema) (sql : List ℕ) (c : Compiled) → begins_select (first sql) ≡ true → compiled schema sql ≡ Ok c
     → c.returning ≡ None
 unfolding compiled
-compiled_select schema sql c is h = go (first sql) is h
-  where
-    go : (r : Checked Parsed) → begins_select r ≡ true
-        → and_then r (λ p. and_then (planned schema p) (λ plan. Ok (with_command p plan))) ≡ Ok c → c.returning ≡ None
-    go (Ok p) sel got = planned_select schema p c p.statement refl sel got
-    go (Err e) sel got = absurd (cc)
+compiled_select schema sql c is h = grind (arith, common_steps, and_then, begins_select, planned_select, with_command)
 
 listed_select : (r : Checked Compiled) (c : Compiled) → if_select r ≡ Ok c → r ≡ Ok c
-listed_select (Ok k) c h = go (is_select k.command) h
-  where
-    go : (b : Bool) → (if b then Ok k else Err Rattle.sqlite_resolve.specs.declared.error.CompileError.TheVariants.NoSuchTable) ≡ Ok c
-        → ◌≡◌ {A = Checked Compiled} (Ok k) (Ok c)
-    go true got = got
-    go false got = absurd (cc)
+listed_select (Ok k) c h = grind (arith, common_steps)
 listed_select (Err e) c h = absurd (cc)
 
 -- whatever the schema is, it shows no row that is written
 pub never_returns : (schema : Schema) (sql : List ℕ) (c : Compiled) → begins_select (first sql) ≡ true → understood schema sql ≡ Ok c
     → c.returning ≡ None
 unfolding understood
-never_returns schema sql c is h = go _ h
-  where
-    go : (b : Bool) → (if b then if_select (compiled listing_schema sql) else compiled schema sql) ≡ Ok c → c.returning ≡ None
-    go true got = compiled_select listing_schema sql c is (listed_select _ c got)
-    go false got = compiled_select schema sql c is got
+never_returns schema sql c is h = grind (arith, common_steps, compiled_select, if_select, listed_select, listing_schema)
 
 pub commits_nothing : (sql : List ℕ) (params : Row) {old new : State} → begins_select (first sql) ≡ true
     → Survives old new (CommitsShowing sql params old) → Survives old new (λ _. ⊥)
@@ -88,6 +75,42 @@ pub fails_keeping : (sql : List ℕ) (params : Row) (old new : State) (e : Error
 unfolding FailsToQuery IsNotRun
 fails_keeping sql params old new e is (inl (inl none)) = unchanged_keeps old new none.1
 fails_keeping sql params old new e is (inl (inr fails)) = refused_keeps old new e (inl fails)
-fails_keeping sql params old new e is (inr (c, s, shows)) =
-    unchanged_keeps old new
-    (subst (FailsToShow old new sql c (timed params c.formats s.now) e) (never_returns old.now.schema sql c is s.is) shows).3
+fails_keeping sql params old new e is (inr (c, s, shows)) = grind (arith, common_steps)
+
+-- ---- the query begins
+
+shows-none : (sql : List ℕ) (schema : Schema) → begins_select (first sql) ≡ true → (r : Result Compiled CompileError)
+    → understood schema sql ≡ r → Returns r → ⊥
+shows-none sql schema select (Ok c) is some = let none = never_returns schema sql c select is in absurd (let both = rw none at some in cc)
+shows-none sql schema select (Err e) is some = absurd some
+
+pub begun-select : {S : Type 0} (g : Ghosts S) (sql : List ℕ) (params : Row) (old new : Held S) → begins_select (first sql) ≡ true
+    → HasBegun g sql params old new → HasGiven g sql params new [] × IsUnchanged (state g old) (state g new)
+begun-select g sql params old new select (inl begun) = begun
+begun-select g sql params old new select (inr shown) = absurd (shows-none sql old.schema select (understood old.schema sql) refl shown.0)
+
+-- ---- a row of the answer
+
+pub row-among : {T : Type 0} (columns : T → Row) (given tail : List Row) (row : Row) (all : List T)
+    → (given ++ row ∷ []) ++ tail ≡ map columns all → (r : T) × (row ≡ columns r)
+row-among columns [] tail row [] same = absurd (cc)
+row-among columns [] tail row (r ∷ all) same = let here : row ≡ columns r = cc in (r, here)
+row-among columns (x ∷ given) tail row [] same = absurd (cc)
+row-among columns (x ∷ given) tail row (r ∷ all) same = let rest : (given ++ row ∷ []) ++ tail ≡ map columns all = cc in
+    row-among columns given tail row all rest
+
+-- the rows so far begin an answer, as the statement has no recursion
+pub given-shown : {S : Type 0} (g : Ghosts S) (sql : List ℕ) (q : Query) (now : Held S) (given : List Row) → Selects sql q now.schema
+    → IsUnchanged (state g now) (state g now) → HasGiven g sql [] now given
+    → (tail : List Row) × Shown sql [] (state g now) (state g now) (given ++ tail)
+given-shown g sql q now given it same has = grind (arith, common_steps, begins_shown, command_of, given_begin)
+
+-- ---- a refusal after an unchanged start
+
+pub unchanged-refl : (a b : State) → IsUnchanged a b → IsUnchanged b b
+unchanged-refl a b same = grind (arith, common_steps)
+
+pub refused-after : (a b c : State) (P : Trees → Type 0) (e : Error) → IsUnchanged a b → Survives a b P → IsReadRefused b c e
+    → IsReadRefused a c e
+refused-after a b c P e same survives (inl fails) = grind (arith, common_steps)
+refused-after a b c P e same survives (inr stopped) = grind (arith, common_steps)

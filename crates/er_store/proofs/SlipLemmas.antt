@@ -1,16 +1,37 @@
 -- A slip and the row that it is read of.
-use Rattle.er_store.proofs.Names.{◌≡◌, ℕ, min, max, Bool, true, false, cond, List, Option, Some, IfSome, sym, ap, ap₂, subst, ◌∙◌}
-use Rattle.er_store.proofs.Names.{same_Some, Match, SlipRow, MayStand, pairing_row, NamedPairing, Side, number_in, name_in, match_of}
-use Rattle.er_store.proofs.Names.{is_swapped, named_pairing, IsPlayer, IsLawful}
-use Rattle.er_store.proofs.Choosing.{cond_of, either_of, max_is, min_is}
+use Rattle.er_store.proofs.Prelude.{nat_lt, cond, max, min, false, Bool, arith, sym, refl, ℕ, subst, true, ◌≡◌, nat_tests, common_steps}
+use Rattle.er_store.proofs.Prelude.{List, Option, Some, IfSome, ◌∙◌, same_Some, Match, SlipRow, MayStand, pairing_row, NamedPairing, Side}
+use Rattle.er_store.proofs.Prelude.{number_in, name_in, match_of, is_swapped, named_pairing, IsPlayer, IsLawful}
+
+-- ---- what a test chooses of two, as the lesser or the greater of two numbers
+
+pub cond_of : {A B : Type 0} (f : A → B) (b : Bool) (x y : A) → f (cond b x y) ≡ cond b (f x) (f y)
+cond_of f true x y = refl
+cond_of f false x y = refl
+
+pub either_of : {A : Type 0} (P : A → Type 0) (b : Bool) (x y : A) → P x → P y → P (cond b x y)
+either_of P true x y p q = p
+either_of P false x y p q = q
+
+pub min_is : (a b : ℕ) → min a b ≡ cond (nat_lt b a) b a
+min_is a b = grind (arith, nat_tests)
+
+pub max_is : (a b : ℕ) → max a b ≡ cond (nat_lt b a) a b
+max_is a b = grind (arith, nat_tests)
+
+-- what holds of both holds of the lesser and of the greater
+pub of_min : (P : ℕ → Type 0) (a b : ℕ) → P a → P b → P (min a b)
+of_min P a b p q = subst P (sym (min_is a b)) (either_of P (nat_lt b a) b a q p)
+
+pub of_max : (P : ℕ → Type 0) (a b : ℕ) → P a → P b → P (max a b)
+of_max P a b p q = subst P (sym (max_is a b)) (either_of P (nat_lt b a) a b p q)
+
+-- ---- a slip and the row that it is read of
 
 -- the match of the slip stands there
 pub match_row : (slip : SlipRow) (round table : ℕ) (row : NamedPairing) → IsLawful slip → slip.round ≡ round → slip.table ≡ table
     → row ≡ named_pairing slip → MayStand table (match_of slip) × (row.pairing ≡ pairing_row round (table, match_of slip))
-match_row slip round table row lawful r t is = (
-  subst (λ n. MayStand n (match_of slip)) t lawful.played,
-  ap (λ (p : NamedPairing). p.pairing) is ∙ ap₂ (λ k n. pairing_row k (n, match_of slip)) r t,
-)
+match_row slip round table row lawful r t is = grind (arith, common_steps)
 
 -- who has the lower number, and who the higher
 abbrev pub low_of : SlipRow → Side
@@ -26,21 +47,11 @@ pub record IsSide (who : Side) (number : ℕ) (name : Option (List ℕ)) : Type 
 
 pub low_side : (slip : SlipRow) (row : NamedPairing) (m : Match) → IsLawful slip → row ≡ named_pairing slip → m ≡ match_of slip
     → IsSide (low_of slip) (min m.a m.b) row.lo_name
-low_side slip row m lawful is same = record {
-  player = either_of (λ who. IfSome who IsPlayer) (is_swapped slip) slip.second (Some slip.first) lawful.second lawful.first;
-  number_is = ap (λ (n : Match). min n.a n.b) same
-      ∙ (min_is slip.first.0 (number_in slip.second) ∙ sym (cond_of number_in (is_swapped slip) slip.second (Some slip.first)));
-  name_is = ap (λ (p : NamedPairing). p.lo_name) is ∙ sym (cond_of name_in (is_swapped slip) slip.second (Some slip.first));
-}
+low_side slip row m lawful is same = grind (arith, common_steps)
 
 pub high_side : (slip : SlipRow) (row : NamedPairing) (m : Match) → IsLawful slip → row ≡ named_pairing slip → m ≡ match_of slip
     → IsSide (high_of slip) (max m.a m.b) row.hi_name
-high_side slip row m lawful is same = record {
-  player = either_of (λ who. IfSome who IsPlayer) (is_swapped slip) (Some slip.first) slip.second lawful.first lawful.second;
-  number_is = ap (λ (n : Match). max n.a n.b) same
-      ∙ (max_is slip.first.0 (number_in slip.second) ∙ sym (cond_of number_in (is_swapped slip) (Some slip.first) slip.second));
-  name_is = ap (λ (p : NamedPairing). p.hi_name) is ∙ sym (cond_of name_in (is_swapped slip) (Some slip.first) slip.second);
-}
+high_side slip row m lawful is same = grind (arith, common_steps)
 
 -- what is read of the row of a slip
 pub record ReadsSlip (slip : SlipRow) (row : NamedPairing) (played : Match) : Type 0 where
@@ -59,22 +70,10 @@ reads_slip {slip} {round} {table} {row} {read} {played} lawful r t is found exac
 -- the first-named player and the second
 pub named_first : (slip : SlipRow) (b : Bool) (low high : Side) (pair : Side × Side) → is_swapped slip ≡ b → low ≡ low_of slip
     → high ≡ high_of slip → pair ≡ cond b (high, low) (low, high) → (pair.0 ≡ Some slip.first) × (pair.1 ≡ slip.second)
-named_first slip true low high pair swapped l h is =
-    let highs : high_of slip ≡ Some slip.first = ap (λ b. cond b (Some slip.first) slip.second) swapped in
-    let lows : low_of slip ≡ slip.second = ap (λ b. cond b slip.second (Some slip.first)) swapped in
-    (ap (λ (p : Side × Side). p.0) is ∙ (h ∙ highs), ap (λ (p : Side × Side). p.1) is ∙ (l ∙ lows))
-named_first slip false low high pair swapped l h is =
-    let highs : high_of slip ≡ slip.second = ap (λ b. cond b (Some slip.first) slip.second) swapped in
-    let lows : low_of slip ≡ Some slip.first = ap (λ b. cond b slip.second (Some slip.first)) swapped in
-    (ap (λ (p : Side × Side). p.0) is ∙ (l ∙ lows), ap (λ (p : Side × Side). p.1) is ∙ (h ∙ highs))
+named_first slip true low high pair swapped l h is = grind (arith, common_steps)
+named_first slip false low high pair swapped l h is = grind (arith, common_steps)
 
 pub same_slip : (slip : SlipRow) (round table : ℕ) (pair : Side × Side) (first : ℕ × List ℕ) (m : Match) → slip.round ≡ round
     → slip.table ≡ table → m ≡ match_of slip → pair.0 ≡ Some first → (pair.0 ≡ Some slip.first) × (pair.1 ≡ slip.second)
     → ◌≡◌ {A = SlipRow} (record { round = round; table = table; first = first; second = pair.1; score = m.score }) slip
-same_slip slip round table pair first m r t same got is =
-    let one : first ≡ slip.first = (let both : Some first ≡ Some slip.first = sym got ∙ is.0 in cc) in
-    let score : m.score ≡ slip.score = ap (λ (n : Match). n.score) same in
-    let second = is.1 in
-    let fields : ◌≡◌ {A = SlipRow} (record { round = round; table = table; first = first; second = pair.1; score = m.score })
-    (record { round = slip.round; table = slip.table; first = slip.first; second = slip.second; score = slip.score }) = cc in
-    fields
+same_slip slip round table pair first m r t same got is = grind (arith, common_steps)

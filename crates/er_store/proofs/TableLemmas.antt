@@ -1,16 +1,16 @@
--- The five shapes are tables: what their texts read is what stands in their trees.
-use Rattle.er_store.proofs.Names.{ℕ, List, [], ◌∷◌, refl, ap, map, subst, sym, ◌≡◌, ◌∙◌, Row, State, Error, columns_at, Form, Shape, Lists}
-use Rattle.er_store.proofs.Names.{IsReadRefused, first_columns, HasTables, StandsFor, FindsRows, EventValue, IsSoundButForSeeds}
-use Rattle.sqlite.specs.State.{Shown, FailsToQuery}
-use Rattle.er_store.specs.{Shape.event_form, Shape.player_form, Shape.pairing_form, Shape.bracket_form, Shape.tally_form, Shape.event_table}
-use Rattle.er_store.specs.{Shape.player_table, Shape.pairing_table, Shape.bracket_table, Shape.tally_table, inside.Lookup.IsOurs}
-use Rattle.er_store.specs.{Loading.IsListed}
-use Rattle.er_store.proofs.{Meaning.event_selected, Meaning.players_selected, Meaning.pairings_selected, Meaning.bracket_selected}
-use Rattle.er_store.proofs.{Meaning.tallies_selected, ReadLemmas.answer_lists, ReadLemmas.sorted_by_one, ReadLemmas.sorted_by_two}
-use Rattle.er_store.proofs.{ReadLemmas.listed_whole, Refusals.read_refused, Refusals.answers, Selecting.selects, Exact.event_exact}
-use Rattle.er_store.proofs.{Exact.players_exact, Exact.bracket_exact, Exact.tallies_exact, Exact.event_columns-same}
-use Rattle.er_store.proofs.{Exact.player_columns-same, Exact.pairing_columns-same, Exact.bracket_columns-same, Exact.tally_columns-same}
-use Rattle.er_store.proofs.{Exact.event_text, Exact.players_text, Exact.map-same, Keyed.pairings_exact, Effects.selected, Damaging.may_read}
+-- The five shapes are tables, which are looked at one after another.
+use Rattle.er_store.proofs.Prelude.{arith, ℕ, List, [], ◌∷◌, refl, ap, map, subst, sym, ◌≡◌, ◌∙◌, Row, State, Error, columns_at, Form}
+use Rattle.er_store.proofs.Prelude.{Shape, Lists, IsReadRefused, first_columns, HasTables, StandsFor, EventValue, IsSoundButForSeeds, Shown}
+use Rattle.er_store.proofs.Prelude.{FailsToQuery, common_steps, Result, Ok, Err, IsErrAnd, on_ok_weaker, Database, unchanged_then, Refusal}
+use Rattle.er_store.proofs.Prelude.{Damaged, Place, ReadsBefore, IsFault, first}
+use Rattle.std.proofs.lemmas.Result.{on_err_weaker}
+use Rattle.er_store.specs.{inside.Lookup.{FindsRows, IsOurs, LooksUp, MissesTables}, Shape.{event_form, player_form, pairing_form}}
+use Rattle.er_store.specs.Shape.{bracket_form, tally_form, event_table, player_table, pairing_table, bracket_table, tally_table}
+use Rattle.er_store.specs.{Loading.IsListed, Damage.{IsMisread, IsFirstMisread}}
+use Rattle.er_store.proofs.Meaning.{event_selected, players_selected, pairings_selected, bracket_selected, tallies_selected}
+use Rattle.er_store.proofs.Exact.{answer_lists, sorted_by_one, sorted_by_two, listed_whole, event_exact, players_exact, bracket_exact}
+use Rattle.er_store.proofs.{Exact.{tallies_exact, event_text, players_text, map-same}, Refusals.{read_refused, answers, may_read}}
+use Rattle.er_store.proofs.{Selecting.selects, Keyed.pairings_exact, Effects.selected, Crash.survives_both, LoadLemmas.then_keeps}
 
 -- ---- what the statement of a table reads
 
@@ -52,10 +52,10 @@ event_is_ours = record {
   begins = selects.event;
   keys = 0 ∷ [];
   selects = λ schema has. selected has event_selected;
-  lists = answer_lists event_table.tree event_table.places (0 ∷ []) event_table.order (sorted_by_one 0 0 (2 ∷ 3 ∷ 4 ∷ 5 ∷ 6 ∷ 7 ∷ []));
+  lists = answer_lists _ _ _ _ (sorted_by_one 0 0 (2 ∷ 3 ∷ 4 ∷ 5 ∷ 6 ∷ 7 ∷ []));
   whole = λ r. refl;
   exact = λ db e s rows stands sound. event_exact db e s rows stands;
-  same = event_columns-same;
+  same = λ r s h. grind arith;
   texts = event_text;
 }
 
@@ -64,10 +64,10 @@ player_is_ours = record {
   begins = selects.players;
   keys = 0 ∷ [];
   selects = λ schema has. selected has players_selected;
-  lists = answer_lists player_table.tree player_table.places (0 ∷ []) player_table.order (sorted_by_one 1 0 (2 ∷ 3 ∷ []));
+  lists = answer_lists _ _ _ _ (sorted_by_one 1 0 (2 ∷ 3 ∷ []));
   whole = λ r. refl;
   exact = λ db e s rows stands sound. players_exact db e s rows stands sound.players.numbered;
-  same = player_columns-same;
+  same = λ r s h. grind arith;
   texts = λ e s. players_text e;
 }
 
@@ -76,11 +76,10 @@ pairing_is_ours = record {
   begins = selects.pairings;
   keys = 1 ∷ 2 ∷ [];
   selects = λ schema has. selected has pairings_selected;
-  lists = answer_lists pairing_table.tree pairing_table.places (1 ∷ 2 ∷ []) pairing_table.order
-      (sorted_by_two 3 1 2 (3 ∷ 4 ∷ 5 ∷ 6 ∷ 7 ∷ 8 ∷ 9 ∷ []));
+  lists = answer_lists _ _ _ _ (sorted_by_two 3 1 2 (3 ∷ 4 ∷ 5 ∷ 6 ∷ 7 ∷ 8 ∷ 9 ∷ []));
   whole = λ r. refl;
   exact = pairings_exact;
-  same = pairing_columns-same;
+  same = λ r s h. grind arith;
   texts = λ e s sound k d below. tt;
 }
 
@@ -89,11 +88,10 @@ bracket_is_ours = record {
   begins = selects.bracket;
   keys = 1 ∷ 2 ∷ [];
   selects = λ schema has. selected has bracket_selected;
-  lists = answer_lists bracket_table.tree bracket_table.places (1 ∷ 2 ∷ []) bracket_table.order
-      (sorted_by_two 6 1 2 (3 ∷ 4 ∷ 5 ∷ 6 ∷ 7 ∷ 8 ∷ []));
+  lists = answer_lists _ _ _ _ (sorted_by_two 6 1 2 (3 ∷ 4 ∷ 5 ∷ 6 ∷ 7 ∷ 8 ∷ []));
   whole = λ r. refl;
   exact = λ db e s rows stands sound. bracket_exact db e s rows stands;
-  same = bracket_columns-same;
+  same = λ r s h. grind arith;
   texts = λ e s sound k d below. tt;
 }
 
@@ -102,9 +100,54 @@ tally_is_ours = record {
   begins = selects.tallies;
   keys = 0 ∷ [];
   selects = λ schema has. selected has tallies_selected;
-  lists = answer_lists tally_table.tree tally_table.places (0 ∷ []) tally_table.order (sorted_by_one 8 0 (2 ∷ 3 ∷ 4 ∷ 5 ∷ []));
+  lists = answer_lists _ _ _ _ (sorted_by_one 8 0 (2 ∷ 3 ∷ 4 ∷ 5 ∷ []));
   whole = λ r. refl;
   exact = λ db e s rows stands sound. tallies_exact db e s rows stands sound.players.numbered;
-  same = tally_columns-same;
+  same = λ r s h. grind arith;
   texts = λ e s sound k d below. tt;
+}
+
+-- ---- one look after another
+
+module _ {A B : Type 0} {F : Database → A → Type 0} {M : Database → Refusal → Type 0} {G : Database → B → Type 0}
+    {N : Database → Refusal → Type 0} where
+  -- where the first has found something, both are a look, and what both say is of the database before
+  pub looks_then : {old mid new : State} {a : A} {r : Result B Refusal} → LooksUp F M old mid (Ok a) → LooksUp G N mid new r
+      → LooksUp (λ db b. F db a × G db b) (λ db why. F db a × N db why) old new r
+  looks_then first second = grind (arith, common_steps, on_err_weaker, on_ok_weaker, survives_both, then_keeps, unchanged_then)
+
+  -- what is found, put together
+  pub found_as : {old new : State} {a : A} {b : B} → ((db : Database) → F db a → G db b) → LooksUp F M old new (Ok a)
+      → LooksUp G N old new (Ok b)
+  found_as {old} make look = record {
+    clean = look.clean;
+    finds = λ c. make old.now (look.finds c);
+    misses = λ c. tt;
+    fault = tt;
+    same = look.same;
+    kept = λ c. tt;
+    survives = look.survives;
+  }
+
+  -- and a refusal, passed on
+  pub missed_as : {old new : State} {why : Refusal} {r : Result B Refusal} → IsErrAnd r (λ x. x ≡ why)
+      → ((db : Database) → M db why → N db why) → LooksUp F M old new (Err why) → LooksUp G N old new r
+  missed_as {r = Ok b} is make look = absurd is
+  missed_as {old} {r = Err x} is make look = rw is (record {
+    clean = look.clean;
+    finds = λ c. tt;
+    misses = λ c. make old.now (look.misses c);
+    fault = look.fault;
+    same = λ c. tt;
+    kept = look.kept;
+    survives = look.survives;
+  })
+
+-- the tables before this one were read, and it was not
+pub first_misread : (table : Place) (db : Database) (why : Refusal) → ReadsBefore db table
+    → ((at : Place) → why ≡ Damaged at → (at ≡ table) × IsMisread db table)
+    → ((e : EventValue) (s : ℕ) → StandsFor db e s → IsSoundButForSeeds e → IsFault why) → MissesTables db why
+first_misread table db why before misread refused = record {
+  misread = λ place h. let it = misread place h in subst (IsFirstMisread db) (sym it.0) (before, it.1);
+  refused = refused;
 }

@@ -1,19 +1,14 @@
-use Rattle.er_store.proofs.Names.{inl, inr, sym, subst, ◌∙◌, true≢false, state, no_schema, CanRead}
-use Rattle.er_store.proofs.{Finding.schema_kept, Meaning.unreadable, Effects.can_read, Crash.only, LoadLemmas.unchanged_keeps}
-use Rattle.er_store.proofs.{LoadLemmas.then_keeps}
+use Rattle.er_store.proofs.Prelude.{inl, inr, sym, subst, ◌∙◌, true≢false, state, no_schema, CanRead}
+use Rattle.er_store.proofs.{LoadLemmas.{schema_kept, unchanged_keeps, then_keeps}, Meaning.unreadable, Effects.can_read, Crash.only}
 use Rattle.er_store.proofs.Store.create.Goals as goal
 
 pub returns-in-Ok-clause-created : goal.returns-in-Ok-clause-created
 returns-in-Ok-clause-created g c clean none =
-    let early = c.in-Ok.ensures.clean clean in
-    c.in-Ok.ensures.created clean (schema_kept (state g.S.Store c.args.conn) (state g.S.Store c.has_event.new.conn) no_schema
-    (c.in-Ok-false.ensures.found early).1 none)
+    c.in-Ok.ensures.created clean (schema_kept _ _ no_schema (c.in-Ok-false.ensures.found (c.in-Ok.ensures.clean clean)).1 none)
 
 pub returns-in-Ok-clause-acknowledged : goal.returns-in-Ok-clause-acknowledged
 returns-in-Ok-clause-acknowledged g c clean none =
-    let early = c.in-Ok.ensures.clean clean in
-    c.in-Ok.ensures.acknowledged clean (schema_kept (state g.S.Store c.args.conn) (state g.S.Store c.has_event.new.conn) no_schema
-    (c.in-Ok-false.ensures.found early).1 none)
+    c.in-Ok.ensures.acknowledged clean (schema_kept _ _ no_schema (c.in-Ok-false.ensures.found (c.in-Ok.ensures.clean clean)).1 none)
 
 pub returns-in-Ok-clause-absent : goal.returns-in-Ok-clause-absent
 returns-in-Ok-clause-absent g c clean =
@@ -24,11 +19,8 @@ returns-in-Ok-clause-absent g c clean =
 
 pub returns-in-Err-create_tables-clause-crash : goal.returns-in-Err-create_tables-clause-crash
 returns-in-Err-create_tables-clause-crash g c none clean trees may =
-    let old = state g.S.Store c.args.conn in
-    let mid = state g.S.Store c.has_event.new.conn in
     let early = c.in-Err-create_tables.ensures.clean clean in
-    let kept = schema_kept old mid no_schema (c.in-Ok-false.ensures.found early).1 none in
-    elim (c.in-Err-create_tables.ensures.crash kept clean trees may) [
+    elim (c.in-Err-create_tables.ensures.crash (schema_kept _ _ no_schema (c.in-Ok-false.ensures.found early).1 none) clean trees may) [
       | inl before ↦ inl (only (c.in-Ok-false.ensures.survives.crash early trees before))
       | inr made ↦ inr made
     ]
@@ -45,8 +37,7 @@ returns-in-Err-create_tables-clause-spares g c reads clean trees may =
     absurd (true≢false (sym (found.1 reads) ∙ c.in-Ok-false.field-0-test))
 
 pub returns-in-Ok-true-clause-kept : goal.returns-in-Ok-true-clause-kept
-returns-in-Ok-true-clause-kept g c clean =
-    unchanged_keeps (state g.S.Store c.args.conn) (state g.S.Store c.has_event.new.conn) (c.in-Ok-true.ensures.found clean).1
+returns-in-Ok-true-clause-kept g c clean = unchanged_keeps _ _ (c.in-Ok-true.ensures.found clean).1
 
 pub returns-in-Err-create_tables-clause-kept : goal.returns-in-Err-create_tables-clause-kept
 returns-in-Err-create_tables-clause-kept g c clean =

@@ -1,5 +1,5 @@
-use Rattle.er_store.proofs.Names.{on_ok_weaker}
-use Rattle.er_store.proofs.{Committed.stays_then, Crash.was_clean, Creates.all_made}
+use Rattle.er_store.proofs.Prelude.{on_ok_weaker}
+use Rattle.er_store.proofs.{Crash.{stays_then, was_clean}, Creates.all_made}
 use Rattle.er_store.proofs.creation.create_all.Goals as goal
 
 pub returns-clause-creates : goal.returns-clause-creates

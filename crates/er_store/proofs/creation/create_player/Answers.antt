@@ -1,4 +1,4 @@
-use Rattle.er_store.proofs.Names.{on_ok_weaker}
+use Rattle.er_store.proofs.Prelude.{on_ok_weaker}
 use Rattle.er_store.proofs.Creates.{makes, player_made}
 use Rattle.er_store.proofs.creation.create_player.Goals as goal
 

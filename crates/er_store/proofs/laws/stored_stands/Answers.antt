@@ -1,4 +1,4 @@
-use Rattle.er_store.proofs.Reopening.{stands_again}
+use Rattle.er_store.proofs.Loaded.{stands_again}
 use Rattle.er_store.proofs.laws.stored_stands.Goals as goal
 
 pub returns : goal.returns

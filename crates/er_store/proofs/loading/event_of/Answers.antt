@@ -1,4 +1,4 @@
-use Rattle.er_store.proofs.Names.{inr, Err, ap, ◌∙◌, Damaged}
+use Rattle.er_store.proofs.Prelude.{inr, Err, ap, ◌∙◌, Damaged}
 use Rattle.er_store.proofs.loading.event_of.Goals as goal
 
 pub returns-in-Err-Damaged-clause-refused : goal.returns-in-Err-Damaged-clause-refused

@@ -1,9 +1,7 @@
-use Rattle.er_store.proofs.Names.{◌≡◌, IsErrAnd, inl, inr, rules, sym, subst, ◌∙◌, IfOk-weaker, IfErr-weaker, state, IsFault, ReadsParts}
-use Rattle.er_store.proofs.Names.{ReadsTallies, IsAtFault}
+use Rattle.er_store.proofs.Prelude.{inl, inr, rules, sym, ◌∙◌, IfOk-weaker, IfErr-weaker, state, IsFault}
 use Rattle.std.proofs.lemmas.Result.{MatchResult-from_both}
-use Rattle.er_store.specs.{Fault.IsLoadFault, Damage.IfDamaged}
-use Rattle.er_store.proofs.{Damaging.first_of, LoadLemmas.unchanged_keeps, LoadLemmas.all_ok, LoadLemmas.all_err, LoadLemmas.told}
-use Rattle.er_store.proofs.{Loaded.no_row_fault, Loaded.shows_event}
+use Rattle.er_store.specs.{Damage.{IsAtFault, IfDamaged}, Fault.IsLoadFault}
+use Rattle.er_store.proofs.{Refusals.first_of, LoadLemmas.{unchanged_keeps, all_ok, all_err, told}, Loaded.{no_row_fault, shows_event}}
 use Rattle.er_store.proofs.loading.load_tables.Goals as goal
 
 pub returns-in_err-parts-clause-found : goal.returns-in_err-parts-clause-found
@@ -15,8 +13,7 @@ pub returns-in_err-parts-clause-first : goal.returns-in_err-parts-clause-first
 returns-in_err-parts-clause-first g c clean =
     let why : IfDamaged (IsAtFault (state g.S.Store c.args.conn.now).now) c.in_err-parts.field-0.0 =
     λ place h. inl ((c.in_err-parts.ensures.looks.misses clean).misread place h) in
-    let is : IsErrAnd c.from_residual.result (λ e. e ≡ c.in_err-parts.field-0.0) = search rules in
-    told c.from_residual.result _ _ is why
+    told c.from_residual.result _ _ (search rules) why
 
 pub returns-in_err-parts-clause-clean : goal.returns-in_err-parts-clause-clean
 returns-in_err-parts-clause-clean g c = c.in_err-parts.ensures.looks.clean
@@ -62,7 +59,7 @@ returns g c =
       reads = λ clean.
           let finds = looks.finds clean in
           IfOk-weaker c.counted_event_of.result _ _ (λ it read.
-          (subst (ReadsParts db) read.0 finds.0.reads, subst (ReadsTallies db) (sym c.as_slice.ensures ∙ read.1) finds.1.reads)) made.value;
+          (rw read.0 at finds.0.reads, rw (sym c.as_slice.ensures ∙ read.1) at finds.1.reads)) made.value;
       first = λ clean.
           let finds = looks.finds clean in
           IfErr-weaker c.counted_event_of.result _ _ (λ why refused place h.

@@ -1,6 +1,6 @@
-use Rattle.er_store.proofs.Names.{rules, EventTable, PlayerTable, PairingTable, BracketTable}
-use Rattle.er_store.proofs.{TableLemmas.event_is_ours, TableLemmas.player_is_ours, TableLemmas.pairing_is_ours, TableLemmas.bracket_is_ours}
-use Rattle.er_store.proofs.{LookupLemmas.looks_then, LookupLemmas.found_as, LookupLemmas.missed_as, LookupLemmas.first_misread}
+use Rattle.er_store.proofs.Prelude.{rules, EventTable, PlayerTable, PairingTable, BracketTable}
+use Rattle.er_store.proofs.TableLemmas.{event_is_ours, player_is_ours, pairing_is_ours, bracket_is_ours, looks_then, found_as, missed_as}
+use Rattle.er_store.proofs.TableLemmas.{first_misread}
 use Rattle.er_store.proofs.loading.read_parts.Goals as goal
 
 pub load_rows-requires : goal.load_rows-requires

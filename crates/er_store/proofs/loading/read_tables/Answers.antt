@@ -1,6 +1,5 @@
-use Rattle.er_store.proofs.Names.{rules, TallyTable, ReadsBefore}
-use Rattle.er_store.proofs.{TableLemmas.tally_is_ours, LookupLemmas.looks_then, LookupLemmas.found_as, LookupLemmas.missed_as}
-use Rattle.er_store.proofs.{LookupLemmas.first_misread}
+use Rattle.er_store.proofs.Prelude.{rules, TallyTable, ReadsBefore}
+use Rattle.er_store.proofs.TableLemmas.{tally_is_ours, looks_then, found_as, missed_as, first_misread}
 use Rattle.er_store.proofs.loading.read_tables.Goals as goal
 
 pub load_rows-requires : goal.load_rows-requires

@@ -1,12 +1,11 @@
-use Rattle.er_store.proofs.Names.{rules, ◌≡◌, ◌⊎◌, inl, inr, [], ◌∷◌, ◌++◌, map, List, Result, IfErr, IsErrAnd, refl, sym, ap, subst, ◌∙◌}
-use Rattle.er_store.proofs.Names.{arith, map-append, Error, state, Row, State, HasCleanDisk, IsUnchanged, Survives, unchanged_then}
-use Rattle.er_store.proofs.Names.{survives_then, meeting_rows, out_of_memory, IsReadRefused, first_columns, meeting_columns}
-use Rattle.sqlite.specs.State.{CommitsShowing, FailsToQuery, Shown}
-use Rattle.er_store.proofs.{Meaning.meeting_query, Meaning.meetings_selected, Refusals.meetings_refused, Selecting.commits_nothing}
-use Rattle.er_store.proofs.{Selecting.fails_keeping, Selecting.selects, LoadLemmas.all_err, LoadLemmas.kept_stands, LoadLemmas.told}
-use Rattle.er_store.proofs.{Exact.is_memory, Mates.meetings-listed, Mates.meetings-exact, Mates.meetings-read, OneAtATime.begun-select}
-use Rattle.er_store.proofs.{OneAtATime.given-shown, OneAtATime.row-among, OneAtATime.refused-after, OneAtATime.unchanged-refl}
-use Rattle.er_store.proofs.{Effects.selected}
+use Rattle.er_store.proofs.Prelude.{rules, ◌≡◌, ◌⊎◌, inl, inr, [], ◌∷◌, ◌++◌, map, List, Result, IfErr, IsErrAnd, refl, sym, ap, subst, ◌∙◌}
+use Rattle.er_store.proofs.Prelude.{arith, map-append, Error, state, Row, State, HasCleanDisk, IsUnchanged, Survives, unchanged_then}
+use Rattle.er_store.proofs.Prelude.{survives_then, meeting_rows, out_of_memory, IsReadRefused, first_columns, meeting_columns}
+use Rattle.er_store.proofs.Prelude.{CommitsShowing, FailsToQuery, Shown}
+use Rattle.er_store.proofs.{Meaning.{meeting_query, meetings_selected}, Refusals.meetings_refused, Selecting.commits_nothing}
+use Rattle.er_store.proofs.Selecting.{fails_keeping, selects, begun-select, given-shown, row-among, refused-after, unchanged-refl}
+use Rattle.er_store.proofs.{LoadLemmas.{all_err, kept_stands, told}, Exact.is_memory, Meetings.{meetings-listed, meetings-exact}}
+use Rattle.er_store.proofs.{Meetings.meetings-read, Effects.selected}
 use Rattle.er_store.specs.Tables as sql
 use Rattle.er_store.proofs.reading.read_meetings.Goals as goal
 

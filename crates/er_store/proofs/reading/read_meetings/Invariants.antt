@@ -1,5 +1,5 @@
-use Rattle.er_store.proofs.Names.{◌≡◌, ◌-◌, false, length, List, [], map, Row, HasCleanDisk, IsUnchanged, Survives, state, HasGiven}
-use Rattle.er_store.proofs.Names.{first_columns, meeting_columns}
+use Rattle.er_store.proofs.Prelude.{◌≡◌, ◌-◌, false, length, List, [], map, Row, HasCleanDisk, IsUnchanged, Survives, state, HasGiven}
+use Rattle.er_store.proofs.Prelude.{first_columns, meeting_columns}
 use Rattle.er_store.specs.Tables as sql
 use Rattle.er_store.proofs.reading.read_meetings.Given as goal
 

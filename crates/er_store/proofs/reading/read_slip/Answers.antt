@@ -1,10 +1,8 @@
-use Rattle.er_store.proofs.Names.{◌≡◌, inl, inr, ℕ, List, [], ◌∷◌, map, ap, ◌∙◌, rules, IfOk-weaker, IfErr-weaker, Row, State, EventValue}
-use Rattle.er_store.proofs.Names.{IsSoundButForSeeds, number, named_columns, named_pairings, StandsFor, first_columns}
-use Rattle.sqlite.specs.State.{Shown}
-use Rattle.er_store.proofs.{Meaning.slip_selected, Refusals.slip_refused, Refusals.answers, LoadLemmas.unchanged_keeps, LoadLemmas.all_ok}
-use Rattle.er_store.proofs.{LoadLemmas.all_err, LoadLemmas.told, Selecting.commits_nothing, Selecting.shows_unchanged}
-use Rattle.er_store.proofs.{Selecting.fails_keeping, Selecting.selects, Exact.is_memory, Joined.slip_exact, Joined.named_typed}
-use Rattle.er_store.proofs.{Joined.named_whole, Joined.named_text, Effects.selected}
+use Rattle.er_store.proofs.Prelude.{◌≡◌, inl, inr, ℕ, List, [], ◌∷◌, map, ap, ◌∙◌, rules, IfOk-weaker, IfErr-weaker, Row, State, EventValue}
+use Rattle.er_store.proofs.Prelude.{IsSoundButForSeeds, number, named_columns, named_pairings, StandsFor, first_columns, Shown}
+use Rattle.er_store.proofs.{Meaning.slip_selected, Refusals.{slip_refused, answers}, LoadLemmas.{unchanged_keeps, all_ok, all_err, told}}
+use Rattle.er_store.proofs.{Selecting.{commits_nothing, shows_unchanged, fails_keeping, selects}, Exact.is_memory, Joined.slip_exact}
+use Rattle.er_store.proofs.{Joined.{named_typed, named_whole, named_text}, Effects.selected}
 use Rattle.er_store.specs.Tables as sql
 use Rattle.er_store.proofs.reading.read_slip.Goals as goal
 

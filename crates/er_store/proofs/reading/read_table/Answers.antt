@@ -1,7 +1,7 @@
-use Rattle.er_store.proofs.Names.{inl, inr, ◌∙◌, rules, IfOk-weaker, IfErr-weaker}
-use Rattle.er_store.proofs.{LoadLemmas.unchanged_keeps, LoadLemmas.all_ok, LoadLemmas.all_err, LoadLemmas.told, Exact.is_memory}
-use Rattle.er_store.proofs.{TableLemmas.refused, TableLemmas.are_rows, TableLemmas.finds_rows, Damaging.refused_damage}
-use Rattle.er_store.proofs.{Damaging.has_wrong_kind, Selecting.commits_nothing, Selecting.shows_unchanged, Selecting.fails_keeping}
+use Rattle.er_store.proofs.Prelude.{inl, inr, ◌∙◌, rules, IfOk-weaker, IfErr-weaker}
+use Rattle.er_store.proofs.{LoadLemmas.{unchanged_keeps, all_ok, all_err, told}, Exact.is_memory, TableLemmas.{refused, are_rows}}
+use Rattle.er_store.proofs.{TableLemmas.finds_rows, Refusals.{refused_damage, has_wrong_kind}, Selecting.{commits_nothing, shows_unchanged}}
+use Rattle.er_store.proofs.Selecting.{fails_keeping}
 use Rattle.er_store.proofs.reading.read_table.Goals as goal
 
 pub returns-in_err-rows-clause-refused : goal.returns-in_err-rows-clause-refused

@@ -1,5 +1,5 @@
-use Rattle.er_store.proofs.Names.{rules}
-use Rattle.er_store.proofs.TypedLemmas.{not_typed}
+use Rattle.er_store.proofs.Prelude.{rules}
+use Rattle.er_store.proofs.LoadLemmas.{not_typed}
 use Rattle.er_store.proofs.rows.typed_rows.Goals as goal
 
 pub returns-in_err-from_row-clause-refused : goal.returns-in_err-from_row-clause-refused

@@ -1,4 +1,4 @@
-use Rattle.er_store.proofs.Names.{◌≡◌, map, take, first_columns}
+use Rattle.er_store.proofs.Prelude.{◌≡◌, map, take, first_columns}
 use Rattle.er_store.proofs.rows.typed_rows.Given as goal
 
 abbrev pub invariant-loop-row : goal.invariant-loop-row

@@ -1,22 +1,16 @@
-use Rattle.er_store.proofs.Names.{rules, ◌≡◌, inr, refl, ◌∙◌, Store, slip_of, named_pairings}
+use Rattle.er_store.proofs.Prelude.{inr, refl, ◌∙◌, Store, slip_of}
 use Rattle.er_event.specs.declared.refusals.Cause.TheVariants.{BadRow}
 use Rattle.er_store.proofs.Joined.{no_slip, one_slip, few_slips, slip_found}
 use Rattle.er_store.proofs.slips.find_slip.Goals as goal
 
 pub returns-in-empty-clause-found : goal.returns-in-empty-clause-found
 returns-in-empty-clause-found g c clean e s stands sound =
-    let k : c.from.result ≡ c.args.round = search rules in
-    let t : c.from-2.result ≡ c.args.table = search rules in
-    let rows : c.as_slice.result.now ≡ named_pairings e c.args.round c.args.table = c.as_slice.ensures.value
-    ∙ (rw (k, t) at (c.in-Ok.ensures.exact clean e s stands sound)) in
+    let rows = c.as_slice.ensures.value ∙ (rw (c.from.ensures, c.from-2.ensures) at (c.in-Ok.ensures.exact clean e s stands sound)) in
     inr (refl, no_slip (slip_of e c.args.round c.args.table) c.as_slice.result.now rows c.in-empty.len_below)
 
 pub returns-in-len1-clause-found : goal.returns-in-len1-clause-found
 returns-in-len1-clause-found g c clean e s stands sound =
-    let k : c.from.result ≡ c.args.round = search rules in
-    let t : c.from-2.result ≡ c.args.table = search rules in
-    let rows : c.as_slice.result.now ≡ named_pairings e c.args.round c.args.table = c.as_slice.ensures.value
-    ∙ (rw (k, t) at (c.in-Ok.ensures.exact clean e s stands sound)) in
+    let rows = c.as_slice.ensures.value ∙ (rw (c.from.ensures, c.from-2.ensures) at (c.in-Ok.ensures.exact clean e s stands sound)) in
     let one = one_slip (slip_of e c.args.round c.args.table) c.as_slice.result.now c.row-item.result rows c.in-len1.len_at_least
     c.row-item.is in
     slip_found e c.args.round c.args.table one.0 c.slip_of.result (Store BadRow) c.ok_or.result c.ok_or.ensures.value sound one.1
@@ -24,8 +18,5 @@ returns-in-len1-clause-found g c clean e s stands sound =
 
 pub returns-clause-found : goal.returns-clause-found
 returns-clause-found g c clean e s stands sound =
-    let k : c.from.result ≡ c.args.round = search rules in
-    let t : c.from-2.result ≡ c.args.table = search rules in
-    let rows : c.as_slice.result.now ≡ named_pairings e c.args.round c.args.table = c.as_slice.ensures.value
-    ∙ (rw (k, t) at (c.in-Ok.ensures.exact clean e s stands sound)) in
+    let rows = c.as_slice.ensures.value ∙ (rw (c.from.ensures, c.from-2.ensures) at (c.in-Ok.ensures.exact clean e s stands sound)) in
     absurd (few_slips (slip_of e c.args.round c.args.table) c.as_slice.result.now rows c.in_default.len_at_least)

@@ -1,7 +1,7 @@
-use Rattle.er_store.proofs.Names.{◌≡◌, ◌∙◌, sym, ap, Some, nat_lt, true, false, arith, nat_tests, none-some, same_Some, Match, match_of}
-use Rattle.er_store.proofs.Names.{is_swapped}
-use Rattle.er_store.proofs.{SlipLemmas.match_row, SlipLemmas.low_of, SlipLemmas.high_of, SlipLemmas.named_first, SlipLemmas.same_slip}
-use Rattle.er_store.proofs.{SlipLemmas.reads_slip, slips.slip_of.Goals.then-played, slips.slip_of.Goals.else-played}
+use Rattle.er_store.proofs.Prelude.{◌≡◌, ◌∙◌, sym, ap, Some, nat_lt, true, false, arith, nat_tests, none-some, same_Some, Match, match_of}
+use Rattle.er_store.proofs.Prelude.{is_swapped}
+use Rattle.er_store.proofs.{SlipLemmas.{match_row, low_of, high_of, named_first, same_slip, reads_slip}, slips.slip_of.Goals.then-played}
+use Rattle.er_store.proofs.slips.slip_of.Goals.{else-played}
 use Rattle.er_store.proofs.slips.slip_of.Goals as goal
 
 pub returns-in_err-played-clause-exact : goal.returns-in_err-played-clause-exact

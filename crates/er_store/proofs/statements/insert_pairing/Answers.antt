@@ -1,5 +1,5 @@
-use Rattle.er_store.proofs.Names.{subst, on_ok_weaker, state, next_rowid, PairingRow, stored_pairing, Puts}
-use Rattle.er_store.proofs.{Effects.puts_pairing, Pairing.pairing_added}
+use Rattle.er_store.proofs.Prelude.{subst, on_ok_weaker, state, next_rowid, PairingRow, stored_pairing, Puts}
+use Rattle.er_store.proofs.{Effects.puts_pairing, Adding.pairing_added}
 use Rattle.er_store.proofs.statements.insert_pairing.Goals as goal
 
 pub returns-clause-makes : goal.returns-clause-makes

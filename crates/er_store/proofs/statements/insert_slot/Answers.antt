@@ -1,5 +1,5 @@
-use Rattle.er_store.proofs.Names.{subst, on_ok_weaker, state, next_rowid, BracketRow, stored_slot, Puts}
-use Rattle.er_store.proofs.{Effects.puts_slot, Slots.slot_added}
+use Rattle.er_store.proofs.Prelude.{subst, on_ok_weaker, state, next_rowid, BracketRow, stored_slot, Puts}
+use Rattle.er_store.proofs.{Effects.puts_slot, Adding.slot_added}
 use Rattle.er_store.proofs.statements.insert_slot.Goals as goal
 
 pub returns-clause-makes : goal.returns-clause-makes

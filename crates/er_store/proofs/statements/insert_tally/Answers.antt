@@ -1,10 +1,10 @@
-use Rattle.er_store.proofs.Names.{on_ok_weaker}
+use Rattle.er_store.proofs.Prelude.{on_ok_weaker}
 use Rattle.er_store.proofs.{Effects.puts_tally, Together.tally_added}
 use Rattle.er_store.proofs.statements.insert_tally.Goals as goal
 
 pub returns-clause-makes : goal.returns-clause-makes
 returns-clause-makes g c clean e s rows stands =
-    on_ok_weaker c.run.result (λ ran. tally_added c.args.row.now stands (puts_tally c.args.row.now stands.tables ran))
+    on_ok_weaker c.run.result (λ ran. tally_added stands c.args.row.now (puts_tally c.args.row.now stands.tables ran))
     (rw c.params-to_sql-5.ensures at
     (rw (c.params-to_sql.ensures, c.params-to_sql-2.ensures, c.params-to_sql-3.ensures, c.params-to_sql-4.ensures) at
     (c.run.ensures.ran clean)))

@@ -1,4 +1,4 @@
-use Rattle.er_store.proofs.{Effects.inside_ok, Committed.step_keeps}
+use Rattle.er_store.proofs.{Effects.inside_ok, Crash.step_keeps}
 use Rattle.er_store.proofs.statements.run.Goals as goal
 
 pub returns-clause-ran : goal.returns-clause-ran

@@ -1,5 +1,5 @@
-use Rattle.er_store.proofs.Names.{on_ok_weaker, numbered}
-use Rattle.er_store.proofs.Dropping.{player_dropped}
+use Rattle.er_store.proofs.Prelude.{on_ok_weaker, numbered}
+use Rattle.er_store.proofs.Setting.{player_dropped}
 use Rattle.er_store.proofs.statements.set_dropped.Goals as goal
 
 pub returns-clause-makes : goal.returns-clause-makes

@@ -1,4 +1,4 @@
-use Rattle.er_store.proofs.Names.{on_ok_weaker}
+use Rattle.er_store.proofs.Prelude.{on_ok_weaker}
 use Rattle.er_store.proofs.Effects.{phase_set}
 use Rattle.er_store.proofs.statements.set_phase.Goals as goal
 

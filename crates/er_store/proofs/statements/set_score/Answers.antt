@@ -1,5 +1,5 @@
-use Rattle.er_store.proofs.Names.{◌≡◌, rules, on_ok_weaker}
-use Rattle.er_store.proofs.Scoring.{pairing_scored}
+use Rattle.er_store.proofs.Prelude.{◌≡◌, rules, on_ok_weaker}
+use Rattle.er_store.proofs.Setting.{pairing_scored}
 use Rattle.er_store.proofs.statements.set_score.Goals as goal
 
 pub returns-clause-makes : goal.returns-clause-makes

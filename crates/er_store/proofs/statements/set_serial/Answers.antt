@@ -1,4 +1,4 @@
-use Rattle.er_store.proofs.Names.{on_ok_weaker}
+use Rattle.er_store.proofs.Prelude.{on_ok_weaker}
 use Rattle.er_store.proofs.Effects.{serial_set}
 use Rattle.er_store.proofs.statements.set_serial.Goals as goal
 

@@ -1,5 +1,5 @@
-use Rattle.er_store.proofs.Names.{◌≡◌, rules, on_ok_weaker}
-use Rattle.er_store.proofs.Scoring.{slot_scored}
+use Rattle.er_store.proofs.Prelude.{◌≡◌, rules, on_ok_weaker}
+use Rattle.er_store.proofs.Setting.{slot_scored}
 use Rattle.er_store.proofs.statements.set_slot_score.Goals as goal
 
 pub returns-clause-makes : goal.returns-clause-makes

@@ -1,5 +1,5 @@
-use Rattle.er_store.proofs.Names.{◌≡◌, ◌∙◌, meetings}
-use Rattle.er_store.proofs.TallyLists.{memory-fault}
+use Rattle.er_store.proofs.Prelude.{◌≡◌, ◌∙◌, meetings}
+use Rattle.er_store.proofs.Tallying.{memory-fault}
 use Rattle.er_store.proofs.tallies.find_meetings.Goals as goal
 
 pub returns-in-Ok-clause-found : goal.returns-in-Ok-clause-found

@@ -1,5 +1,5 @@
-use Rattle.er_store.proofs.Names.{◌≡◌, ◌∙◌, state, tallies}
-use Rattle.er_store.proofs.{LoadLemmas.kept_stands, TableLemmas.player_is_ours, TableLemmas.tally_is_ours, TallyLists.memory-fault}
+use Rattle.er_store.proofs.Prelude.{◌≡◌, ◌∙◌, state, tallies}
+use Rattle.er_store.proofs.{LoadLemmas.kept_stands, TableLemmas.{player_is_ours, tally_is_ours}, Tallying.memory-fault}
 use Rattle.er_store.proofs.tallies.find_tallies.Goals as goal
 
 pub read_table-requires : goal.read_table-requires

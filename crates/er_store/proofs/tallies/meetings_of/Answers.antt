@@ -1,6 +1,6 @@
-use Rattle.er_store.proofs.Names.{◌∙◌, map, sym, ap, ap₂, filter, List, All, Option, ℤ, subst, take_all, none-some, meetings, MeetingRow}
-use Rattle.er_store.proofs.Names.{is_over, counted_rows, sides_in}
-use Rattle.er_store.proofs.Counted.{meetings-counted, meetings-same, IsMeetingRow, all-show}
+use Rattle.er_store.proofs.Prelude.{◌∙◌, map, sym, ap, ap₂, filter, List, All, Option, ℤ, subst, take_all, none-some, meetings, MeetingRow}
+use Rattle.er_store.proofs.Prelude.{is_over, counted_rows, sides_in}
+use Rattle.er_store.proofs.Meetings.{meetings-counted, meetings-same, IsMeetingRow, all-show}
 use Rattle.er_store.proofs.tallies.meetings_of.Goals as goal
 
 pub returns-in_default-clause-event : goal.returns-in_default-clause-event

@@ -1,4 +1,4 @@
-use Rattle.er_store.proofs.Names.{◌≡◌, take, map, filter, is_over, sides_in, sides_of}
+use Rattle.er_store.proofs.Prelude.{◌≡◌, take, map, filter, is_over, sides_in, sides_of}
 use Rattle.er_store.proofs.tallies.meetings_of.Given as goal
 
 abbrev pub invariant-loop-row : goal.invariant-loop-row

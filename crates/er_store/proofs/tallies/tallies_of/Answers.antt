@@ -1,7 +1,6 @@
-use Rattle.er_store.proofs.Names.{rules, ◌≡◌, ◌∙◌, ◌++◌, ◌∷◌, [], map, List, sym, ap, ap₂, arith, none-some, same_Some, tally_row, tally_by}
-use Rattle.er_store.proofs.Names.{totals}
-use Rattle.er_event.specs.declared.tallies.Tally.{Tally}
-use Rattle.er_store.proofs.TallyLists.{player-at, rows-more}
+use Rattle.er_store.proofs.Prelude.{rules, ◌≡◌, ◌∙◌, ◌++◌, ◌∷◌, [], map, List, sym, ap, ap₂, arith, none-some, same_Some, tally_row}
+use Rattle.er_store.proofs.Prelude.{tally_by, totals, Tally}
+use Rattle.er_store.proofs.Tallying.{player-at, rows-more}
 use Rattle.er_store.proofs.tallies.tallies_of.Goals as goal
 
 pub returns-in_default-clause-event : goal.returns-in_default-clause-event

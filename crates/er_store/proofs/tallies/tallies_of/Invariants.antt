@@ -1,5 +1,5 @@
-use Rattle.er_store.proofs.Names.{◌≡◌, take, map, length, EventValue, player_rows, tally_row, tally_rows, IsSoundButForSeeds, tallies}
-use Rattle.er_event.specs.declared.tallies.Tally.{Tally}
+use Rattle.er_store.proofs.Prelude.{◌≡◌, take, map, length, EventValue, player_rows, tally_row, tally_rows, IsSoundButForSeeds, tallies}
+use Rattle.er_store.proofs.Prelude.{Tally}
 use Rattle.er_store.proofs.tallies.tallies_of.Given as goal
 
 abbrev pub invariant-loop-at : goal.invariant-loop-at

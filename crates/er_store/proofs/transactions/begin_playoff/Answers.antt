@@ -1,5 +1,5 @@
-use Rattle.er_store.proofs.Names.{with_stage, on_ok_weaker}
-use Rattle.er_store.proofs.{Together.makes_then, Committed.stays_then, Crash.was_clean, StageLemmas.first_is}
+use Rattle.er_store.proofs.Prelude.{with_stage, on_ok_weaker}
+use Rattle.er_store.proofs.{Together.makes_then, Crash.{stays_then, was_clean}, Sizes.first_is}
 use Rattle.er_store.proofs.transactions.begin_playoff.Goals as goal
 
 pub insert_stage-requires : goal.insert_stage-requires

@@ -1,5 +1,5 @@
-use Rattle.er_store.proofs.Names.{[], true≢false, sym, state}
-use Rattle.er_store.proofs.{Finding.not_understood, LoadLemmas.not_run_keeps}
+use Rattle.er_store.proofs.Prelude.{[], true≢false, sym, state}
+use Rattle.er_store.proofs.LoadLemmas.{not_understood, not_run_keeps}
 use Rattle.er_store.proofs.transactions.can_run.Goals as goal
 
 pub returns-in-Err-SqlInputError-clause-found : goal.returns-in-Err-SqlInputError-clause-found

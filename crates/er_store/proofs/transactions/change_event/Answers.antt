@@ -1,5 +1,5 @@
-use Rattle.er_store.proofs.Names.{after, tally_rows, on_ok_weaker}
-use Rattle.er_store.proofs.{Committed.stays_then, Crash.was_clean, Together.moves_then}
+use Rattle.er_store.proofs.Prelude.{after, tally_rows, on_ok_weaker}
+use Rattle.er_store.proofs.{Crash.{stays_then, was_clean}, Together.moves_then}
 use Rattle.er_store.proofs.transactions.change_event.Goals as goal
 
 pub returns-clause-makes : goal.returns-clause-makes

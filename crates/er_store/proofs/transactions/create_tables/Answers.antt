@@ -1,6 +1,5 @@
-use Rattle.er_store.proofs.Names.{rules, true, ◌≡◌, on_ok_weaker, IfErr-weaker, State, HasCleanDisk, state, no_schema, IsReady}
-use Rattle.er_store.proofs.{LoadLemmas.all_err, Committed.uncommitted_keeps, Committed.dropped_keeps, Crash.was_clean, Crash.written}
-use Rattle.er_store.proofs.{Crash.leaves_either, Crash.shows_leaves}
+use Rattle.er_store.proofs.Prelude.{rules, true, ◌≡◌, on_ok_weaker, IfErr-weaker, State, HasCleanDisk, state, no_schema, IsReady}
+use Rattle.er_store.proofs.{LoadLemmas.all_err, Crash.{uncommitted_keeps, dropped_keeps, was_clean, written, leaves_either, shows_leaves}}
 use Rattle.er_store.proofs.transactions.create_tables.Given as given
 use Rattle.er_store.proofs.transactions.create_tables.Goals as goal
 

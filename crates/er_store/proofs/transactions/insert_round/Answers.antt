@@ -1,6 +1,6 @@
-use Rattle.er_store.proofs.Names.{◌≡◌, ◌+◌, length, take, refl, sym, ap, ◌∙◌, arith, length-take-le, state, with_round, pairing_row}
-use Rattle.er_store.proofs.{Committed.stays_self, Committed.stays_then, Crash.was_clean, Pairing.none_added, Pairing.adds_none}
-use Rattle.er_store.proofs.{Pairing.adds_all, Pairing.adds_next, Rounds.few_matches, Rounds.some_matches}
+use Rattle.er_store.proofs.Prelude.{◌≡◌, ◌+◌, length, take, refl, sym, ap, ◌∙◌, arith, length-take-le, state, with_round, pairing_row}
+use Rattle.er_store.proofs.{Crash.{stays_self, stays_then, was_clean}, Adding.{none_added, adds_none, adds_all, adds_next}}
+use Rattle.er_store.proofs.Sizes.{few_matches, some_matches}
 use Rattle.er_store.proofs.transactions.insert_round.Goals as goal
 
 pub loop-place-init : goal.loop-place-init

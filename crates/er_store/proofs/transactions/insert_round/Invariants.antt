@@ -1,5 +1,5 @@
-use Rattle.er_store.proofs.Names.{◌≡◌, ℕ, List, take, HasCleanDisk, state, TallyRow, with_round, StandsWith, Stays}
-use Rattle.er_store.proofs.Pairing.{Adds}
+use Rattle.er_store.proofs.Prelude.{◌≡◌, ℕ, List, take, HasCleanDisk, state, TallyRow, with_round, StandsWith, Stays}
+use Rattle.er_store.proofs.Adding.{Adds}
 use Rattle.er_store.proofs.transactions.insert_round.Given as goal
 
 abbrev pub invariant-loop-place : goal.invariant-loop-place

@@ -1,6 +1,5 @@
-use Rattle.er_store.proofs.Names.{◌≡◌, ◌+◌, length, take, refl, sym, ap, ◌∙◌, arith, length-take-le, state, with_stage, bracket_row}
-use Rattle.er_store.proofs.{Committed.stays_self, Committed.stays_then, Crash.was_clean, Pairing.adds_none, Pairing.adds_all}
-use Rattle.er_store.proofs.{Pairing.adds_next, Slots.no_slot_added}
+use Rattle.er_store.proofs.Prelude.{◌≡◌, ◌+◌, length, take, refl, sym, ap, ◌∙◌, arith, length-take-le, state, with_stage, bracket_row}
+use Rattle.er_store.proofs.{Crash.{stays_self, stays_then, was_clean}, Adding.{adds_none, adds_all, adds_next, no_slot_added}}
 use Rattle.er_store.proofs.transactions.insert_stage.Goals as goal
 
 pub loop-place-init : goal.loop-place-init

@@ -1,5 +1,6 @@
-use Rattle.er_store.proofs.Names.{◌≡◌, ◌+◌, ℕ, List, take, length, HasCleanDisk, state, TallyRow, EventValue, with_stage, StandsWith, Stays}
-use Rattle.er_store.proofs.Pairing.{Adds}
+use Rattle.er_store.proofs.Prelude.{◌≡◌, ◌+◌, ℕ, List, take, length, HasCleanDisk, state, TallyRow, EventValue, with_stage, StandsWith}
+use Rattle.er_store.proofs.Prelude.{Stays}
+use Rattle.er_store.proofs.Adding.{Adds}
 use Rattle.er_store.proofs.transactions.insert_stage.Given as goal
 
 abbrev pub invariant-loop-place : goal.invariant-loop-place

@@ -1,5 +1,5 @@
-use Rattle.er_store.proofs.Names.{state, on_ok_weaker}
-use Rattle.er_store.proofs.{Committed.stays_then, Crash.was_clean, Together.ours_has, Together.event_put}
+use Rattle.er_store.proofs.Prelude.{state, on_ok_weaker}
+use Rattle.er_store.proofs.{Crash.{stays_then, was_clean}, Together.{ours_has, event_put}}
 use Rattle.er_store.proofs.transactions.make_event.Goals as goal
 
 pub returns-clause-readies : goal.returns-clause-readies

@@ -1,5 +1,5 @@
-use Rattle.er_store.proofs.Names.{◌≤◌, length, List, ap, subst, sym, ◌∙◌, arith, Match}
-use Rattle.er_store.proofs.StageLemmas.{sound_few}
+use Rattle.er_store.proofs.Prelude.{◌≤◌, length, List, ap, subst, sym, ◌∙◌, arith, Match}
+use Rattle.er_store.proofs.Sizes.{sound_few}
 use Rattle.er_store.proofs.transactions.next_number.Goals as goal
 
 few : (c : goal.After-as_slice) → length c.as_slice.result.now ≤ 3

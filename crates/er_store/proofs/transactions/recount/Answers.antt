@@ -1,9 +1,9 @@
-use Rattle.er_store.proofs.Names.{◌≡◌, ◌+◌, ◌<◌, ℕ, List, length, Contains, IsFalse, [], ◌∷◌, ◌++◌, take, get_or, refl, sym, ap, subst, ◌∙◌}
-use Rattle.er_store.proofs.Names.{take_all, take_more, All-nil, All-cons, state, Match, TallyRow, after, EventValue, is_bye, numbers}
-use Rattle.er_store.proofs.Names.{tally_rows_by, totals, BringsToWith, set_for_all}
+use Rattle.er_store.proofs.Prelude.{◌≡◌, ◌+◌, ◌<◌, ℕ, List, length, Contains, IsFalse, [], ◌∷◌, ◌++◌, take, get_or, refl, sym, ap, ◌∙◌}
+use Rattle.er_store.proofs.Prelude.{take_all, take_more, All-nil, All-cons, state, Match, after, EventValue, is_bye, numbers, totals}
+use Rattle.er_store.proofs.Prelude.{set_for_all}
 use Rattle.er_event.specs.Recounted.{AreOf}
-use Rattle.er_store.proofs.{Committed.stays_self, Committed.stays_then, Crash.was_clean, Together.makes_then, Recounting.numbered_too}
-use Rattle.er_store.proofs.{Recounting.rows_agree, Recounting.set-more, Recounting.all_set}
+use Rattle.er_store.proofs.{Crash.{stays_self, stays_then, was_clean}, Together.makes_then, Tallying.{numbered_too, rows_agree, set-more}}
+use Rattle.er_store.proofs.Tallying.{all_set}
 use Rattle.er_store.proofs.transactions.recount.Goals as goal
 
 pub loop-played-init : goal.loop-played-init
@@ -16,8 +16,7 @@ one_match : (event : EventValue) (items : List Match) (at : ℕ) (m : Match) →
     → AreOf event (m ∷ [])
 one_match event items at m all below is =
     All-cons (λ (x : Match). Contains (numbers event.players) x.a × (IsFalse (is_bye x) → Contains (numbers event.players) x.b)) m []
-    (subst (λ (x : Match). Contains (numbers event.players) x.a × (IsFalse (is_bye x) → Contains (numbers event.players) x.b)) (sym is)
-    (all at m below)) (All-nil _)
+    (rw is (all at m below)) (All-nil _)
 
 pub recount_match-requires-clause-known : goal.recount_match-requires-clause-known
 recount_match-requires-clause-known g c =
@@ -32,14 +31,11 @@ returns-in_err-recount_match-clause-stays g c = stays_then c.loop-played.invaria
 
 pub loop-played-preserved : goal.loop-played-preserved
 loop-played-preserved g c =
-    let old = state g.S.Store c.args.tx.now.conn.now in
-    let new = state g.S.Store c.recount_match.new.tx.conn.now in
-    let event = c.args.event.now in
     let items = c.matches_to_recount-played-items.result.now in
     let at = c.loop-played.played-index in
     let m = c.played-item.result in
-    let now = totals (after event c.args.change.now) in
-    let before = totals event in
+    let now = totals (after c.args.event.now c.args.change.now) in
+    let before = totals c.args.event.now in
     let so_far = c.loop-played.invariant in
     let more : take (at + 1) items ≡ take at items ++ m ∷ [] = take_more items at m c.loop-played-test.true
     ∙ ap (λ x. take at items ++ x ∷ []) (sym c.played-item.is) in (
@@ -48,11 +44,14 @@ loop-played-preserved g c =
       λ clean e s same moves stands.
           let was = so_far.2 (was_clean c.recount_match.ensures.stays.survives clean) e s same moves stands in
           let made = c.in_ok-recount_match.ensures.makes clean e s (set_for_all (take at items) now before) same was.stands in
-          let numbered = numbered_too e.players event.players same (c.matches_to_recount-played-items.ensures.sound.players.numbered) in
-          let rows = rows_agree (set_for_all (m ∷ []) now (set_for_all (take at items) now before))
-          (set_for_all (take at items ++ m ∷ []) now before) e.players numbered (λ q low. set-more (take at items) m q now before) in
-          subst (λ (ms : List Match). BringsToWith old new e s (tally_rows_by (set_for_all ms now before) e.players)) (sym more)
-          (subst (λ (ts : List TallyRow). BringsToWith old new e s ts) rows (makes_then was made)),
+          let numbered = numbered_too e.players c.args.event.now.players same
+          c.matches_to_recount-played-items.ensures.sound.players.numbered in
+          rw (
+            more,
+            ← rows_agree (set_for_all (m ∷ []) now (set_for_all (take at items) now before))
+                (set_for_all (take at items ++ m ∷ []) now before) e.players numbered (λ q low. set-more (take at items) m q now before),
+          )
+          (makes_then was made),
     )
 
 pub returns-clause-same_reference : goal.returns-clause-same_reference
@@ -60,18 +59,13 @@ returns-clause-same_reference g c = c.loop-played.invariant.0
 
 pub returns-clause-makes : goal.returns-clause-makes
 returns-clause-makes g c clean e s same moves stands =
-    let old = state g.S.Store c.args.tx.now.conn.now in
-    let new = state g.S.Store c.loop-played.tx.conn.now in
-    let event = c.args.event.now in
     let items = c.matches_to_recount-played-items.result.now in
-    let now = totals (after event c.args.change.now) in
-    let before = totals event in
-    let numbered = numbered_too e.players event.players same (c.matches_to_recount-played-items.ensures.sound.players.numbered) in
-    let all = take_all c.loop-played.played-index items c.loop-played-test.false in
-    let made = subst (λ (ms : List Match). BringsToWith old new e s (tally_rows_by (set_for_all ms now before) e.players)) all
-    (c.loop-played.invariant.2 clean e s same moves stands) in
-    subst (λ (ts : List TallyRow). BringsToWith old new e s ts) (rows_agree (set_for_all items now before) now e.players numbered
-    (λ q low. all_set items now before c.matches_to_recount-played-items.ensures.others q)) made
+    let now = totals (after c.args.event.now c.args.change.now) in
+    let before = totals c.args.event.now in
+    let told = c.matches_to_recount-played-items.ensures in
+    let numbered = numbered_too e.players c.args.event.now.players same told.sound.players.numbered in
+    rw (← rows_agree (set_for_all items now before) now e.players numbered (λ q low. all_set items now before told.others q))
+    (rw (take_all c.loop-played.played-index items c.loop-played-test.false) at (c.loop-played.invariant.2 clean e s same moves stands))
 
 pub returns-clause-stays : goal.returns-clause-stays
 returns-clause-stays g c = c.loop-played.invariant.1

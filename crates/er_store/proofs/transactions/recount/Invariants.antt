@@ -1,5 +1,5 @@
-use Rattle.er_store.proofs.Names.{◌≡◌, ℕ, take, HasCleanDisk, state, EventValue, after, tally_rows_by, numbers, totals, StandsWith, Stays}
-use Rattle.er_store.proofs.Names.{Moves, BringsToWith, set_for_all}
+use Rattle.er_store.proofs.Prelude.{◌≡◌, ℕ, take, HasCleanDisk, state, EventValue, after, tally_rows_by, numbers, totals, StandsWith, Stays}
+use Rattle.er_store.proofs.Prelude.{Moves, BringsToWith, set_for_all}
 use Rattle.er_store.proofs.transactions.recount.Given as goal
 
 abbrev pub invariant-loop-played : goal.invariant-loop-played

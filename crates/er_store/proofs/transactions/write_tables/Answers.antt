@@ -1,7 +1,7 @@
-use Rattle.er_store.proofs.Names.{inl, rules, subst, sym, true, ◌+◌, ◌≡◌, on_ok_weaker, IfErr-weaker, HasCleanDisk, state, after, Shows}
-use Rattle.er_store.proofs.Names.{KeepsOthers, IsReady}
-use Rattle.er_store.proofs.{LoadLemmas.all_err, Committed.uncommitted_keeps, Committed.dropped_keeps, Crash.was_clean, Crash.survives_both}
-use Rattle.er_store.proofs.{Crash.leaves_old, Crash.written, Crash.leaves_either, Crash.shows_leaves}
+use Rattle.er_store.proofs.Prelude.{inl, rules, subst, sym, true, ◌+◌, ◌≡◌, on_ok_weaker, IfErr-weaker, HasCleanDisk, state, after, Shows}
+use Rattle.er_store.proofs.Prelude.{KeepsOthers, IsReady}
+use Rattle.er_store.proofs.{LoadLemmas.all_err, Crash.{uncommitted_keeps, dropped_keeps, was_clean, survives_both, leaves_old, written}}
+use Rattle.er_store.proofs.Crash.{leaves_either, shows_leaves}
 use Rattle.er_store.proofs.transactions.write_tables.Given as given
 use Rattle.er_store.proofs.transactions.write_tables.Goals as goal
 

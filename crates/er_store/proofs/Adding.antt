@@ -1,12 +1,14 @@
--- What one more pairing makes of the tables.
-use Rattle.er_store.proofs.Names.{◌≡◌, ◌<◌, ◌+◌, ℕ, zero, suc, ℤ, length, List, [], ◌∷◌, ◌++◌, map, true, refl, sym, ap, subst, ◌∙◌, arith}
-use Rattle.er_store.proofs.Names.{append-nil, not-suc-le-zero, get_or, take, ◌≤◌, IsPermutation, map-append, take_all, take_more, Row, Int}
-use Rattle.er_store.proofs.Names.{put_row, rowid, Database, State, is_int, Place, rows_in, rows_with, PairingTable, Match, Round}
-use Rattle.er_store.proofs.Names.{PairingRow, EventValue, with_round, pairing_row, round_rows, pairing_rows, TallyRow, pairing_columns}
-use Rattle.er_store.proofs.Names.{stored_pairing, StandsWith, IsKeyed, KeepsOthers, Puts, Moves, BringsToWith, all_from_test, test_from_all}
+-- What one more match of a round or of a stage makes of the tables.
+use Rattle.er_store.proofs.Prelude.{pairing_rows_from, bracket_rows_from, common_steps, ◌≡◌, ◌<◌, ◌+◌, ℕ, zero, suc, ℤ, length, List, []}
+use Rattle.er_store.proofs.Prelude.{◌∷◌, ◌++◌, map, true, refl, sym, ap, ◌∙◌, arith, append-nil, not-suc-le-zero, get_or, take, ◌≤◌}
+use Rattle.er_store.proofs.Prelude.{IsPermutation, map-append, take_all, take_more, Row, Int, put_row, rowid, Database, State, is_int}
+use Rattle.er_store.proofs.Prelude.{Place, rows_in, rows_with, PairingTable, Match, Round, PairingRow, EventValue, with_round, pairing_row}
+use Rattle.er_store.proofs.Prelude.{round_rows, pairing_rows, TallyRow, pairing_columns, stored_pairing, StandsWith, IsKeyed, Puts, Moves}
+use Rattle.er_store.proofs.Prelude.{BringsToWith, all_from_test, test_from_all, BracketTable, BracketRow, with_stage, bracket_row}
+use Rattle.er_store.proofs.Prelude.{stage_rows, bracket_rows, bracket_columns, stored_slot}
 use Rattle.sqlite_trees.proofs.TreeLemmas.{IsTable-put_row, all-put_row}
-use Rattle.er_store.proofs.{Together.pairings_set, Together.moves_then, Together.row_put, Grouped.rows_more, Grouped.pairing_rows_are}
-use Rattle.er_store.proofs.{Grouped.newest_more}
+use Rattle.er_store.proofs.{Together.{pairings_set, moves_then, row_put, bracket_set}, Grouped.{rows_more, pairing_rows_are, newest_more}}
+use Rattle.er_store.proofs.Grouped.{bracket_rows_are}
 
 -- ---- the rows of one more round
 
@@ -14,18 +16,8 @@ use Rattle.er_store.proofs.{Grouped.newest_more}
 abbrev pub next_row : EventValue → List Match → Match → PairingRow
 next_row e before m = pairing_row (length e.stored + 1) (length before + 1, m)
 
-pairing_more : (e : EventValue) (before : List Match) (m : Match)
-    → pairing_rows (with_round e (before ++ m ∷ [])) ≡ pairing_rows (with_round e before) ++ next_row e before m ∷ []
-pairing_more e before m =
-    pairing_rows_are 1 (with_round e (before ++ m ∷ [])).stored
-    ∙ (newest_more pairing_row (λ (r : Round). r.matches) e.stored (record { matches = before })
-    (record { matches = before ++ m ∷ [] }) m refl
-    ∙ ap (λ rows. rows ++ next_row e before m ∷ []) (sym (pairing_rows_are 1 (with_round e before).stored)))
-
 pairing_none : (e : EventValue) → pairing_rows (with_round e []) ≡ pairing_rows e
-pairing_none e =
-    pairing_rows_are 1 (with_round e []).stored ∙ (rows_more (λ n (r : Round). round_rows n r.matches) 1 e.stored (record { matches = [] })
-    ∙ (append-nil _ ∙ sym (pairing_rows_are 1 e.stored)))
+pairing_none e = grind (arith, common_steps, append-nil, pairing_rows_are, rows_more, round_rows, with_round)
 
 -- ---- the rowids
 
@@ -43,13 +35,11 @@ pub pairing_added : (e : EventValue) (before : List Match) (m : Match) (id : ℤ
     → StandsWith old.now (with_round e before) s kept → Puts 3 (stored_pairing id (next_row e before m)) old new
     → BringsToWith old new (with_round e (before ++ m ∷ [])) s kept
 pairing_added e before m id {old} stands put =
-    let row = next_row e before m in
-    let more = with_round e (before ++ m ∷ []) in
-    let all : map pairing_columns (pairing_rows more) ≡ map pairing_columns (pairing_rows (with_round e before))
-    ++ pairing_columns row ∷ [] =
-    ap (map pairing_columns) (pairing_more e before m) ∙ map-append pairing_columns (pairing_rows (with_round e before)) (row ∷ []) in
-    pairings_set more.stored stands put.goes (row_put PairingTable _ (pairing_columns row) _ stands put refl all)
-    (subst IsKeyed (sym put.rows) (keyed_put id (pairing_columns row) (old.now.trees 3) stands.pairings_keyed))
+    let all = newest_more pairing_row (λ (r : Round). r.matches) pairing_rows_from pairing_rows_are e.stored (record { matches = before })
+    (record { matches = before ++ m ∷ [] }) m refl in
+    pairings_set stands (with_round e (before ++ m ∷ [])).stored put.goes (row_put stands PairingTable _
+    (pairing_columns (next_row e before m)) _ put refl (ap (map pairing_columns) all ∙ map-append pairing_columns (pairing_rows (with_round e before)) (next_row e before m ∷ [])))
+    (rw put.rows (keyed_put id _ (old.now.trees 3) stands.pairings_keyed))
 
 -- tables that show the same rows of another event stand for that one
 pub stands_as : {db : Database} {e f : EventValue} {s : ℕ} {kept : List TallyRow}
@@ -66,12 +56,7 @@ stands_as same stands = record {
 -- a round of no match has no row
 pub none_added : (e : EventValue) {db : Database} {s : ℕ} {kept : List TallyRow}
     → StandsWith db e s kept → StandsWith db (with_round e []) s kept
-none_added e {db} {s} {kept} = stands_as same
-  where
-    same : (table : Place) → IsPermutation (rows_in db table) (rows_with e s kept table)
-        → IsPermutation (rows_in db table) (rows_with (with_round e []) s kept table)
-    same PairingTable rows = subst (λ all. IsPermutation (rows_in db PairingTable) (map pairing_columns all)) (sym (pairing_none e)) rows
-    same _ rows = rows
+none_added e = stands_as (elim [ PairingTable ↦ λ rows. rw (pairing_none e) rows | _ ↦ λ rows. rows ])
 
 -- ---- matches, one after the other
 
@@ -93,7 +78,7 @@ same_moves {old} {mid} {new} same moves = record {
     mode = moves.shows.mode;
   };
   sound = moves.sound;
-  keeps = subst (λ d. KeepsOthers d new.now) same.now_is moves.keeps;
+  keeps = rw same.now_is at moves.keeps;
 }
 
 -- so many matches are stored, of a round or a stage that an event has with them
@@ -128,16 +113,38 @@ pub adds_next : {old mid new : State} {event : List Match → EventValue} {seria
     → at < length matches → m ≡ get_or matches at m → Adds event at (take at matches) serial totals old mid
     → BringsToWith mid new (event (take at matches ++ m ∷ [])) serial totals
     → Adds event (at + 1) (take (at + 1) matches) serial totals old new
-adds_next {mid = mid} {new} {event} {serial} {totals} at matches m below is was made =
-    let more : take (at + 1) matches ≡ take at matches ++ m ∷ [] = take_more matches at m below
-    ∙ ap (λ x. take at matches ++ x ∷ []) (sym is) in
-    adds_one was (subst (λ (ms : List Match). BringsToWith mid new (event ms) serial totals) (sym more) made)
+adds_next at matches m below is was made = adds_one was (rw (take_more matches at m below, ← is) made)
 
 -- and all are
 pub adds_all : {old new : State} {event : List Match → EventValue} {serial : ℕ} {totals : List TallyRow} (at : ℕ) (matches : List Match)
     → 0 < length matches → length matches ≤ at → Adds event at (take at matches) serial totals old new
     → BringsToWith old new (event matches) serial totals
-adds_all {new = new} {event} {serial} {totals} at matches some past adds = record {
-  moves = adds.some (omega arith);
-  stands = subst (λ (ms : List Match). StandsWith new.now (event ms) serial totals) (take_all at matches past) adds.stands;
-}
+adds_all at matches some past adds =
+    record { moves = adds.some (omega arith); stands = rw (take_all at matches past) at adds.stands }
+
+-- ---- the rows of one more stage
+
+-- the row of the match after these
+abbrev pub next_slot : EventValue → List Match → Match → BracketRow
+next_slot e before m = bracket_row (length e.bracket.stages + 1) (length before + 1, m)
+
+slots_none : (e : EventValue) → bracket_rows (with_stage e []) ≡ bracket_rows e
+slots_none e = grind (arith, common_steps, append-nil, bracket_rows_are, rows_more, stage_rows, with_stage)
+
+-- ---- the tables
+
+-- The stage has one match more.
+pub slot_added : (e : EventValue) (before : List Match) (m : Match) (id : ℤ) {old new : State} {s : ℕ} {kept : List TallyRow}
+    → StandsWith old.now (with_stage e before) s kept → Puts 6 (stored_slot id (next_slot e before m)) old new
+    → BringsToWith old new (with_stage e (before ++ m ∷ [])) s kept
+slot_added e before m id {old} stands put =
+    let all = newest_more bracket_row (λ ms. ms) bracket_rows_from bracket_rows_are e.bracket.stages before (before ++ m ∷ []) m refl in
+    bracket_set stands (with_stage e (before ++ m ∷ [])).bracket.stages put.goes (row_put stands BracketTable _
+    (bracket_columns (next_slot e before m)) _ put refl (ap (map bracket_columns) all
+    ∙ map-append bracket_columns (bracket_rows (with_stage e before)) (next_slot e before m ∷ [])))
+    (rw put.rows (keyed_put id _ (old.now.trees 6) stands.bracket_keyed))
+
+-- a stage of no match has no row
+pub no_slot_added : (e : EventValue) {db : Database} {s : ℕ} {kept : List TallyRow}
+    → StandsWith db e s kept → StandsWith db (with_stage e []) s kept
+no_slot_added e = stands_as (elim [ BracketTable ↦ λ rows. rw (slots_none e) rows | _ ↦ λ rows. rows ])

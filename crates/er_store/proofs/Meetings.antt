@@ -1,0 +1,404 @@
+-- The meetings that are read of an event's tables, and those that count.
+use Rattle.er_store.proofs.Prelude.{common_steps, ◌≡◌, ◌≢◌, ℕ, ℤ, pos, suc, ◌+◌, ◌-◌, ◌≤◌, min, max, Bool, true, false, not, cond, List, []}
+use Rattle.er_store.proofs.Prelude.{◌∷◌, ◌++◌, map, filter, find, take, length, Option, Some, None, option_map, All, IsTrue, refl, sym, ap}
+use Rattle.er_store.proofs.Prelude.{ap₂, subst, ◌∙◌, arith, append-nil, true≢false, AllByRecursion, nat_tests, map-append, filter-append}
+use Rattle.er_store.proofs.Prelude.{All-from_recursion, all-append, all-map, Match, Round, TallyRow, Totals, EventValue, is_bye}
+use Rattle.er_store.proofs.Prelude.{numbered_from, bye_score, numbers, IsSoundButForSeeds, meetings, totals, MeetingRow, meeting_rows}
+use Rattle.er_store.proofs.Prelude.{is_over, counted_rows, sides_in, sides_of, filter_all, ◌&&◌, flat_map, Contains, Greater, list_all}
+use Rattle.er_store.proofs.Prelude.{IsPermutation, IsSorted, IsPermutation-map, All-permutation, Int, Binary, Database, is_true, Row}
+use Rattle.er_store.proofs.Prelude.{column, overlay, or_nulls, IsAnswer, Output, output, output_cmp, State, Env, holds, Trees, IsAscending}
+use Rattle.er_store.proofs.Prelude.{Compare, Gt, value_cmp-Int, filter-map, IsPermutation-filter, PairingTable, TallyTable, Player}
+use Rattle.er_store.proofs.Prelude.{table_of, pairing_row, round_rows, pairing_rows_from, pairing_rows, tally_row, tally_rows, flag}
+use Rattle.er_store.proofs.Prelude.{by_first_two, Lists, first_columns, number, pairing_columns, tally_columns, meeting_columns, columns_at}
+use Rattle.er_store.proofs.Prelude.{pairing_places, tally_places, StandsFor, Selects, binary, Shown}
+use Rattle.std.specs.{Prelude.⊤, Option.option_or, Ordering.int_eq}
+use Rattle.std.proofs.{lemmas.Bool.Decides.Decides-int_eq, lemmas.List.Folds.find-append, Common.{is_some, int_cmp}}
+use Rattle.sqlite_keyed.proofs.ListLemmas.{filter_none, map-map}
+use Rattle.er_event.specs.{declared.tallies.Meeting.Meeting, Round.is_counted, Tallies.{counted_matches, meeting_by}}
+use Rattle.sqlite_trees.proofs.ListLemmas.{IsPermutation-flat_map}
+use Rattle.er_store.specs.inside.Meetings.{meeting_row, meetings_from, open_round}
+use Rattle.er_store.proofs.{Exact.{map-same, sorted_rows, two_agree}, Joined.{IsMatch, all_matches, some_number, joined, numbered_as}}
+use Rattle.er_store.proofs.{Meaning.{meeting_query, meeting_tests}, Picking.{picks, picks_row}, Setting.one_picked, Grouped.listed_by_two}
+use Rattle.er_store.proofs.{Grouped.{IsBelow, tested_rise, rises_from, rows_from}, Refusals.answers, SlipLemmas.{of_max, of_min}}
+
+-- ---- the rows of an event's matches, less those of an open round, are its meetings
+
+abbrev is_open : MeetingRow → Bool
+is_open row = int_eq row.done (pos 0)
+
+-- of two players
+abbrev pub is_pair : Match → Bool
+is_pair m = not (is_bye m)
+
+abbrev pub is_pair_at : ℕ × Match → Bool
+is_pair_at n = is_pair n.1
+
+-- a bye has its score
+abbrev pub IsWon : Match → Type 0
+IsWon m = IsTrue (is_bye m) → m.score ≡ Some bye_score
+
+-- the pairs among these matches, each with its number
+abbrev pub pairs_from : ℕ → List Match → List (ℕ × Match)
+pairs_from j ms = filter is_pair_at (numbered_from j ms)
+
+int-same : (z : ℤ) → int_eq z z ≡ true
+int-same z = (Decides-int_eq z z).1 refl
+
+int-apart : (a b : ℕ) → a ≢ b → int_eq (pos a) (pos b) ≡ false
+int-apart a b apart = grind (arith, nat_tests)
+
+module _ (come_to : ℕ → Totals) where
+  abbrev pub rows_of : ℕ → ℕ → List Match → List MeetingRow
+  rows_of k j ms = map (meeting_row come_to k) (pairs_from j ms)
+
+  -- the two sides of each pair
+  abbrev met : List Match → List (TallyRow × TallyRow)
+  met ms = map sides_of (map (meeting_by come_to) (filter is_pair ms))
+
+  met-append : (xs ys : List Match) → met (xs ++ ys) ≡ met xs ++ met ys
+  met-append xs ys = grind (arith, common_steps)
+
+  -- ---- the rows of one round
+
+  same-sides : (k j : ℕ) (ms : List Match) → map sides_in (rows_of k j ms) ≡ met ms
+  same-sides k j [] = refl
+  same-sides k j (m ∷ ms) = grind (arith, nat_tests, same-sides k (j + 1) ms)
+
+  -- no row of a complete round is open
+  none-open : (k j : ℕ) (ms : List Match) → is_counted ms ≡ true → find is_open (rows_of k j ms) ≡ None
+  none-open k j [] counted = refl
+  none-open k j (m ∷ ms) counted = grind (arith, nat_tests, none-open k (j + 1) ms)
+
+  -- a row of an open one is
+  some-open : (k j : ℕ) (ms : List Match) → is_counted ms ≡ false → All IsWon ms → open_round (rows_of k j ms) ≡ Some (pos k)
+  some-open k j [] counted won = absurd (true≢false counted)
+  some-open k j (m ∷ ms) counted won =
+      let own = won 0 m (omega arith) in
+      let more = λ (rest : is_counted ms ≡ false). some-open k (j + 1) ms rest (λ i d below. won (suc i) d (omega arith)) in
+      grind (arith, nat_tests, own, more)
+
+  -- the rows of another round than the open one stay, and its own go
+  others-stay : (k o j : ℕ) (ms : List Match) → k ≢ o → filter (is_over (Some (pos o))) (rows_of k j ms) ≡ rows_of k j ms
+  others-stay k o j ms apart =
+      filter_all (is_over (Some (pos o))) (rows_of k j ms)
+      (all-map (λ r. is_over (Some (pos o)) r ≡ true) (meeting_row come_to k) (λ n. ap not (int-apart k o apart)) (pairs_from j ms))
+
+  own-go : (k j : ℕ) (ms : List Match) → filter (is_over (Some (pos k))) (rows_of k j ms) ≡ []
+  own-go k j ms =
+      filter_none (is_over (Some (pos k))) (rows_of k j ms)
+      (all-map (λ r. is_over (Some (pos k)) r ≡ false) (meeting_row come_to k) (λ n. ap not (int-same (pos k))) (pairs_from j ms))
+
+  all-stay : (rows : List MeetingRow) → filter (is_over None) rows ≡ rows
+  all-stay [] = refl
+  all-stay (r ∷ rows) = ap (λ (rest : List MeetingRow). r ∷ rest) (all-stay rows)
+
+  -- ---- the rounds
+
+  -- the open round, if there is one, isn't before this one
+  abbrev IsFrom : ℕ → Option ℤ → Type 0
+  IsFrom k None = ⊤
+  IsFrom k (Some z) = (o : ℕ) × (z ≡ pos o) × (k ≤ o)
+
+  record AreCounted (k : ℕ) (rounds : List Round) : Type 0 where
+    from : IsFrom k (open_round (meetings_from come_to k rounds))
+    same : map sides_in (counted_rows (meetings_from come_to k rounds)) ≡ met (counted_matches rounds)
+
+  none-counted : (k : ℕ) → AreCounted k []
+  none-counted k = record { from = tt; same = refl }
+
+  later-from : (k : ℕ) (o : Option ℤ) → IsFrom (k + 1) o → IsFrom k o
+  later-from k None from = tt
+  later-from k (Some z) from = (from.0, from.1, let high = from.2 in omega arith)
+
+  stays : (k j : ℕ) (ms : List Match) (o : Option ℤ) → IsFrom (k + 1) o → filter (is_over o) (rows_of k j ms) ≡ rows_of k j ms
+  stays k j ms None from = all-stay (rows_of k j ms)
+  stays k j ms (Some z) from = grind (arith, common_steps, is_over, others-stay)
+
+  -- a complete round before those that are counted
+  one-more : (k : ℕ) (r : Round) (later : List Round) → is_counted r.matches ≡ true → AreCounted (k + 1) later → AreCounted k (r ∷ later)
+  one-more k r later counted rest =
+      let front = rows_of k 1 r.matches in
+      let back = meetings_from come_to (k + 1) later in
+      let opens : open_round (front ++ back) ≡ open_round back =
+      ap (option_map (λ (row : MeetingRow). row.round)) (find-append is_open front back
+      ∙ ap (λ (o : Option MeetingRow). option_or o (find is_open back)) (none-open k 1 r.matches counted)) in
+      record {
+        from = rw opens (later-from k (open_round back) rest.from);
+        same = rw (
+          opens,
+          filter-append (is_over (open_round back)) front back,
+          stays k 1 r.matches (open_round back) rest.from,
+          map-append sides_in front (counted_rows back),
+          same-sides k 1 r.matches,
+          rest.same,
+          counted,
+        )
+            (sym (met-append r.matches (counted_matches later)));
+      }
+
+  -- an open one is the last
+  last-open : (k : ℕ) (r : Round) → is_counted r.matches ≡ false → All IsWon r.matches → AreCounted k (r ∷ [])
+  last-open k r counted won =
+      let rows = rows_of k 1 r.matches in
+      let bare : meetings_from come_to k (r ∷ []) ≡ rows = append-nil rows in
+      let opens : open_round rows ≡ Some (pos k) = some-open k 1 r.matches counted won in
+      record { from = rw (bare, opens) (k, refl, omega arith); same = rw (bare, opens, own-go k 1 r.matches, counted) refl }
+
+  last-counted : (k : ℕ) (r : Round) → All IsWon r.matches → AreCounted k (r ∷ [])
+  last-counted k r won = by_test (is_counted r.matches) refl
+    where
+      by_test : (test : Bool) → is_counted r.matches ≡ test → AreCounted k (r ∷ [])
+      by_test true counted = one-more k r [] counted (none-counted (k + 1))
+      by_test false counted = last-open k r counted won
+
+  rounds-counted : (k : ℕ) (rounds : List Round) → All (λ (r : Round). All IsWon r.matches) rounds
+      → All (λ (r : Round). IsTrue (is_counted r.matches)) (take (length rounds - 1) rounds) → AreCounted k rounds
+  rounds-counted k [] won earlier = none-counted k
+  rounds-counted k (r ∷ []) won earlier = last-counted k r (won 0 r (omega arith))
+  rounds-counted k (r ∷ s ∷ later) won earlier =
+      let Done : Round → Type 0 = λ (q : Round). IsTrue (is_counted q.matches) in
+      let one : length (r ∷ s ∷ later) - 1 ≡ suc (length (s ∷ later) - 1) = omega arith in
+      let all : All Done (r ∷ take (length (s ∷ later) - 1) (s ∷ later)) =
+      subst (λ (n : ℕ). All Done (take n (r ∷ s ∷ later))) one earlier in
+      one-more k r (s ∷ later) (all 0 r (omega arith))
+      (rounds-counted (k + 1) (s ∷ later) (λ i d below. won (suc i) d (omega arith)) (λ i d below. all (suc i) d (omega arith)))
+
+-- ---- the event
+
+pub meetings-counted : (e : EventValue) → IsSoundButForSeeds e → map sides_in (counted_rows (meeting_rows e)) ≡ map sides_of (meetings e)
+meetings-counted e sound = (rounds-counted (totals e) 1 e.stored
+    (λ i d below. (sound.rounds.each i d below).byes_won) sound.rounds.earlier_done).same
+
+pub meetings-same : (xs ys : List Meeting) → map sides_of xs ≡ map sides_of ys → xs ≡ ys
+meetings-same = map-same sides_of (λ m n same. grind arith)
+
+-- a row that shows a meeting of the event
+pub record IsMeetingRow (e : EventValue) (row : MeetingRow) : Type 0 where
+  pub it : Match
+  pub low : 1 ≤ min it.a it.b
+  pub high : max it.a it.b ≤ 512
+  pub sides : sides_in row ≡ sides_of (meeting_by (totals e) it)
+
+module _ (e : EventValue) (sound : IsSoundButForSeeds e) where
+  pair-row : (k j : ℕ) (m : Match) → IsMatch (numbers e.players) m → is_bye m ≡ false → IsMeetingRow e (meeting_row (totals e) k (j, m))
+  pair-row k j m are pair = grind (arith, common_steps)
+
+  round-shows : (k j : ℕ) (ms : List Match) → All (IsMatch (numbers e.players)) ms
+      → AllByRecursion (IsMeetingRow e) (rows_of (totals e) k j ms)
+  round-shows k j [] are = tt
+  round-shows k j (m ∷ ms) are = by_bye (is_bye m) refl (round-shows k (j + 1) ms (λ i d below. are (suc i) d (omega arith)))
+    where
+      by_bye : (alone : Bool) → is_bye m ≡ alone → AllByRecursion (IsMeetingRow e) (rows_of (totals e) k (j + 1) ms)
+          → AllByRecursion (IsMeetingRow e)
+          (map (meeting_row (totals e) k) (cond (not alone) ((j, m) ∷ pairs_from (j + 1) ms) (pairs_from (j + 1) ms)))
+      by_bye true is more = more
+      by_bye false is more = (pair-row k j m (are 0 m (omega arith)) is, more)
+
+  rounds-show : (k : ℕ) (rounds : List Round) → All (λ (r : Round). All (IsMatch (numbers e.players)) r.matches) rounds
+      → AllByRecursion (IsMeetingRow e) (meetings_from (totals e) k rounds)
+  rounds-show k [] are = tt
+  rounds-show k (r ∷ later) are =
+      all-append (IsMeetingRow e) (rows_of (totals e) k 1 r.matches) (meetings_from (totals e) (k + 1) later)
+      (round-shows k 1 r.matches (are 0 r (omega arith))) (rounds-show (k + 1) later (λ i d below. are (suc i) d (omega arith)))
+
+  pub all-show : All (IsMeetingRow e) (meeting_rows e)
+  all-show = All-from_recursion (IsMeetingRow e) (meeting_rows e) (rounds-show 1 e.stored (all_matches e sound))
+
+-- ---- the rows that are joined
+
+abbrev passes : Row → Bool
+passes p = list_all (holds ([] ∷ p ∷ [])) meeting_tests
+
+-- the columns of a pairing pass
+abbrev is_no_bye : Row → Bool
+is_no_bye c = is_true (binary (Compare Gt Binary) (column c 2) (Int (pos 0))) && true
+
+abbrev met_row : Row → Row → Row → Row
+met_row c l h = column c 0 ∷ column c 1 ∷ column c 5 ∷ map (column l) tally_places ++ map (column h) tally_places
+
+-- what is shown of a pairing with these columns
+abbrev mates : Trees → Row → List Row
+mates db c = flat_map (λ l. flat_map (λ h. met_row c l h ∷ []) (numbered_as (column c 3) (db 8))) (numbered_as (column c 2) (db 8))
+
+abbrev rows_shown : List Env → List Row
+rows_shown envs = map (λ (o : Output). o.1) (map (output meeting_query) envs)
+
+shown-append : (xs ys : List Env) → rows_shown (xs ++ ys) ≡ rows_shown xs ++ rows_shown ys
+shown-append xs ys = grind (arith, common_steps)
+
+second-shown : (p l : Row) (hs : List Row) → rows_shown (flat_map (λ h. ([] ∷ p ∷ l ∷ h ∷ []) ∷ []) hs)
+    ≡ flat_map (λ h. met_row (map (column p) pairing_places) l h ∷ []) hs
+second-shown p l [] = refl
+second-shown p l (h ∷ hs) = ap (λ (rest : List Row). met_row (map (column p) pairing_places) l h ∷ rest) (second-shown p l hs)
+
+both-shown : (p : Row) (ls hs : List Row) → rows_shown (flat_map (λ l. flat_map (λ h. ([] ∷ p ∷ l ∷ h ∷ []) ∷ []) hs) ls)
+    ≡ flat_map (λ l. flat_map (λ h. met_row (map (column p) pairing_places) l h ∷ []) hs) ls
+both-shown p [] hs = refl
+both-shown p (l ∷ ls) hs = grind (arith, common_steps, flat_map, second-shown, shown-append, both-shown p ls hs)
+
+module _ (db : Trees) where
+  abbrev lows : Row → List Row
+  lows p = numbered_as (column p 3) (db 8)
+
+  abbrev highs : Row → List Row
+  highs p = numbered_as (column p 4) (db 8)
+
+  abbrev beside : Row → List Env
+  beside p = flat_map (λ l. flat_map (λ h. ([] ∷ p ∷ l ∷ h ∷ []) ∷ []) (highs p)) (lows p)
+
+  all-shown : (ps : List Row) → rows_shown (flat_map beside ps) ≡ flat_map (mates db) (columns_at pairing_places ps)
+  all-shown [] = refl
+  all-shown (p ∷ ps) = shown-append (beside p) (flat_map beside ps) ∙ ap₂ ◌++◌ (both-shown p (lows p) (highs p)) (all-shown ps)
+
+  abbrev Keyed : Output → Type 0
+  Keyed o = (column o.0 0 ≡ column o.1 0) × (column o.0 1 ≡ column o.1 1)
+
+  keyed : (envs : List Env) → AllByRecursion Keyed (map (output meeting_query) envs)
+  keyed = all-map Keyed (output meeting_query) (λ e. (refl, refl))
+
+  -- the rows of those that pass, by round and table
+  answer-lists : (rows : List Row) → IsAnswer meeting_query (overlay db []) [] rows
+      → Lists by_first_two (flat_map (mates db) (filter is_no_bye (columns_at pairing_places (db 3)))) rows
+  answer-lists rows a =
+      let staged : a.staged ≡ flat_map beside (filter passes (db 3)) = a.grouped ∙ joined passes lows highs [] (db 3) in
+      let kept : a.kept ≡ map (output meeting_query) (flat_map beside (filter passes (db 3))) = a.distinct
+      ∙ ap (map (output meeting_query)) staged in
+      let same = subst (λ (l : List Output). IsPermutation l a.ordered) kept a.same in
+      let envs = flat_map beside (filter passes (db 3)) in
+      let keys = All-permutation Keyed (map (output meeting_query) envs) a.ordered same
+      (All-from_recursion Keyed (map (output meeting_query) envs) (keyed envs)) in
+      let picked : columns_at pairing_places (filter passes (db 3)) ≡ filter is_no_bye (columns_at pairing_places (db 3)) =
+      sym (filter-map is_no_bye (λ r. map (column r) pairing_places) (db 3)) in
+      let rows_are : rows_shown envs ≡ flat_map (mates db) (filter is_no_bye (columns_at pairing_places (db 3))) =
+      all-shown (filter passes (db 3)) ∙ ap (flat_map (mates db)) picked in
+      record {
+        same = subst (λ (l : List Row). IsPermutation l rows) rows_are
+            (subst (IsPermutation (rows_shown envs)) (sym a.shown) (IsPermutation-map (λ (o : Output). o.1) _ _ same));
+        sorted = subst (IsSorted by_first_two) (sym a.shown)
+            (sorted_rows Keyed (output_cmp meeting_query) by_first_two two_agree a.ordered keys a.sorted);
+      }
+
+pub meetings-listed : {sql : List ℕ} (old new : State) {rows : List Row} → Selects sql meeting_query old.now.schema
+    → Shown sql [] old new rows
+    → Lists by_first_two (flat_map (mates old.now.trees) (filter is_no_bye (columns_at pairing_places (old.now.trees 3)))) rows
+meetings-listed old new {rows} it h = answer-lists old.now.trees rows (answers old new it h)
+
+-- ---- the rows of an event
+
+-- the least of the two numbers is 0 where there is a bye, and else both are numbers
+pair-passes : (k j : ℕ) (m : Match) → (is_bye m ≡ false → (1 ≤ m.a) × (1 ≤ m.b))
+    → is_no_bye (pairing_columns (pairing_row k (j, m))) ≡ is_pair m
+unfolding binary
+pair-passes k j m known = by_bye (is_bye m) refl
+  where
+    by_bye : (alone : Bool) → is_bye m ≡ alone → is_no_bye (pairing_columns (pairing_row k (j, m))) ≡ not (is_bye m)
+    by_bye true is =
+        let low : min m.a m.b ≡ 0 = grind (arith, nat_tests) in
+        rw (low, value_cmp-Int (pos 0) (pos 0), is) refl
+    by_bye false is =
+        let both = known is in
+        let greater : int_cmp (pos (min m.a m.b)) (pos 0) ≡ Greater = grind (arith, nat_tests, both.0, both.1) in
+        rw (value_cmp-Int (pos (min m.a m.b)) (pos 0), greater, is) refl
+
+module _ (db : Database) (e : EventValue) (s : ℕ) (stands : StandsFor db e s) (sound : IsSoundButForSeeds e) where
+  abbrev row_by : Player → Row
+  row_by p = tally_columns (tally_row p.no (totals e p.no))
+
+  -- one row has the totals of a player
+  totals-sit : (n : ℕ) → Contains (numbers e.players) n → (l : Row) × (numbered_as (number n) (db.trees 8) ≡ l ∷ [])
+      × (map (column l) tally_places ≡ tally_columns (tally_row n (totals e n)))
+  totals-sit n known =
+      let picked = picks_row row_by row_by n (record { numbered = λ p. refl; others = λ p apart. refl }) e.players sound.players.numbered
+      known (map-map tally_columns (λ (p : Player). tally_row p.no (totals e p.no)) e.players) refl in
+      let it = one_picked tally_places (picks n) (db.trees 8) (map tally_columns (tally_rows e)) (row_by picked.it)
+      (stands.rows TallyTable) picked.alone in
+      (it.0, ap or_nulls it.1, it.2 ∙ ap (λ (k : ℕ). tally_columns (tally_row k (totals e k))) picked.is)
+
+  pair-mates : (k j : ℕ) (m : Match) → IsMatch (numbers e.players) m → is_bye m ≡ false
+      → mates db.trees (pairing_columns (pairing_row k (j, m))) ≡ meeting_columns (meeting_row (totals e) k (j, m)) ∷ []
+  pair-mates k j m are pair =
+      let lo = totals-sit (min m.a m.b) (of_min (Contains (numbers e.players)) m.a m.b are.first (are.second pair)) in
+      let hi = totals-sit (max m.a m.b) (of_max (Contains (numbers e.players)) m.a m.b are.first (are.second pair)) in
+      let tab : table_of (j, m) ≡ j = ap (λ (b : Bool). cond b 0 j) pair in
+      let c : Row = pairing_columns (pairing_row k (j, m)) in
+      ap₂ (λ (ls hs : List Row). flat_map (λ l. flat_map (λ h. met_row c l h ∷ []) hs) ls) lo.1 hi.1
+      ∙ (ap₂ (λ (x y : Row). (number k ∷ number (table_of (j, m)) ∷ Int (flag (is_some m.score)) ∷ x ++ y) ∷ []) lo.2 hi.2
+      ∙ ap (λ (t : ℕ). (number k ∷ number t ∷ Int (flag (is_some m.score)) ∷ tally_columns
+      (tally_row (min m.a m.b) (totals e (min m.a m.b))) ++ tally_columns (tally_row (max m.a m.b) (totals e (max m.a m.b)))) ∷ []) tab)
+
+  both-known : (m : Match) → IsMatch (numbers e.players) m → is_bye m ≡ false → (1 ≤ m.a) × (1 ≤ m.b)
+  both-known m are pair = ((some_number e sound m.a are.first).0, (some_number e sound m.b (are.second pair)).0)
+
+  abbrev mates_of : List Row → List Row
+  mates_of rows = flat_map (mates db.trees) (filter is_no_bye rows)
+
+  mates_of-append : (xs ys : List Row) → mates_of (xs ++ ys) ≡ mates_of xs ++ mates_of ys
+  mates_of-append xs ys = grind (arith, common_steps)
+
+  round-mates : (k j : ℕ) (ms : List Match) → All (IsMatch (numbers e.players)) ms
+      → mates_of (map pairing_columns (map (pairing_row k) (numbered_from j ms))) ≡ map meeting_columns (rows_of (totals e) k j ms)
+  round-mates k j [] are = refl
+  round-mates k j (m ∷ ms) are =
+      let one = are 0 m (omega arith) in
+      let more = round-mates k (j + 1) ms (λ i d below. are (suc i) d (omega arith)) in
+      grind (arith, nat_tests, more, pair-passes k j m (both-known m one), pair-mates k j m one)
+
+  rounds-mates : (k : ℕ) (rounds : List Round) → All (λ (r : Round). All (IsMatch (numbers e.players)) r.matches) rounds
+      → mates_of (map pairing_columns (pairing_rows_from k rounds)) ≡ map meeting_columns (meetings_from (totals e) k rounds)
+  rounds-mates k [] are = refl
+  rounds-mates k (r ∷ later) are =
+      ap mates_of (map-append pairing_columns (round_rows k r.matches) (pairing_rows_from (k + 1) later))
+      ∙ (mates_of-append (map pairing_columns (round_rows k r.matches)) (map pairing_columns (pairing_rows_from (k + 1) later))
+      ∙ (ap₂ ◌++◌ (round-mates k 1 r.matches (are 0 r (omega arith)))
+      (rounds-mates (k + 1) later (λ i d below. are (suc i) d (omega arith)))
+      ∙ sym (map-append meeting_columns (rows_of (totals e) k 1 r.matches) (meetings_from (totals e) (k + 1) later))))
+
+-- ---- their order
+
+meetings_are : (come_to : ℕ → Totals) (k : ℕ) (rounds : List Round)
+    → meetings_from come_to k rounds ≡ rows_from (λ n (r : Round). rows_of come_to n 1 r.matches) k rounds
+meetings_are come_to k [] = refl
+meetings_are come_to k (r ∷ later) = ap (λ rows. rows_of come_to k 1 r.matches ++ rows) (meetings_are come_to (k + 1) later)
+
+rounds-rise : (come_to : ℕ → Totals) (rounds : List Round)
+    → AllByRecursion (λ (r : Round). (k : ℕ) → IsAscending IsBelow (map meeting_columns (rows_of come_to k 1 r.matches))) rounds
+rounds-rise come_to [] = tt
+rounds-rise come_to (r ∷ later) = (
+  λ k. tested_rise meeting_columns (meeting_row come_to) (λ k n. refl) k is_pair_at (λ n is. refl) 1 r.matches,
+  rounds-rise come_to later,
+)
+
+-- ---- what is read
+
+pub meetings-exact : (db : Database) (e : EventValue) (s : ℕ) (rows : List Row) → StandsFor db e s → IsSoundButForSeeds e
+    → Lists by_first_two (flat_map (mates db.trees) (filter is_no_bye (columns_at pairing_places (db.trees 3)))) rows
+    → rows ≡ map meeting_columns (meeting_rows e)
+meetings-exact db e s rows stands sound h =
+    let stored = columns_at pairing_places (db.trees 3) in
+    let kept = IsPermutation-flat_map (mates db.trees) (filter is_no_bye stored) (filter is_no_bye (map pairing_columns (pairing_rows e)))
+    (IsPermutation-filter is_no_bye stored (map pairing_columns (pairing_rows e)) (stands.rows PairingTable)) in
+    let are = rounds-mates db e s stands sound 1 e.stored (all_matches e sound) in
+    let same : IsPermutation (flat_map (mates db.trees) (filter is_no_bye stored)) (map meeting_columns (meeting_rows e)) =
+    subst (IsPermutation (flat_map (mates db.trees) (filter is_no_bye stored))) are kept in
+    let rise = rises_from meeting_columns (meeting_row (totals e)) (λ k n. refl) (λ (r : Round). pairs_from 1 r.matches) 1 e.stored
+    (rounds-rise (totals e) e.stored) in
+    listed_by_two _ rows (map meeting_columns (meeting_rows e))
+    (subst (λ all. IsAscending IsBelow (map meeting_columns all)) (sym (meetings_are (totals e) 1 e.stored)) rise) same h
+
+-- ---- as typed rows
+
+pub meetings-typed : (typed : List MeetingRow) (e : EventValue) → map meeting_columns typed ≡ map meeting_columns (meeting_rows e)
+    → typed ≡ meeting_rows e
+meetings-typed typed e = map-same meeting_columns (λ r s h. grind arith) typed (meeting_rows e)
+
+meetings-whole : (rows : List MeetingRow) → map (first_columns 13) (map meeting_columns rows) ≡ map meeting_columns rows
+meetings-whole [] = refl
+meetings-whole (r ∷ rows) = ap (λ more. meeting_columns r ∷ more) (meetings-whole rows)
+
+-- typed rows with the columns of the rows that are read
+pub meetings-read : (db : Database) (e : EventValue) (s : ℕ) (rows : List Row) (typed : List MeetingRow) → StandsFor db e s
+    → IsSoundButForSeeds e → Lists by_first_two (flat_map (mates db.trees) (filter is_no_bye (columns_at pairing_places (db.trees 3)))) rows
+    → map meeting_columns typed ≡ map (first_columns 13) rows → typed ≡ meeting_rows e
+meetings-read db e s rows typed stands sound h columns =
+    meetings-typed typed e (columns
+    ∙ (ap (map (first_columns 13)) (meetings-exact db e s rows stands sound h) ∙ meetings-whole (meeting_rows e)))

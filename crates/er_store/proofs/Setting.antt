@@ -1,0 +1,269 @@
+-- What an UPDATE does to the one row that its WHERE picks.
+use Rattle.er_store.proofs.Prelude.{nat_tests, arith, ◌≡◌, ℕ, List, [], ◌∷◌, ◌++◌, map, filter, flat_map, Bool, false, if◌then◌else◌, refl}
+use Rattle.er_store.proofs.Prelude.{sym, ap, subst, ◌∙◌, ℤ, pos, slice_get, Some, not, ◌≢◌, list_all, IsPermutation, IsPermutation-sym, Row}
+use Rattle.er_store.proofs.Prelude.{column, Term, eval_all, holds, IsAnswer, output, page, Output, overlay, Trees, put_row, without_rowid}
+use Rattle.er_store.proofs.Prelude.{has_rowid, cast, cast_row, is_taken, Update, State, Table, one_permutation, filter-map}
+use Rattle.er_store.proofs.Prelude.{IsPermutation-filter, filter_same, columns_at, number, HasTables, IsOther, Ran, Goes, length, Contains}
+use Rattle.er_store.proofs.Prelude.{true, range_with_len, IsPermutation-trans, Int, Text, numbered, PlayerTable, Player, EventValue}
+use Rattle.er_store.proofs.Prelude.{numbers, dropped_at, TallyRow, player, set_dropped, stored_player, StandsWith, BringsToWith, set}
+use Rattle.er_store.proofs.Prelude.{totals, TallyTable, Totals, tally_row, tally_rows_by, tally, set_tally, tally_columns, stored_tally}
+use Rattle.er_store.proofs.Prelude.{set_for, map-map, first, true≢false, Less, Equal, is_eq, AllByRecursion, Value, Null, value_cmp_total}
+use Rattle.er_store.proofs.Prelude.{rowid, is_int, filter_all, all_weaker, all_from_test, test_from_all, BracketTable, PairingTable, Games}
+use Rattle.er_store.proofs.Prelude.{Match, is_bye, match_at, slot_at, scored, with_score, with_slot_score, pairing_row, bracket_row}
+use Rattle.er_store.proofs.Prelude.{pairing, bracket, set_score, set_slot_score, pairing_columns, bracket_columns, IsKeyed, value_cmp}
+use Rattle.std.specs.Ordering.{is_lt}
+use Rattle.std.proofs.lemmas.Cmp.{tied_itself}
+use Rattle.er_event.specs.Change.{with_dropped}
+use Rattle.sqlite.specs.declared.types.Value.TheVariants.{Real, Blob}
+use Rattle.sqlite_trees.specs.Tree.{IsTable}
+use Rattle.sqlite_trees.proofs.TreeLemmas.{later_rowids}
+use Rattle.sqlite_keyed.proofs.ListLemmas.{all-filter, ascending-filter}
+use Rattle.er_store.proofs.{Effects.{one_of, meant}, Meaning.{rows_query, dropped_tests, Means, score_tests}, Picking.is_another}
+use Rattle.er_store.proofs.{Picking.{picks-compares, picks, picks_one, same_number, picks_row, AreRowsBy}, Together.shows_more}
+use Rattle.er_store.proofs.{Together.{players_set, tallies_set, pairings_set, bracket_set}, Writing.{replaces, cast_int, cast_null}}
+use Rattle.er_store.proofs.{PickingMatch.{picks_table, is_elsewhere, picks_one_table, picks_one_slot}, Adding.keyed_put}
+
+-- ---- what an UPDATE shows of the one row that its WHERE picks
+
+picked : (test : Row → Bool) (params : Row) (rows : List Row)
+    → flat_map (λ r. if test r then (params ∷ r ∷ []) ∷ [] else []) rows ≡ map (λ r. params ∷ r ∷ []) (filter test rows)
+picked test params [] = refl
+picked test params (r ∷ rows) = grind (arith, nat_tests, picked test params rows)
+
+pub picked_rows : (tree : ℕ) (tests terms : List Term) (db : Trees) (params r : Row) (rows : List Row)
+    → filter (λ x. list_all (holds (params ∷ x ∷ [])) tests) (overlay db [] tree) ≡ r ∷ []
+    → IsAnswer (rows_query tree tests terms) (overlay db []) params rows → rows ≡ eval_all terms (params ∷ r ∷ []) ∷ []
+picked_rows tree tests terms db params r rows one a =
+    let test : Row → Bool = λ x. list_all (holds (params ∷ x ∷ [])) tests in
+    let staged : a.staged ≡ (params ∷ r ∷ []) ∷ [] = a.grouped ∙ picked test params (overlay db [] tree)
+    ∙ ap (map (λ x. params ∷ x ∷ [])) one in
+    let o : Output = ([], eval_all terms (params ∷ r ∷ [])) in
+    let kept : a.kept ≡ o ∷ [] = a.distinct ∙ ap (map (output (rows_query tree tests terms))) staged in
+    let ordered = one_permutation o a.ordered (subst (λ k. IsPermutation k a.ordered) kept a.same) in
+    a.shown ∙ ap (λ xs. page (rows_query tree tests terms) params (map (λ (p : Output). p.1) xs)) ordered
+
+-- one stored row shows the one that is picked
+pub one_picked : (places : List ℕ) (test : Row → Bool) (rows : List Row) (all : List Row) (row : Row)
+    → IsPermutation (columns_at places rows) all → filter test all ≡ row ∷ []
+    → (r : Row) × (filter (λ x. test (map (column x) places)) rows ≡ r ∷ []) × (map (column r) places ≡ row)
+one_picked places test rows all row same one =
+    let both = IsPermutation-filter test (columns_at places rows) all same in
+    let single = one_permutation row (filter test (columns_at places rows))
+    (IsPermutation-sym _ _ (subst (IsPermutation (filter test (columns_at places rows))) one both)) in
+    one_of places (filter (λ x. test (map (column x) places)) rows) row (sym (filter-map test (λ r. map (column r) places) rows) ∙ single)
+
+-- the row of the table is replaced, and the others stay
+pub shows_replaced : (places : List ℕ) (test : Row → Bool) (id : ℤ) (row : Row) (rows new all : List Row)
+    → IsPermutation (columns_at places rows) all → without_rowid id rows ≡ filter (λ x. not (test (map (column x) places))) rows
+    → new ≡ put_row row (without_rowid id rows) → is_taken (without_rowid id rows) row ≡ false
+    → IsPermutation (columns_at places new) (filter (λ x. not (test x)) all ++ map (column row) places ∷ [])
+shows_replaced places test id row rows new all same kept put free =
+    let rest : Row → Bool = λ x. not (test x) in
+    let others = subst (λ l. IsPermutation l (filter rest all))
+    (filter-map rest (λ x. map (column x) places) rows ∙ ap (columns_at places) (sym kept))
+    (IsPermutation-filter rest (columns_at places rows) all same) in
+    subst (λ l. IsPermutation (columns_at places l) (filter rest all ++ map (column row) places ∷ [])) (sym put)
+    (shows_more places row (without_rowid id rows) (map (column row) places) _ free refl others)
+
+-- ---- an UPDATE of the row with a number, of a table that the number leads
+
+left_of : (n : ℕ) (more : List ℕ) (rows : List Row)
+    → without_rowid (pos n) rows ≡ filter (λ x. is_another n (map (column x) (0 ∷ more))) rows
+left_of n more = filter_same (λ x. not (has_rowid (pos n) x)) (λ x. is_another n (map (column x) (0 ∷ more)))
+    (λ x. sym (ap not (picks-compares n (map (column x) (0 ∷ more)))))
+
+-- The row is taken out and put in again, with other values. The others stay.
+pub sets_number : (table : Table) (more : List ℕ) (n : ℕ) (row : Row) {values was : Row} {all : List Row} {terms : List Term} {at : ℕ}
+    {sql : List ℕ} {old new : State}
+    → Means sql (Update at (record { lets = []; body = rows_query table.tree dropped_tests terms })) old.now.schema
+    → HasTables old.now.schema → slice_get old.now.schema.tables at ≡ Some table → ((x : ℕ) → IsOther x → x ≢ table.tree)
+    → ((db : Trees) → overlay db [] table.tree ≡ db table.tree)
+    → ((r : Row) → map (column r) (0 ∷ more) ≡ was → eval_all terms ((number n ∷ values) ∷ r ∷ []) ≡ number n ∷ row)
+    → cast_row table row ≡ row → IsPermutation (columns_at (0 ∷ more) (old.now.trees table.tree)) all → filter (picks n) all ≡ was ∷ []
+    → Ran sql (number n ∷ values) old new → Goes table.tree old new
+    × IsPermutation (columns_at (0 ∷ more) (new.now.trees table.tree)) (filter (is_another n) all ++ map (column row) (0 ∷ more) ∷ [])
+sets_number table more n row {values} {was} {all} {terms} {old = old} {new} means has found apart stored gives cast same one ran =
+    let trees = old.now.trees in
+    let it = one_picked (0 ∷ more) (picks n) (trees table.tree) all was same one in
+    let set = replaces table (pos n) row means has found apart
+    (λ rows answer. picked_rows table.tree dropped_tests terms trees (number n ∷ values) it.0 rows
+    (ap (filter (λ x. picks n (map (column x) (0 ∷ more)))) (stored trees) ∙ it.1) answer
+    ∙ ap (λ x. x ∷ []) (gives it.0 it.2)) cast ran in (
+      set.goes,
+      shows_replaced (0 ∷ more) (picks n) (pos n) row (trees table.tree) (new.now.trees table.tree) all same
+          (left_of n more (trees table.tree)) set.rows set.free,
+    )
+
+-- ---- what the UPDATE of one player does, which a WHERE picks
+
+pub player_dropped : (n : ℕ) {old new : State} {e : EventValue} {s : ℕ} {kept : List TallyRow} → StandsWith old.now e s kept
+    → numbers e.players ≡ range_with_len 1 (length e.players) → Contains (numbers e.players) n
+    → Ran set_dropped (number n ∷ []) old new → BringsToWith old new (with_dropped e n) s kept
+player_dropped n {old} {new} {e} stands numbered known ran =
+    let has = stands.tables in
+    let one = picks_one e.players n numbered known in
+    let it = one.it in
+    let row = stored_player n it.name true in
+    let set = sets_number (player 1) (2 ∷ 3 ∷ []) n row (meant has).dropped has (ap (λ ts. slice_get ts 1) has.are) (λ x other. other.1)
+    (λ db. refl) (λ r h. let is = one.is in cc) (simp (cast_int, cast_null)) (stands.rows PlayerTable) one.alone ran in
+    players_set stands (map (dropped_at n) e.players) set.0
+    (IsPermutation-trans _ _ _ set.1 (rw (same_number it.no n one.is, one.is) at one.replaced))
+
+-- ---- what the UPDATE of one player's totals does, which a WHERE picks
+
+abbrev row_by : (ℕ → Totals) → Player → Row
+row_by come_to p = tally_columns (tally_row p.no (come_to p.no))
+
+-- the parameters of the statement
+abbrev pub totals_row : ℕ → Totals → Row
+totals_row n t = number n ∷ number t.points ∷ number t.rounds ∷ number t.game_points ∷ number t.games ∷ []
+
+are_rows : (n : ℕ) (t : Totals) (come_to : ℕ → Totals) → AreRowsBy (row_by come_to) (row_by (set_for n t come_to)) n
+are_rows n t come_to = record {
+  numbered = λ p. refl;
+  others = λ p apart. rw apart refl;
+}
+
+pub totals_set : (n : ℕ) (t : Totals) (come_to : ℕ → Totals) {old new : State} {e : EventValue} {s : ℕ}
+    → StandsWith old.now e s (tally_rows_by come_to e.players) → numbers e.players ≡ range_with_len 1 (length e.players)
+    → Contains (numbers e.players) n → Ran set_tally (totals_row n t) old new
+    → BringsToWith old new e s (tally_rows_by (set_for n t come_to) e.players)
+totals_set n t come_to {e = e} stands numbered known ran =
+    let has = stands.tables in
+    let rows : (ℕ → Totals) → List TallyRow = λ f. tally_rows_by f e.players in
+    let shown : (f : ℕ → Totals) → map tally_columns (rows f) ≡ map (row_by f) e.players =
+    λ f. map-map tally_columns (λ (p : Player). tally_row p.no (f p.no)) e.players in
+    let next = set_for n t come_to in
+    let one = picks_row (row_by come_to) (row_by next) n (are_rows n t come_to) e.players numbered known (shown come_to) (shown next) in
+    let it = one.it in
+    let set = sets_number (tally 8) (2 ∷ 3 ∷ 4 ∷ 5 ∷ []) n (stored_tally (tally_row n t)) (meant has).totals has
+    (ap (λ ts. slice_get ts 4) has.are) (λ x other. other.4) (λ db. refl) (λ r h. let is = one.is in cc)
+    (simp (cast_int, cast_null)) (stands.rows TallyTable) one.alone ran in
+    tallies_set stands (rows next) set.0 (IsPermutation-trans _ _ _ set.1 (rw (same_number it.no n one.is, one.is) at one.replaced))
+
+-- ---- the rows without the one that is picked
+
+int_of : (v : Value) → is_int v ≡ true → (id : ℤ) × (v ≡ Int id)
+int_of Null h = absurd (true≢false (sym h))
+int_of (Int n) h = (n, refl)
+int_of (Real x) h = absurd (true≢false (sym h))
+int_of (Text t) h = absurd (true≢false (sym h))
+int_of (Blob b) h = absurd (true≢false (sym h))
+
+-- ---- of rows that rise, each with a rowid
+
+module _ (test : Row → Bool) where
+  IsKeyed-filter : (rows : List Row) → IsKeyed rows → IsKeyed (filter test rows)
+  IsKeyed-filter rows keyed = record {
+    rise = ascending-filter (λ a b. value_cmp (rowid a) (rowid b) ≡ Less) test rows keyed.rise;
+    numbers = test_from_all (λ x. is_int (rowid x)) (filter test rows)
+        (all-filter (λ x. is_int (rowid x) ≡ true) test rows (all_from_test (λ x. is_int (rowid x)) rows keyed.numbers));
+  }
+
+  rest-all : (rows : List Row) → filter test rows ≡ [] → filter (λ x. not (test x)) rows ≡ rows
+  rest-all [] none = refl
+  rest-all (x ∷ rows) none = grind (arith, nat_tests, rest-all rows)
+
+  -- the rowid of the one row that is picked tells it from the others
+  module _ (r : Row) (id : ℤ) (own : rowid r ≡ Int id) where
+    itself : value_cmp (rowid r) (Int id) ≡ Equal
+    itself = ap (λ v. value_cmp v (Int id)) own ∙ tied_itself value_cmp_total (Int id)
+
+    later : (x : Row) (rows : List Row) → x ≡ r → AllByRecursion (λ y. value_cmp (rowid x) (rowid y) ≡ Less) rows
+        → without_rowid id rows ≡ rows
+    later x rows same above =
+        let level : is_lt (value_cmp (rowid x) (Int id)) ≡ false = ap (λ y. is_lt (value_cmp (rowid y) (Int id))) same ∙ ap is_lt itself in
+        filter_all (λ y. not (has_rowid id y)) rows (all_weaker (λ y. is_eq (value_cmp (rowid y) (Int id)) ≡ false)
+        (λ y. not (has_rowid id y) ≡ true) (λ y fails. ap not fails) rows (later_rowids (Int id) x rows level above))
+
+    rest : (rows : List Row) → IsTable rows → filter test rows ≡ r ∷ [] → without_rowid id rows ≡ filter (λ x. not (test x)) rows
+    rest [] up one = absurd (cc)
+    rest (x ∷ rows) up one = by_test (test x) one (rest rows up.1)
+      where
+        by_test : (b : Bool) → (if b then x ∷ filter test rows else filter test rows) ≡ r ∷ []
+            → (filter test rows ≡ r ∷ [] → without_rowid id rows ≡ filter (λ y. not (test y)) rows)
+            → without_rowid id (x ∷ rows) ≡ (if not b then x ∷ filter (λ y. not (test y)) rows else filter (λ y. not (test y)) rows)
+        by_test true h more =
+            let same : x ≡ r = cc in
+            let none : filter test rows ≡ [] = cc in
+            let has : has_rowid id x ≡ true = ap (has_rowid id) same ∙ ap is_eq itself in
+            rw has (later x rows same up.0 ∙ sym (rest-all rows none))
+        by_test false h more =
+            let below = all-filter (λ y. value_cmp (rowid x) (rowid y) ≡ Less) test rows up.0 in
+            let first : value_cmp (rowid x) (rowid r) ≡ Less =
+            (subst (AllByRecursion (λ y. value_cmp (rowid x) (rowid y) ≡ Less)) h below).0 in
+            let has : has_rowid id x ≡ false = ap (λ v. is_eq (value_cmp (rowid x) v)) (sym own) ∙ ap is_eq first in
+            rw has (ap (λ ys. x ∷ ys) (more h))
+
+-- ---- the row of the table
+
+-- a table of which the first two columns after the rowid pick one row, and an UPDATE of that row by these terms
+module _ (table : Table) (more : List ℕ) where
+  abbrev places : List ℕ
+  places = 1 ∷ 2 ∷ more
+
+  -- what the step does to the table
+  pub record Sets (k t : ℕ) (row : Row) (all : List Row) (old new : State) : Type 0 where
+    pub goes : Goes table.tree old new
+    pub rows : IsPermutation (columns_at places (new.now.trees table.tree)) (filter (is_elsewhere k t) all ++ row ∷ [])
+    pub keyed : IsKeyed (new.now.trees table.tree)
+
+  -- The row is taken out and put in again, with other values. The others stay.
+  pub sets_row : (k t : ℕ) (is : Row) {values was : Row} {all : List Row} {terms : List Term} {at : ℕ} {sql : List ℕ} {old new : State}
+      → Means sql (Update at (record { lets = []; body = rows_query table.tree score_tests terms })) old.now.schema
+      → ((db : Trees) → overlay db [] table.tree ≡ db table.tree) → slice_get old.now.schema.tables at ≡ Some table
+      → ((x : ℕ) → IsOther x → x ≢ table.tree) → ((r : Row) (id : ℤ) → rowid r ≡ Int id → map (column r) places ≡ was
+      → eval_all terms ((number k ∷ number t ∷ values) ∷ r ∷ []) ≡ Int id ∷ Int id ∷ is)
+      → ((id : ℤ) → cast_row table (Int id ∷ is) ≡ Int id ∷ is) → ((id : ℤ) → map (column (Int id ∷ is)) places ≡ is)
+      → HasTables old.now.schema → IsPermutation (columns_at places (old.now.trees table.tree)) all → IsKeyed (old.now.trees table.tree)
+      → filter (picks_table k t) all ≡ was ∷ [] → Ran sql (number k ∷ number t ∷ values) old new → Sets k t is all old new
+  sets_row k t is {values} {was} {all} {terms} {old = old} {new} means stored found apart gives cast shows has same keyed one ran =
+      let rows = old.now.trees table.tree in
+      let picks : Row → Bool = λ r. picks_table k t (map (column r) places) in
+      let it = one_picked places (picks_table k t) rows all was same one in
+      let ints = all-filter (λ x. is_int (rowid x) ≡ true) picks rows (all_from_test (λ x. is_int (rowid x)) rows keyed.numbers) in
+      let int = int_of (rowid it.0) (subst (AllByRecursion (λ x. is_int (rowid x) ≡ true)) it.1 ints).0 in
+      let id = int.0 in
+      let row : Row = Int id ∷ is in
+      let set = replaces table id row means has found apart
+      (λ rows answer. picked_rows table.tree score_tests terms old.now.trees (number k ∷ number t ∷ values) it.0 rows
+      (ap (filter picks) (stored old.now.trees) ∙ it.1) answer ∙ ap (λ x. x ∷ []) (gives it.0 id int.1 it.2)) (cast id) ran in
+      let left = rest picks it.0 id int.1 rows keyed.rise it.1 in
+      record {
+        goes = set.goes;
+        rows = subst (λ x. IsPermutation (columns_at places (new.now.trees table.tree)) (filter (is_elsewhere k t) all ++ x ∷ []))
+            (shows id) (shows_replaced places (picks_table k t) id row rows (new.now.trees table.tree) all same left set.rows set.free);
+        keyed = subst IsKeyed (sym set.rows)
+            (keyed_put id is (without_rowid id rows) (IsKeyed-filter (λ x. not (has_rowid id x)) rows keyed));
+      }
+
+-- ---- a match of two players
+
+abbrev pub scores : ℕ → ℕ → Games → Row
+scores k t s = number k ∷ number t ∷ number s.x ∷ number s.y ∷ number s.d ∷ []
+
+pub pairing_scored : (k t : ℕ) (score : Games) {m : Match} {old new : State} {e : EventValue} {s : ℕ} {kept : List TallyRow}
+    → StandsWith old.now e s kept → match_at e k t ≡ Some m → is_bye m ≡ false
+    → Ran set_score (scores k t score) old new → BringsToWith old new (with_score e k t score) s kept
+pairing_scored k t score {m} {e = e} stands found seat ran =
+    let has = stands.tables in
+    let one = picks_one_table e k t score m found seat in
+    let row = pairing_row k (one.it.0, scored score one.it.1) in
+    let set = sets_row (pairing 3) (3 ∷ 4 ∷ 5 ∷ 6 ∷ 7 ∷ 8 ∷ 9 ∷ []) k t (pairing_columns row) (meant has).score
+    (λ db. refl) (ap (λ ts. slice_get ts 2) has.are) (λ x other. other.2) (λ r id own h. cc) (λ id. simp cast_int) (λ id. refl)
+    has (stands.rows PairingTable) stands.pairings_keyed one.alone ran in
+    pairings_set stands (with_score e k t score).stored set.goes (IsPermutation-trans _ _ _ set.rows one.replaced) set.keyed
+
+-- ---- a match of the playoff
+
+pub slot_scored : (k t : ℕ) (score : Games) {m : Match} {old new : State} {e : EventValue} {s : ℕ} {kept : List TallyRow}
+    → StandsWith old.now e s kept → slot_at e k t ≡ Some m
+    → Ran set_slot_score (scores k t score) old new → BringsToWith old new (with_slot_score e k t score) s kept
+slot_scored k t score {m} {e = e} stands found ran =
+    let has = stands.tables in
+    let one = picks_one_slot e k t score m found in
+    let row = bracket_row k (one.it.0, scored score one.it.1) in
+    let set = sets_row (bracket 6) (3 ∷ 4 ∷ 5 ∷ 6 ∷ 7 ∷ 8 ∷ []) k t (bracket_columns row) (meant has).slot_score (λ db. refl)
+    (ap (λ ts. slice_get ts 3) has.are) (λ x other. other.3) (λ r id own h. cc) (λ id. simp cast_int) (λ id. refl)
+    has (stands.rows BracketTable) stands.bracket_keyed one.alone ran in
+    bracket_set stands (with_slot_score e k t score).bracket.stages set.goes (IsPermutation-trans _ _ _ set.rows one.replaced) set.keyed
