@@ -1,13 +1,14 @@
-//! Laws of tables that stand for an event. A law is a function with no code, whose contract is the law.
+//! Laws of tables that stand for an event. A law is called for its contract alone, which is the law.
 
-ghost use Rattle.std.specs.Prelude.{ℕ};
+ghost use Rattle.std.specs.Prelude.{ℕ, ◌≡◌, false, IsTrue};
 ghost use Rattle.sqlite.specs.Effect.{Database, IsDatabase};
+ghost use Rattle.sqlite.specs.Held.{state};
 ghost use Rattle.er_event.specs.Event.{EventValue};
 ghost use Rattle.er_store.specs.Standing.{StandsFor, IsStored, Shows, Leaves};
 ghost use Rattle.er_store.specs.Store as tables;
 
 use crate::Store;
-use sqlite::Alter;
+use sqlite::{Alter, Connection};
 
 /// While its tables stand for an event, with nothing pending, each thing that a crash may leave stands for it.
 pub fn shown_is_stored<S: Alter>(store: &Store<S>)
@@ -20,3 +21,13 @@ pub fn stored_stands()
     ensures { (db : Database) (e : EventValue) (s : ℕ) → IsDatabase db → IsStored e s db.trees
         → StandsFor db e s }
 {}
+
+/// Outside a transaction an open connection sees the last commit, and that obeys its schema. Two calls of the connection say so.
+pub(crate) fn sees_last_commit<S: Alter>(conn: &Connection<S>)
+    ensures { conn.now.in_transaction ≡ false → IsTrue (state S.Store conn.now).is_open
+        → ((state S.Store conn.now).now ≡ (state S.Store conn.now).committed)
+        × IsDatabase (state S.Store conn.now).now }
+{
+    let _ = conn.is_autocommit();
+    let _ = conn.schema();
+}

@@ -18,6 +18,7 @@ mod transactions;
 pub use creation::{CREATE_BRACKET, CREATE_EVENT, CREATE_PAIRING, CREATE_PLAYER};
 use er_event::{Change, Event, Meeting, Refusal, SlipRow, Tally};
 use faults::refusal_of;
+use laws::sees_last_commit;
 use loading::load_tables;
 use slips::find_slip;
 use sqlite::{Alter, Connection};
@@ -165,9 +166,7 @@ impl<S: Alter> Store<S> {
         ensures crash { IfErr result
             (λ r. Leaves (state S.Store r.0) (state S.Store conn).may_leave) }
     {
-        // Outside a transaction a connection sees the last commit, which obeys its schema: these tell the proof.
-        let _ = conn.is_autocommit();
-        let _ = conn.schema();
+        sees_last_commit(&conn);
         match reads_event(&mut conn) {
             Ok(true) => {}
             Ok(false) => return Err((conn, Refusal::NoEvent)),
@@ -281,9 +280,7 @@ impl<S: Alter> Store<S> {
             return Err(Refusal::NeedsReopen);
         }
         let read = load_tables(alloc, &mut self.conn);
-        // Outside a transaction a connection sees the last commit, which obeys its schema: these tell the proof.
-        let _ = self.conn.is_autocommit();
-        let _ = self.conn.schema();
+        sees_last_commit(&self.conn);
         self.needs_reopen = matches!(read, Err(Refusal::Memory | Refusal::Store { .. }));
         read
     }

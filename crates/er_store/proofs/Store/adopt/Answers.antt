@@ -1,4 +1,4 @@
-use Rattle.er_store.proofs.Prelude.{ℕ, List, Result, Ok, Err, IsOk, IsTrue, refl, sym, ap, not, subst, ◌∙◌, true≢false, read_event, state}
+use Rattle.er_store.proofs.Prelude.{ℕ, List, Result, Ok, Err, IsOk, refl, sym, subst, ◌∙◌, true≢false, read_event, state}
 use Rattle.er_store.proofs.Prelude.{Schema, Database, IsUnchanged, Compiled, CompileError, EventValue, HasCleanDisk, HasTables, StandsFor}
 use Rattle.er_store.proofs.Prelude.{Shows, Takes}
 use Rattle.sqlite.specs.Effect.{IsDatabase}
@@ -26,12 +26,12 @@ shown : (g : given.Over) (c : goal.After-result-1 g) → HasCleanDisk (state g.S
     → StandsFor (state g.S.Store c.args.conn).now e s → Shows (state g.S.Store c.load_tables.new.conn) e s
 shown g c clean second e s stands =
     let first = same g c clean in
-    let auto : IsTrue c.is_autocommit.result = c.is_autocommit.ensures.value ∙ ap not c.requires.mode in
+    let seen = c.sees_last_commit.ensures c.requires.mode first.0.was_open in
     let nows = second.0.now_is ∙ first.0.now_is in
     record {
       is_open = second.0.is_open;
-      sound = subst IsDatabase (sym nows) (c.schema.ensures.live first.0.was_open).0;
-      settled = nows ∙ c.is_autocommit.ensures.settled auto first.0.was_open ∙ sym (second.0.committed_is ∙ first.0.committed_is);
+      sound = subst IsDatabase (sym nows) seen.1;
+      settled = nows ∙ seen.0 ∙ sym (second.0.committed_is ∙ first.0.committed_is);
       stands = subst (λ (d : Database). StandsFor d e s) (sym nows) stands;
     }
 
