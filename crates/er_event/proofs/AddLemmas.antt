@@ -1,9 +1,9 @@
 -- An event with one more round is sound exactly where its checks hold.
-use Rattle.er_event.proofs.Prelude.{with_round, EventValue, is_counted, is_same_pairing, matches_of, seats, AreRounds, IsPlayoff, IsRound}
-use Rattle.er_event.proofs.Prelude.{IsSoundButForSeeds, numbers, Phase, Enrolling, Finished, Playoff, Swiss, Match, Round, MayFollow, All}
-use Rattle.er_event.proofs.Prelude.{AllPairs, Bool, IsFalse, IsTrue, List, [], ap, arith, false, flat_map, get_or, inl, inr, length}
-use Rattle.er_event.proofs.Prelude.{length-append, not, refl, subst, sym, take, true, true≢false, ℕ, ◌++◌, ◌+◌, ◌-◌, ◌<◌, ◌||◌, ◌∙◌, ◌∷◌}
-use Rattle.er_event.proofs.Prelude.{◌≡◌, ◌≢◌, nat_tests, common_steps, All-push, All-weaker, list_any_none, list_all, list_any}
+use Rattle.er_event.proofs.Prelude.{with_round, EventValue, is_counted, is_same_pairing, matches_of, seats, AreRounds, IsRound}
+use Rattle.er_event.proofs.Prelude.{IsSoundButForSeeds, numbers, Phase, Enrolling, Swiss, Match, Round, MayFollow, All, AllPairs, Bool}
+use Rattle.er_event.proofs.Prelude.{IsFalse, IsTrue, List, [], ap, arith, false, flat_map, get_or, length, length-append, not, refl, subst}
+use Rattle.er_event.proofs.Prelude.{sym, take, true, true≢false, ℕ, ◌++◌, ◌+◌, ◌-◌, ◌<◌, ◌||◌, ◌∙◌, ◌∷◌, ◌≡◌, ◌≢◌, nat_tests, common_steps}
+use Rattle.er_event.proofs.Prelude.{All-push, All-weaker, list_any_none, list_all, list_any}
 use Rattle.std.proofs.{lemmas.List.Folds.list_any-append, lemmas.List.take_at}
 use Rattle.er_event.proofs.{Pairs.{All-last, none-of, pairs_across, pairs_append}, RoundLemmas.{All-of, of-All}, SeatLemmas.AreApart}
 use Rattle.er_event.proofs.SeatLemmas.{sit-apart}
@@ -80,15 +80,11 @@ module _ (known : List ℕ) (rs : List Round) (ms : List Match) where
         few = omega arith;
         enrolling = λ phase. absurd (let never : Swiss ≡ Enrolling = phase in cc);
         each = All-push Plays rs r h.each follows.round;
-        no_repeats = subst (AllPairs Differ) (sym (matches-with rs ms))
-            (pairs_append Differ (matches_of rs) ms h.no_repeats (seated_differ ms follows.round.seated_once) (all_new rs ms follows.new));
-        earlier_done = subst (All Counted) (sym (take-before rs r)) follows.done;
-        done = λ over. absurd (not_over over);
+        no_repeats = rw matches-with (pairs_append Differ (matches_of rs) ms h.no_repeats (seated_differ ms follows.round.seated_once)
+            (all_new rs ms follows.new));
+        earlier_done = rw take-before follows.done;
+        done = λ over. absurd (grind arith);
       }
-    where
-      not_over : IsPlayoff Swiss → ⊥
-      not_over (inl is) = let never : Swiss ≡ Playoff = is in cc
-      not_over (inr is) = let never : Swiss ≡ Finished = is in cc
 
   pub may_follow : (phase : Phase) (limit : ℕ) → AreRounds phase limit known (rs ++ r ∷ []) → MayFollow known rs ms
   may_follow phase limit h = record {
@@ -101,15 +97,8 @@ module _ (e : EventValue) (ms : List Match) where
   pub IsSound-round : IsSoundButForSeeds e → e.phase ≡ Swiss → length e.stored < e.rounds → MayFollow (numbers e.players) e.stored ms
       → IsSoundButForSeeds (with_round e ms)
   IsSound-round h swiss room follows =
-      let rounds = one_more (numbers e.players) e.stored ms e.rounds e.rounds
-      (subst (λ (p : Phase). AreRounds p e.rounds (numbers e.players) e.stored) swiss h.rounds) room follows in
-      record {
-        set_up = h.set_up;
-        players = h.players;
-        rounds = subst (λ (p : Phase). AreRounds p e.rounds (numbers e.players) (e.stored ++ record { matches = ms } ∷ []))
-            (sym swiss) rounds;
-        bracket = h.bracket;
-      }
+      let rounds = one_more (numbers e.players) e.stored ms e.rounds e.rounds (rw swiss at h.rounds) room follows in
+      record { set_up = h.set_up; players = h.players; rounds = rw swiss rounds; bracket = h.bracket }
 
   module _ (h : IsSoundButForSeeds (with_round e ms)) where
     pub round-few : length e.stored < e.rounds

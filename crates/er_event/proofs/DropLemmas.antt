@@ -2,9 +2,10 @@
 use Rattle.er_event.proofs.Prelude.{Fits, dropped_at, with_dropped, with_phase, EventValue, ArePlayers, IsSoundButForSeeds, names, numbers}
 use Rattle.er_event.proofs.Prelude.{SetDropped, Enrolling, Swiss, Player, All, Bool, Bor, Contains, IfSome, IsFalse, List, None, Option}
 use Rattle.er_event.proofs.Prelude.{Some, [], ap, arith, cond, drop, false, find, get_or, length, map, not, not-suc-le-zero, option_map}
-use Rattle.er_event.proofs.Prelude.{refl, suc, sym, true, unwrap_or, zero, ℕ, ◌+◌, ◌-◌, ◌<◌, ◌==◌, ◌∷◌, ◌≡◌, ◌≢◌, ◌≤◌, length-map, set}
-use Rattle.er_event.proofs.Prelude.{common_steps, get_or-range_with_len, length-range_with_len, AllPass-from_list_all}
-use Rattle.er_event.proofs.Prelude.{list_all-from_AllPass, none-some, slice_get_past, slice_get_read, list_all, range_with_len, slice_get}
+use Rattle.er_event.proofs.Prelude.{refl, suc, sym, true, zero, ℕ, ◌+◌, ◌-◌, ◌<◌, ◌==◌, ◌∷◌, ◌≡◌, ◌≢◌, ◌≤◌, length-map, set, common_steps}
+use Rattle.er_event.proofs.Prelude.{get_or-range_with_len, length-range_with_len, AllPass-from_list_all, list_all-from_AllPass, none-some}
+use Rattle.er_event.proofs.Prelude.{slice_get_past, slice_get_read, list_all, range_with_len, slice_get}
+use Rattle.std.proofs.Common.{unwrap_or}
 use Rattle.std.specs.Slice.{IsItemAt}
 
 pub numbers-dropped : (k : ℕ) (ps : List Player) → numbers (map (dropped_at k) ps) ≡ numbers ps
@@ -58,10 +59,9 @@ later_kept (p ∷ ps) a k low numbered =
 pub set-dropped : (ps : List Player) (a i : ℕ) (d : Player) → i < length ps → numbers ps ≡ range_with_len a (length ps)
     → set ps i (record (get_or ps i d) { dropped = true }) ≡ map (dropped_at (a + i)) ps
 set-dropped [] a i d below numbered = absurd (not-suc-le-zero below)
-set-dropped (p ∷ ps) a zero d below numbered =
-    grind (arith, common_steps, first_number p ps a numbered, later_kept ps (a + 1) a (omega arith) (first_number p ps a numbered).1)
-set-dropped (p ∷ ps) a (suc i) d below numbered =
-    grind (arith, common_steps, first_number p ps a numbered, set-dropped ps (a + 1) i d (omega arith) (first_number p ps a numbered).1)
+set-dropped (p ∷ ps) a i d below numbered =
+    let both = first_number p ps a numbered in
+    grind (arith, common_steps, both, later_kept ps (a + 1) a (omega arith) both.1, set-dropped ps (a + 1) (i - 1) d)
 
 -- ---- nobody is dropped, by the test
 
@@ -108,7 +108,8 @@ find-below k (q ∷ qs) n numbered low =
 -- who is found is listed
 pub found-listed : (k : ℕ) (ps : List Player) (p : Player) → find (λ (q : Player). q.no == k) ps ≡ Some p → Contains (numbers ps) p.no
 found-listed k [] p is = absurd (none-some p is)
-found-listed k (q ∷ ps) p is = grind (arith, common_steps, found-step (q.no == k) q p ps, found-listed k ps p)
+found-listed k (q ∷ ps) p is =
+    found-step (q.no == k) q p ps (find (λ (q : Player). q.no == k) ps) (found-listed k ps p) is
 
 -- who is found can drop, once the event has started
 pub found-drops : (e : EventValue) (k : ℕ) (found : Option (Bor Player)) → IsSoundButForSeeds e

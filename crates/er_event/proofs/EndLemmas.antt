@@ -3,9 +3,10 @@ use Rattle.er_event.proofs.Prelude.{FollowOn, is_over, slot_at, slot_in, IsEnd, 
 use Rattle.er_event.proofs.Prelude.{EventValue, IsSoundButForSeeds, Phase, Finished, Match, Games, All, Bool, Bor, List, None, Option, Some}
 use Rattle.er_event.proofs.Prelude.{[], ap, arith, cond, drop, false, get_or, is_some, length, option_map, suc, take, true, ℕ, ◌++◌, ◌-◌}
 use Rattle.er_event.proofs.Prelude.{◌<◌, ◌↔◌, ◌∙◌, ◌∷◌, ◌≡◌, ◌≤◌, set, common_steps, All-from_recursion, recursion_from_All, drop_all}
-use Rattle.er_event.proofs.Prelude.{get_or_from_slice_get, gets, none-some, same_Some, slice_get_read, AllByRecursion, slice_get}
+use Rattle.er_event.proofs.Prelude.{get_or_from_slice_get, gets, none-some, same_Some, slice_get_read, slice_get_within, AllByRecursion}
+use Rattle.er_event.proofs.Prelude.{slice_get}
 use Rattle.std.proofs.{Math.Bool.beq, lemmas.List.set-append_left}
-use Rattle.er_event.proofs.{BracketLemmas.Lawful, PlayoffLemmas.in_playoff, ScoreLemmas.within-get, SlotLemmas.{slots-refl, winners-length}}
+use Rattle.er_event.proofs.{BracketLemmas.Lawful, PlayoffLemmas.in_playoff, SlotLemmas.{slots-refl, winners-length}}
 use Rattle.er_event.proofs.SlotScoreLemmas.{FoundSlot, all-at, found-slot, new_stage, new_stage-is, over}
 
 -- ---- the copy of a stage, with open matches behind it
@@ -76,7 +77,7 @@ module _ (e : EventValue) (stage slot : ℕ) (m : Match) (is : slot_at e stage s
       stage-few = rw stage-is few-old
 
       pub slot-within : j - 1 < length x
-      slot-within = let within = within-get old (slot - 1) m f.here in let count = ap length stage-is in omega arith
+      slot-within = let within = slice_get_within old (slot - 1) m f.here in let count = ap length stage-is in omega arith
 
       pub slot-set : (score : Games) (new : List Match) → new ≡ set x (j - 1) (scored score m) → new ≡ new_stage e stage slot score m is h
       slot-set score new written = grind (arith, common_steps, set, stage-is, new_stage-is)
@@ -116,7 +117,7 @@ module _ (e : EventValue) (stage slot : ℕ) (m : Match) (is : slot_at e stage s
 
   pub scored-more : (score : Games) → set stages (stage - 1) (scored_slot (stage_of stages stage) slot score) ≡ set e.bracket.stages
       (stage - 1) (scored_slot (stage_of e.bracket.stages stage) slot score) ++ more
-  scored-more score = grind (arith, common_steps, within-get, get_or_from_slice_get, read-more, set, set-append_left)
+  scored-more score = grind (arith, common_steps, slice_get_within, get_or_from_slice_get, read-more, set, set-append_left)
 
 pub written-slot : (e : EventValue) (stage slot : ℕ) (score : Games) (next : Option (List Match)) (finished : Bool) (m : Match)
     → slot_at e stage slot ≡ Some m

@@ -1,8 +1,8 @@
 -- When bytes are a lawful name, by the tests of its parts.
-use Rattle.er_event.proofs.Prelude.{is_lawful_name, Err, IsTrue, List, MatchResult, Ok, Result, ap, arith, drop, false, length, refl, subst}
-use Rattle.er_event.proofs.Prelude.{sym, take, true, true≢false, ℕ, ◌++◌, ◌-◌, ◌<◌, ◌==◌, ◌||◌, ◌∙◌, ◌≡◌, ◌≤◌, take-append_seam, nat_tests}
-use Rattle.er_event.proofs.Prelude.{common_steps, list_all, IsUtf8}
-use Rattle.std.proofs.{Common.{IsOk, replicate, slice_index_or}, lemmas.List.drop-replicate, lemmas.Str.IsUtf8-from_is_utf8}
+use Rattle.er_event.proofs.Prelude.{is_lawful_name, IsTrue, List, MatchResult, Result, ap, arith, drop, false, length, refl, sym, take}
+use Rattle.er_event.proofs.Prelude.{true, true≢false, ℕ, ◌++◌, ◌-◌, ◌<◌, ◌==◌, ◌||◌, ◌∙◌, ◌≡◌, ◌≤◌, nat_tests, common_steps, list_all}
+use Rattle.er_event.proofs.Prelude.{IsUtf8}
+use Rattle.std.proofs.{Common.{Err, Ok, IsOk, replicate, slice_index_or}, lemmas.List.drop-replicate, lemmas.Str.IsUtf8-from_is_utf8}
 use Rattle.std.proofs.lemmas.Str.{is_utf8-from_IsUtf8}
 use Rattle.er_event.specs.Name.{is_plain_byte, padded}
 
@@ -26,7 +26,6 @@ pub IsStored-name : (name copied : List ℕ) → copied ≡ name → IsTrue (is_
     × IsTrue (is_lawful_name (take (length name) bytes))
 IsStored-name name copied same lawful =
     let zeros = drop (length name) (replicate 60 0) in
-    let first : take (length name) (copied ++ zeros) ≡ name = ap (λ bs. take (length name) (bs ++ zeros)) same
-    ∙ take-append_seam name zeros in
-    let behind : copied ++ zeros ≡ padded name = ap (λ bs. bs ++ zeros) same ∙ ap (λ zs. name ++ zs) (drop-replicate (length name) 60 0) in
-    (behind ∙ ap padded (sym first), ap length first, subst (λ bs. IsTrue (is_lawful_name bs)) (sym first) lawful)
+    let first : take (length name) (copied ++ zeros) ≡ name = grind (arith, common_steps) in
+    let behind : copied ++ zeros ≡ padded name = rw same (ap (λ zs. name ++ zs) (drop-replicate (length name) 60 0)) in
+    (behind ∙ ap padded (sym first), ap length first, rw first lawful)

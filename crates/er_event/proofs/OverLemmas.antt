@@ -1,8 +1,7 @@
 -- What the matches of one player can come to at most.
-use Rattle.er_event.proofs.Prelude.{EventValue, Line, counted_lines, lines_from, lines_of_match, lines_of_score, own, IsRound}
-use Rattle.er_event.proofs.Prelude.{IsSoundButForSeeds, totals, totals_of, Match, Round, Games, AreOver, IsSeatedOnce, All, IfSome, List}
-use Rattle.er_event.proofs.Prelude.{None, Option, Some, [], ap, arith, flat_map, inl, inr, length, refl, subst, suc, sym, ℕ, ◌++◌, ◌+◌, ◌∙◌}
-use Rattle.er_event.proofs.Prelude.{◌∷◌, ◌≡◌, ◌≢◌, ◌⊎◌, common_steps}
+use Rattle.er_event.proofs.Prelude.{EventValue, counted_lines, lines_from, lines_of_match, lines_of_score, own, IsRound, IsSoundButForSeeds}
+use Rattle.er_event.proofs.Prelude.{totals, totals_of, Match, Round, Games, AreOver, IsSeatedOnce, All, IfSome, List, None, Option, Some}
+use Rattle.er_event.proofs.Prelude.{[], arith, flat_map, length, refl, suc, ℕ, ◌+◌, ◌∷◌, ◌≢◌, common_steps}
 use Rattle.std.proofs.lemmas.Bool.{cases_eq}
 use Rattle.er_event.proofs.TotalLemmas.{absent, apart_at, one_match, own-append}
 use Rattle.er_event.specs.{Tallies.AreReadable, inside.Seen.AreFew}
@@ -29,30 +28,10 @@ round-over player round [] once few = none-over 1
 round-over player round (m ∷ rest) once few =
     let more = round-over player round rest (λ i j d before within. once (suc (suc i)) (suc (suc j)) d (omega arith) (omega arith))
     (λ k d below. few (suc k) d (omega arith)) in
-    elim (cases_eq m.a player) [
-      | inl first ↦ here (inl (sym first))
-      | inr not_first ↦ elim (cases_eq m.b player) [
-        | inl second ↦ here (inr (sym second))
-        | inr not_second ↦ later not_first not_second
-            more
-      ]
-    ]
-  where
-    apart : m.a ≢ m.b
-    apart = apart_at (m ∷ rest) once 0 m (omega arith) refl
-
-    here : (player ≡ m.a) ⊎ (player ≡ m.b) → AreOver 1 (totals_of (own player (flat_map (lines_of_match round) (m ∷ rest))))
-    here sits = subst (λ (ls : List Line). AreOver 1 (totals_of ls))
-        (sym (one_match (m ∷ rest) once 0 m player (omega arith) refl sits round))
-        (score-over player round m.a m.b m.score (few 0 m (omega arith)) apart)
-
-    later : m.a ≢ player → m.b ≢ player → AreOver 1 (totals_of (own player (flat_map (lines_of_match round) rest)))
-        → AreOver 1 (totals_of (own player (flat_map (lines_of_match round) (m ∷ rest))))
-    later first second more =
-        let none = absent player round m first second in
-        subst (λ (ls : List Line). AreOver 1 (totals_of ls))
-        (sym (own-append player (lines_of_match round m) (flat_map (lines_of_match round) rest) ∙ ap
-        (λ (ls : List Line). ls ++ own player (flat_map (lines_of_match round) rest)) none)) more
+    let here = one_match (m ∷ rest) once 0 m player (omega arith) refl in
+    let over = score-over player round m.a m.b m.score (few 0 m (omega arith)) (apart_at (m ∷ rest) once 0 m (omega arith) refl) in
+    let none = absent player round m in
+    grind (arith, common_steps, own-append, cases_eq m.a player, cases_eq m.b player)
 
 counted-over : (player round : ℕ) (r : Round) → IsSeatedOnce r.matches → All HasFew r.matches
     → AreOver 1 (totals_of (own player (counted_lines round r)))

@@ -1,11 +1,10 @@
 -- Rows of pairings, and the matches that they show.
-use Rattle.er_event.proofs.Prelude.{open_match, own, AreTables, FitRows, FitsRow, table_rows, is_bye, numbered_from, keyed_round_rows}
-use Rattle.er_event.proofs.Prelude.{keyed_rows_from, pairing_row, Match, Round, PairingRow, All, Bool, Err, IsFalse, IsTrue, List}
-use Rattle.er_event.proofs.Prelude.{MatchResult, None, Ok, Option, Result, Some, [], ap, ap₂, arith, false, get_or, inl, inr, length, map}
+use Rattle.er_event.proofs.Prelude.{open_match, own, AreTables, FitRows, FitsRow, is_of, table_rows, is_bye, numbered_from}
+use Rattle.er_event.proofs.Prelude.{keyed_round_rows, keyed_rows_from, pairing_row, Match, Round, PairingRow, All, Bool, IsFalse, IsTrue}
+use Rattle.er_event.proofs.Prelude.{List, MatchResult, None, Option, Result, Some, [], ap, ap₂, arith, false, get_or, inl, inr, length, map}
 use Rattle.er_event.proofs.Prelude.{not, pos, refl, subst, sym, take, true, ℕ, ℤ, ◌++◌, ◌+◌, ◌-◌, ◌<◌, ◌==◌, ◌∙◌, ◌∷◌, ◌≡◌, ◌≤◌, ◌⊎◌}
-use Rattle.er_event.proofs.Prelude.{Decides-int_eq, nat_tests, common_steps, All-get_or, All-head, All-push, All-take, filter-append}
-use Rattle.er_event.proofs.Prelude.{take_more, none-some, Decides, AllByRecursion, is_of}
-use Rattle.std.proofs.{Common.{append-nil, filter}, lemmas.List.Elements.All-tail}
+use Rattle.er_event.proofs.Prelude.{Decides-int_eq, nat_tests, common_steps, All-push, All-take, take_more, none-some, Decides}
+use Rattle.std.proofs.{Common.filter, lemmas.List.Elements.{All-get_or, All-tail}}
 use Rattle.er_event.proofs.RowLemmas.{AreInTurn, agree, agree-Decides, length-numbered, numbered-push}
 use Rattle.er_event.specs.Rows.{by_key}
 
@@ -19,11 +18,7 @@ columns a b = (a.round, b.round) ∷ (a.tab, b.tab) ∷ (a.lo, b.lo) ∷ (a.hi, 
     ∷ (a.y, b.y) ∷ (a.d, b.d) ∷ []
 
 pub same_rows : (a b : PairingRow) → Decides (agree (columns a b)) (a ≡ b)
-same_rows a b =
-    let each = agree-Decides (columns a b) in (
-      λ is. (let same = each.0 is in grind arith),
-      λ e. each.1 (subst (λ (c : PairingRow). AllByRecursion (λ (p : ℤ × ℤ). p.0 ≡ p.1) (columns a c)) e search),
-    )
+same_rows a b = let each = agree-Decides (columns a b) in (λ is. (let same = each.0 is in grind arith), λ e. each.1 (grind arith))
 
 -- what stands at a place that there is not
 abbrev pub nothing : PairingRow
@@ -38,7 +33,7 @@ sorted : (n : ℕ) (ms : List Match) → AreTables ms → (filter (λ (k : Numbe
     × (filter (λ (k : Numbered). not (is_bye k.1)) (numbered_from n ms) ≡ numbered_from n ms)
 sorted n [] h = (refl, refl)
 sorted n (m ∷ ms) h =
-    let here = All-head (λ (k : Match). IsFalse (is_bye k)) m ms h in
+    let here = h 0 m (omega arith) in
     let rest = sorted (n + 1) ms (All-tail (λ (k : Match). IsFalse (is_bye k)) m ms h) in
     (rw here rest.0, rw here (ap (λ l. (n, m) ∷ l) rest.1))
 
@@ -52,16 +47,9 @@ bye_row r n k b is = rw is
 pub keyed-bye : (r : ℕ) (ms : List Match) (b : Match) → AreTables ms → IsTrue (is_bye b)
     → keyed_round_rows r (ms ++ b ∷ []) ≡ pairing_row r (0, b) ∷ table_rows r 1 ms
 keyed-bye r ms b h is =
-    let last : Numbered = (1 + length ms, b) in
     let numbered = numbered-push 1 ms b in
-    let byes : filter (λ (k : Numbered). is_bye k.1) (numbered_from 1 (ms ++ b ∷ [])) ≡ last ∷ [] =
-    ap (filter (λ (k : Numbered). is_bye k.1)) numbered
-    ∙ (filter-append (λ (k : Numbered). is_bye k.1) (numbered_from 1 ms) (last ∷ []) ∙ ap₂ ◌++◌ (sorted 1 ms h).0 (rw is)) in
-    let tables : filter (λ (k : Numbered). not (is_bye k.1)) (numbered_from 1 (ms ++ b ∷ [])) ≡ numbered_from 1 ms =
-    ap (filter (λ (k : Numbered). not (is_bye k.1))) numbered
-    ∙ (filter-append (λ (k : Numbered). not (is_bye k.1)) (numbered_from 1 ms) (last ∷ [])
-    ∙ (ap₂ ◌++◌ (sorted 1 ms h).1 (rw is) ∙ append-nil (numbered_from 1 ms))) in
-    ap (map (pairing_row r)) (ap₂ ◌++◌ byes tables) ∙ ap (λ x. x ∷ table_rows r 1 ms) (bye_row r (1 + length ms) 0 b is)
+    let both = sorted 1 ms h in
+    grind (arith, common_steps, bye_row r (1 + length ms) 0 b is)
 
 pub record WithBye (ms : List Match) : Type 0 where
   pub tables : List Match
@@ -111,16 +99,11 @@ first_is_bye r rows ms w are = ap (λ (rs : List PairingRow). get_or rs 0 nothin
 pub first_is_table : (r : ℕ) (rows : List PairingRow) (ms : List Match) → AreTables ms → rows ≡ keyed_round_rows r ms → 1 ≤ length rows
     → (m : Match) × IsFalse (is_bye m) × (get_or rows 0 nothing ≡ pairing_row r (0 + 1, m))
 first_is_table r rows [] tables are some = absurd (let none = ap length are in omega arith)
-first_is_table r rows (m ∷ ms) tables are some = (
-  m,
-  All-head (λ (k : Match). IsFalse (is_bye k)) m ms tables,
-  ap (λ (rs : List PairingRow). get_or rs 0 nothing) (are ∙ keyed-tables r (m ∷ ms) tables),
-)
+first_is_table r rows (m ∷ ms) tables are some = (m, tables 0 m (omega arith), rw (are, keyed-tables r (m ∷ ms) tables) refl)
 
 pub found_as : {ms : List Match} {F : Type 0} (P : F → Type 0) {split : List Match} (r : Result (List Match) F) → ms ≡ split
     → MatchResult r (λ found. found ≡ split) P → MatchResult r (λ found. found ≡ ms) P
-found_as P (Ok found) is h = h ∙ sym is
-found_as P (Err why) is h = h
+found_as P r is h = grind arith
 
 pub none_first : (r : ℕ) (rows : List PairingRow) (ms : List Match) → WithBye ms → rows ≡ keyed_round_rows r ms
     → (length rows == 0) ≡ true → ⊥
@@ -144,9 +127,7 @@ pub rounds_in_turn : AreInTurn (λ (r : Round). FitRows r.matches) (λ (r : Roun
 rounds_in_turn = record {
   none = λ n. refl;
   more = λ n g gs. refl;
-  some =
-      λ g shown. (let count = length-by_key (numbered_from 1 g.matches) in let each = length-numbered 1 g.matches in let some =
-      shown.some in omega arith);
+  some = λ g shown. omega (arith, length-by_key (numbered_from 1 g.matches), length-numbered 1 g.matches, shown.some);
   own = λ n x. (Decides-int_eq (pos n) (pos n)).1 refl;
   other = other_row;
 }

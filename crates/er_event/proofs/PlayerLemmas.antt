@@ -1,9 +1,9 @@
 -- An event with one more player is sound exactly where there is room and the name is new.
 use Rattle.er_event.proofs.Prelude.{has_name, with_player, EventValue, is_lawful_name, ArePlayers, AreRounds, AreStages, IsBracket, IsRound}
-use Rattle.er_event.proofs.Prelude.{IsSoundButForSeeds, names, numbers, Phase, Match, Player, Round, All, AllPairs, Bool, IsFalse, IsTrue}
-use Rattle.er_event.proofs.Prelude.{List, [], ap, arith, false, get_or, length, length-append, not, not-suc-le-zero, refl, subst, suc, sym}
-use Rattle.er_event.proofs.Prelude.{true, true≢false, zero, ℕ, ◌++◌, ◌+◌, ◌<◌, ◌∙◌, ◌∷◌, ◌≡◌, ◌≢◌, common_steps, All-push, All-weaker}
-use Rattle.er_event.proofs.Prelude.{all_pairs_push, map-append, bytes_eq-Decides, range_with_len, bytes_eq}
+use Rattle.er_event.proofs.Prelude.{IsSoundButForSeeds, names, numbers, Phase, Match, Player, Round, AllPairs, Bool, IsFalse, IsTrue, List}
+use Rattle.er_event.proofs.Prelude.{[], ap, arith, false, get_or, length, length-append, not, not-suc-le-zero, refl, suc, true, zero, ℕ}
+use Rattle.er_event.proofs.Prelude.{◌++◌, ◌+◌, ◌<◌, ◌∷◌, ◌≡◌, ◌≢◌, common_steps, All-push, All-weaker, all_pairs_push, map-append}
+use Rattle.er_event.proofs.Prelude.{bytes_eq-Decides, range_with_len, bytes_eq}
 use Rattle.std.proofs.lemmas.List.Elements.{Contains-append_left}
 use Rattle.er_event.specs.Change.{new_player}
 
@@ -16,12 +16,10 @@ IsBracket-known : (known more : List ℕ) (cut : ℕ) (stages : List (List Match
 IsBracket-known known more cut stages h = grind (arith, common_steps, All-weaker, Contains-append_left)
 
 not_true : (b : Bool) → (b ≡ true → ⊥) → b ≡ false
-not_true false h = refl
-not_true true h = absurd (h refl)
+not_true b h = grind arith
 
 not_true-from : (b : Bool) → IsTrue (not b) → b ≡ false
-not_true-from false h = refl
-not_true-from true h = absurd (true≢false (sym h))
+not_true-from b h = grind arith
 
 pub range-push : (a n : ℕ) → range_with_len a (n + 1) ≡ range_with_len a n ++ (a + n) ∷ []
 range-push a zero = let e : a ≡ a + 0 = omega arith in ap (λ k. k ∷ []) e
@@ -48,11 +46,9 @@ has_name-new : (players : List Player) (new : Player) → AllPairs (λ p q. p �
 has_name-new [] new distinct = refl
 has_name-new (p ∷ ps) new distinct =
     let count = length-names ps new in
-    let other = not_true (bytes_eq p.name new.name)
-    (λ same. distinct 0 (suc (length ps)) [] (omega arith) (omega arith)
-    ((bytes_eq-Decides p.name new.name).0 same ∙ sym (last_name ps new []))) in
+    let other = distinct 0 (suc (length ps)) [] (omega arith) (omega arith) in
     let others = has_name-new ps new (λ i j d before within. distinct (suc i) (suc j) d (omega arith) (omega arith)) in
-    cc
+    grind (arith, common_steps, bytes_eq-Decides p.name new.name, last_name ps new [])
 
 players-with : (e : EventValue) (name : List ℕ) → ArePlayers e.phase e.players → IsTrue (is_lawful_name name) → length e.players < 512
     → has_name e.players name ≡ false
@@ -62,32 +58,21 @@ players-with e name h lawful room new =
     let Apart : List ℕ → List ℕ → Type 0 = λ a b. a ≢ b in
     let count : length (e.players ++ p ∷ []) ≡ length e.players + 1 = length-append e.players (p ∷ []) in
     let listed : names (e.players ++ p ∷ []) ≡ names e.players ++ name ∷ [] = map-append (λ (q : Player). q.name) e.players (p ∷ []) in
-    let next : 1 + length e.players ≡ length e.players + 1 = omega arith in
     record {
       few = omega arith;
-      numbered = map-append (λ (q : Player). q.no) e.players (p ∷ [])
-          ∙ (ap (λ ns. ns ++ p.no ∷ []) h.numbered
-          ∙ (ap (λ k. range_with_len 1 (length e.players) ++ k ∷ []) (sym next)
-          ∙ (sym (range-push 1 (length e.players)) ∙ ap (range_with_len 1) (sym count))));
-      lawful = subst (λ (ns : List (List ℕ)). All (λ n. IsTrue (is_lawful_name n)) ns) (sym listed)
-          (All-push (λ n. IsTrue (is_lawful_name n)) (names e.players) name h.lawful lawful);
-      distinct = subst (λ (ns : List (List ℕ)). AllPairs Apart ns) (sym listed) (all_pairs_push Apart (names e.players) name h.distinct
-          (λ k d below. has_name-none e.players name new k d below));
+      numbered = grind (arith, common_steps, range-push 1 (length e.players), h.numbered);
+      lawful = rw listed (All-push (λ n. IsTrue (is_lawful_name n)) (names e.players) name h.lawful lawful);
+      distinct = rw listed (all_pairs_push Apart (names e.players) name h.distinct (has_name-none e.players name new));
       enrolling = λ phase. All-push (λ (q : Player). IsFalse q.dropped) e.players p (h.enrolling phase) refl;
       started = λ phase. let enough = h.started phase in omega arith;
     }
 
 rounds-known : (phase : Phase) (limit : ℕ) (known more : List ℕ) (rounds : List Round) → AreRounds phase limit known rounds
     → AreRounds phase limit (known ++ more) rounds
-rounds-known phase limit known more rounds h = record {
-  few = h.few;
-  enrolling = h.enrolling;
-  each = All-weaker (λ (r : Round). IsRound known r.matches) (λ (r : Round). IsRound (known ++ more) r.matches)
-      (λ r. IsRound-known known more r.matches) rounds h.each;
-  no_repeats = h.no_repeats;
-  earlier_done = h.earlier_done;
-  done = h.done;
-}
+rounds-known phase limit known more rounds h =
+    let each = All-weaker (λ (r : Round). IsRound known r.matches) (λ (r : Round). IsRound (known ++ more) r.matches)
+    (λ r. IsRound-known known more r.matches) rounds h.each in
+    grind arith
 
 stages-known : (phase : Phase) (cut : ℕ) (known more : List ℕ) (stages : List (List Match)) → AreStages phase cut known stages
     → AreStages phase cut (known ++ more) stages
@@ -102,10 +87,8 @@ IsSound-with e name h lawful room new =
     record {
       set_up = h.set_up;
       players = players-with e name h.players lawful room (not_true-from _ new);
-      rounds = subst (λ (known : List ℕ). AreRounds e.phase e.rounds known e.stored) (sym listed)
-          (rounds-known e.phase e.rounds (numbers e.players) (p.no ∷ []) e.stored h.rounds);
-      bracket = subst (λ (known : List ℕ). AreStages e.phase e.cut known e.bracket.stages) (sym listed)
-          (stages-known e.phase e.cut (numbers e.players) (p.no ∷ []) e.bracket.stages h.bracket);
+      rounds = rw listed (rounds-known e.phase e.rounds (numbers e.players) (p.no ∷ []) e.stored h.rounds);
+      bracket = rw listed (stages-known e.phase e.cut (numbers e.players) (p.no ∷ []) e.bracket.stages h.bracket);
     }
 
 -- and the name was new, where that is so

@@ -1,11 +1,11 @@
 -- An event whose playoff begins, or has one more score, is sound exactly where its checks hold.
 use Rattle.er_event.proofs.Prelude.{FollowOn, IsDecided, SameSlots, last_match, next_stage, Fits, EventValue, is_counted, IsBracket}
-use Rattle.er_event.proofs.Prelude.{IsPlayoff, IsSoundButForSeeds, is_lawful_cut, numbers, AddBracket, Phase, Enrolling, Finished, Playoff}
-use Rattle.er_event.proofs.Prelude.{Match, Bool, List, None, Some, [], ap, arith, drop, false, inl, inr, length, not, refl, subst, suc, sym}
-use Rattle.er_event.proofs.Prelude.{true, true≢false, zero, ℕ, ◌++◌, ◌<◌, ◌==◌, ◌∙◌, ◌∷◌, ◌≡◌, ◌≤◌, set, nat_tests, common_steps}
-use Rattle.er_event.proofs.Prelude.{All-weaker, recursion_from_All, gets, none-some, same_Some, AllByRecursion, slice_get}
+use Rattle.er_event.proofs.Prelude.{IsPlayoff, IsSoundButForSeeds, is_lawful_cut, numbers, AddBracket, Phase, Enrolling, Finished, Match}
+use Rattle.er_event.proofs.Prelude.{Bool, List, None, Some, [], ap, arith, drop, inl, inr, length, not, refl, subst, suc, sym, true, zero}
+use Rattle.er_event.proofs.Prelude.{ℕ, ◌++◌, ◌<◌, ◌==◌, ◌∙◌, ◌∷◌, ◌≡◌, ◌≤◌, set, nat_tests, common_steps, All-weaker, recursion_from_All}
+use Rattle.er_event.proofs.Prelude.{gets, none-some, same_Some, AllByRecursion, slice_get, nil_from_length}
 use Rattle.er_event.proofs.{BracketLemmas.Lawful, SlotLemmas.{follow-split, last-after, same-seats, slots-refl}}
-use Rattle.er_event.specs.{Change.{IsOpening, with_bracket}, Sound.AllRoundsDone}
+use Rattle.er_event.specs.{Change.{IsOpening, with_bracket}, Sound.AllRoundsDone, declared.events.Phase.TheVariants.Playoff}
 
 -- ---- stages of which one has new scores, with more behind
 
@@ -29,9 +29,7 @@ module _ (new : List Match) (more : List (List Match)) where
 
   pub all-new : (P : List Match → Type 0) (k : ℕ) (stages : List (List Match)) → P new → AllByRecursion P more → AllByRecursion P stages
       → AllByRecursion P (set stages k new ++ more)
-  all-new P k [] here behind h = behind
-  all-new P zero (s ∷ stages) here behind h = grind (arith, common_steps)
-  all-new P (suc k) (s ∷ stages) here behind h = (h.0, all-new P k stages here behind h.1)
+  all-new P k stages here behind h = grind (arith, common_steps)
 
   pub all-old : (P : List Match → Type 0) (k : ℕ) (stages : List (List Match)) (old : List Match) → slice_get stages k ≡ Some old
       → AllByRecursion P (set stages k new ++ more) → P new × AllByRecursion P more
@@ -110,24 +108,20 @@ module _ (e : EventValue) (ms : List Match) (h : IsSoundButForSeeds e) where
       by : (ss : List (List Match)) → e.bracket.stages ≡ ss → length e.bracket.stages ≡ 0
       by [] is = ap length is
       by (l ∷ later) is =
-          let over = started e h (λ none. (let never = sym none ∙ is in cc)) in
-          absurd (follow-never l later ms (subst FollowOn is (h.bracket.bracket over).follows)
-          (subst (λ (ts : List (List Match)). FollowOn (ts ++ ms ∷ [])) is (s.bracket.bracket (inl refl)).follows))
+          let over = started e h (grind arith) in
+          absurd (follow-never l later ms (rw is at (h.bracket.bracket over).follows) (rw is at (s.bracket.bracket (inl refl)).follows))
 
 pub no-stage : (stages : List (List Match)) → length stages ≡ 0 → stages ≡ []
-no-stage [] is = refl
-no-stage (s ∷ stages) is = absurd (omega arith)
+no-stage stages is = nil_from_length stages is
 
 pub true-empty : (n : ℕ) (b : Bool) → b ≡ (n == 0) → b ≡ true → n ≡ 0
 true-empty n b test is = let zero : (n == 0) ≡ true = sym test ∙ is in grind (arith, nat_tests)
 
 pub not-true : (b : Bool) → (b ≡ true → ⊥) → not b ≡ true
-not-true true h = absurd (h refl)
-not-true false h = refl
+not-true b h = grind arith
 
 pub true-not : (b : Bool) → not b ≡ true → b ≡ true → ⊥
-true-not true n e = true≢false (sym n)
-true-not false n e = true≢false (sym e)
+true-not b n e = grind arith
 
 -- ---- what may open the playoff
 

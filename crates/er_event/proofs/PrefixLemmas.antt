@@ -1,8 +1,7 @@
 -- The first rounds of an event's are an event's too.
-use Rattle.er_event.proofs.Prelude.{is_counted, is_same_pairing, matches_of, AreRounds, IsPlayoff, IsRound, Phase, Enrolling, Finished}
-use Rattle.er_event.proofs.Prelude.{Playoff, Swiss, Match, Round, MayFollow, All, AllPairs, IsFalse, IsTrue, List, [], ap, arith, drop}
-use Rattle.er_event.proofs.Prelude.{get_or, inl, inr, length, subst, sym, take, ℕ, ◌++◌, ◌+◌, ◌-◌, ◌<◌, ◌∙◌, ◌∷◌, ◌≡◌, ◌≤◌, common_steps}
-use Rattle.er_event.proofs.Prelude.{All-take, take_more}
+use Rattle.er_event.proofs.Prelude.{is_counted, is_same_pairing, matches_of, AreRounds, IsPlayoff, IsRound, Phase, Enrolling, Swiss, Match}
+use Rattle.er_event.proofs.Prelude.{Round, MayFollow, All, AllPairs, IsFalse, IsTrue, List, [], ap, arith, drop, get_or, length, subst, sym}
+use Rattle.er_event.proofs.Prelude.{take, ℕ, ◌++◌, ◌+◌, ◌-◌, ◌<◌, ◌∙◌, ◌∷◌, ◌≡◌, ◌≤◌, common_steps, All-take}
 use Rattle.std.proofs.{lemmas.List.Concat.flat_map-append, lemmas.List.{length-take, take-append-drop, take-take}}
 use Rattle.er_event.proofs.{AddLemmas.{may_follow, one_more}, Pairs.pairs_left}
 
@@ -10,8 +9,7 @@ abbrev Differ : Match → Match → Type 0
 Differ m n = IsFalse (is_same_pairing m n)
 
 not_over : IsPlayoff Swiss → ⊥
-not_over (inl is) = let never : Swiss ≡ Playoff = is in cc
-not_over (inr is) = let never : Swiss ≡ Finished = is in cc
+not_over over = grind arith
 
 pub no_rounds : (known : List ℕ) → AreRounds Swiss 0 known []
 no_rounds known = grind (arith, common_steps)
@@ -40,10 +38,8 @@ module _ (phase : Phase) (limit : ℕ) (known : List ℕ) (rounds : List Round) 
   -- so the next round may follow
   pub next_follows : (i : ℕ) (r : Round) → i < length rounds → r ≡ get_or rounds i r → MayFollow known (take i rounds) r.matches
   next_follows i r below is =
-      let more : take (i + 1) rounds ≡ take i rounds ++ r ∷ [] =
-      take_more rounds i r below ∙ ap (λ (q : Round). take i rounds ++ q ∷ []) (sym is) in
-      may_follow known (take i rounds) r.matches Swiss (i + 1)
-      (subst (AreRounds Swiss (i + 1) known) more (first_rounds (i + 1) (omega arith)))
+      let more : take (i + 1) rounds ≡ take i rounds ++ r ∷ [] = grind (arith, common_steps) in
+      may_follow known (take i rounds) r.matches Swiss (i + 1) (rw more at (first_rounds (i + 1) (omega arith)))
 
 -- and one round more may be the rounds up to there
 pub next_rounds : (known : List ℕ) (rounds : List Round) (i : ℕ) (r : Round) → i < length rounds → r ≡ get_or rounds i r
@@ -51,6 +47,5 @@ pub next_rounds : (known : List ℕ) (rounds : List Round) (i : ℕ) (r : Round)
     → AreRounds Swiss (i + 1) known (take (i + 1) rounds)
 next_rounds known rounds i r below is before follows =
     let len = length-take i rounds in
-    let more : take (i + 1) rounds ≡ take i rounds ++ r ∷ [] =
-    take_more rounds i r below ∙ ap (λ (q : Round). take i rounds ++ q ∷ []) (sym is) in
-    subst (AreRounds Swiss (i + 1) known) (sym more) (one_more known (take i rounds) r.matches i (i + 1) before (omega arith) follows)
+    let more : take (i + 1) rounds ≡ take i rounds ++ r ∷ [] = grind (arith, common_steps) in
+    rw more (one_more known (take i rounds) r.matches i (i + 1) before (omega arith) follows)

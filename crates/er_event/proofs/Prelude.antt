@@ -1,22 +1,21 @@
 -- The names of the crates below, and of what this one promises, that several proofs cite.
-pub use Rattle.std.proofs.Common.{arith, ◌≡◌, sym, ◌∙◌, List, ap, length, subst, false, [], take, true, ℕ, ◌∷◌, get_or, ◌<◌, refl, All, ◌≤◌}
-pub use Rattle.std.proofs.Common.{◌+◌, ◌-◌, ◌++◌, ◌≢◌, Bool, Some, IsTrue, drop, AllPairs, flat_map, suc, Option, true≢false, None, IsFalse}
-pub use Rattle.std.proofs.Common.{zero, ◌==◌, map, not, Contains, IfSome, option_map, inr, inl, ◌↔◌, ap₂, Bor, rules, length-append, cond}
-pub use Rattle.std.proofs.Common.{pos, ℤ, ◌⊎◌, find, ◌&&◌, ◌/◌, is_some, not-suc-le-zero, unwrap_or, Err, MatchResult, Ok, Result, ◌*◌}
-pub use Rattle.std.proofs.Common.{◌||◌, if◌then◌else◌}
+pub use Rattle.std.proofs.Common.{arith, ◌≡◌, sym, ◌∙◌, List, length, ap, false, [], subst, take, true, get_or, ℕ, ◌<◌, ◌∷◌, refl, All, ◌≤◌}
+pub use Rattle.std.proofs.Common.{◌+◌, ◌-◌, ◌++◌, ◌≢◌, Bool, Some, IsTrue, drop, AllPairs, flat_map, suc, Option, None, IsFalse, ◌==◌, map}
+pub use Rattle.std.proofs.Common.{not, zero, true≢false, Contains, IfSome, option_map, ◌↔◌, ap₂, Bor, rules, length-append, cond, inr, pos}
+pub use Rattle.std.proofs.Common.{ℤ, find, inl, ◌&&◌, ◌/◌, is_some, not-suc-le-zero, ◌⊎◌, MatchResult, Result, ◌*◌, ◌||◌, if◌then◌else◌}
 pub use Rattle.std.proofs.Math.ListN.{set, length-map}
-pub use Rattle.std.proofs.Math.Seq.{take-append_seam}
 pub use Rattle.std.proofs.lemmas.Bool.Decides.{nat_tests, Decides-int_eq}
 pub use Rattle.std.proofs.lemmas.Grind.{common_steps}
-pub use Rattle.std.proofs.lemmas.List.{take_more, get_or_default, take_all, length-drop, take_rest, map-append, length-set, drop_all}
-pub use Rattle.std.proofs.lemmas.List.{drop_more}
-pub use Rattle.std.proofs.lemmas.List.Elements.{All-weaker, recursion_from_All, All-push, All-from_recursion, All-cons, All-nil, All-drop}
-pub use Rattle.std.proofs.lemmas.List.Elements.{All-get_or, filter-append, All-head, All-take}
+pub use Rattle.std.proofs.lemmas.List.{take_more, take_all, length-drop, take_rest, get_or_default, map-append, length-set, drop_all}
+pub use Rattle.std.proofs.lemmas.List.{drop_more, nil_from_length}
+pub use Rattle.std.proofs.lemmas.List.Elements.{All-weaker, All-push, recursion_from_All, All-cons, All-from_recursion, All-nil, All-drop}
+pub use Rattle.std.proofs.lemmas.List.Elements.{All-take}
 pub use Rattle.std.proofs.lemmas.List.Folds.{list_any_none}
 pub use Rattle.std.proofs.lemmas.List.FromFn.{get_or-range_with_len, length-range_with_len}
 pub use Rattle.std.proofs.lemmas.List.Quantifiers.{all_pairs_push}
 pub use Rattle.std.proofs.lemmas.List.Sums.{AllPass-from_list_all, list_all-from_AllPass}
-pub use Rattle.std.proofs.lemmas.Option.{none-some, same_Some, slice_get_read, get_or_from_slice_get, slice_get_past, gets}
+pub use Rattle.std.proofs.lemmas.Option.{none-some, same_Some, slice_get_read, get_or_from_slice_get, slice_get_within, slice_get_past}
+pub use Rattle.std.proofs.lemmas.Option.{gets}
 pub use Rattle.std.proofs.lemmas.Slice.Eq.{bytes_eq-Decides}
 pub use Rattle.std.specs.Bool.{Decides}
 pub use Rattle.std.specs.List.{range_with_len, slice_get, AllByRecursion, list_all, list_any}
@@ -26,7 +25,7 @@ pub use Rattle.er_event.specs.Bracket.{following, winner}
 pub use Rattle.er_event.specs.Change.{scored_slot, Fits, scored, with_score, has_name, score_table, IsEnd, one_more, stage_of}
 pub use Rattle.er_event.specs.Change.{with_bracket_score, with_player, with_dropped, with_round, dropped_at, with_phase}
 pub use Rattle.er_event.specs.Event.{EventValue}
-pub use Rattle.er_event.specs.Lines.{own, lines_from, lines_of_match, Line, counted_lines, lines_of_score}
+pub use Rattle.er_event.specs.Lines.{own, lines_from, lines_of_match, counted_lines, Line, lines_of_score}
 pub use Rattle.er_event.specs.Match.{is_known}
 pub use Rattle.er_event.specs.Name.{is_lawful_name}
 pub use Rattle.er_event.specs.Pairings.{FitRows, AreTables, FitsRow, table_rows, is_of}
@@ -38,11 +37,11 @@ pub use Rattle.er_event.specs.Rows.{tally_row}
 pub use Rattle.er_event.specs.Score.{is_playoff_score, is_swiss_score, bye_score}
 pub use Rattle.er_event.specs.Sound.{IsSoundButForSeeds, numbers, IsRound, names, AreRounds, IsBracket, ArePlayers, IsPlayoff, AreStages}
 pub use Rattle.er_event.specs.Sound.{is_lawful_cut}
-pub use Rattle.er_event.specs.Totals.{totals, totals_of, totals_of_games}
+pub use Rattle.er_event.specs.Totals.{totals, totals_of}
 pub use Rattle.er_event.specs.declared.changes.Change.TheVariants.{SetScore, SetBracketScore, AddRound, SetDropped, AddBracket}
 pub use Rattle.er_event.specs.declared.commands.TheConstants.{MAX_SERIAL}
 pub use Rattle.er_event.specs.declared.events.Phase.{Phase}
-pub use Rattle.er_event.specs.declared.events.Phase.TheVariants.{Swiss, Enrolling, Finished, Playoff}
+pub use Rattle.er_event.specs.declared.events.Phase.TheVariants.{Swiss, Enrolling, Finished}
 pub use Rattle.er_event.specs.declared.events.parts.PartsFault.TheVariants.{Memory}
 pub use Rattle.er_event.specs.declared.matches.Match.{Match}
 pub use Rattle.er_event.specs.declared.players.Player.{Player}
@@ -53,7 +52,6 @@ pub use Rattle.er_event.specs.declared.rows.event.EventRow.{EventRow}
 pub use Rattle.er_event.specs.declared.rows.event.Setup.{Setup}
 pub use Rattle.er_event.specs.declared.rows.pairing.PairingRow.{PairingRow}
 pub use Rattle.er_event.specs.declared.scores.Games.{Games}
-pub use Rattle.er_event.specs.declared.totals.Totals.{Totals}
 pub use Rattle.er_event.specs.inside.EventFields.{value_of}
 pub use Rattle.er_event.specs.inside.Reading.{IsSetUpAs, MayFollow}
 pub use Rattle.er_event.specs.inside.Seen.{AreOver, IsSeatedOnce, rescored}

@@ -1,12 +1,9 @@
 -- The rounds of an event in which a match gets a score are those of the event after it.
 use Rattle.er_event.proofs.Prelude.{open_match, Fits, score_table, scored, scored_slot, with_score, EventValue, numbered_from, SetScore}
-use Rattle.er_event.proofs.Prelude.{Match, Round, Games, IsSeatedOnce, rescored, All, List, Option, Some, [], ap, arith, get_or, length}
-use Rattle.er_event.proofs.Prelude.{map, subst, sym, ℕ, ◌-◌, ◌<◌, ◌∙◌, ◌≡◌, ◌≤◌, set, common_steps, get_or_from_slice_get, slice_get}
-use Rattle.er_event.proofs.{ScoreLemmas.{Found, found, within-get}, TableLemmas.{at-place, score-place}}
+use Rattle.er_event.proofs.Prelude.{Match, Round, Games, IsSeatedOnce, rescored, All, List, Some, [], ap, arith, get_or, length, map, sym}
+use Rattle.er_event.proofs.Prelude.{ℕ, ◌-◌, ◌<◌, ◌∙◌, ◌≡◌, ◌≤◌, set, common_steps, get_or_from_slice_get, slice_get_within, slice_get}
+use Rattle.er_event.proofs.{ScoreLemmas.{Found, found}, TableLemmas.{at-place, score-place}}
 use Rattle.er_event.specs.inside.Seen.{HasTable}
-
-some-injective : {X : Type 0} (d x y : X) → ◌≡◌ {A = Option X} (Some x) (Some y) → x ≡ y
-some-injective {X} d x y is = grind (arith, common_steps)
 
 module _ (e : EventValue) (k t : ℕ) (s : Games) (fits : Fits e (SetScore k t s)) where
   it : Found e k t fits.named.0
@@ -17,10 +14,8 @@ module _ (e : EventValue) (k t : ℕ) (s : Games) (fits : Fits e (SetScore k t s
 
   pub has-table : HasTable e.stored (k - 1) t
   has-table r there =
-      let same : it.round ≡ r = some-injective r it.round r (sym it.stored ∙ there) in
-      let within = within-get it.round.matches (t - 1) fits.named.0 place.1 in
-      let low = place.0 in
-      subst (λ (q : Round). (1 ≤ t) × (t ≤ length q.matches)) same (low, omega (arith, within, low))
+      let within = slice_get_within it.round.matches (t - 1) fits.named.0 place.1 in
+      grind (arith, it.stored, place)
 
   -- the round's matches are written alike
   as-written : (ms : List Match) → slice_get ms (t - 1) ≡ Some fits.named.0
@@ -31,20 +26,16 @@ module _ (e : EventValue) (k t : ℕ) (s : Games) (fits : Fits e (SetScore k t s
 
   pub as-scored : rescored e.stored (k - 1) t s ≡ (with_score e k t s).stored
   as-scored =
-      let here : get_or e.stored (k - 1) (record { matches = [] }) ≡ it.round =
-      get_or_from_slice_get e.stored (k - 1) it.round (record { matches = [] }) it.stored in
-      let alike : scored_slot it.round.matches t s ≡ map (score_table t s) (numbered_from 1 it.round.matches)
-      = as-written it.round.matches place.1 (score-place s t it.round.matches fits.named.0 it.here fits.named.2) in
-      ap (λ (ms : List Match). (let r : Round = record { matches = ms } in set e.stored (k - 1) r))
-      (subst (λ (q : Round). scored_slot q.matches t s ≡ map (score_table t s) (numbered_from 1 q.matches)) (sym here) alike)
+      let here = get_or_from_slice_get e.stored (k - 1) it.round (record { matches = [] }) it.stored in
+      let alike = as-written it.round.matches place.1 (score-place s t it.round.matches fits.named.0 it.here fits.named.2) in
+      grind (arith, here, alike)
 
   pub seated-after : All (λ (r : Round). IsSeatedOnce r.matches) (rescored e.stored (k - 1) t s)
   seated-after = grind (arith, common_steps, as-scored)
 
   pub table-within : (r : Round) → r ≡ get_or e.stored (k - 1) r → (1 ≤ t) × (t ≤ length r.matches)
-  table-within r is = subst (λ (q : Round). (1 ≤ t) × (t ≤ length q.matches))
-      (sym (is ∙ get_or_from_slice_get e.stored (k - 1) it.round r it.stored)) (has-table it.round it.stored)
+  table-within r is = grind (arith, get_or_from_slice_get e.stored (k - 1) it.round r it.stored, has-table it.round it.stored)
 
   -- the round is there
   pub round-within : k - 1 < length e.stored
-  round-within = within-get e.stored (k - 1) it.round it.stored
+  round-within = slice_get_within e.stored (k - 1) it.round it.stored

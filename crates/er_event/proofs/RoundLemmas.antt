@@ -58,17 +58,16 @@ module _ (count : ℕ) where
       → list_all (λ m. not (is_bye m)) (take (length ms - 1) ms) ≡ true → IsRound (range_with_len 1 count) ms
   is_round ms some all apart last =
       let known = range_with_len 1 count in
-      let each : All Lawful ms = All-weaker (λ m. IsTrue (is_lawful_match count m)) Lawful lawful ms (All-of (is_lawful_match count) ms all)
-      in
+      let each : All Lawful ms =
+      All-weaker (λ m. IsTrue (is_lawful_match count m)) Lawful lawful ms (All-of (is_lawful_match count) ms all) in
       record {
         some = grind (arith, nat_tests);
-        first_known = All-weaker Lawful (λ (m : Match). Contains known m.a) (λ m h. h.first) ms each;
-        second_known = All-weaker Lawful (λ (m : Match). IsFalse (is_bye m) → Contains known m.b) (λ m h. h.second) ms each;
+        first_known = λ k d below. (each k d below).first;
+        second_known = λ k d below. (each k d below).second;
         seated_once = apart;
-        byes_won = All-weaker Lawful (λ (m : Match). IsTrue (is_bye m) → m.score ≡ Some bye_score) (λ m h. h.won) ms each;
-        scores = All-weaker Lawful (λ (m : Match). IfSome m.score (λ s. IsTrue (is_swiss_score s))) (λ m h. h.swiss) ms each;
-        bye_last = All-weaker (λ (m : Match). IsTrue (not (is_bye m))) (λ (m : Match). IsFalse (is_bye m))
-            (λ m e. false_not (is_bye m) e) (take (length ms - 1) ms) (All-of (λ m. not (is_bye m)) (take (length ms - 1) ms) last);
+        byes_won = λ k d below. (each k d below).won;
+        scores = λ k d below. (each k d below).swiss;
+        bye_last = λ k d below. false_not _ (All-of (λ m. not (is_bye m)) (take (length ms - 1) ms) last k d below);
       }
 
   each_lawful : (ms : List Match) → All (λ (m : Match). Contains (range_with_len 1 count) m.a) ms

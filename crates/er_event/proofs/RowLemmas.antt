@@ -1,9 +1,10 @@
 -- Rows, of whichever table, that show matches one after the other, and groups of them in turn.
-use Rattle.er_event.proofs.Prelude.{numbered_from, Match, All, Bool, List, [], ap, ap₂, arith, drop, false, get_or, length, length-append}
-use Rattle.er_event.proofs.Prelude.{map, refl, subst, suc, sym, take, true, zero, ℕ, ℤ, ◌&&◌, ◌++◌, ◌+◌, ◌-◌, ◌<◌, ◌∙◌, ◌∷◌, ◌≡◌, ◌≤◌}
-use Rattle.er_event.proofs.Prelude.{length-map, take-append_seam, Decides-int_eq, common_steps, All-drop, All-head, drop_all, drop_more}
-use Rattle.er_event.proofs.Prelude.{length-drop, map-append, take_all, take_more, take_rest, Decides, AllByRecursion, is_of}
-use Rattle.std.proofs.{Math.Seq.{drop-append_seam, drop-drop, take-add}, lemmas.Bool.Decides.Decides-and}
+use Rattle.er_event.proofs.Prelude.{is_of, numbered_from, Match, All, Bool, List, [], ap, ap₂, arith, drop, false, get_or, length}
+use Rattle.er_event.proofs.Prelude.{length-append, map, refl, subst, suc, sym, take, true, zero, ℕ, ℤ, ◌&&◌, ◌++◌, ◌+◌, ◌-◌, ◌<◌, ◌∙◌, ◌∷◌}
+use Rattle.er_event.proofs.Prelude.{◌≡◌, ◌≤◌, length-map, Decides-int_eq, common_steps, All-drop, drop_all, drop_more, length-drop}
+use Rattle.er_event.proofs.Prelude.{map-append, take_all, take_more, take_rest, Decides, AllByRecursion}
+use Rattle.std.proofs.{lemmas.List.Elements.All-head, Math.Seq.{drop-append_seam, drop-drop, take-add, take-append_seam}}
+use Rattle.std.proofs.lemmas.Bool.Decides.{Decides-and}
 use Rattle.std.specs.{List.prefix_len, Ordering.int_eq}
 
 -- ---- rows that agree in each column

@@ -2,41 +2,23 @@
 use Rattle.er_event.proofs.Prelude.{Fits, score_table, scored, with_score, EventValue, is_bye, is_counted, match_at, match_in, matches_of}
 use Rattle.er_event.proofs.Prelude.{numbered_from, seats, bye_score, is_swiss_score, AreRounds, IsRound, IsSoundButForSeeds, numbers}
 use Rattle.er_event.proofs.Prelude.{SetScore, Match, Round, Games, All, AllPairs, Bor, Contains, IfSome, IsFalse, IsTrue, List, None}
-use Rattle.er_event.proofs.Prelude.{Option, Some, [], ap, arith, false, flat_map, get_or, length, option_map, subst, suc, sym, take, true}
-use Rattle.er_event.proofs.Prelude.{true≢false, zero, ℕ, ◌-◌, ◌<◌, ◌∙◌, ◌∷◌, ◌≡◌, ◌≢◌, ◌≤◌, set, nat_tests, common_steps}
-use Rattle.er_event.proofs.Prelude.{All-from_recursion, recursion_from_All, length-set, get_or_from_slice_get, none-some, slice_get_read}
-use Rattle.er_event.proofs.Prelude.{AllByRecursion, slice_get}
+use Rattle.er_event.proofs.Prelude.{Option, Some, ap, arith, false, flat_map, get_or, length, option_map, subst, sym, take, true}
+use Rattle.er_event.proofs.Prelude.{true≢false, ℕ, ◌-◌, ◌<◌, ◌∙◌, ◌≡◌, ◌≢◌, ◌≤◌, set, nat_tests, common_steps, length-set}
+use Rattle.er_event.proofs.Prelude.{get_or_from_slice_get, slice_get_read, slice_get_within, slice_get}
 use Rattle.er_event.proofs.{RoundLemmas.{All-of, of-All}, SeatLemmas.{pairings-same, seats-rounds, seats-set}, TableLemmas.at-place}
 use Rattle.er_event.proofs.TableLemmas.{score-place}
 
 -- ---- one element set anew
 
 module _ {X : Type 0} (P : X → Type 0) (a : X) where
-  -- of the first k elements, where the new one has what the old one had
-  first-set : (k i : ℕ) (xs : List X) → (P (get_or xs i a) → P a) → AllByRecursion P (take k xs) → AllByRecursion P (take k (set xs i a))
-  first-set zero i xs here h = h
-  first-set (suc k) i [] here h = h
-  first-set (suc k) zero (x ∷ xs) here h = (here h.0, h.1)
-  first-set (suc k) (suc i) (x ∷ xs) here h = (h.0, first-set k i xs here h.1)
-
-  all-set : (i : ℕ) (xs : List X) → (P (get_or xs i a) → P a) → AllByRecursion P xs → AllByRecursion P (set xs i a)
-  all-set i [] here h = h
-  all-set zero (x ∷ xs) here h = (here h.0, h.1)
-  all-set (suc i) (x ∷ xs) here h = (h.0, all-set i xs here h.1)
-
   First-set : (k i : ℕ) (xs : List X) → (P (get_or xs i a) → P a) → All P (take k xs) → All P (take k (set xs i a))
-  First-set k i xs here h = All-from_recursion P _ (first-set k i xs here (recursion_from_All P _ h))
+  First-set k i xs here h j d below = grind (arith, common_steps, h j d, h i a, here)
 
   pub All-set : (i : ℕ) (xs : List X) → (P (get_or xs i a) → P a) → All P xs → All P (set xs i a)
-  All-set i xs here h = All-from_recursion P _ (all-set i xs here (recursion_from_All P xs h))
-
-  of-set : (i : ℕ) (xs : List X) → i < length xs → AllByRecursion P (set xs i a) → P a
-  of-set i [] within h = absurd (omega arith)
-  of-set zero (x ∷ xs) within h = h.0
-  of-set (suc i) (x ∷ xs) within h = of-set i xs (omega arith) h.1
+  All-set i xs here h k d below = grind (arith, common_steps, h k d, h i a, here)
 
   pub set-All : (i : ℕ) (xs : List X) → i < length xs → All P (set xs i a) → P a
-  set-All i xs within h = of-set i xs within (recursion_from_All P (set xs i a) h)
+  set-All i xs within h = grind (arith, common_steps, h i a)
 
 -- ---- the round, and the event, whose match has a new score
 
@@ -88,34 +70,23 @@ module _ (s : Games) (m : Match) (i : ℕ) (ms : List Match) (there : get_or ms 
         → AreRounds e.phase e.rounds (numbers e.players) rounds
     rounds-scored swiss h =
         let count = count-rounds in
-        record {
-          few = let few = h.few in omega arith;
-          enrolling = λ phase. ap (λ (rs : List Round). set rs j r) (h.enrolling phase);
-          each = All-set (λ (q : Round). IsRound (numbers e.players) q.matches) r j e.stored
-              (λ is. round-scored (numbers e.players) swiss (subst (IsRound (numbers e.players)) round is)) h.each;
-          no_repeats = pairings-same (matches_of e.stored) (matches_of rounds)
-              (seats-rounds r j e.stored (ap (flat_map seats) round ∙ seats-new)) h.no_repeats;
-          earlier_done = subst (λ (n : ℕ). All Counted (take (n - 1) rounds)) (sym count)
-              (First-set Counted r (length e.stored - 1) j e.stored counted-here h.earlier_done);
-          done = λ over. (let all = h.done over in (count ∙ all.0, All-set Counted r j e.stored counted-here all.1));
-        }
+        let each = All-set (λ (q : Round). IsRound (numbers e.players) q.matches) r j e.stored
+        (λ is. round-scored (numbers e.players) swiss (subst (IsRound (numbers e.players)) round is)) h.each in
+        let no_repeats = pairings-same (matches_of e.stored) (matches_of rounds)
+        (seats-rounds r j e.stored (ap (flat_map seats) round ∙ seats-new)) h.no_repeats in
+        let earlier = First-set Counted r (length e.stored - 1) j e.stored counted-here h.earlier_done in
+        let all = All-set Counted r j e.stored counted-here in
+        grind (arith, common_steps)
 
     IsSound-scored : is_swiss_score s ≡ true → IsSoundButForSeeds e → IsSoundButForSeeds (record e { stored = rounds })
     IsSound-scored swiss h = record { set_up = h.set_up; players = h.players; rounds = rounds-scored swiss h.rounds; bracket = h.bracket }
 
     -- a sound event has no other score
     scored-swiss : i < length ms → j < length e.stored → IsSoundButForSeeds (record e { stored = rounds }) → is_swiss_score s ≡ true
-    scored-swiss table within h =
-        let here : IsRound (numbers e.players) new =
-        set-All (λ (q : Round). IsRound (numbers e.players) q.matches) r j e.stored within h.rounds.each in
-        set-All (λ (k : Match). IfSome k.score (λ t. IsTrue (is_swiss_score t))) (scored s m) i ms table here.scores
+    scored-swiss table within h = set-All (λ (k : Match). IfSome k.score (λ t. IsTrue (is_swiss_score t))) (scored s m) i ms table
+        (set-All (λ (q : Round). IsRound (numbers e.players) q.matches) r j e.stored within h.rounds.each).scores
 
 -- ---- the match of a table of a round
-
-pub within-get : {X : Type 0} (xs : List X) (i : ℕ) (x : X) → slice_get xs i ≡ Some x → i < length xs
-within-get [] i x is = absurd (none-some x is)
-within-get (y ∷ xs) zero x is = omega arith
-within-get (y ∷ xs) (suc i) x is = let rest = within-get xs i x is in omega arith
 
 -- the round, and the match in it
 pub record Found (e : EventValue) (k t : ℕ) (m : Match) : Type 0 where
@@ -161,7 +132,7 @@ module _ (e : EventValue) (k t : ℕ) (s : Games) (m : Match) (is : match_at e k
   pub swiss-score : IsSoundButForSeeds (with_score e k t s) → is_swiss_score s ≡ true
   swiss-score h =
       scored-swiss s m (t - 1) ms (table-is (scored s m)) seat e (k - 1) (ap (λ (q : Round). q.matches) (round-is d))
-      (within-get ms (t - 1) m table-read) (within-get e.stored (k - 1) f.round f.stored) (subst IsSoundButForSeeds scored-is h)
+      (slice_get_within ms (t - 1) m table-read) (slice_get_within e.stored (k - 1) f.round f.stored) (subst IsSoundButForSeeds scored-is h)
 
 -- ---- the match that is read
 
@@ -186,23 +157,17 @@ module _ (e : EventValue) (k t : ℕ) (s : Games) (fits : Fits e (SetScore k t s
 
   module _ (i j : ℕ) (q : Round) (same : i ≡ k) (table : j ≡ t) (listed : q ≡ get_or e.stored (i - 1) q) where
     listed-is : q ≡ (found e k t fits.named.0 fits.named.1).round
-    listed-is = listed ∙ (ap (λ n. get_or e.stored (n - 1) q) same ∙ round-is e k t s fits.named.0 fits.named.1 fits.named.2 q)
+    listed-is = grind (arith, listed, round-is e k t s fits.named.0 fits.named.1 fits.named.2 q)
 
     listed-there : slice_get q.matches (j - 1) ≡ Some fits.named.0
-    listed-there = ap (λ (r : Round). slice_get r.matches (j - 1)) listed-is
-        ∙ (ap (λ n. slice_get (found e k t fits.named.0 fits.named.1).round.matches (n - 1)) table
-        ∙ table-read e k t s fits.named.0 fits.named.1 fits.named.2)
+    listed-there = rw (listed-is, table) (table-read e k t s fits.named.0 fits.named.1 fits.named.2)
 
     pub listed-within : j - 1 < length q.matches
-    listed-within = within-get q.matches (j - 1) fits.named.0 listed-there
+    listed-within = slice_get_within q.matches (j - 1) fits.named.0 listed-there
 
     pub written : (new : List Match) → ((m : Match) → slice_get q.matches (j - 1) ≡ Some m → new ≡ set q.matches (j - 1) (scored s m))
         → (let w : EventValue = record e { stored = set e.stored (i - 1) (record { matches = new }) } in w) ≡ with_score e k t s
     written new set_there =
         let m = fits.named.0 in
-        let made : new ≡ set (found e k t fits.named.0 fits.named.1).round.matches (t - 1) (scored s m) =
-        set_there m listed-there ∙ (ap (λ (r : Round). set r.matches (j - 1) (scored s m)) listed-is ∙ ap
-        (λ n. set (found e k t fits.named.0 fits.named.1).round.matches (n - 1) (scored s m)) table) in
-        let put : List Match → ℕ → EventValue = λ ms n. record e { stored = set e.stored (n - 1) (record { matches = ms }) } in
-        ap (λ ms. put ms i) made ∙ (ap (λ n. put (set (found e k t fits.named.0 fits.named.1).round.matches (t - 1) (scored s m)) n) same
-        ∙ sym (scored-is e k t s m fits.named.1 fits.named.2))
+        let made = set_there m listed-there in
+        grind (arith, made, listed-is, scored-is e k t s m fits.named.1 fits.named.2)

@@ -1,8 +1,8 @@
 -- The slots of a next stage, and which stages follow on one another.
 use Rattle.er_event.proofs.Prelude.{FollowOn, IsDecided, SameSlots, is_over, last_match, next_stage, winner, is_counted, seats, Match, Bool}
-use Rattle.er_event.proofs.Prelude.{IsTrue, List, None, Option, Some, [], ap, ap₂, arith, drop, flat_map, get_or, length, refl, subst, suc}
-use Rattle.er_event.proofs.Prelude.{sym, true, true≢false, zero, ℕ, ◌*◌, ◌+◌, ◌-◌, ◌/◌, ◌<◌, ◌↔◌, ◌∙◌, ◌∷◌, ◌≡◌, ◌≤◌, common_steps}
-use Rattle.er_event.proofs.Prelude.{drop_more, length-drop, slice_get}
+use Rattle.er_event.proofs.Prelude.{IsTrue, List, None, Option, Some, [], ap, ap₂, arith, drop, flat_map, get_or, length, refl, suc, sym}
+use Rattle.er_event.proofs.Prelude.{true, zero, ℕ, ◌*◌, ◌+◌, ◌-◌, ◌/◌, ◌<◌, ◌↔◌, ◌∙◌, ◌∷◌, ◌≡◌, ◌≤◌, common_steps, drop_more, length-drop}
+use Rattle.er_event.proofs.Prelude.{slice_get}
 use Rattle.er_event.proofs.SeatLemmas.{same-length}
 
 -- ---- the winners, slot by slot
@@ -45,17 +45,13 @@ module _ (ms ns : List Match) (half : length ns ≡ length ms / 2) (i : ℕ) whe
     winners-here = ap₂ (λ (ks ls : List Match). SameSlots ks (next_stage ls)) ns-here ms-here
 
     pub winners-more : n.a ≡ winner x → n.b ≡ winner y → Winners ms ns i ↔ Winners ms ns (i + 1)
-    winners-more a b = (λ h. (subst (λ (T : Type 0). T) winners-here h).1, λ h. subst (λ (T : Type 0). T) (sym winners-here) ((a, b), h))
+    winners-more a b = (λ h. (rw winners-here at h).1, λ h. rw winners-here ((a, b), h))
 
   pub winners-end : length ns ≤ i → Winners ms ns i
-  winners-end end = none (drop i ns) (drop (2 * i) ms) (let count = length-drop i ns in omega arith)
-      (let count = length-drop (2 * i) ms in omega arith)
+  winners-end end = none (drop i ns) (drop (2 * i) ms) (omega (arith, length-drop i ns)) (omega (arith, length-drop (2 * i) ms))
     where
       none : (ks ls : List Match) → length ks ≡ 0 → length ls < 2 → SameSlots ks (next_stage ls)
-      none [] [] a b = tt
-      none [] (l ∷ []) a b = tt
-      none [] (l ∷ m ∷ ls) a b = absurd (omega arith)
-      none (k ∷ ks) ls a b = absurd (omega arith)
+      none ks ls a b = grind (arith, common_steps)
 
 -- ---- stage by stage
 
@@ -76,20 +72,15 @@ stands a s o p r t same read is h = grind (arith, common_steps)
 -- ---- the last stage
 
 pub over-counted : (stage : List Match) → IsDecided (stage ∷ []) ↔ (is_over stage ≡ true)
-over-counted [] = (λ h. absurd h, λ h. absurd (true≢false (sym h)))
-over-counted (m ∷ []) = grind (arith, common_steps)
-over-counted (m ∷ n ∷ more) = grind (arith, common_steps)
+over-counted stage = grind (arith, common_steps)
 
 pub last-after : (stage next : List Match) (more : List (List Match)) → last_match (stage ∷ next ∷ more) ≡ last_match (next ∷ more)
-last-after [] next more = refl
-last-after (m ∷ []) next more = refl
-last-after (m ∷ n ∷ later) next more = refl
+last-after stage next more = grind arith
 
 last-at : (stages : List (List Match)) (i : ℕ) (last : List Match) → i + 1 ≡ length stages → last ≡ get_or stages i last
     → last_match stages ≡ last_match (last ∷ [])
 last-at [] i last end is = absurd (omega arith)
-last-at (s ∷ []) zero last end is = ap (λ (t : List Match). last_match (t ∷ [])) (sym is)
-last-at (s ∷ []) (suc i) last end is = absurd (omega arith)
+last-at (s ∷ []) i last end is = grind (arith, common_steps)
 last-at (s ∷ t ∷ more) zero last end is = absurd (omega arith)
 last-at (s ∷ t ∷ more) (suc i) last end is = last-after s t more ∙ last-at (t ∷ more) i last (omega arith) is
 

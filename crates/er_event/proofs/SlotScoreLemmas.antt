@@ -5,11 +5,11 @@ use Rattle.er_event.proofs.Prelude.{IsPlayoff, IsSoundButForSeeds, numbers, SetB
 use Rattle.er_event.proofs.Prelude.{IfSome, IsTrue, List, None, Option, Some, [], ap, arith, cond, drop, false, get_or, inr, is_some}
 use Rattle.er_event.proofs.Prelude.{length, option_map, refl, subst, suc, sym, true, ℕ, ◌&&◌, ◌++◌, ◌-◌, ◌<◌, ◌==◌, ◌↔◌, ◌∙◌, ◌∷◌, ◌≡◌, ◌≤◌}
 use Rattle.er_event.proofs.Prelude.{set, nat_tests, common_steps, All-from_recursion, recursion_from_All, get_or_from_slice_get, gets}
-use Rattle.er_event.proofs.Prelude.{AllByRecursion, slice_get}
+use Rattle.er_event.proofs.Prelude.{slice_get_within, AllByRecursion, slice_get}
 use Rattle.std.proofs.Common.{IsSome, MatchOption, nat_lt}
 use Rattle.er_event.proofs.{BracketLemmas.Lawful, PlayoffLemmas.{all-new, all-old, drop-here, drop-new, first-new, follow-drop}}
 use Rattle.er_event.proofs.{PlayoffLemmas.{follow-never, follow-new, in_playoff, last-drop, sound-playoff, started}, RoundLemmas.All-of}
-use Rattle.er_event.proofs.{ScoreLemmas.{All-set, set-All, within-get}, SeatLemmas.seats-set, SlotLemmas.{Stands, follow-split, last-after}}
+use Rattle.er_event.proofs.{ScoreLemmas.{All-set, set-All}, SeatLemmas.seats-set, SlotLemmas.{Stands, follow-split, last-after}}
 use Rattle.er_event.proofs.SlotLemmas.{length-same, same-seats, slots-refl}
 
 abbrev AllLawful : List Match → Type 0
@@ -33,7 +33,8 @@ module _ (e : EventValue) (k : ℕ) (old new : List Match) (at : slice_get e.bra
   follow-old = subst FollowOn (drop-here k e.bracket.stages old at) (follow-drop k e.bracket.stages bracket.follows)
 
   pub decided-old : last_match e.bracket.stages ≡ last_match (old ∷ later)
-  decided-old = last-drop k e.bracket.stages (within-get e.bracket.stages k old at) ∙ ap last_match (drop-here k e.bracket.stages old at)
+  decided-old =
+      last-drop k e.bracket.stages (slice_get_within e.bracket.stages k old at) ∙ ap last_match (drop-here k e.bracket.stages old at)
 
   module _ (more : List (List Match)) (p : Phase) (is : IsPlayoff p) where
     abbrev stages : List (List Match)
@@ -101,68 +102,83 @@ after-phase : (finished : Bool) (p : Phase) → IsPlayoff p → IsPlayoff (cond 
 after-phase true p is = inr refl
 after-phase false p is = is
 
+next-lawful : (ms : List Match) → AllByRecursion Lawful (next_stage ms)
+next-lawful [] = tt
+next-lawful (m ∷ []) = tt
+next-lawful (m ∷ n ∷ more) = (tt, next-lawful more)
+
+-- a stage whose last score came in ends the bracket, or the winners go on
+module _ (new : List Match) (some : 0 < length new) where
+  ends : (c t o : Bool) → is_counted new ≡ c → nat_lt 1 (length new) ≡ t → (length new == 1) ≡ o
+      → IsEnd new (cond (c && t) (Some (next_stage new)) None) (c && o)
+  ends c t o counted long one = grind (arith, common_steps, last-after, nat_tests, next-lawful, slots-refl)
+
+  ends-with : IsEnd new (following new) (is_over new)
+  ends-with = ends (is_counted new) (nat_lt 1 (length new)) (length new == 1) refl refl refl
+
 module _ (e : EventValue) (stage slot : ℕ) (score : Games) (m : Match) (is : slot_at e stage slot ≡ Some m) (h : IsSoundButForSeeds e) where
   abbrev f : FoundSlot e stage slot m
   f = found-slot e stage slot m is
 
-  abbrev pub old_stage : List Match
-  old_stage = stage_of e.bracket.stages stage
+  abbrev old : List Match
+  old = stage_of e.bracket.stages stage
 
   abbrev pub new_stage : List Match
-  new_stage = scored_slot old_stage slot score
+  new_stage = scored_slot old slot score
+
+  abbrev behind : List (List Match)
+  behind = drop (suc (stage - 1)) e.bracket.stages
 
   -- the match as it is read
-  read : (d : Match) → get_or old_stage (slot - 1) d ≡ m
-  read d = get_or_from_slice_get old_stage (slot - 1) m d f.here
+  read : (d : Match) → get_or old (slot - 1) d ≡ m
+  read d = get_or_from_slice_get old (slot - 1) m d f.here
 
-  pub new_stage-is : new_stage ≡ set old_stage (slot - 1) (scored score m)
-  new_stage-is = ap (λ (n : Match). set old_stage (slot - 1) (scored score n)) (read (open_match 0 0))
+  pub new_stage-is : new_stage ≡ set old (slot - 1) (scored score m)
+  new_stage-is = ap (λ (n : Match). set old (slot - 1) (scored score n)) (read (open_match 0 0))
 
-  same-stage : SameSlots new_stage old_stage
+  same-stage : SameSlots new_stage old
   same-stage =
-      let n : Match = scored score (get_or old_stage (slot - 1) (open_match 0 0)) in
-      let reads : get_or old_stage (slot - 1) n ≡ get_or old_stage (slot - 1) (open_match 0 0) = read n ∙ sym (read (open_match 0 0)) in
-      (same-seats new_stage old_stage).1
-      (sym (seats-set n (slot - 1) old_stage (ap (λ (k : Match). k.a) reads) (ap (λ (k : Match). k.b) reads)))
+      let n : Match = scored score (get_or old (slot - 1) (open_match 0 0)) in
+      let reads : get_or old (slot - 1) n ≡ get_or old (slot - 1) (open_match 0 0) = read n ∙ sym (read (open_match 0 0)) in
+      (same-seats new_stage old).1 (sym (seats-set n (slot - 1) old (ap (λ (k : Match). k.a) reads) (ap (λ (k : Match). k.b) reads)))
 
   over-before : IsPlayoff e.phase
-  over-before = over e (stage - 1) old_stage new_stage f.at same-stage h
+  over-before = over e (stage - 1) old new_stage f.at same-stage h
 
-  lawful-old : AllLawful old_stage
-  lawful-old = all-at AllLawful (stage - 1) e.bracket.stages old_stage f.at
-      (recursion_from_All AllLawful e.bracket.stages (h.bracket.bracket over-before).scores)
+  behind-follows : FollowOn (old ∷ behind)
+  behind-follows = follow-old e (stage - 1) old new_stage f.at same-stage h
+
+  behind-decided : last_match e.bracket.stages ≡ last_match (old ∷ behind)
+  behind-decided = decided-old e (stage - 1) old new_stage f.at same-stage h
 
   lawful-new : is_playoff_score score ≡ true → AllLawful new_stage
-  lawful-new playoff = All-set Lawful (scored score (get_or old_stage (slot - 1) (open_match 0 0))) (slot - 1) old_stage
-      (λ _. playoff) lawful-old
+  lawful-new playoff = All-set Lawful (scored score (get_or old (slot - 1) (open_match 0 0))) (slot - 1) old (λ _. playoff)
+      (all-at AllLawful (stage - 1) e.bracket.stages old f.at (recursion_from_All AllLawful e.bracket.stages
+      (h.bracket.bracket over-before).scores))
 
   new-lawful : AllLawful new_stage → is_playoff_score score ≡ true
-  new-lawful all = set-All Lawful (scored score (get_or old_stage (slot - 1) (open_match 0 0))) (slot - 1) old_stage
-      (within-get old_stage (slot - 1) m f.here) all
+  new-lawful all = set-All Lawful (scored score (get_or old (slot - 1) (open_match 0 0))) (slot - 1) old
+      (slice_get_within old (slot - 1) m f.here) all
 
   module _ (next : Option (List Match)) (finished : Bool) where
     abbrev p : Phase
     p = cond finished Finished e.phase
 
     abbrev New : Type 0
-    New = IsNew e (stage - 1) old_stage new_stage f.at same-stage h (one_more next) p (after-phase finished e.phase over-before)
+    New = IsNew e (stage - 1) old new_stage f.at same-stage h (one_more next) p (after-phase finished e.phase over-before)
 
     Fits-new : New → Fits e (SetBracketScore stage slot score next finished)
     Fits-new n = record {
       named = (m, is);
-      sound = sound-new e (stage - 1) old_stage new_stage f.at same-stage h (one_more next) p
-          (after-phase finished e.phase over-before) n;
+      sound = sound-new e (stage - 1) old new_stage f.at same-stage h (one_more next) p (after-phase finished e.phase over-before) n;
     }
 
     new-Fits : Fits e (SetBracketScore stage slot score next finished) → New
-    new-Fits fits = new-sound e (stage - 1) old_stage new_stage f.at same-stage h (one_more next) p
+    new-Fits fits = new-sound e (stage - 1) old new_stage f.at same-stage h (one_more next) p
         (after-phase finished e.phase over-before) fits.sound
 
     pub fits-playoff : Fits e (SetBracketScore stage slot score next finished) → is_playoff_score score ≡ true
     fits-playoff fits = new-lawful (new-Fits fits).lawful
-
-    abbrev behind : List (List Match)
-    behind = drop (suc (stage - 1)) e.bracket.stages
 
     -- where it is the last stage
     module _ (last : behind ≡ []) (now_over : Bool) (ended : IsTrue now_over ↔ (p ≡ Finished)) where
@@ -176,132 +192,66 @@ module _ (e : EventValue) (stage slot : ℕ) (score : Games) (m : Match) (is : s
       })
 
       pub last-Fits : Fits e (SetBracketScore stage slot score next finished) → IsEnd new_stage next now_over
-      last-Fits fits =
-          let n = new-Fits fits in
-          let decided = rw last at n.decided in
-          record {
-            follows =
-                rw last at n.follows;
-            scores = n.behind;
-            decided = (λ yes. decided.0 (ended.0 yes), λ dec. ended.1 (decided.1 dec));
-          }
+      last-Fits fits = let n = new-Fits fits in let decided = rw last at n.decided in record {
+        follows = rw last at n.follows;
+        scores = n.behind;
+        decided = (λ yes. decided.0 (ended.0 yes), λ dec. ended.1 (decided.1 dec));
+      }
 
--- ---- where a stage stands behind it
+  -- where a stage stands behind it
+  module _ (l : List Match) (rest : List (List Match)) (there : behind ≡ l ∷ rest) where
+    follow-there : FollowOn (old ∷ l ∷ rest)
+    follow-there = rw there at behind-follows
 
-module _ (old new l : List Match) (rest : List (List Match)) (f : FollowOn (old ∷ l ∷ rest)) where
-  follows-later : Stands new (Some l) → FollowOn (new ∷ ((l ∷ rest) ++ []))
-  follows-later stands = grind (arith, common_steps, follow-split)
+    decided-there : IsDecided (new_stage ∷ ((l ∷ rest) ++ [])) ≡ IsDecided e.bracket.stages
+    decided-there = let last = rw there at behind-decided in grind (arith, common_steps)
 
-  later-follows : FollowOn (new ∷ ((l ∷ rest) ++ [])) → Stands new (Some l)
-  later-follows h = ((follow-split new ((l ∷ rest) ++ [])).0 h).0
+    module _ (finished : Bool) where
+      pub Fits-later : is_playoff_score score ≡ true → Stands new_stage (Some l)
+          → ((cond finished Finished e.phase ≡ Finished) ↔ IsDecided e.bracket.stages)
+          → Fits e (SetBracketScore stage slot score None finished)
+      Fits-later playoff stands decided = Fits-new None finished (record {
+        lawful = lawful-new playoff;
+        behind = λ k d below. absurd (omega arith);
+        follows = rw there (grind (arith, common_steps, follow-there));
+        decided = rw (there, decided-there) decided;
+      })
 
-  none-behind : (ns : List Match) → FollowOn (new ∷ ((l ∷ rest) ++ ns ∷ [])) → ⊥
-  none-behind ns h = follow-never l rest ns f.3 ((follow-split new ((l ∷ rest) ++ ns ∷ [])).0 h).1
+      pub later-none : (next : Option (List Match)) → Fits e (SetBracketScore stage slot score next finished) → next ≡ None
+      later-none None fits = refl
+      later-none (Some ns) fits = absurd (follow-never l rest ns follow-there.3
+          ((follow-split new_stage ((l ∷ rest) ++ ns ∷ [])).0 (rw there at (new-Fits (Some ns) finished fits).follows)).1)
 
-module _ (e : EventValue) (stage slot : ℕ) (score : Games) (m : Match) (is : slot_at e stage slot ≡ Some m) (h : IsSoundButForSeeds e)
-    (l : List Match) (rest : List (List Match)) (there : drop (suc (stage - 1)) e.bracket.stages ≡ l ∷ rest) where
-  abbrev old : List Match
-  old = old_stage e stage slot score m is h
+      module _ (fits : Fits e (SetBracketScore stage slot score None finished)) where
+        pub later-stands : Stands new_stage (Some l)
+        later-stands = ((follow-split new_stage ((l ∷ rest) ++ [])).0 (rw there at (new-Fits None finished fits).follows)).0
 
-  abbrev new : List Match
-  new = new_stage e stage slot score m is h
+        pub later-decided : (cond finished Finished e.phase ≡ Finished) ↔ IsDecided e.bracket.stages
+        later-decided = rw (there, decided-there) at (new-Fits None finished fits).decided
 
-  abbrev at : slice_get e.bracket.stages (stage - 1) ≡ Some old
-  at = (found-slot e stage slot m is).at
+  -- an open match takes its score
+  module _ (free : m.score ≡ None) where
+    was-open : is_counted old ≡ true → ⊥
+    was-open counted = let here = All-of (λ (k : Match). is_some k.score) old counted (slot - 1) m in
+        let there = f.here in grind (arith, common_steps, gets)
 
-  follow-there : FollowOn (old ∷ l ∷ rest)
-  follow-there = subst (λ (ss : List (List Match)). FollowOn (old ∷ ss)) there (follow-old e (stage - 1) old old at (slots-refl old) h)
+    is-last : (ss : List (List Match)) → behind ≡ ss → behind ≡ []
+    is-last [] eq = eq
+    is-last (l ∷ rest) eq = absurd (was-open (rw eq at behind-follows).0)
 
-  last-there : last_match e.bracket.stages ≡ last_match (old ∷ l ∷ rest)
-  last-there = decided-old e (stage - 1) old old at (slots-refl old) h ∙ ap (λ (ss : List (List Match)). last_match (old ∷ ss)) there
+    not-finished : e.phase ≡ Finished → ⊥
+    not-finished fin =
+        let dec : IsDecided (old ∷ []) = rw (behind-decided, is-last behind refl) at (h.bracket.decided fin) in was-open (grind arith)
 
-  decided-there : IsDecided (new ∷ ((l ∷ rest) ++ [])) ≡ IsDecided e.bracket.stages
-  decided-there = grind (arith, common_steps, last-there)
+    ended : (b : Bool) → IsTrue b ↔ (cond b Finished e.phase ≡ Finished)
+    ended b = grind (arith, not-finished)
 
-  module _ (finished : Bool) where
-    abbrev q : Phase
-    q = cond finished Finished e.phase
-
-    pub Fits-later : is_playoff_score score ≡ true → Stands new (Some l) → ((q ≡ Finished) ↔ IsDecided e.bracket.stages)
-        → Fits e (SetBracketScore stage slot score None finished)
-    Fits-later playoff stands decided = Fits-new e stage slot score m is h None finished (record {
-      lawful = lawful-new e stage slot score m is h playoff;
-      behind = λ k d below. absurd (omega arith);
-      follows = rw there (follows-later old new l rest follow-there stands);
-      decided = rw (there, decided-there) decided;
-    })
-
-    pub later-none : (next : Option (List Match)) → Fits e (SetBracketScore stage slot score next finished) → next ≡ None
-    later-none None fits = refl
-    later-none (Some ns) fits =
-        absurd (none-behind old new l rest follow-there ns
-        (rw there at (new-Fits e stage slot score m is h (Some ns) finished fits).follows))
-
-    module _ (fits : Fits e (SetBracketScore stage slot score None finished)) where
-      pub later-stands : Stands new (Some l)
-      later-stands = later-follows old new l rest follow-there (rw there at (new-Fits e stage slot score m is h None finished fits).follows)
-
-      pub later-decided : (q ≡ Finished) ↔ IsDecided e.bracket.stages
-      later-decided = rw (there, decided-there) at (new-Fits e stage slot score m is h None finished fits).decided
-
--- ---- an open match takes its score
-
-next-lawful : (ms : List Match) → AllByRecursion Lawful (next_stage ms)
-next-lawful [] = tt
-next-lawful (m ∷ []) = tt
-next-lawful (m ∷ n ∷ more) = (tt, next-lawful more)
-
--- a stage whose last score came in ends the bracket, or the winners go on
-module _ (new : List Match) (some : 0 < length new) where
-  ends : (c t o : Bool) → is_counted new ≡ c → nat_lt 1 (length new) ≡ t → (length new == 1) ≡ o
-      → IsEnd new (cond (c && t) (Some (next_stage new)) None) (c && o)
-  ends c t o counted long one = grind (arith, common_steps, last-after, nat_tests, next-lawful, slots-refl)
-
-  pub ends-with : IsEnd new (following new) (is_over new)
-  ends-with = ends (is_counted new) (nat_lt 1 (length new)) (length new == 1) refl refl refl
-
-module _ (e : EventValue) (stage slot : ℕ) (score : Games) (m : Match) (is : slot_at e stage slot ≡ Some m) (h : IsSoundButForSeeds e)
-    (free : m.score ≡ None) where
-  abbrev was : List Match
-  was = old_stage e stage slot score m is h
-
-  abbrev now : List Match
-  now = new_stage e stage slot score m is h
-
-  was-open : is_counted was ≡ true → ⊥
-  was-open counted =
-      let here = All-of (λ (k : Match). is_some k.score) was counted (slot - 1) m in
-      let there = (found-slot e stage slot m is).here in
-      grind (arith, common_steps, gets)
-
-  abbrev rest_of : List (List Match)
-  rest_of = drop (suc (stage - 1)) e.bracket.stages
-
-  abbrev there : slice_get e.bracket.stages (stage - 1) ≡ Some was
-  there = (found-slot e stage slot m is).at
-
-  is-last : (ss : List (List Match)) → rest_of ≡ ss → rest_of ≡ []
-  is-last [] eq = eq
-  is-last (l ∷ rest) eq = absurd (was-open (rw eq at (follow-old e (stage - 1) was was there (slots-refl was) h)).0)
-
-  last : rest_of ≡ []
-  last = is-last rest_of refl
-
-  not-finished : e.phase ≡ Finished → ⊥
-  not-finished fin =
-      let dec : IsDecided (was ∷ []) = rw (decided-old e (stage - 1) was was there (slots-refl was) h, last) at (h.bracket.decided fin) in
-      was-open (grind arith)
-
-  ended : (b : Bool) → IsTrue b ↔ (cond b Finished e.phase ≡ Finished)
-  ended b = grind (arith, not-finished)
-
-  pub Fits-open : is_playoff_score score ≡ true → Fits e (SetBracketScore stage slot score (following now) (is_over now))
-  Fits-open playoff =
-      let f = found-slot e stage slot m is in
-      let within = within-get was (slot - 1) m f.here in
-      let count = length-same now was (same-stage e stage slot score m is h) in
-      Fits-last e stage slot score m is h (following now) (is_over now) last (is_over now) (ended (is_over now)) playoff
-      (ends-with now (omega arith))
+    pub Fits-open : is_playoff_score score ≡ true → Fits e (SetBracketScore stage slot score (following new_stage) (is_over new_stage))
+    Fits-open playoff =
+        let within = slice_get_within old (slot - 1) m f.here in
+        let count = length-same new_stage old same-stage in
+        Fits-last (following new_stage) (is_over new_stage) (is-last behind refl) (is_over new_stage) (ended (is_over new_stage)) playoff
+        (ends-with new_stage (omega arith))
 
 pub open-fits : (e : EventValue) (stage slot : ℕ) (found : Option (Bor Match)) → IsSoundButForSeeds e
     → option_map (λ (m : Bor Match). m.now) found ≡ slot_at e stage slot

@@ -1,6 +1,6 @@
 -- Rows of a bracket, and the matches that they show.
 use Rattle.er_event.proofs.Prelude.{own, numbered_from, bracket_row, bracket_rows_from, Match, BracketRow, FitStageRows, List, [], arith}
-use Rattle.er_event.proofs.Prelude.{false, pos, refl, subst, ℕ, ℤ, ◌+◌, ◌∷◌, ◌≡◌, Decides-int_eq, common_steps, Decides, AllByRecursion}
+use Rattle.er_event.proofs.Prelude.{false, pos, refl, ℕ, ℤ, ◌+◌, ◌∷◌, ◌≡◌, Decides-int_eq, common_steps, Decides}
 use Rattle.er_event.proofs.RowLemmas.{AreInTurn, agree, agree-Decides, length-numbered}
 use Rattle.er_event.specs.inside.Stages.{is_of_stage}
 
@@ -9,11 +9,7 @@ columns a b = (a.stage, b.stage) ∷ (a.slot, b.slot) ∷ (a.a, b.a) ∷ (a.b, b
 
 -- rows that agree in each column
 pub same_rows : (a b : BracketRow) → Decides (agree (columns a b)) (a ≡ b)
-same_rows a b =
-    let each = agree-Decides (columns a b) in (
-      λ is. (let same = each.0 is in grind arith),
-      λ e. each.1 (subst (λ (c : BracketRow). AllByRecursion (λ (p : ℤ × ℤ). p.0 ≡ p.1) (columns a c)) e search),
-    )
+same_rows a b = let each = agree-Decides (columns a b) in (λ is. (let same = each.0 is in grind arith), λ e. each.1 (grind arith))
 
 -- what stands at a place that there is not
 abbrev pub nothing : BracketRow
@@ -27,7 +23,7 @@ pub stages_in_turn : AreInTurn FitStageRows (numbered_from 1) bracket_row is_of_
 stages_in_turn = record {
   none = λ n. refl;
   more = λ n g gs. refl;
-  some = λ g shown. (let each = length-numbered 1 g in let some = shown.some in omega arith);
+  some = λ g shown. omega (arith, length-numbered 1 g, shown.some);
   own = λ n x. (Decides-int_eq (pos n) (pos n)).1 refl;
   other = other_row;
 }

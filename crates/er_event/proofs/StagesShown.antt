@@ -43,8 +43,7 @@ follow_shown s (next ∷ more) some narrow follows scores =
 
 follow_few : (s : List Match) (more : List (List Match)) → length s ≤ 4 → FollowOn (s ∷ more) → length (s ∷ more) ≤ 3
 follow_few s [] few follows = omega arith
-follow_few s (next ∷ []) few follows = omega arith
-follow_few s (next ∷ last ∷ more) few follows = grind (arith, common_steps, length-same, length-next)
+follow_few s (next ∷ more) few follows = grind (arith, common_steps, length-same, length-next)
 
 all_seats : (n : ℕ) → n ≤ 512 → (ms : List Match) → All (λ no. Contains (range_with_len 1 n) no) (flat_map seats ms) → All IsNarrow ms
 all_seats n few ms known k d at =

@@ -1,8 +1,8 @@
 -- The match of a table stands at the table's place, or is the bye at table 0.
 use Rattle.er_event.proofs.Prelude.{score_table, scored, is_bye, match_in, numbered_from, Match, Games, Bool, List, None, Option, Some, []}
 use Rattle.er_event.proofs.Prelude.{ap, arith, cond, false, find, get_or, length, map, not, option_map, refl, suc, sym, true, true≢false}
-use Rattle.er_event.proofs.Prelude.{unwrap_or, zero, ℕ, ◌+◌, ◌-◌, ◌<◌, ◌==◌, ◌∙◌, ◌∷◌, ◌≡◌, ◌≢◌, ◌≤◌, set, nat_tests, common_steps}
-use Rattle.er_event.proofs.Prelude.{none-some, slice_get_past, slice_get_read, slice_get}
+use Rattle.er_event.proofs.Prelude.{zero, ℕ, ◌+◌, ◌-◌, ◌<◌, ◌==◌, ◌∙◌, ◌∷◌, ◌≡◌, ◌≢◌, ◌≤◌, set, common_steps, none-some, slice_get_past}
+use Rattle.er_event.proofs.Prelude.{slice_get_read, slice_get}
 use Rattle.er_event.specs.Round.{is_at}
 
 -- the match, unless it is a bye
@@ -13,34 +13,20 @@ seated (Some m) = cond (is_bye m) None (Some m)
 abbrev found_in : ℕ → ℕ → List Match → Option Match
 found_in n table ms = option_map (λ (found : ℕ × Match). found.1) (find (is_at table) (numbered_from n ms))
 
-at-here : (n : ℕ) → (n == n) ≡ true
-at-here n = grind (arith, nat_tests)
-
-module _ (n t : ℕ) (m : Match) where
-  skipped : (b : Bool) (more : Option (ℕ × Match)) → b ≡ false
-      → option_map (λ (found : ℕ × Match). found.1) (cond b (Some (n, m)) more) ≡ option_map (λ (found : ℕ × Match). found.1) more
-  skipped b more not = rw not refl
-
-  taken : (b : Bool) (more : Option (ℕ × Match)) → b ≡ true
-      → option_map (λ (found : ℕ × Match). found.1) (cond b (Some (n, m)) more) ≡ Some m
-  taken b more is = rw is refl
-
 -- no table of these has a lower number, other than 0
 none-below : (n t : ℕ) (ms : List Match) → 1 ≤ t → t < n → found_in n t ms ≡ None
 none-below n t [] some below = refl
-none-below n t (m ∷ ms) some below = grind (arith, common_steps, skipped, none-below (n + 1) t ms some (omega arith))
+none-below n t (m ∷ ms) some below = grind (arith, common_steps, none-below (n + 1) t ms some (omega arith))
 
 here : (n : ℕ) (m : Match) (ms : List Match) (b : Bool) → b ≡ is_bye m → 1 ≤ n
     → option_map (λ (found : ℕ × Match). found.1) (cond (cond b 0 n == n) (Some (n, m)) (find (is_at n) (numbered_from (n + 1) ms)))
     ≡ cond b None (Some m)
-here n m ms true is low = skipped n n m (0 == n) (find (is_at n) (numbered_from (n + 1) ms)) (grind (arith, nat_tests))
-    ∙ none-below (n + 1) n ms low (omega arith)
-here n m ms false is low = taken n n m (n == n) (find (is_at n) (numbered_from (n + 1) ms)) (at-here n)
+here n m ms b is low = grind (arith, common_steps, none-below (n + 1) n ms low)
 
 found_at : (n i t : ℕ) (ms : List Match) → 1 ≤ n → t ≡ n + i → found_in n t ms ≡ seated (slice_get ms i)
 found_at n i t [] low is = refl
-found_at n zero t (m ∷ ms) low is = ap (λ k. found_in n k (m ∷ ms)) (let e : t ≡ n = omega arith in e) ∙ here n m ms (is_bye m) refl low
-found_at n (suc i) t (m ∷ ms) low is = grind (arith, common_steps, skipped, found_at (n + 1) i t ms (omega arith) (omega arith))
+found_at n zero t (m ∷ ms) low is = grind (arith, common_steps, here n m ms (is_bye m) refl low)
+found_at n (suc i) t (m ∷ ms) low is = grind (arith, common_steps, found_at (n + 1) i t ms (omega arith) (omega arith))
 
 pub match_in-place : (ms : List Match) (t : ℕ) → 1 ≤ t → match_in ms t ≡ seated (slice_get ms (t - 1))
 match_in-place ms t low = found_at 1 (t - 1) t ms (omega arith) (omega arith)
@@ -55,17 +41,11 @@ match_in-bye ms = found_bye 1 ms (omega arith)
 -- ---- the match that is found
 
 seated-is : (found : Option Match) (m : Match) → seated found ≡ Some m → found ≡ Some m
-seated-is None m is = absurd (none-some m is)
-seated-is (Some n) m is = grind (arith, common_steps)
+seated-is found m is = grind (arith, common_steps)
 
 found-bye : (ms : List Match) (m : Match) → find (λ (k : Match). k.b == 0) ms ≡ Some m → is_bye m ≡ true
 found-bye [] m is = absurd (none-some m is)
-found-bye (n ∷ ms) m is = by_bye (n.b == 0) refl (found-bye ms m) is
-  where
-    by_bye : (b : Bool) → (n.b == 0) ≡ b → (find (λ (k : Match). k.b == 0) ms ≡ Some m → is_bye m ≡ true)
-        → cond b (Some n) (find (λ (k : Match). k.b == 0) ms) ≡ Some m → is_bye m ≡ true
-    by_bye true bye later e = ap (λ (o : Option Match). is_bye (unwrap_or o n)) (sym e) ∙ bye
-    by_bye false bye later e = later e
+found-bye (n ∷ ms) m is = grind (arith, common_steps, found-bye ms m)
 
 -- a match that is no bye is at the place of its table
 pub at-place : (ms : List Match) (t : ℕ) (m : Match) → match_in ms t ≡ Some m → is_bye m ≡ false → (1 ≤ t) × (slice_get ms (t - 1) ≡ Some m)
@@ -83,14 +63,14 @@ module _ (t : ℕ) (s : Games) where
 
   untouched : (n : ℕ) (ms : List Match) → 1 ≤ t → t < n → map (score_table t s) (numbered_from n ms) ≡ ms
   untouched n [] some below = refl
-  untouched n (m ∷ ms) some below = grind (arith, common_steps, kept, untouched (n + 1) ms some (omega arith))
+  untouched n (m ∷ ms) some below = grind (arith, common_steps, untouched (n + 1) ms some (omega arith))
 
 score-from : (s : Games) (n i t : ℕ) (ms : List Match) (m : Match) → 1 ≤ n → t ≡ n + i → slice_get ms i ≡ Some m → is_bye m ≡ false
     → map (score_table t s) (numbered_from n ms) ≡ set ms i (scored s m)
 score-from s n i t [] m low at is seat = absurd (none-some m is)
-score-from s n zero t (k ∷ ms) m low at is seat = grind (arith, common_steps, here, changed, untouched)
+score-from s n zero t (k ∷ ms) m low at is seat = grind (arith, common_steps, untouched)
 score-from s n (suc i) t (k ∷ ms) m low at is seat =
-    grind (arith, common_steps, is_at, is_bye, score-from s (n + 1) i t ms m (omega arith) (omega arith) is seat)
+    grind (arith, common_steps, score-from s (n + 1) i t ms m (omega arith) (omega arith) is seat)
 
 pub score-place : (s : Games) (t : ℕ) (ms : List Match) (m : Match) → match_in ms t ≡ Some m → is_bye m ≡ false
     → map (score_table t s) (numbered_from 1 ms) ≡ set ms (t - 1) (scored s m)
@@ -110,16 +90,10 @@ module _ (ms : List Match) (t at : ℕ) (same : at ≡ t) (some : t ≢ 0) where
     there = slice_get_read ms (length ms) (at - 1) m refl within read
 
     pub place-seated : m.b ≢ 0 → Some m ≡ match_in ms t
-    place-seated seat = sym (place-is ∙ (ap seated there ∙ seated-some (m.b == 0) (grind (arith, nat_tests))))
-      where
-        seated-some : (b : Bool) → b ≡ false → cond b None (Some m) ≡ Some m
-        seated-some b not = rw not refl
+    place-seated seat = grind (arith, common_steps, place-is, there)
 
     pub place-bye : m.b ≡ 0 → None ≡ match_in ms t
-    place-bye bye = sym (place-is ∙ (ap seated there ∙ seated-none (m.b == 0) (grind (arith, nat_tests))))
-      where
-        seated-none : (b : Bool) → b ≡ true → cond b None (Some m) ≡ None
-        seated-none b is = rw is refl
+    place-bye bye = grind (arith, common_steps, place-is, there)
 
   pub place-none : length ms ≤ at - 1 → None ≡ match_in ms t
-  place-none past = sym (place-is ∙ ap seated (slice_get_past ms (at - 1) past))
+  place-none past = grind (arith, place-is, slice_get_past ms (at - 1) past)

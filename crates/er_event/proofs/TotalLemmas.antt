@@ -1,12 +1,11 @@
 -- Where nobody sits twice, a player has the line of one match of a round alone; the rounds add up.
 use Rattle.er_event.proofs.Prelude.{open_match, scored, scored_slot, Line, counted_lines, lines_from, lines_of_match, lines_of_score, own}
-use Rattle.er_event.proofs.Prelude.{IsAbsent, totals, totals_of, totals_of_games, Match, Round, Games, Totals, AreOver, IsSeatedOnce}
-use Rattle.er_event.proofs.Prelude.{rescored, All, AllPairs, List, None, Option, [], ap, arith, flat_map, get_or, length, refl, subst, suc}
-use Rattle.er_event.proofs.Prelude.{sym, take, zero, ℕ, ◌++◌, ◌+◌, ◌-◌, ◌<◌, ◌==◌, ◌∙◌, ◌∷◌, ◌≡◌, ◌≢◌, ◌≤◌, ◌⊎◌, common_steps, All-get_or}
-use Rattle.er_event.proofs.Prelude.{filter-append, get_or_default, length-set, take_more}
-use Rattle.std.proofs.lemmas.List.{get_or-set_other}
+use Rattle.er_event.proofs.Prelude.{IsAbsent, totals, totals_of, Match, Round, Games, AreOver, IsSeatedOnce, rescored, All, AllPairs, List}
+use Rattle.er_event.proofs.Prelude.{None, Option, [], arith, flat_map, get_or, length, refl, subst, suc, sym, take, zero, ℕ, ◌++◌, ◌+◌, ◌-◌}
+use Rattle.er_event.proofs.Prelude.{◌<◌, ◌==◌, ◌∙◌, ◌∷◌, ◌≡◌, ◌≢◌, ◌≤◌, ◌⊎◌, common_steps, length-set, take_more}
+use Rattle.std.proofs.lemmas.List.Elements.{filter-append}
+use Rattle.er_event.specs.{Totals.{totals_of_games, plus}, declared.totals.Totals.Totals}
 use Rattle.er_event.proofs.{ScoreLemmas.set-All, SeatLemmas.{AreApart, sit-apart}}
-use Rattle.er_event.specs.Totals.{plus}
 
 pub own-append : (player : ℕ) (xs ys : List Line) → own player (xs ++ ys) ≡ own player xs ++ own player ys
 own-append player xs ys = filter-append (λ (l : Line). l.player == player) xs ys
@@ -111,22 +110,16 @@ pub seated-here : (rounds : List Round) (at place table : ℕ) (score : Games) (
     → All (λ (s : Round). IsSeatedOnce s.matches) (rescored rounds place table score) → IsSeatedOnce (scored_slot r.matches table score)
 unfolding blank new_round
 seated-here rounds at place table score r within same is seated =
-    let here : get_or rounds place blank ≡ r = ap (λ (k : ℕ). get_or rounds k blank) (sym same)
-    ∙ (get_or_default rounds at blank r within ∙ sym is) in
-    subst (λ (s : Round). IsSeatedOnce (scored_slot s.matches table score)) here
-    (set-All (λ (s : Round). IsSeatedOnce s.matches) (new_round rounds place table score) place rounds
-    (subst (λ (k : ℕ). k < length rounds) same within) seated)
+    let here : get_or rounds place blank ≡ r = grind (arith, common_steps) in
+    rw here at (set-All (λ (s : Round). IsSeatedOnce s.matches) (new_round rounds place table score) place rounds (omega arith) seated)
 
 pub seated-there : (rounds : List Round) (at place table : ℕ) (score : Games) (r : Round) → at < length rounds → at ≢ place
     → r ≡ get_or rounds at r
     → All (λ (s : Round). IsSeatedOnce s.matches) (rescored rounds place table score) → IsSeatedOnce r.matches
 unfolding blank new_round
 seated-there rounds at place table score r within other is seated =
-    let size : length (rescored rounds place table score) ≡ length rounds = length-set rounds place (new_round rounds place table score) in
-    let there : get_or (rescored rounds place table score) at r ≡ r =
-    get_or-set_other rounds place at (new_round rounds place table score) r other ∙ sym is in
-    subst (λ (s : Round). IsSeatedOnce s.matches) there
-    (All-get_or (λ (s : Round). IsSeatedOnce s.matches) (rescored rounds place table score) at r (omega (arith, size, within)) seated)
+    let there : get_or (rescored rounds place table score) at r ≡ r = grind (arith, common_steps) in
+    rw there at (seated at r (omega (arith, length-set rounds place (new_round rounds place table score))))
 
 pub rescored-length : (rounds : List Round) (place table : ℕ) (score : Games) → length (rescored rounds place table score) ≡ length rounds
 unfolding blank new_round

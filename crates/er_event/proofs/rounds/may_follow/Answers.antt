@@ -11,11 +11,9 @@ returns-then-not-is_round c = grind arith
 pub returns : goal.returns
 returns c = (
   λ yes. record {
-    done =
-        grind (arith, common_steps, All-of);
+    done = grind (arith, common_steps, All-of);
     round = grind arith;
-    new =
-        All-new c.args.earlier.now c.args.matches.now (sym c.are_new.ensures ∙ yes);
+    new = All-new c.args.earlier.now c.args.matches.now (sym c.are_new.ensures ∙ yes);
   },
   λ follows. c.are_new.ensures ∙ new-All c.args.earlier.now c.args.matches.now follows.new,
 )

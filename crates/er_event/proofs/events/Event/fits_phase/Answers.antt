@@ -1,5 +1,4 @@
-use Rattle.er_event.proofs.Prelude.{Round, List, [], arith, length, sym, ◌∙◌, ◌≡◌, common_steps}
-use Rattle.std.proofs.lemmas.List.{nil_from_length}
+use Rattle.er_event.proofs.Prelude.{Round, List, [], arith, length, sym, ◌∙◌, ◌≡◌, common_steps, nil_from_length}
 use Rattle.er_event.proofs.DropLemmas.{All-undropped, IsSound-enrolling, undropped-All}
 use Rattle.er_event.proofs.events.Event.fits_phase.Goals as goal
 

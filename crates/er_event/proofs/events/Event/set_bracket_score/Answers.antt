@@ -1,5 +1,5 @@
-use Rattle.er_event.proofs.Prelude.{Fits, one_more, with_bracket_score, EventValue, IsSoundButForSeeds, SetBracketScore, value_of, ap}
-use Rattle.er_event.proofs.Prelude.{arith, subst, sym, ◌∙◌, ◌≡◌, common_steps}
+use Rattle.er_event.proofs.Prelude.{Fits, one_more, with_bracket_score, EventValue, SetBracketScore, value_of, ap, arith, subst, sym, ◌∙◌}
+use Rattle.er_event.proofs.Prelude.{◌≡◌, common_steps}
 use Rattle.er_event.proofs.{EndLemmas.{slot-more, written-slot}, PlayoffLemmas.in_playoff}
 use Rattle.er_event.proofs.events.Event.set_bracket_score.Goals as goal
 
@@ -27,10 +27,7 @@ made c =
     c.phase_after-self-inside.ensures
 
 pub invariant_of-self-2 : goal.invariant_of-self-2
-invariant_of-self-2 c =
-    let fits = subst (λ (v : EventValue). Fits v (SetBracketScore c.args.stage c.args.slot c.args.score c.args.next c.args.finished))
-    (sym c.self.view_is) c.requires in
-    subst IsSoundButForSeeds (sym (made c)) fits.sound
+invariant_of-self-2 c = rw (made c) (rw (← c.self.view_is) at c.requires).sound
 
 pub returns-clause-ok : goal.returns-clause-ok
 returns-clause-ok c = made c ∙ ap (λ (v : EventValue). with_bracket_score v c.args.stage c.args.slot c.args.score c.args.next

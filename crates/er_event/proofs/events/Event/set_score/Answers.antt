@@ -1,5 +1,4 @@
-use Rattle.er_event.proofs.Prelude.{Fits, with_score, EventValue, IsSoundButForSeeds, SetScore, value_of, ap, arith, subst, sym, ◌∙◌}
-use Rattle.er_event.proofs.Prelude.{common_steps}
+use Rattle.er_event.proofs.Prelude.{Fits, EventValue, IsSoundButForSeeds, SetScore, value_of, arith, subst, sym, common_steps}
 use Rattle.er_event.proofs.ScoreLemmas.{fits-low, listed-within, written}
 use Rattle.er_event.proofs.events.Event.set_score.Goals as goal
 
@@ -21,6 +20,6 @@ pub returns : goal.returns
 returns c =
     let e = value_of c.self.inside in
     let fits = subst (λ (v : EventValue). Fits v (SetScore c.args.round c.args.table c.args.score)) (sym c.self.view_is) c.requires in
-    written e c.args.round c.args.table c.args.score fits c.from.result c.from-2.result c.index_mut-listed.result.now c.from.ensures
-    c.from-2.ensures c.index_mut-listed.ensures.value c.score_match.new.matches c.score_match.ensures
-    ∙ ap (λ (v : EventValue). with_score v c.args.round c.args.table c.args.score) c.self.view_is
+    rw (← c.self.view_is)
+    (written e c.args.round c.args.table c.args.score fits c.from.result c.from-2.result c.index_mut-listed.result.now c.from.ensures
+    c.from-2.ensures c.index_mut-listed.ensures.value c.score_match.new.matches c.score_match.ensures)

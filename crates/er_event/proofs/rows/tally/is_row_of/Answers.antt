@@ -1,4 +1,4 @@
-use Rattle.er_event.proofs.Prelude.{List, [], arith, subst, sym, ℤ, ◌∙◌, ◌∷◌, ◌≡◌, Decides, AllByRecursion}
+use Rattle.er_event.proofs.Prelude.{List, [], arith, sym, ℤ, ◌∙◌, ◌∷◌, ◌≡◌, Decides}
 use Rattle.er_event.proofs.RowLemmas.{agree, agree-Decides}
 use Rattle.er_event.specs.declared.rows.tally.TallyRow.{TallyRow}
 use Rattle.er_event.proofs.rows.tally.is_row_of.Goals as goal
@@ -7,11 +7,7 @@ abbrev columns : TallyRow → TallyRow → List (ℤ × ℤ)
 columns a b = (a.no, b.no) ∷ (a.points, b.points) ∷ (a.rounds, b.rounds) ∷ (a.gamepoints, b.gamepoints) ∷ (a.games, b.games) ∷ []
 
 same_rows : (a b : TallyRow) → Decides (agree (columns a b)) (a ≡ b)
-same_rows a b =
-    let each = agree-Decides (columns a b) in (
-      λ is. (let same = each.0 is in grind arith),
-      λ e. each.1 (subst (λ (c : TallyRow). AllByRecursion (λ (p : ℤ × ℤ). p.0 ≡ p.1) (columns a c)) e search),
-    )
+same_rows a b = let each = agree-Decides (columns a b) in (λ is. (let same = each.0 is in grind arith), λ e. each.1 (grind arith))
 
 pub returns : goal.returns
 returns c =
