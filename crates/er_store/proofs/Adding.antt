@@ -28,17 +28,18 @@ keyed_put id columns rows keyed = record {
       (all-put_row (λ x. is_int (rowid x) ≡ true) (Int id ∷ columns) rows refl (all_from_test (λ x. is_int (rowid x)) rows keyed.numbers));
 }
 
--- ---- the tables
+-- ---- the tables with one match more of a round
 
 -- The round has one match more.
 pub pairing_added : (e : EventValue) (before : List Match) (m : Match) (id : ℤ) {old new : State} {s : ℕ} {kept : List TallyRow}
     → StandsWith old.now (with_round e before) s kept → Puts 3 (stored_pairing id (next_row e before m)) old new
     → BringsToWith old new (with_round e (before ++ m ∷ [])) s kept
 pairing_added e before m id {old} stands put =
+    let row = next_row e before m in
     let all = newest_more pairing_row (λ (r : Round). r.matches) pairing_rows_from pairing_rows_are e.stored (record { matches = before })
     (record { matches = before ++ m ∷ [] }) m refl in
-    pairings_set stands (with_round e (before ++ m ∷ [])).stored put.goes (row_put stands PairingTable _
-    (pairing_columns (next_row e before m)) _ put refl (ap (map pairing_columns) all ∙ map-append pairing_columns (pairing_rows (with_round e before)) (next_row e before m ∷ [])))
+    pairings_set stands (with_round e (before ++ m ∷ [])).stored put.goes (row_put stands PairingTable _ (pairing_columns row) _ put refl
+    (ap (map pairing_columns) all ∙ map-append pairing_columns (pairing_rows (with_round e before)) (row ∷ [])))
     (rw put.rows (keyed_put id _ (old.now.trees 3) stands.pairings_keyed))
 
 -- tables that show the same rows of another event stand for that one
@@ -131,7 +132,7 @@ next_slot e before m = bracket_row (length e.bracket.stages + 1) (length before 
 slots_none : (e : EventValue) → bracket_rows (with_stage e []) ≡ bracket_rows e
 slots_none e = grind (arith, common_steps, append-nil, bracket_rows_are, rows_more, stage_rows, with_stage)
 
--- ---- the tables
+-- ---- the tables with one match more of a stage
 
 -- The stage has one match more.
 pub slot_added : (e : EventValue) (before : List Match) (m : Match) (id : ℤ) {old new : State} {s : ℕ} {kept : List TallyRow}

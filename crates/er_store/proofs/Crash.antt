@@ -63,7 +63,7 @@ stays_self s = record { committed = λ _. commit_stays s; survives = survives_se
 
 -- one step after another
 pub stays_then : {a b c : State} → Stays a b → Stays b c → Stays a c
-stays_then {a} {b} {c} p q = grind (arith, common_steps)
+stays_then p q = grind (arith, common_steps)
 
 -- what a transaction leaves that was undone
 undone_keeps : (old : State) {last end : State} → KeepsCommit (record old { in_transaction = true }) last → IsRolledBack last end

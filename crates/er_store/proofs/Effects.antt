@@ -1,7 +1,7 @@
 -- What each statement does to the tables.
-use Rattle.er_store.proofs.Prelude.{◌≡◌, ℕ, pos, List, [], ◌∷◌, map, slice_get, Bool, true, false, Ok, Err, Result, is_ok, true≢false}
-use Rattle.er_store.proofs.Prelude.{IsTrue, refl, sym, ap, subst, ◌∙◌, ◌≤◌, is_eq, IsPermutation-sym, Int, Text, Row, column, value_cmp-Int}
-use Rattle.er_store.proofs.Prelude.{Term, eval_all, Table, Schema, Update, next_rowid, rowid, without_rowid, has_rowid, put_row, State}
+use Rattle.er_store.proofs.Prelude.{has_rowid, ◌≡◌, ℕ, pos, List, [], ◌∷◌, map, slice_get, Bool, true, false, Ok, Err, Result, is_ok}
+use Rattle.er_store.proofs.Prelude.{true≢false, IsTrue, refl, sym, ap, subst, ◌∙◌, ◌≤◌, is_eq, IsPermutation-sym, Int, Text, Row, column}
+use Rattle.er_store.proofs.Prelude.{value_cmp-Int, Term, eval_all, Table, Schema, Update, next_rowid, rowid, without_rowid, put_row, State}
 use Rattle.er_store.proofs.Prelude.{one_permutation, Value, Query, Index, View, EventTable, Phase, PairingRow, BracketRow, EventValue}
 use Rattle.er_store.proofs.Prelude.{with_phase, flag, event_row, TallyRow, event, player, pairing, bracket, tally, insert_event}
 use Rattle.er_store.proofs.Prelude.{insert_player, insert_pairing, insert_slot, insert_tally, set_serial, set_phase, number, event_columns}
@@ -10,7 +10,7 @@ use Rattle.er_store.proofs.Prelude.{stored_pairing, stored_slot, stored_tally, c
 use Rattle.er_store.proofs.Prelude.{BringsToWith, SelectsWith, value_cmp}
 use Rattle.er_event.specs.Rows.{phase_code}
 use Rattle.er_store.proofs.{Writing.{cast_int, cast_null, puts_one, event_rows, replaces}, Meaning.{Means, full, event_query, serial_terms}}
-use Rattle.er_store.proofs.{Meaning.{phase_terms, readable, WritesMean, writes_mean}, Together.row_set, Selecting.selects}
+use Rattle.er_store.proofs.{Meaning.{phase_terms, readable, WritesMean, writes_mean}, Together.row_set}
 
 -- what holds of each schema with the four tables in front holds of this one
 pub at_ours : (schema : Schema) (has : HasTables schema) (P : Schema → Type 0) → P (full has.others schema.indexes schema.views) → P schema

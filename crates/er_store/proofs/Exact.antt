@@ -1,18 +1,18 @@
 -- What the reading statements show, and that it is the rows of an event in order.
-use Rattle.er_store.proofs.Prelude.{common_steps, ◌≡◌, ◌+◌, ◌<◌, ℕ, List, [], ◌∷◌, map, length, get_or, flat_map, refl, sym, ap, ap₂, subst}
-use Rattle.er_store.proofs.Prelude.{◌∙◌, arith, Ordering, Bool, true, false, cond, None, ordering_then, AllByRecursion, IsPermutation}
-use Rattle.er_store.proofs.Prelude.{IsSorted, IsPermutation-map, All-permutation, All-from_recursion, recursion_from_All, Row, column, col}
-use Rattle.er_store.proofs.Prelude.{eval_all, IsAnswer, output, output_cmp, Output, overlay, Trees, columns_at, by_first, by_first_two}
-use Rattle.er_store.proofs.Prelude.{Lists, first_columns, table_query, all-map, value_cmp, ◌≢◌, Less, IsTrue, filter, IsUtf8}
-use Rattle.er_store.proofs.Prelude.{range_with_len, IsPermutation-sym, IsPermutation-trans, nat_tests, Error, SqliteFailure, IsAscending}
-use Rattle.er_store.proofs.Prelude.{Database, numbered, one_permutation, BracketTable, EventTable, PlayerTable, TallyTable, EventValue}
-use Rattle.er_store.proofs.Prelude.{Player, Match, PlayerRow, is_lawful_name, numbers, names, IsSoundButForSeeds, numbered_from, event_row}
-use Rattle.er_store.proofs.Prelude.{player_row, player_rows, bracket_row, bracket_rows, tally_row, tally_rows, stage_rows, totals}
-use Rattle.er_store.proofs.Prelude.{event_columns, player_columns, bracket_columns, tally_columns, event_places, player_places}
-use Rattle.er_store.proofs.Prelude.{bracket_places, tally_places, StandsFor, out_of_memory}
-use Rattle.std.proofs.{Common.{unwrap_or, is_lt}, Math.ListN.{get_or-map, length-map}, lemmas.Str.IsUtf8-from_is_utf8}
-use Rattle.std.specs.Prelude.{All}
-use Rattle.sqlite.specs.declared.error.ErrorCode.TheVariants.{OutOfMemory}
+use Rattle.er_store.proofs.Prelude.{Query, common_steps, ◌≡◌, ◌+◌, ◌<◌, ℕ, List, [], ◌∷◌, map, length, get_or, flat_map, refl, sym, ap, ap₂}
+use Rattle.er_store.proofs.Prelude.{subst, ◌∙◌, arith, Ordering, Bool, true, false, cond, None, ordering_then, AllByRecursion}
+use Rattle.er_store.proofs.Prelude.{IsPermutation, IsPermutation-map, All-from_recursion, recursion_from_All, Row, column, col, eval_all}
+use Rattle.er_store.proofs.Prelude.{IsAnswer, output, Output, overlay, Trees, columns_at, by_first, by_first_two, Lists, first_columns}
+use Rattle.er_store.proofs.Prelude.{table_query, all-map, value_cmp, ◌≢◌, Less, IsTrue, filter, IsUtf8, range_with_len, IsPermutation-sym}
+use Rattle.er_store.proofs.Prelude.{IsPermutation-trans, nat_tests, Error, SqliteFailure, IsAscending, Database, one_permutation}
+use Rattle.er_store.proofs.Prelude.{BracketTable, EventTable, PlayerTable, TallyTable, EventValue, Player, Match, PlayerRow, is_lawful_name}
+use Rattle.er_store.proofs.Prelude.{numbers, names, IsSoundButForSeeds, numbered_from, event_row, player_row, player_rows, bracket_row}
+use Rattle.er_store.proofs.Prelude.{bracket_rows, tally_row, tally_rows, stage_rows, totals, event_columns, player_columns, bracket_columns}
+use Rattle.er_store.proofs.Prelude.{tally_columns, event_places, player_places, bracket_places, tally_places, StandsFor, out_of_memory}
+use Rattle.std.specs.{List.Sorted.IsSorted, Prelude.All}
+use Rattle.std.proofs.{lemmas.List.Sorted.All-permutation, Common.{unwrap_or, is_lt}, Math.ListN.{get_or-map, length-map}}
+use Rattle.std.proofs.lemmas.Str.{IsUtf8-from_is_utf8}
+use Rattle.sqlite.specs.{Query.output_cmp, declared.error.ErrorCode.TheVariants.OutOfMemory}
 use Rattle.er_event.specs.declared.rows.event.EventRow.{EventRow}
 use Rattle.sqlite_keyed.proofs.ListLemmas.{map-map}
 use Rattle.er_store.proofs.Grouped.{numbered_rise, listed_by_one, listed_by_two, IsBelow, tested_rise, rises_from, bracket_rows_are}
@@ -37,7 +37,7 @@ pub record IsSortedByKeys (tree : ℕ) (places keys : List ℕ) (order : Row →
   pub keyed : (r : Row) → Keyed (output (table_query tree places keys) ([] ∷ r ∷ []))
   pub agrees : (o p : Output) → Keyed o → Keyed p → is_lt (order o.1 p.1) ≡ is_lt (output_cmp (table_query tree places keys) o p)
 
-pub sorted_rows : (Keyed : Output → Type 0) (cmp : Output → Output → Ordering) (order : Row → Row → Ordering)
+sorted_rows : (Keyed : Output → Type 0) (cmp : Output → Output → Ordering) (order : Row → Row → Ordering)
     → ((o p : Output) → Keyed o → Keyed p → is_lt (order o.1 p.1) ≡ is_lt (cmp o p))
     → (outs : List Output) → All Keyed outs → IsSorted cmp outs → IsSorted order (map (λ (o : Output). o.1) outs)
 sorted_rows Keyed cmp order agrees outs keyed sorted k d low high =
@@ -47,6 +47,19 @@ sorted_rows Keyed cmp order agrees outs keyed sorted k d low high =
     let next = keyed (k + 1) e len in
     ap₂ (λ x y. is_lt (order x y)) (get_or-map (λ (o : Output). o.1) outs (k + 1) e) (get_or-map (λ (o : Output). o.1) outs k e)
     ∙ (agrees (get_or outs (k + 1) e) (get_or outs k e) next here ∙ sorted k e low len)
+
+-- so what is shown of an answer is listed by it
+pub shows_sorted : (q : Query) (Keyed : Output → Type 0) (order : Row → Row → Ordering)
+    → ((o p : Output) → Keyed o → Keyed p → is_lt (order o.1 p.1) ≡ is_lt (output_cmp q o p)) → (all : List Output)
+    {kept ordered : List Output} {shown rows : List Row} → kept ≡ all → AllByRecursion Keyed all → map (λ (o : Output). o.1) all ≡ shown
+    → IsPermutation kept ordered → IsSorted (output_cmp q) ordered → rows ≡ map (λ (o : Output). o.1) ordered → Lists order shown rows
+shows_sorted q Keyed order agrees all {ordered = ordered} are keyed shows same sorted rows =
+    let permuted = rw are at same in
+    let keys = All-permutation Keyed all ordered permuted (All-from_recursion Keyed all keyed) in
+    record {
+      same = rw (← shows, rows) (IsPermutation-map (λ (o : Output). o.1) all ordered permuted);
+      sorted = rw rows (sorted_rows Keyed (output_cmp q) order agrees ordered keys sorted);
+    }
 
 module _ (tree : ℕ) (places keys : List ℕ) (order : Row → Row → Ordering) (by : IsSortedByKeys tree places keys order) where
   -- each row once, with its key and what is shown of it
@@ -64,18 +77,9 @@ module _ (tree : ℕ) (places keys : List ℕ) (order : Row → Row → Ordering
   pub answer_lists : (trees : Trees) (rows : List Row) → IsAnswer (table_query tree places keys) (overlay trees []) [] rows
       → Lists order (columns_at places (trees tree)) rows
   answer_lists trees rows a =
-      let kept : a.kept ≡ each (trees tree) = a.distinct
-      ∙ (ap (map (output (table_query tree places keys))) a.grouped ∙ ap each (bare trees tree)) in
-      let same = subst (λ l. IsPermutation l a.ordered) kept a.same in
-      let keyed = All-permutation by.Keyed (each (trees tree)) a.ordered same
-      (All-from_recursion by.Keyed (each (trees tree)) (each_keyed (trees tree))) in
-      record {
-        same = subst (λ l. IsPermutation l rows) (each_shown (trees tree))
-            (subst (IsPermutation (map (λ (o : Output). o.1) (each (trees tree)))) (sym a.shown)
-            (IsPermutation-map (λ (o : Output). o.1) _ _ same));
-        sorted = subst (IsSorted order) (sym a.shown)
-            (sorted_rows by.Keyed (output_cmp (table_query tree places keys)) order by.agrees a.ordered keyed a.sorted);
-      }
+      shows_sorted (table_query tree places keys) by.Keyed order by.agrees (each (trees tree)) (a.distinct
+      ∙ (ap (map (output (table_query tree places keys))) a.grouped ∙ ap each (bare trees tree)))
+      (each_keyed (trees tree)) (each_shown (trees tree)) a.same a.sorted a.shown
 
 -- ---- the two kinds of key
 
@@ -146,8 +150,7 @@ pub players_exact : (db : Database) (e : EventValue) (s : ℕ) (listed : List Ro
     → numbers e.players ≡ range_with_len 1 (length e.players)
     → Lists by_first (columns_at player_places (db.trees 1)) listed → listed ≡ map player_columns (player_rows e)
 players_exact db e s listed stands numbered h =
-    listed_by_one _ listed (map player_columns (player_rows e))
-    (subst (IsAscending (λ a b. by_first a b ≡ Less)) (sym (map-map player_columns player_row e.players))
+    listed_by_one _ listed (map player_columns (player_rows e)) (rw (map-map player_columns player_row e.players)
     (numbered_rise (λ p. player_columns (player_row p)) (λ p. refl) 1 e.players numbered)) (stands.rows PlayerTable) h
 
 -- ---- the totals
@@ -156,8 +159,8 @@ pub tallies_exact : (db : Database) (e : EventValue) (s : ℕ) (listed : List Ro
     → numbers e.players ≡ range_with_len 1 (length e.players)
     → Lists by_first (columns_at tally_places (db.trees 8)) listed → listed ≡ map tally_columns (tally_rows e)
 tallies_exact db e s listed stands numbered h =
-    listed_by_one _ listed (map tally_columns (tally_rows e)) (subst (IsAscending (λ a b. by_first a b ≡ Less))
-    (sym (map-map tally_columns (λ (p : Player). tally_row p.no (totals e p.no)) e.players))
+    listed_by_one _ listed (map tally_columns (tally_rows e))
+    (rw (map-map tally_columns (λ (p : Player). tally_row p.no (totals e p.no)) e.players)
     (numbered_rise (λ p. tally_columns (tally_row p.no (totals e p.no))) (λ p. refl) 1 e.players numbered)) (stands.rows TallyTable) h
 
 -- ---- the matches of the playoff

@@ -1,26 +1,26 @@
 -- What the join of a slip reads of tables that stand for an event.
-use Rattle.er_store.proofs.Prelude.{◌≡◌, Bool, true, false, ◌&&◌, cond, if◌then◌else◌, List, [], ◌∷◌, ◌++◌, map, filter, flat_map, refl, ap}
-use Rattle.er_store.proofs.Prelude.{ap₂, subst, ◌∙◌, arith, list_all, IsPermutation, Binary, Value, Row, column, is_true, Env, eval_all}
-use Rattle.er_store.proofs.Prelude.{holds, IsAnswer, Output, output, page, or_nulls, overlay, Trees, one_permutation, Compare, Eq, binary}
+use Rattle.er_store.proofs.Prelude.{column, is_lawful_name, is_bye, is_at, number, ◌≡◌, Bool, true, false, ◌&&◌, cond, if◌then◌else◌, List}
+use Rattle.er_store.proofs.Prelude.{[], ◌∷◌, ◌++◌, map, filter, flat_map, refl, ap, ap₂, subst, ◌∙◌, arith, list_all, IsPermutation, Binary}
+use Rattle.er_store.proofs.Prelude.{Value, Row, is_true, Env, eval_all, holds, IsAnswer, or_nulls, overlay, Trees, Compare, Eq, binary}
 use Rattle.er_store.proofs.Prelude.{numbered, pairing, Player, common_steps, ◌≢◌, ◌⊎◌, inl, inr, ℕ, suc, ◌==◌, ◌<◌, ◌≤◌, min, max, nat_lt}
 use Rattle.er_store.proofs.Prelude.{length, get_or, Result, Ok, Err, IfErr, MatchResult, Option, Some, None, option_map, option_to_list}
 use Rattle.er_store.proofs.Prelude.{All, Contains, IfSome, IsTrue, IsFalse, sym, AllByRecursion, range_with_len, IsPermutation-sym, All-nil}
 use Rattle.er_store.proofs.Prelude.{All-cons, All-from_recursion, All-weaker, recursion_from_All, nat_tests, Text, Database, filter-map}
-use Rattle.er_store.proofs.Prelude.{IsPermutation-filter, PairingTable, PlayerTable, Match, Round, Games, SlipRow, EventValue, MayStand}
-use Rattle.er_store.proofs.Prelude.{is_lawful_name, is_bye, seats, is_at, match_at, pairing_row, pairing_rows, bye_score, slip_of, numbers}
-use Rattle.er_store.proofs.Prelude.{names, IsRound, IsSoundButForSeeds, IsUtf8, NamedPairing, first_columns, number, pairing_columns}
-use Rattle.er_store.proofs.Prelude.{named_columns, columns_at, player_places, pairing_places, StandsFor, Side, number_in, name_in, match_of}
-use Rattle.er_store.proofs.Prelude.{is_swapped, named_pairing, named_pairings, IsPlayer, IsLawful, Refusal, Memory, Store, IsFault}
+use Rattle.er_store.proofs.Prelude.{IsPermutation-filter, PairingTable, PlayerTable, Match, Round, Games, SlipRow, EventValue, seats}
+use Rattle.er_store.proofs.Prelude.{match_at, pairing_row, pairing_rows, bye_score, slip_of, numbers, names, IsRound, IsSoundButForSeeds}
+use Rattle.er_store.proofs.Prelude.{IsUtf8, NamedPairing, pairing_columns, named_columns, columns_at, player_places, pairing_places}
+use Rattle.er_store.proofs.Prelude.{StandsFor, Side, number_in, name_in, match_of, is_swapped, named_pairing, named_pairings, IsPlayer}
+use Rattle.er_store.proofs.Prelude.{IsLawful, Refusal, Memory, Store, IsFault}
 use Rattle.std.proofs.{lemmas.List.Sorted.length_permutation, Common.AllPairs, lemmas.List.Elements.All-from_get_or}
 use Rattle.std.specs.Option.{ok_or}
-use Rattle.sqlite_keyed.proofs.SliceLemmas.{All-find}
-use Rattle.sqlite_trees.proofs.ListLemmas.{all_from_map}
 use Rattle.er_event.specs.{Match.{is_known, is_lawful_match, is_lawful_score}, Score.is_swiss_score, Slip.{name_of, second_of, slip_row}}
 use Rattle.er_event.specs.{declared.refusals.Cause.TheVariants.Refused, declared.refusals.Refusal.TheVariants.NoSuchMatch}
-use Rattle.er_store.proofs.{Meaning.{slip_query, slip_terms, score_tests}, Exact.{map-same, lawful-utf8}, Setting.one_picked, Picking.picks}
-use Rattle.er_store.proofs.{Picking.{picks_one, picks_none, row_of, rows_of, within}, PickingMatch.{picks_table, rows_at, Finds}}
-use Rattle.er_store.proofs.{Keyed.{all_bye_last, finds, numbered_at, numbered-match, table_alone}, TableLemmas.refused, SlipLemmas.cond_of}
-use Rattle.er_store.proofs.SlipLemmas.{of_max, of_min, either_of}
+use Rattle.sqlite_keyed.proofs.SliceLemmas.{All-find}
+use Rattle.sqlite_trees.proofs.ListLemmas.{all_from_map}
+use Rattle.er_store.proofs.{Picking.{within, picks, picks_one, picks_none, row_of, rows_of}, Writing.one_shown, Meaning.slip_query}
+use Rattle.er_store.proofs.{Meaning.{slip_terms, score_tests}, Exact.{map-same, lawful-utf8}, Setting.one_picked, PickingMatch.picks_table}
+use Rattle.er_store.proofs.{PickingMatch.{rows_at, Finds}, Keyed.{all_bye_last, finds, numbered_at, numbered-match, table_alone}}
+use Rattle.er_store.proofs.SlipLemmas.{cond_of, of_max, of_min, either_of}
 use Rattle.er_store.specs.{Rows.text_or_null, Slip.FindsSlip}
 use Rattle.er_event.specs.Slip.{name_in as name_found}
 
@@ -76,13 +76,8 @@ pub slip_one : (db : Trees) (params p l h : Row) (rows : List Row) → filter (a
     → numbered_as (column p 3) (db 1) ≡ l ∷ [] → numbered_as (column p 4) (db 1) ≡ h ∷ []
     → IsAnswer slip_query (overlay db []) params rows → rows ≡ eval_all slip_terms (params ∷ p ∷ l ∷ h ∷ []) ∷ []
 slip_one db params p l h rows one low high a =
-    let e : Env = params ∷ p ∷ l ∷ h ∷ [] in
-    let staged : a.staged ≡ e ∷ [] = a.grouped ∙ joined_one (asks params) (λ r. numbered_as (column r 3) (db 1))
-    (λ r. numbered_as (column r 4) (db 1)) params (db 3) p l h one low high in
-    let o : Output = ([], eval_all slip_terms e) in
-    let kept : a.kept ≡ o ∷ [] = a.distinct ∙ ap (map (output slip_query)) staged in
-    let ordered = one_permutation o a.ordered (subst (λ k. IsPermutation k a.ordered) kept a.same) in
-    a.shown ∙ ap (λ xs. page slip_query params (map (λ (q : Output). q.1) xs)) ordered
+    one_shown slip_query params (params ∷ p ∷ l ∷ h ∷ []) (a.grouped ∙ joined_one (asks params) (λ r. numbered_as (column r 3) (db 1))
+    (λ r. numbered_as (column r 4) (db 1)) params (db 3) p l h one low high) a.distinct a.same a.shown
 
 pub none_permuted : {X : Type 0} (ys : List X) → IsPermutation [] ys → ys ≡ []
 none_permuted [] same = refl
@@ -91,13 +86,9 @@ none_permuted (y ∷ ys) same = absurd (let len = length_permutation [] (y ∷ y
 pub slip_none : (db : Trees) (params : Row) (rows : List Row) → filter (asks params) (db 3) ≡ []
     → IsAnswer slip_query (overlay db []) params rows → rows ≡ []
 slip_none db params rows none a =
-    let lows : Row → List Row = λ r. numbered_as (column r 3) (db 1) in
-    let highs : Row → List Row = λ r. numbered_as (column r 4) (db 1) in
-    let staged : a.staged ≡ [] = a.grouped
-    ∙ (joined (asks params) lows highs params (db 3) ∙ ap (flat_map (beside (asks params) lows highs params)) none) in
-    let kept : a.kept ≡ [] = a.distinct ∙ ap (map (output slip_query)) staged in
-    let ordered = none_permuted a.ordered (subst (λ k. IsPermutation k a.ordered) kept a.same) in
-    a.shown ∙ ap (λ xs. page slip_query params (map (λ (q : Output). q.1) xs)) ordered
+    let staged : a.staged ≡ [] = a.grouped ∙ (joined (asks params) (λ r. numbered_as (column r 3) (db 1))
+    (λ r. numbered_as (column r 4) (db 1)) params (db 3) ∙ rw none) in
+    rw (none_permuted a.ordered (rw (a.distinct, staged) at a.same)) at a.shown
 
 -- ---- a test that picks none
 
@@ -108,8 +99,7 @@ no_row f (x ∷ xs) none = absurd (cc)
 none_picked : (places : List ℕ) (test : Row → Bool) (rows all : List Row) → IsPermutation (columns_at places rows) all
     → filter test all ≡ [] → filter (λ x. test (map (column x) places)) rows ≡ []
 none_picked places test rows all same none =
-    let both = subst (IsPermutation (filter test (columns_at places rows))) none
-    (IsPermutation-filter test (columns_at places rows) all same) in
+    let both = rw none at (IsPermutation-filter test (columns_at places rows) all same) in
     let empty = none_permuted (filter test (columns_at places rows)) (IsPermutation-sym _ _ both) in
     no_row (λ r. map (column r) places) (filter (λ x. test (map (column x) places)) rows)
     (sym (filter-map test (λ r. map (column r) places) rows) ∙ empty)
@@ -247,8 +237,7 @@ module _ (e : EventValue) (sound : IsSoundButForSeeds e) (k t : ℕ) (n : ℕ ×
 
   pub slip_lawful : IsLawful slip
   slip_lawful = record {
-    played = subst (MayStand t) (sym (same_match e k t n.1))
-        (record { lawful = found.0.lawful; apart = found.0.apart; bye = bye_at_none t n found.1 found.2 });
+    played = rw (same_match e k t n.1) (record { lawful = found.0.lawful; apart = found.0.apart; bye = bye_at_none t n found.1 found.2 });
     first = lawful_player e sound n.1.a found.0.first;
     second = lawful_side e sound n.1.b known_second;
   }
@@ -321,10 +310,6 @@ slips_lawful e k t sound = rw (numbered-match e k t) ((elim (numbered_at e k t) 
 pub named_typed : (typed rows : List NamedPairing) → map named_columns typed ≡ map named_columns rows → typed ≡ rows
 named_typed typed rows = map-same named_columns (λ r s h. grind (arith, common_steps)) typed rows
 
-pub named_whole : (rows : List NamedPairing) → map (first_columns 11) (map named_columns rows) ≡ map named_columns rows
-named_whole [] = refl
-named_whole (r ∷ rows) = ap (λ more. named_columns r ∷ more) (named_whole rows)
-
 name_utf8 : (who : Side) → IfSome who IsPlayer → IfSome (name_in who) IsUtf8
 name_utf8 None h = tt
 name_utf8 (Some p) h = lawful-utf8 p.1 h.2
@@ -369,11 +354,8 @@ pub slip_found : (e : EventValue) (k t : ℕ) (slip : SlipRow) (read : Option Sl
     → r ≡ ok_or read fault → IsSoundButForSeeds e → slip_of e k t ≡ Some slip
     → (IsLawful slip → slip.round ≡ k → slip.table ≡ t → read ≡ Some slip) → IsFound e k t r
 slip_found e k t slip read fault r answer sound is exact =
-    let lawful : IsLawful slip = subst (λ (o : Option SlipRow). IfSome o IsLawful) is (slips_lawful e k t sound) in
-    let named : (slip.round ≡ k) × (slip.table ≡ t) =
-    subst (λ (o : Option SlipRow). IfSome o (λ s. (s.round ≡ k) × (s.table ≡ t))) is (slip_names e k t) in
-    let ok : Ok slip ≡ r = sym (answer ∙ ap (λ o. ok_or o fault) (exact lawful named.0 named.1)) in
-    subst (IsFound e k t) ok is
+    let named = rw is at (slip_names e k t) in
+    rw (answer, exact (rw is at (slips_lawful e k t sound)) named.0 named.1) is
 
 fault_finds : (why : Refusal) → IsFault why → why ≡ NoSuchMatch → ⊥
 fault_finds why (inl memory) is = absurd (let both : Memory ≡ NoSuchMatch = sym memory ∙ is in cc)

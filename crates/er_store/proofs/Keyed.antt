@@ -6,7 +6,7 @@ use Rattle.er_store.proofs.Prelude.{nat_tests, Row, column, Match, Round, Pairin
 use Rattle.er_store.proofs.Prelude.{match_at, pairing_row, round_rows, pairing_rows, numbers, IsRound, IsSoundButForSeeds, pairing_columns}
 use Rattle.er_store.proofs.Prelude.{common_steps, not, ◌⊎◌, inl, inr, IsPermutation, IsPermutation-refl, IsPermutation-trans}
 use Rattle.er_store.proofs.Prelude.{IsPermutation-map, recursion_from_All, IsAscending, Database, PairingTable, table_of, pairing_rows_from}
-use Rattle.er_store.proofs.Prelude.{columns_at, pairing_places, number, StandsFor, by_first_two, Lists, first, all_weaker}
+use Rattle.er_store.proofs.Prelude.{columns_at, pairing_places, number, StandsFor, by_first_two, Lists, all_weaker}
 use Rattle.er_store.proofs.Prelude.{IsPermutation-filter_both}
 use Rattle.std.specs.Option.{option_and_then}
 use Rattle.std.proofs.lemmas.List.Sorted.{IsPermutation-append}

@@ -1,11 +1,11 @@
 -- What the texts mean, whatever other tables there are.
-use Rattle.er_store.proofs.Prelude.{map, ◌≡◌, ℕ, refl, [], ◌∷◌, List, pos, false, is_ok, sym, ◌∙◌, true≢false, Table, Schema, Term, col}
-use Rattle.er_store.proofs.Prelude.{Query, Command, Insert, Update, Values, Null, Int, Binary, Index, View, Compare, Eq, Gt, ToNumeric}
-use Rattle.er_store.proofs.Prelude.{IsPlain, command_of, with_ours, CanRead, table_query, SelectsWith, Selects, number, event_places}
-use Rattle.er_store.proofs.Prelude.{player_places, pairing_places, bracket_places, tally_places, no_schema, insert_event, insert_player}
-use Rattle.er_store.proofs.Prelude.{set_serial, set_phase, set_dropped, set_score, insert_pairing, insert_slot, set_slot_score}
-use Rattle.er_store.proofs.Prelude.{insert_tally, set_tally, read_event, read_players, read_pairings, read_bracket, read_tallies}
-use Rattle.er_store.proofs.Prelude.{read_meetings, read_slip, understood, listing_schema, everything}
+use Rattle.er_store.proofs.Prelude.{set_serial, set_phase, set_dropped, set_score, set_slot_score, set_tally, map, ◌≡◌, ℕ, refl, [], ◌∷◌}
+use Rattle.er_store.proofs.Prelude.{List, pos, false, is_ok, sym, ◌∙◌, true≢false, Table, Schema, Term, col, Query, Command, Insert, Update}
+use Rattle.er_store.proofs.Prelude.{Values, Null, Int, Binary, Index, View, Compare, Eq, Gt, ToNumeric, IsPlain, command_of, with_ours}
+use Rattle.er_store.proofs.Prelude.{CanRead, table_query, SelectsWith, Selects, number, event_places, player_places, pairing_places}
+use Rattle.er_store.proofs.Prelude.{bracket_places, tally_places, no_schema, insert_event, insert_player, insert_pairing, insert_slot}
+use Rattle.er_store.proofs.Prelude.{insert_tally, read_event, read_players, read_pairings, read_bracket, read_tallies, read_meetings}
+use Rattle.er_store.proofs.Prelude.{read_slip, understood, listing_schema, everything}
 use Rattle.std.proofs.Common.{lit≤}
 use Rattle.sqlite.specs.{Term.{lit, op1, op2}, Query.{Join, inner, left, end}}
 use Rattle.er_store.specs.{inside.Queries.plain_query, Tables.find_event}

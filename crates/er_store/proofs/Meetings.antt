@@ -1,23 +1,22 @@
 -- The meetings that are read of an event's tables, and those that count.
-use Rattle.er_store.proofs.Prelude.{common_steps, ◌≡◌, ◌≢◌, ℕ, ℤ, pos, suc, ◌+◌, ◌-◌, ◌≤◌, min, max, Bool, true, false, not, cond, List, []}
-use Rattle.er_store.proofs.Prelude.{◌∷◌, ◌++◌, map, filter, find, take, length, Option, Some, None, option_map, All, IsTrue, refl, sym, ap}
-use Rattle.er_store.proofs.Prelude.{ap₂, subst, ◌∙◌, arith, append-nil, true≢false, AllByRecursion, nat_tests, map-append, filter-append}
-use Rattle.er_store.proofs.Prelude.{All-from_recursion, all-append, all-map, Match, Round, TallyRow, Totals, EventValue, is_bye}
-use Rattle.er_store.proofs.Prelude.{numbered_from, bye_score, numbers, IsSoundButForSeeds, meetings, totals, MeetingRow, meeting_rows}
-use Rattle.er_store.proofs.Prelude.{is_over, counted_rows, sides_in, sides_of, filter_all, ◌&&◌, flat_map, Contains, Greater, list_all}
-use Rattle.er_store.proofs.Prelude.{IsPermutation, IsSorted, IsPermutation-map, All-permutation, Int, Binary, Database, is_true, Row}
-use Rattle.er_store.proofs.Prelude.{column, overlay, or_nulls, IsAnswer, Output, output, output_cmp, State, Env, holds, Trees, IsAscending}
-use Rattle.er_store.proofs.Prelude.{Compare, Gt, value_cmp-Int, filter-map, IsPermutation-filter, PairingTable, TallyTable, Player}
-use Rattle.er_store.proofs.Prelude.{table_of, pairing_row, round_rows, pairing_rows_from, pairing_rows, tally_row, tally_rows, flag}
-use Rattle.er_store.proofs.Prelude.{by_first_two, Lists, first_columns, number, pairing_columns, tally_columns, meeting_columns, columns_at}
-use Rattle.er_store.proofs.Prelude.{pairing_places, tally_places, StandsFor, Selects, binary, Shown}
+use Rattle.er_store.proofs.Prelude.{table_of, common_steps, ◌≡◌, ◌≢◌, ℕ, ℤ, pos, suc, ◌+◌, ◌-◌, ◌≤◌, min, max, Bool, true, false, not, cond}
+use Rattle.er_store.proofs.Prelude.{List, [], ◌∷◌, ◌++◌, map, filter, find, take, length, Option, Some, None, option_map, All, IsTrue, refl}
+use Rattle.er_store.proofs.Prelude.{sym, ap, ap₂, subst, ◌∙◌, arith, append-nil, true≢false, AllByRecursion, nat_tests, map-append}
+use Rattle.er_store.proofs.Prelude.{filter-append, All-from_recursion, all-append, all-map, Match, Round, TallyRow, Totals, EventValue}
+use Rattle.er_store.proofs.Prelude.{is_bye, numbered_from, bye_score, numbers, IsSoundButForSeeds, meetings, totals, MeetingRow}
+use Rattle.er_store.proofs.Prelude.{meeting_rows, is_over, counted_rows, sides_in, sides_of, filter_all, ◌&&◌, flat_map, Contains, Greater}
+use Rattle.er_store.proofs.Prelude.{list_all, Int, Binary, Database, is_true, Row, column, overlay, or_nulls, IsAnswer, Output, output}
+use Rattle.er_store.proofs.Prelude.{State, Env, holds, Trees, IsAscending, Compare, Gt, value_cmp-Int, filter-map, IsPermutation-filter}
+use Rattle.er_store.proofs.Prelude.{PairingTable, TallyTable, Player, pairing_row, round_rows, pairing_rows_from, pairing_rows, tally_row}
+use Rattle.er_store.proofs.Prelude.{tally_rows, flag, by_first_two, Lists, first_columns, number, pairing_columns, tally_columns}
+use Rattle.er_store.proofs.Prelude.{meeting_columns, columns_at, pairing_places, tally_places, StandsFor, Selects, binary, Shown, map-map}
+use Rattle.std.proofs.{Common.{int_cmp, is_some}, lemmas.Bool.Decides.Decides-int_eq, lemmas.List.Folds.find-append}
 use Rattle.std.specs.{Prelude.⊤, Option.option_or, Ordering.int_eq}
-use Rattle.std.proofs.{lemmas.Bool.Decides.Decides-int_eq, lemmas.List.Folds.find-append, Common.{is_some, int_cmp}}
-use Rattle.sqlite_keyed.proofs.ListLemmas.{filter_none, map-map}
+use Rattle.sqlite_keyed.proofs.ListLemmas.{filter_none}
 use Rattle.er_event.specs.{declared.tallies.Meeting.Meeting, Round.is_counted, Tallies.{counted_matches, meeting_by}}
 use Rattle.sqlite_trees.proofs.ListLemmas.{IsPermutation-flat_map}
-use Rattle.er_store.specs.inside.Meetings.{meeting_row, meetings_from, open_round}
-use Rattle.er_store.proofs.{Exact.{map-same, sorted_rows, two_agree}, Joined.{IsMatch, all_matches, some_number, joined, numbered_as}}
+use Rattle.er_store.specs.inside.Meetings.{meetings_from, open_round, meeting_row}
+use Rattle.er_store.proofs.{Exact.{map-same, shows_sorted, two_agree}, Joined.{IsMatch, all_matches, some_number, joined, numbered_as}}
 use Rattle.er_store.proofs.{Meaning.{meeting_query, meeting_tests}, Picking.{picks, picks_row}, Setting.one_picked, Grouped.listed_by_two}
 use Rattle.er_store.proofs.{Grouped.{IsBelow, tested_rise, rises_from, rows_from}, Refusals.answers, SlipLemmas.{of_max, of_min}}
 
@@ -260,23 +259,11 @@ module _ (db : Trees) where
   answer-lists : (rows : List Row) → IsAnswer meeting_query (overlay db []) [] rows
       → Lists by_first_two (flat_map (mates db) (filter is_no_bye (columns_at pairing_places (db 3)))) rows
   answer-lists rows a =
-      let staged : a.staged ≡ flat_map beside (filter passes (db 3)) = a.grouped ∙ joined passes lows highs [] (db 3) in
-      let kept : a.kept ≡ map (output meeting_query) (flat_map beside (filter passes (db 3))) = a.distinct
-      ∙ ap (map (output meeting_query)) staged in
-      let same = subst (λ (l : List Output). IsPermutation l a.ordered) kept a.same in
       let envs = flat_map beside (filter passes (db 3)) in
-      let keys = All-permutation Keyed (map (output meeting_query) envs) a.ordered same
-      (All-from_recursion Keyed (map (output meeting_query) envs) (keyed envs)) in
-      let picked : columns_at pairing_places (filter passes (db 3)) ≡ filter is_no_bye (columns_at pairing_places (db 3)) =
-      sym (filter-map is_no_bye (λ r. map (column r) pairing_places) (db 3)) in
-      let rows_are : rows_shown envs ≡ flat_map (mates db) (filter is_no_bye (columns_at pairing_places (db 3))) =
-      all-shown (filter passes (db 3)) ∙ ap (flat_map (mates db)) picked in
-      record {
-        same = subst (λ (l : List Row). IsPermutation l rows) rows_are
-            (subst (IsPermutation (rows_shown envs)) (sym a.shown) (IsPermutation-map (λ (o : Output). o.1) _ _ same));
-        sorted = subst (IsSorted by_first_two) (sym a.shown)
-            (sorted_rows Keyed (output_cmp meeting_query) by_first_two two_agree a.ordered keys a.sorted);
-      }
+      shows_sorted meeting_query Keyed by_first_two two_agree (map (output meeting_query) envs)
+      (a.distinct ∙ ap (map (output meeting_query)) (a.grouped ∙ joined passes lows highs [] (db 3))) (keyed envs)
+      (all-shown (filter passes (db 3)) ∙ ap (flat_map (mates db)) (sym (filter-map is_no_bye (λ r. map (column r) pairing_places) (db 3))))
+      a.same a.sorted a.shown
 
 pub meetings-listed : {sql : List ℕ} (old new : State) {rows : List Row} → Selects sql meeting_query old.now.schema
     → Shown sql [] old new rows
@@ -378,27 +365,18 @@ meetings-exact db e s rows stands sound h =
     let kept = IsPermutation-flat_map (mates db.trees) (filter is_no_bye stored) (filter is_no_bye (map pairing_columns (pairing_rows e)))
     (IsPermutation-filter is_no_bye stored (map pairing_columns (pairing_rows e)) (stands.rows PairingTable)) in
     let are = rounds-mates db e s stands sound 1 e.stored (all_matches e sound) in
-    let same : IsPermutation (flat_map (mates db.trees) (filter is_no_bye stored)) (map meeting_columns (meeting_rows e)) =
-    subst (IsPermutation (flat_map (mates db.trees) (filter is_no_bye stored))) are kept in
     let rise = rises_from meeting_columns (meeting_row (totals e)) (λ k n. refl) (λ (r : Round). pairs_from 1 r.matches) 1 e.stored
     (rounds-rise (totals e) e.stored) in
     listed_by_two _ rows (map meeting_columns (meeting_rows e))
-    (subst (λ all. IsAscending IsBelow (map meeting_columns all)) (sym (meetings_are (totals e) 1 e.stored)) rise) same h
+    (subst (λ all. IsAscending IsBelow (map meeting_columns all)) (sym (meetings_are (totals e) 1 e.stored)) rise) (rw are at kept) h
 
 -- ---- as typed rows
-
-pub meetings-typed : (typed : List MeetingRow) (e : EventValue) → map meeting_columns typed ≡ map meeting_columns (meeting_rows e)
-    → typed ≡ meeting_rows e
-meetings-typed typed e = map-same meeting_columns (λ r s h. grind arith) typed (meeting_rows e)
-
-meetings-whole : (rows : List MeetingRow) → map (first_columns 13) (map meeting_columns rows) ≡ map meeting_columns rows
-meetings-whole [] = refl
-meetings-whole (r ∷ rows) = ap (λ more. meeting_columns r ∷ more) (meetings-whole rows)
 
 -- typed rows with the columns of the rows that are read
 pub meetings-read : (db : Database) (e : EventValue) (s : ℕ) (rows : List Row) (typed : List MeetingRow) → StandsFor db e s
     → IsSoundButForSeeds e → Lists by_first_two (flat_map (mates db.trees) (filter is_no_bye (columns_at pairing_places (db.trees 3)))) rows
     → map meeting_columns typed ≡ map (first_columns 13) rows → typed ≡ meeting_rows e
 meetings-read db e s rows typed stands sound h columns =
-    meetings-typed typed e (columns
-    ∙ (ap (map (first_columns 13)) (meetings-exact db e s rows stands sound h) ∙ meetings-whole (meeting_rows e)))
+    map-same meeting_columns (λ r s h. grind arith) typed (meeting_rows e) (columns
+    ∙ ap (map (first_columns 13)) (meetings-exact db e s rows stands sound h)
+    ∙ map-map (first_columns 13) meeting_columns (meeting_rows e))

@@ -1,11 +1,11 @@
 -- How a WHERE picks the one row of a player, among rows that the players' numbers lead.
-use Rattle.er_store.proofs.Prelude.{common_steps, after, IsPermutation-map, IsPermutation-sym, map-append, filter, List, Bool, refl, subst}
-use Rattle.er_store.proofs.Prelude.{true, not, false, sym, map, ap, ◌≡◌, ◌∷◌, [], ◌∙◌, ◌++◌, IsPermutation, Row, filter-map, arith}
-use Rattle.er_store.proofs.Prelude.{nat_tests, IsPermutation-filter_both, number, player_columns, Contains, zero, cond, drop, ap₂, pos}
-use Rattle.er_store.proofs.Prelude.{length, ℕ, Some, not-suc-le-zero, suc, get_or, ◌-◌, ◌≤◌, ◌+◌, ◌==◌, ◌<◌, ◌&&◌, length-map}
-use Rattle.er_store.proofs.Prelude.{get_or-range_with_len, length-range_with_len, ne_eqb, range_with_len, is_eq, dropped_at, numbers}
-use Rattle.er_store.proofs.Prelude.{Player, player_row, value_cmp-Int, is_true, from_truth, column, Binary, Null, Value, Eq, Compare}
-use Rattle.er_store.proofs.Prelude.{map-map, binary, value_cmp, find, slice_get, filter_same}
+use Rattle.er_store.proofs.Prelude.{number, is_eq, column, value_cmp, common_steps, IsPermutation-map, IsPermutation-sym, map-append}
+use Rattle.er_store.proofs.Prelude.{filter, List, Bool, refl, subst, true, not, false, sym, map, ap, ◌≡◌, ◌∷◌, [], ◌∙◌, ◌++◌, IsPermutation}
+use Rattle.er_store.proofs.Prelude.{Row, filter-map, arith, nat_tests, IsPermutation-filter_both, player_columns, Contains, zero, cond}
+use Rattle.er_store.proofs.Prelude.{drop, ap₂, pos, length, ℕ, Some, not-suc-le-zero, suc, get_or, ◌-◌, ◌≤◌, ◌+◌, ◌==◌, ◌<◌, ◌&&◌}
+use Rattle.er_store.proofs.Prelude.{length-map, get_or-range_with_len, length-range_with_len, ne_eqb, range_with_len, dropped_at, numbers}
+use Rattle.er_store.proofs.Prelude.{Player, player_row, value_cmp-Int, is_true, from_truth, Binary, Null, Value, Eq, Compare, map-map}
+use Rattle.er_store.proofs.Prelude.{binary, find, slice_get, filter_same}
 use Rattle.sqlite_keyed.proofs.ListLemmas.{slice_get-filter}
 
 -- ---- among rows that a test picks one of, that one gives way to another

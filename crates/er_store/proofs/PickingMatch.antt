@@ -1,14 +1,14 @@
 -- How a WHERE picks the one match of a round and a table, or of a stage and a slot.
-use Rattle.er_store.proofs.Prelude.{common_steps, ◌||◌, ◌∙◌, sym, List, ap, refl, [], ◌∷◌, map, false, true, arith, Bool, ◌++◌, ◌+◌, ap₂}
-use Rattle.er_store.proofs.Prelude.{filter, ◌≤◌, Some, ◌≢◌, ◌<◌, None, Option, slice_get, suc, ◌==◌, not, All, get_or, zero, ◌-◌}
-use Rattle.er_store.proofs.Prelude.{if◌then◌else◌, append-nil, ◌&&◌, option_map, IfSome, find, option_to_list, set, ne_eqb, nat_tests}
+use Rattle.er_store.proofs.Prelude.{slice_get, get_or, scored, pairing_row, bracket_row, is_true, binary, unary, number, pairing_columns}
+use Rattle.er_store.proofs.Prelude.{bracket_columns, common_steps, ◌||◌, ◌∙◌, sym, List, ap, refl, [], ◌∷◌, map, false, true, arith, Bool}
+use Rattle.er_store.proofs.Prelude.{◌++◌, ◌+◌, ap₂, filter, ◌≤◌, Some, ◌≢◌, ◌<◌, None, Option, suc, ◌==◌, not, All, zero, ◌-◌}
+use Rattle.er_store.proofs.Prelude.{if◌then◌else◌, append-nil, ◌&&◌, option_map, IfSome, find, option_to_list, ne_eqb, nat_tests}
 use Rattle.er_store.proofs.Prelude.{map-append, All-head, All-tail, filter-append, none-some, same_Some, IsPermutation, is_eq, slot_at}
-use Rattle.er_store.proofs.Prelude.{after, with_slot_score, scored, with_score, EventValue, numbered_from, is_bye, table_of, match_at}
-use Rattle.er_store.proofs.Prelude.{is_at, match_in, pairing_row, pairing_rows, pairing_rows_from, bracket_row, bracket_rows_from}
-use Rattle.er_store.proofs.Prelude.{bracket_rows, Match, Round, Games, Binary, is_true, from_truth, binary, unary, Row, column, value_cmp}
-use Rattle.er_store.proofs.Prelude.{filter_same, Compare, Eq, ToNumeric, filter-map, map-map, number, pairing_columns, bracket_columns}
-use Rattle.er_store.proofs.Prelude.{bracket, ◌≡◌, ℕ}
-use Rattle.std.proofs.lemmas.Option.{get_or_from_slice_get, option_and_then_some}
+use Rattle.er_store.proofs.Prelude.{with_slot_score, with_score, EventValue, numbered_from, is_bye, table_of, match_at, is_at, match_in}
+use Rattle.er_store.proofs.Prelude.{pairing_rows, pairing_rows_from, bracket_rows_from, bracket_rows, Match, Round, Games, Binary}
+use Rattle.er_store.proofs.Prelude.{from_truth, Row, column, value_cmp, filter_same, Compare, Eq, ToNumeric, filter-map, map-map, bracket}
+use Rattle.er_store.proofs.Prelude.{◌≡◌, ℕ}
+use Rattle.std.proofs.{Math.ListN.set, lemmas.Option.{get_or_from_slice_get, option_and_then_some}}
 use Rattle.er_event.specs.Bracket.{open_match}
 use Rattle.er_store.proofs.{Picking.{same_number, numbers_equal, picked-alone, picked-replaced}, Grouped.pairing_rows_are}
 use Rattle.er_store.proofs.Grouped.{bracket_rows_are, rows_from}

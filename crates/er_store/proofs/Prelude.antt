@@ -1,10 +1,9 @@
 -- The names of the crates below, and of what this one promises, that several proofs cite.
 pub use Rattle.std.proofs.Common.{◌≡◌, ◌∙◌, sym, ap, List, ℕ, refl, [], arith, subst, map, ◌∷◌, false, true, length, inr, ◌+◌, ◌++◌, inl}
-pub use Rattle.std.proofs.Common.{Bool, take, rules, ◌≤◌, true≢false, Some, None, ap₂, Result, Err, filter, ◌<◌, Ok, ◌≢◌, suc, Option, cond}
+pub use Rattle.std.proofs.Common.{Bool, take, rules, ◌≤◌, true≢false, Some, ap₂, Result, Err, filter, None, ◌<◌, Ok, ◌≢◌, suc, Option, cond}
 pub use Rattle.std.proofs.Common.{All, ◌==◌, get_or, not, Contains, ◌⊎◌, pos, ◌-◌, IsTrue, slice_get, if◌then◌else◌, zero, IfSome, ℤ}
 pub use Rattle.std.proofs.Common.{option_map, append-nil, ◌&&◌, flat_map, find, ◌||◌, Less, is_ok, IsErrAnd, min, max, not-suc-le-zero}
 pub use Rattle.std.proofs.Common.{nat_lt, IfErr, option_to_list, IsFalse, Equal, Greater, drop, MatchResult, IsOk, Ordering}
-pub use Rattle.std.proofs.Math.ListN.{set}
 pub use Rattle.std.proofs.lemmas.Bool.{ne_eqb}
 pub use Rattle.std.proofs.lemmas.Bool.Decides.{nat_tests}
 pub use Rattle.std.proofs.lemmas.Grind.{common_steps}
@@ -12,19 +11,18 @@ pub use Rattle.std.proofs.lemmas.List.{map-append, length-map, take_more, take_a
 pub use Rattle.std.proofs.lemmas.List.Elements.{recursion_from_All, All-from_recursion, All-nil, All-head, All-tail, filter-append}
 pub use Rattle.std.proofs.lemmas.List.Elements.{All-cons, All-weaker}
 pub use Rattle.std.proofs.lemmas.List.FromFn.{get_or-range_with_len, length-range_with_len}
-pub use Rattle.std.proofs.lemmas.List.Sorted.{IsPermutation-sym, IsPermutation-trans, IsPermutation-map, All-permutation}
-pub use Rattle.std.proofs.lemmas.List.Sorted.{IsPermutation-filter_both, IsPermutation-refl}
+pub use Rattle.std.proofs.lemmas.List.Sorted.{IsPermutation-sym, IsPermutation-trans, IsPermutation-map, IsPermutation-filter_both}
+pub use Rattle.std.proofs.lemmas.List.Sorted.{IsPermutation-refl}
 pub use Rattle.std.proofs.lemmas.Option.{same_Some, none-some}
 pub use Rattle.std.proofs.lemmas.Result.{on_ok_weaker, IfErr-weaker, IfOk-weaker}
 pub use Rattle.std.specs.List.{AllByRecursion, range_with_len, list_all}
-pub use Rattle.std.specs.List.Sorted.{IsPermutation, IsSorted}
+pub use Rattle.std.specs.List.Sorted.{IsPermutation}
 pub use Rattle.std.specs.Ordering.{is_eq, ordering_then}
 pub use Rattle.std.specs.Prelude.{IsUtf8}
 pub use Rattle.er_event.specs.Bracket.{slot_at}
 pub use Rattle.er_event.specs.Change.{after, with_round, with_slot_score, with_stage, with_player, with_phase, dropped_at, scored}
 pub use Rattle.er_event.specs.Change.{with_score, new_player}
 pub use Rattle.er_event.specs.Event.{EventValue}
-pub use Rattle.er_event.specs.Match.{MayStand}
 pub use Rattle.er_event.specs.Name.{is_lawful_name}
 pub use Rattle.er_event.specs.Round.{is_bye, numbered_from, match_at, table_of, is_at, seats, match_in}
 pub use Rattle.er_event.specs.Rows.{pairing_row, tally_rows, tally_row, pairing_rows_from, pairing_rows, bracket_row, round_rows}
@@ -58,7 +56,7 @@ pub use Rattle.sqlite.specs.Cast.{cast, cast_row}
 pub use Rattle.sqlite.specs.Clock.{timed}
 pub use Rattle.sqlite.specs.Collation.TheVariants.{Binary}
 pub use Rattle.sqlite.specs.Command.TheVariants.{Update, Insert, Select}
-pub use Rattle.sqlite.specs.Edit.{numbered, is_taken, next_rowid}
+pub use Rattle.sqlite.specs.Edit.{is_taken, next_rowid, numbered}
 pub use Rattle.sqlite.specs.Effect.{Database}
 pub use Rattle.sqlite.specs.Given.{HasGiven}
 pub use Rattle.sqlite.specs.Held.{state, Held}
@@ -68,13 +66,13 @@ unfoldable pub use Rattle.sqlite.specs.Ops.{binary, unary}
 pub use Rattle.sqlite.specs.Order.{Row, column}
 unfoldable pub use Rattle.sqlite.specs.Order.{value_cmp}
 pub use Rattle.sqlite.specs.Program.{overlay}
-pub use Rattle.sqlite.specs.Query.{IsAnswer, Query, Output, output, page, or_nulls, output_cmp}
+pub use Rattle.sqlite.specs.Query.{Query, IsAnswer, Output, output, or_nulls}
 pub use Rattle.sqlite.specs.Schema.{Schema}
 pub use Rattle.sqlite.specs.Source.TheVariants.{Values}
 pub use Rattle.sqlite.specs.State.{State, HasCleanDisk, IsUnchanged, Survives, ShowsRows}
 unfoldable pub use Rattle.sqlite.specs.State.{Shown, FailsToQuery, IsNotRun, CommitsShowing}
 pub use Rattle.sqlite.specs.Table.{Table}
-pub use Rattle.sqlite.specs.Term.{eval_all, Term, holds, col, Env}
+pub use Rattle.sqlite.specs.Term.{eval_all, Term, Env, holds, col}
 pub use Rattle.sqlite.specs.Tree.{Trees, put_row, IsAscending, rowid, without_rowid, has_rowid}
 pub use Rattle.sqlite.specs.declared.error.Error.{Error}
 pub use Rattle.sqlite.specs.declared.error.Error.TheVariants.{SqliteFailure}
@@ -91,7 +89,7 @@ pub use Rattle.sqlite_sql.specs.declared.ops.BinaryOp.TheVariants.{Compare}
 pub use Rattle.sqlite_sql.specs.declared.ops.CompareOp.TheVariants.{Eq, Gt}
 pub use Rattle.sqlite_sql.specs.declared.ops.UnaryOp.TheVariants.{ToNumeric}
 unfoldable pub use Rattle.sqlite_tied.specs.Compute.{everything}
-pub use Rattle.sqlite_trees.proofs.ListLemmas.{filter-map, all_weaker, map-map, filter_all}
+pub use Rattle.sqlite_trees.proofs.ListLemmas.{map-map, filter-map, all_weaker, filter_all}
 pub use Rattle.sqlite_trees.specs.View.{is_int}
 pub use Rattle.sqlite_trees.specs.declared.store.Store.{Ghosts}
 pub use Rattle.sqlite_value.proofs.OrderLemmas.{value_cmp-Int, value_cmp_total}
@@ -105,10 +103,9 @@ pub use Rattle.er_store.specs.Shape.{Form, Shape}
 pub use Rattle.er_store.specs.Slip.{match_of, is_swapped, Side, number_in, name_in, named_pairing, IsPlayer, IsLawful, named_pairings}
 pub use Rattle.er_store.specs.Standing.{StandsFor, HasTables, StandsWith, IsOther, CanRead, IsKeyed, Shows, with_ours, IsStored, rows_in}
 pub use Rattle.er_store.specs.Standing.{rows_with, KeepsOthers}
-pub use Rattle.er_store.specs.Tables.{bracket, no_schema, player, pairing, read_event, tally, insert_event, insert_player, set_serial}
-pub use Rattle.er_store.specs.Tables.{set_phase, set_dropped, set_score, insert_pairing, insert_slot, set_slot_score, insert_tally}
-pub use Rattle.er_store.specs.Tables.{set_tally, read_players, read_pairings, read_bracket, read_tallies, read_meetings, read_slip, event}
-pub use Rattle.er_store.specs.Tables.{our_schema}
+pub use Rattle.er_store.specs.Tables.{no_schema, pairing, bracket, read_event, player, tally, set_serial, set_phase, set_dropped, set_score}
+pub use Rattle.er_store.specs.Tables.{set_slot_score, set_tally, insert_event, insert_player, insert_pairing, insert_slot, insert_tally}
+pub use Rattle.er_store.specs.Tables.{read_players, read_pairings, read_bracket, read_tallies, read_meetings, read_slip, event, our_schema}
 pub use Rattle.er_store.specs.declared.rows.MeetingRow.{MeetingRow}
 pub use Rattle.er_store.specs.declared.rows.NamedPairing.{NamedPairing}
 pub use Rattle.er_store.specs.inside.Lookup.{begins_select}

@@ -1,16 +1,16 @@
 -- What an UPDATE does to the one row that its WHERE picks.
-use Rattle.er_store.proofs.Prelude.{nat_tests, arith, ◌≡◌, ℕ, List, [], ◌∷◌, ◌++◌, map, filter, flat_map, Bool, false, if◌then◌else◌, refl}
-use Rattle.er_store.proofs.Prelude.{sym, ap, subst, ◌∙◌, ℤ, pos, slice_get, Some, not, ◌≢◌, list_all, IsPermutation, IsPermutation-sym, Row}
-use Rattle.er_store.proofs.Prelude.{column, Term, eval_all, holds, IsAnswer, output, page, Output, overlay, Trees, put_row, without_rowid}
-use Rattle.er_store.proofs.Prelude.{has_rowid, cast, cast_row, is_taken, Update, State, Table, one_permutation, filter-map}
-use Rattle.er_store.proofs.Prelude.{IsPermutation-filter, filter_same, columns_at, number, HasTables, IsOther, Ran, Goes, length, Contains}
-use Rattle.er_store.proofs.Prelude.{true, range_with_len, IsPermutation-trans, Int, Text, numbered, PlayerTable, Player, EventValue}
-use Rattle.er_store.proofs.Prelude.{numbers, dropped_at, TallyRow, player, set_dropped, stored_player, StandsWith, BringsToWith, set}
-use Rattle.er_store.proofs.Prelude.{totals, TallyTable, Totals, tally_row, tally_rows_by, tally, set_tally, tally_columns, stored_tally}
-use Rattle.er_store.proofs.Prelude.{set_for, map-map, first, true≢false, Less, Equal, is_eq, AllByRecursion, Value, Null, value_cmp_total}
-use Rattle.er_store.proofs.Prelude.{rowid, is_int, filter_all, all_weaker, all_from_test, test_from_all, BracketTable, PairingTable, Games}
-use Rattle.er_store.proofs.Prelude.{Match, is_bye, match_at, slot_at, scored, with_score, with_slot_score, pairing_row, bracket_row}
-use Rattle.er_store.proofs.Prelude.{pairing, bracket, set_score, set_slot_score, pairing_columns, bracket_columns, IsKeyed, value_cmp}
+use Rattle.er_store.proofs.Prelude.{has_rowid, numbers, tally_columns, rowid, value_cmp, nat_tests, arith, ◌≡◌, ℕ, List, [], ◌∷◌, ◌++◌, map}
+use Rattle.er_store.proofs.Prelude.{filter, flat_map, Bool, false, if◌then◌else◌, refl, sym, ap, subst, ◌∙◌, ℤ, pos, slice_get, Some, not}
+use Rattle.er_store.proofs.Prelude.{◌≢◌, list_all, IsPermutation, IsPermutation-sym, Row, column, Term, eval_all, holds, IsAnswer, overlay}
+use Rattle.er_store.proofs.Prelude.{Trees, put_row, without_rowid, cast, cast_row, is_taken, Update, State, Table, one_permutation}
+use Rattle.er_store.proofs.Prelude.{filter-map, IsPermutation-filter, filter_same, columns_at, number, HasTables, IsOther, Ran, Goes}
+use Rattle.er_store.proofs.Prelude.{length, Contains, true, range_with_len, IsPermutation-trans, Int, Text, PlayerTable, Player, EventValue}
+use Rattle.er_store.proofs.Prelude.{dropped_at, TallyRow, player, set_dropped, stored_player, StandsWith, BringsToWith, totals, TallyTable}
+use Rattle.er_store.proofs.Prelude.{Totals, tally_row, tally_rows_by, tally, set_tally, stored_tally, set_for, map-map, true≢false, Less}
+use Rattle.er_store.proofs.Prelude.{Equal, is_eq, AllByRecursion, Value, Null, value_cmp_total, is_int, filter_all, all_weaker}
+use Rattle.er_store.proofs.Prelude.{all_from_test, test_from_all, BracketTable, PairingTable, Games, Match, is_bye, match_at, slot_at}
+use Rattle.er_store.proofs.Prelude.{scored, with_score, with_slot_score, pairing_row, bracket_row, pairing, bracket, set_score}
+use Rattle.er_store.proofs.Prelude.{set_slot_score, pairing_columns, bracket_columns, IsKeyed}
 use Rattle.std.specs.Ordering.{is_lt}
 use Rattle.std.proofs.lemmas.Cmp.{tied_itself}
 use Rattle.er_event.specs.Change.{with_dropped}
@@ -18,9 +18,9 @@ use Rattle.sqlite.specs.declared.types.Value.TheVariants.{Real, Blob}
 use Rattle.sqlite_trees.specs.Tree.{IsTable}
 use Rattle.sqlite_trees.proofs.TreeLemmas.{later_rowids}
 use Rattle.sqlite_keyed.proofs.ListLemmas.{all-filter, ascending-filter}
-use Rattle.er_store.proofs.{Effects.{one_of, meant}, Meaning.{rows_query, dropped_tests, Means, score_tests}, Picking.is_another}
-use Rattle.er_store.proofs.{Picking.{picks-compares, picks, picks_one, same_number, picks_row, AreRowsBy}, Together.shows_more}
-use Rattle.er_store.proofs.{Together.{players_set, tallies_set, pairings_set, bracket_set}, Writing.{replaces, cast_int, cast_null}}
+use Rattle.er_store.proofs.{Picking.{picks, is_another, picks-compares, picks_one, same_number, picks_row, AreRowsBy}, Effects.one_of}
+use Rattle.er_store.proofs.{Effects.meant, Meaning.{rows_query, dropped_tests, Means, score_tests}, Together.{shows_more, players_set}}
+use Rattle.er_store.proofs.{Together.{tallies_set, pairings_set, bracket_set}, Writing.{replaces, cast_int, cast_null, one_shown}}
 use Rattle.er_store.proofs.{PickingMatch.{picks_table, is_elsewhere, picks_one_table, picks_one_slot}, Adding.keyed_put}
 
 -- ---- what an UPDATE shows of the one row that its WHERE picks
@@ -34,13 +34,9 @@ pub picked_rows : (tree : ℕ) (tests terms : List Term) (db : Trees) (params r 
     → filter (λ x. list_all (holds (params ∷ x ∷ [])) tests) (overlay db [] tree) ≡ r ∷ []
     → IsAnswer (rows_query tree tests terms) (overlay db []) params rows → rows ≡ eval_all terms (params ∷ r ∷ []) ∷ []
 picked_rows tree tests terms db params r rows one a =
-    let test : Row → Bool = λ x. list_all (holds (params ∷ x ∷ [])) tests in
-    let staged : a.staged ≡ (params ∷ r ∷ []) ∷ [] = a.grouped ∙ picked test params (overlay db [] tree)
-    ∙ ap (map (λ x. params ∷ x ∷ [])) one in
-    let o : Output = ([], eval_all terms (params ∷ r ∷ [])) in
-    let kept : a.kept ≡ o ∷ [] = a.distinct ∙ ap (map (output (rows_query tree tests terms))) staged in
-    let ordered = one_permutation o a.ordered (subst (λ k. IsPermutation k a.ordered) kept a.same) in
-    a.shown ∙ ap (λ xs. page (rows_query tree tests terms) params (map (λ (p : Output). p.1) xs)) ordered
+    one_shown (rows_query tree tests terms) params (params ∷ r ∷ []) (a.grouped
+    ∙ picked (λ x. list_all (holds (params ∷ x ∷ [])) tests) params (overlay db [] tree) ∙ ap (map (λ x. params ∷ x ∷ [])) one)
+    a.distinct a.same a.shown
 
 -- one stored row shows the one that is picked
 pub one_picked : (places : List ℕ) (test : Row → Bool) (rows : List Row) (all : List Row) (row : Row)

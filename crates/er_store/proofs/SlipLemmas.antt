@@ -1,7 +1,8 @@
 -- A slip and the row that it is read of.
 use Rattle.er_store.proofs.Prelude.{nat_lt, cond, max, min, false, Bool, arith, sym, refl, ℕ, subst, true, ◌≡◌, nat_tests, common_steps}
-use Rattle.er_store.proofs.Prelude.{List, Option, Some, IfSome, ◌∙◌, same_Some, Match, SlipRow, MayStand, pairing_row, NamedPairing, Side}
-use Rattle.er_store.proofs.Prelude.{number_in, name_in, match_of, is_swapped, named_pairing, IsPlayer, IsLawful}
+use Rattle.er_store.proofs.Prelude.{List, Option, Some, IfSome, ◌∙◌, same_Some, Match, SlipRow, pairing_row, NamedPairing, Side, number_in}
+use Rattle.er_store.proofs.Prelude.{name_in, match_of, is_swapped, named_pairing, IsPlayer, IsLawful}
+use Rattle.er_event.specs.Match.{MayStand}
 
 -- ---- what a test chooses of two, as the lesser or the greater of two numbers
 

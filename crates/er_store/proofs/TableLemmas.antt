@@ -2,15 +2,16 @@
 use Rattle.er_store.proofs.Prelude.{arith, ℕ, List, [], ◌∷◌, refl, ap, map, subst, sym, ◌≡◌, ◌∙◌, Row, State, Error, columns_at, Form}
 use Rattle.er_store.proofs.Prelude.{Shape, Lists, IsReadRefused, first_columns, HasTables, StandsFor, EventValue, IsSoundButForSeeds, Shown}
 use Rattle.er_store.proofs.Prelude.{FailsToQuery, common_steps, Result, Ok, Err, IsErrAnd, on_ok_weaker, Database, unchanged_then, Refusal}
-use Rattle.er_store.proofs.Prelude.{Damaged, Place, ReadsBefore, IsFault, first}
+use Rattle.er_store.proofs.Prelude.{Damaged, Place, ReadsBefore, IsFault}
 use Rattle.std.proofs.lemmas.Result.{on_err_weaker}
+use Rattle.er_store.proofs.{Selecting.selects, Meaning.{event_selected, players_selected, pairings_selected, bracket_selected}}
+use Rattle.er_store.proofs.{Meaning.tallies_selected, Exact.{answer_lists, sorted_by_one, sorted_by_two, listed_whole, event_exact}}
+use Rattle.er_store.proofs.{Exact.{players_exact, bracket_exact, tallies_exact, event_text, players_text, map-same}, Refusals.read_refused}
+use Rattle.er_store.proofs.{Refusals.{answers, may_read}, Keyed.pairings_exact, Effects.selected, Crash.survives_both}
+use Rattle.er_store.proofs.LoadLemmas.{then_keeps}
 use Rattle.er_store.specs.{inside.Lookup.{FindsRows, IsOurs, LooksUp, MissesTables}, Shape.{event_form, player_form, pairing_form}}
 use Rattle.er_store.specs.Shape.{bracket_form, tally_form, event_table, player_table, pairing_table, bracket_table, tally_table}
 use Rattle.er_store.specs.{Loading.IsListed, Damage.{IsMisread, IsFirstMisread}}
-use Rattle.er_store.proofs.Meaning.{event_selected, players_selected, pairings_selected, bracket_selected, tallies_selected}
-use Rattle.er_store.proofs.Exact.{answer_lists, sorted_by_one, sorted_by_two, listed_whole, event_exact, players_exact, bracket_exact}
-use Rattle.er_store.proofs.{Exact.{tallies_exact, event_text, players_text, map-same}, Refusals.{read_refused, answers, may_read}}
-use Rattle.er_store.proofs.{Selecting.selects, Keyed.pairings_exact, Effects.selected, Crash.survives_both, LoadLemmas.then_keeps}
 
 -- ---- what the statement of a table reads
 

@@ -1,15 +1,15 @@
 -- The rows of totals, beside those of players, and while a change is written.
-use Rattle.er_store.proofs.Prelude.{common_steps, ◌≡◌, ℕ, ◌+◌, ◌<◌, ◌≤◌, List, [], ◌∷◌, ◌++◌, map, take, length, get_or, false, inl, Result}
-use Rattle.er_store.proofs.Prelude.{Ok, Err, MatchResult, sym, ap, ◌∙◌, arith, length-map, take_more, get_or-range_with_len, Player}
-use Rattle.er_store.proofs.Prelude.{Refusal, Memory, PlayerRow, TallyRow, EventValue, player_row, player_rows, tally_row, tally_rows}
-use Rattle.er_store.proofs.Prelude.{IsSoundButForSeeds, tally_by, tallies, totals, IsFault, Tally, suc, ◌==◌, ◌||◌, if◌then◌else◌, All}
+use Rattle.er_store.proofs.Prelude.{tallies, common_steps, ◌≡◌, ℕ, ◌+◌, ◌<◌, ◌≤◌, List, [], ◌∷◌, ◌++◌, map, take, length, get_or, false}
+use Rattle.er_store.proofs.Prelude.{inl, Result, Ok, Err, MatchResult, sym, ap, ◌∙◌, arith, length-map, take_more, get_or-range_with_len}
+use Rattle.er_store.proofs.Prelude.{Player, Refusal, Memory, PlayerRow, TallyRow, EventValue, player_row, player_rows, tally_row}
+use Rattle.er_store.proofs.Prelude.{tally_rows, IsSoundButForSeeds, tally_by, totals, IsFault, Tally, suc, ◌==◌, ◌||◌, if◌then◌else◌, All}
 use Rattle.er_store.proofs.Prelude.{Contains, refl, ap₂, subst, AllByRecursion, range_with_len, nat_tests, map-append}
-use Rattle.er_store.proofs.Prelude.{length-range_with_len, Table, Trees, State, numbered, SetDropped, Match, Totals, after, new_player}
-use Rattle.er_store.proofs.Prelude.{with_player, tally_rows_by, numbers, IsOther, Moves, set_for, set_for_all, player, map-map}
+use Rattle.er_store.proofs.Prelude.{length-range_with_len, Table, Trees, State, SetDropped, Match, Totals, after, new_player, with_player}
+use Rattle.er_store.proofs.Prelude.{tally_rows_by, numbers, IsOther, Moves, set_for, set_for_all, map-map}
 use Rattle.std.proofs.lemmas.List.{get_or-map}
 use Rattle.er_event.specs.{declared.changes.Change.Change, declared.changes.Change.TheVariants.AddPlayer}
 use Rattle.er_event.specs.{declared.players.TheConstants.MAX_PLAYERS, Recounted.IsAbsent}
-use Rattle.er_store.proofs.Picking.{numbers-dropped_at, within}
+use Rattle.er_store.proofs.Picking.{within, numbers-dropped_at}
 
 -- ---- the rows of players and of totals, one beside the other
 
@@ -68,7 +68,7 @@ same_rows trees [] = tt
 same_rows trees (t ∷ more) = (λ _. refl, same_rows trees more)
 
 pub moves_self : {a b : State} → Moves a b → Moves b b
-moves_self {a} {b} moves = grind (arith, common_steps, same_rows)
+moves_self moves = grind (arith, common_steps, same_rows)
 
 -- ---- players by number
 

@@ -1,13 +1,13 @@
 -- The steps of a change, put together.
-use Rattle.er_store.proofs.Prelude.{◌≡◌, ◌≢◌, ◌≤◌, ◌+◌, ◌||◌, ℕ, length, List, [], ◌∷◌, ◌++◌, map, Bool, false, refl, sym, ap, subst, ◌∙◌}
-use Rattle.er_store.proofs.Prelude.{arith, Ordering, Less, Equal, Greater, is_eq, AllByRecursion, IsPermutation, IsPermutation-refl}
-use Rattle.er_store.proofs.Prelude.{IsPermutation-sym, IsPermutation-trans, IsPermutation-map, map-append, set, Row, column, Table, Schema}
-use Rattle.er_store.proofs.Prelude.{Trees, put_row, rowid, is_taken, Database, State, Place, EventTable, PlayerTable, PairingTable}
+use Rattle.er_store.proofs.Prelude.{column, columns_at, ◌≡◌, ◌≢◌, ◌≤◌, ◌+◌, ◌||◌, ℕ, length, List, [], ◌∷◌, ◌++◌, map, Bool, false, refl}
+use Rattle.er_store.proofs.Prelude.{sym, ap, subst, ◌∙◌, arith, Ordering, Less, Equal, Greater, is_eq, AllByRecursion, IsPermutation}
+use Rattle.er_store.proofs.Prelude.{IsPermutation-refl, IsPermutation-sym, IsPermutation-trans, IsPermutation-map, map-append, Row, Table}
+use Rattle.er_store.proofs.Prelude.{Schema, Trees, put_row, rowid, is_taken, Database, State, Place, EventTable, PlayerTable, PairingTable}
 use Rattle.er_store.proofs.Prelude.{BracketTable, TallyTable, EventValue, Phase, new_player, with_player, with_phase, player_row}
-use Rattle.er_store.proofs.Prelude.{pairing_rows_from, bracket_rows_from, Player, Round, Match, TallyRow, our_schema, bracket}
-use Rattle.er_store.proofs.Prelude.{player_columns, pairing_columns, bracket_columns, tally_columns, stored_event, stored_player}
-use Rattle.er_store.proofs.Prelude.{stored_tally, columns_at, rows_in, rows_with, HasTables, StandsWith, StandsFor, IsKeyed, IsOther}
-use Rattle.er_store.proofs.Prelude.{KeepsOthers, Goes, Puts, Moves, BringsToWith, CreatesAll, all_weaker, value_cmp}
+use Rattle.er_store.proofs.Prelude.{pairing_rows_from, bracket_rows_from, Player, Round, Match, TallyRow, our_schema, player_columns}
+use Rattle.er_store.proofs.Prelude.{pairing_columns, bracket_columns, tally_columns, stored_event, stored_player, stored_tally, rows_in}
+use Rattle.er_store.proofs.Prelude.{rows_with, HasTables, StandsWith, StandsFor, IsKeyed, IsOther, KeepsOthers, Goes, Puts, Moves}
+use Rattle.er_store.proofs.Prelude.{BringsToWith, CreatesAll, all_weaker, value_cmp}
 use Rattle.std.proofs.lemmas.List.Sorted.{IsPermutation-to_front, IsPermutation-middle, IsPermutation-cons}
 use Rattle.std.specs.Ordering.{match_ordering}
 use Rattle.er_store.specs.Standing.{tree_of, places_of, IsNew}
@@ -33,8 +33,7 @@ pub shows_more : (places : List ℕ) (new : Row) (rows : List Row) (shows : Row)
     → IsPermutation (columns_at places (put_row new rows)) (before ++ shows ∷ [])
 shows_more places new rows shows before free is was =
     let put = IsPermutation-map (λ r. map (column r) places) (new ∷ rows) (put_row new rows) (put_permutes new rows free) in
-    let front : IsPermutation (map (column new) places ∷ columns_at places rows) (shows ∷ before) =
-    subst (λ x. IsPermutation (map (column new) places ∷ columns_at places rows) (x ∷ before)) is (IsPermutation-cons _ _ _ was) in
+    let front : IsPermutation (map (column new) places ∷ columns_at places rows) (shows ∷ before) = rw is (IsPermutation-cons _ _ _ was) in
     IsPermutation-trans _ _ _ (IsPermutation-sym _ _ put)
     (IsPermutation-trans _ _ _ front (IsPermutation-sym _ _ (IsPermutation-to_front before shows)))
 
@@ -56,9 +55,7 @@ kept tree old new has goes =
 -- the other tables show what they did
 stay : (tree : ℕ) (old new : State) (e : EventValue) (s : ℕ) {rows : List TallyRow} → StandsWith old.now e s rows → Goes tree old new
     → (table : Place) → tree_of table ≢ tree → IsPermutation (rows_in new.now table) (rows_with e s rows table)
-stay tree old new e s {rows} stands goes table apart =
-    subst (λ (stored : List Row). IsPermutation (columns_at (places_of table) stored) (rows_with e s rows table))
-    (sym (kept tree old new stands.tables goes table apart)) (stands.rows table)
+stay tree old new e s stands goes table apart = rw (kept tree old new stands.tables goes table apart) (stands.rows table)
 
 -- the other tables of these have the same rows
 abbrev SameOthers : Trees → Trees → List Table → Type 0
@@ -78,8 +75,7 @@ both_kept a b c (t ∷ more) p q = (λ other. q.0 other ∙ p.0 other, both_kept
 pub keeps_then : (a b c : Database) → KeepsOthers a b → KeepsOthers b c → KeepsOthers a c
 keeps_then a b c p q = record {
   schema = q.schema ∙ p.schema;
-  rows = both_kept a.trees b.trees c.trees a.schema.tables p.rows
-      (subst (λ (s : Schema). SameOthers b.trees c.trees s.tables) p.schema q.rows);
+  rows = both_kept a.trees b.trees c.trees a.schema.tables p.rows (rw p.schema at q.rows);
 }
 
 pub goes_moves : (tree : ℕ) (old new : State) → ((t : ℕ) → IsOther t → t ≢ tree) → Goes tree old new → Moves old new
@@ -124,9 +120,8 @@ table_set tree {old} {new} {e} {s = s} apart stands goes low follows pairings br
     low = low;
     tables = subst HasTables (sym goes.schema) stands.tables;
     rows = λ table. follows table (stay tree old new e s stands goes table);
-    pairings_keyed = pairings (λ other.
-        subst IsKeyed (sym (kept tree old new stands.tables goes PairingTable other)) stands.pairings_keyed);
-    bracket_keyed = bracket (λ other. subst IsKeyed (sym (kept tree old new stands.tables goes BracketTable other)) stands.bracket_keyed);
+    pairings_keyed = pairings (λ other. rw (kept tree old new stands.tables goes PairingTable other) stands.pairings_keyed);
+    bracket_keyed = bracket (λ other. rw (kept tree old new stands.tables goes BracketTable other) stands.bracket_keyed);
   };
 }
 

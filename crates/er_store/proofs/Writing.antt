@@ -1,16 +1,16 @@
 -- What an INSERT of one row does, and an UPDATE.
-use Rattle.er_store.proofs.Prelude.{◌≡◌, ℤ, Bool, true, false, cond, refl, Value, Null, Int, cast, unary, arith, common_steps, ◌⊎◌, inl}
-use Rattle.er_store.proofs.Prelude.{inr, ℕ, List, [], ◌∷◌, map, drop, length, slice_get, not, ◌&&◌, if◌then◌else◌, Some, None, Ok, Err}
+use Rattle.er_store.proofs.Prelude.{cast, Env, ◌≡◌, ℤ, Bool, true, false, cond, refl, Value, Null, Int, unary, arith, common_steps, ◌⊎◌}
+use Rattle.er_store.proofs.Prelude.{inl, inr, ℕ, List, [], ◌∷◌, map, drop, length, slice_get, not, ◌&&◌, if◌then◌else◌, Some, None, Ok, Err}
 use Rattle.er_store.proofs.Prelude.{Result, sym, ap, subst, ◌∙◌, Row, Term, Table, Insert, Values, cast_row, numbered, Trees, Database}
 use Rattle.er_store.proofs.Prelude.{State, runs_as, Puts, Ran, ◌≢◌, ◌==◌, ◌++◌, ap₂, AllByRecursion, IsPermutation, ne_eqb, eval_all}
-use Rattle.er_store.proofs.Prelude.{IsAnswer, output, page, Output, Query, overlay, Schema, Update, is_taken, without_rowid, put_row}
+use Rattle.er_store.proofs.Prelude.{IsAnswer, output, Output, Query, overlay, Schema, Update, is_taken, without_rowid, put_row}
 use Rattle.er_store.proofs.Prelude.{one_permutation, HasTables, IsOther, with_ours, Goes, all_weaker}
 use Rattle.std.proofs.Common.{◌/◌, MatchBool}
-use Rattle.std.specs.{Ordering.on, List.{flat_map, filter_map, cons_option}, Prelude.Option}
-use Rattle.sqlite.specs.{Kind.TheVariants.Integer, Edit.{Edit, edit_of, taken_by}, declared.run.Mode.Mode, Does.{OnRows, Tally}, Rows.Task}
-use Rattle.sqlite.specs.{Rows.{Written, stamped, rowids_for, count_of}, State.mode_of, Rowids.Rowids, Rowids.TheVariants.{Chosen, Given}}
+use Rattle.std.specs.{List.{flat_map, filter_map, cons_option}, Prelude.Option}
+use Rattle.sqlite_rules.specs.{Edit.{edit_of, Applies}, Calls.ids_of, Action.{Writes, works, work_by, work_for, deed_for, pairs}}
+use Rattle.sqlite.specs.{Rows.{rowids_for, count_of, Task, Written, stamped}, Query.page, Kind.TheVariants.Integer, Edit.{Edit, taken_by}}
+use Rattle.sqlite.specs.{declared.run.Mode.Mode, Does.{OnRows, Tally}, State.mode_of, Rowids.Rowids, Rowids.TheVariants.{Chosen, Given}}
 use Rattle.sqlite.specs.Effect.{value_rows, Answers}
-use Rattle.sqlite_rules.specs.{Action.{Writes, works, work_by, work_for, deed_for, pairs}, Edit.Applies, Calls.ids_of}
 use Rattle.sqlite.proofs.Callers.{one_step}
 use Rattle.sqlite_rules.proofs.ActionLemmas.{no_works}
 use Rattle.sqlite_schema.specs.{declared.program.Program.Program, declared.schema.Keys.Keys, declared.schema.Reference.Reference}
@@ -185,11 +185,13 @@ replaces table id row {sql} {params} {old} {new} {at} {q} means has found apart 
 
 -- ---- the row that an update of the event's table shows
 
+-- where one is staged, it alone is shown
+pub one_shown : (q : Query) (params : Row) (e : Env) {staged : List Env} {kept ordered : List Output} {rows : List Row} → staged ≡ e ∷ []
+    → kept ≡ map (output q) staged → IsPermutation kept ordered → rows ≡ page q params (map (λ (o : Output). o.1) ordered)
+    → rows ≡ page q params ((output q e).1 ∷ [])
+one_shown q params e one kept same shown = rw (one_permutation (output q e) _ (rw (kept, one) at same)) at shown
+
 pub event_rows : (terms : List Term) (db : Trees) (params r : Row) (rows : List Row) → db 0 ≡ r ∷ []
     → IsAnswer (event_query terms) (overlay db []) params rows → rows ≡ eval_all terms (params ∷ r ∷ []) ∷ []
 event_rows terms db params r rows one a =
-    let staged : a.staged ≡ (params ∷ r ∷ []) ∷ [] = a.grouped ∙ rw one in
-    let o : Output = ([], eval_all terms (params ∷ r ∷ [])) in
-    let kept : a.kept ≡ o ∷ [] = a.distinct ∙ ap (map (output (event_query terms))) staged in
-    let ordered = one_permutation o a.ordered (subst (λ k. IsPermutation k a.ordered) kept a.same) in
-    a.shown ∙ ap (λ xs. page (event_query terms) params (map (λ (p : Output). p.1) xs)) ordered
+    one_shown (event_query terms) params (params ∷ r ∷ []) (a.grouped ∙ rw one) a.distinct a.same a.shown

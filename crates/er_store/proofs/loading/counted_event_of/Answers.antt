@@ -1,4 +1,4 @@
-use Rattle.er_store.proofs.Prelude.{◌≡◌, inr, refl, sym, ap, ◌∙◌, true≢false, EventValue, tally_rows}
+use Rattle.er_store.proofs.Prelude.{tally_rows, ◌≡◌, inr, refl, sym, ap, ◌∙◌, true≢false, EventValue}
 use Rattle.er_store.proofs.loading.counted_event_of.Goals as goal
 
 pub returns-then-has_tallies-clause-only : goal.returns-then-has_tallies-clause-only

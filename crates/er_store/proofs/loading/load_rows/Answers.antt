@@ -1,4 +1,4 @@
-use Rattle.er_store.proofs.Prelude.{◌≡◌, sym, ap, ◌∙◌, Place, reading_refusal}
+use Rattle.er_store.proofs.Prelude.{reading_refusal, ◌≡◌, sym, ap, ◌∙◌, Place}
 use Rattle.er_store.proofs.{LoadLemmas.read_fault, Refusals.damaged_place}
 use Rattle.er_store.proofs.loading.load_rows.Goals as goal
 

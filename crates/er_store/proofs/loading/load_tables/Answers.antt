@@ -1,4 +1,4 @@
-use Rattle.er_store.proofs.Prelude.{inl, inr, rules, sym, ◌∙◌, IfOk-weaker, IfErr-weaker, state, IsFault}
+use Rattle.er_store.proofs.Prelude.{state, inl, inr, rules, sym, ◌∙◌, IfOk-weaker, IfErr-weaker, IsFault}
 use Rattle.std.proofs.lemmas.Result.{MatchResult-from_both}
 use Rattle.er_store.specs.{Damage.{IsAtFault, IfDamaged}, Fault.IsLoadFault}
 use Rattle.er_store.proofs.{Refusals.first_of, LoadLemmas.{unchanged_keeps, all_ok, all_err, told}, Loaded.{no_row_fault, shows_event}}

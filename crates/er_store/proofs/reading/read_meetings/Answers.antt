@@ -1,6 +1,6 @@
-use Rattle.er_store.proofs.Prelude.{rules, ◌≡◌, ◌⊎◌, inl, inr, [], ◌∷◌, ◌++◌, map, List, Result, IfErr, IsErrAnd, refl, sym, ap, subst, ◌∙◌}
-use Rattle.er_store.proofs.Prelude.{arith, map-append, Error, state, Row, State, HasCleanDisk, IsUnchanged, Survives, unchanged_then}
-use Rattle.er_store.proofs.Prelude.{survives_then, meeting_rows, out_of_memory, IsReadRefused, first_columns, meeting_columns}
+use Rattle.er_store.proofs.Prelude.{state, out_of_memory, rules, ◌≡◌, ◌⊎◌, inl, inr, [], ◌∷◌, ◌++◌, map, List, Result, IfErr, IsErrAnd}
+use Rattle.er_store.proofs.Prelude.{refl, sym, ap, subst, ◌∙◌, arith, map-append, Error, Row, State, HasCleanDisk, IsUnchanged, Survives}
+use Rattle.er_store.proofs.Prelude.{unchanged_then, survives_then, meeting_rows, IsReadRefused, first_columns, meeting_columns}
 use Rattle.er_store.proofs.Prelude.{CommitsShowing, FailsToQuery, Shown}
 use Rattle.er_store.proofs.{Meaning.{meeting_query, meetings_selected}, Refusals.meetings_refused, Selecting.commits_nothing}
 use Rattle.er_store.proofs.Selecting.{fails_keeping, selects, begun-select, given-shown, row-among, refused-after, unchanged-refl}

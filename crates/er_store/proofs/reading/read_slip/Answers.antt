@@ -1,8 +1,8 @@
-use Rattle.er_store.proofs.Prelude.{◌≡◌, inl, inr, ℕ, List, [], ◌∷◌, map, ap, ◌∙◌, rules, IfOk-weaker, IfErr-weaker, Row, State, EventValue}
-use Rattle.er_store.proofs.Prelude.{IsSoundButForSeeds, number, named_columns, named_pairings, StandsFor, first_columns, Shown}
+use Rattle.er_store.proofs.Prelude.{map-map, ◌≡◌, inl, inr, ℕ, List, [], ◌∷◌, map, ap, ◌∙◌, rules, IfOk-weaker, IfErr-weaker, Row, State}
+use Rattle.er_store.proofs.Prelude.{EventValue, IsSoundButForSeeds, number, named_columns, named_pairings, StandsFor, first_columns, Shown}
 use Rattle.er_store.proofs.{Meaning.slip_selected, Refusals.{slip_refused, answers}, LoadLemmas.{unchanged_keeps, all_ok, all_err, told}}
 use Rattle.er_store.proofs.{Selecting.{commits_nothing, shows_unchanged, fails_keeping, selects}, Exact.is_memory, Joined.slip_exact}
-use Rattle.er_store.proofs.{Joined.{named_typed, named_whole, named_text}, Effects.selected}
+use Rattle.er_store.proofs.{Joined.{named_typed, named_text}, Effects.selected}
 use Rattle.er_store.specs.Tables as sql
 use Rattle.er_store.proofs.reading.read_slip.Goals as goal
 
@@ -39,7 +39,8 @@ returns g c =
           let are = exact k t s e _ _ stands sound
           (rw (c.params-to_sql.ensures, c.params-to_sql-2.ensures) at (c.in_ok-rows.ensures.ok clean)) in
           IfOk-weaker c.typed_rows.result _ _ (λ typed is. named_typed typed.items named
-          (is ∙ (ap (map (first_columns 11)) (c.deref.ensures.value ∙ are) ∙ named_whole named))) c.typed_rows.ensures.value;
+          (is ∙ ap (map (first_columns 11)) (c.deref.ensures.value ∙ are)
+          ∙ map-map (first_columns 11) named_columns named)) c.typed_rows.ensures.value;
       refused = λ clean e s stands sound.
           let are = exact k t s e _ _ stands sound
           (rw (c.params-to_sql.ensures, c.params-to_sql-2.ensures) at (c.in_ok-rows.ensures.ok clean)) in

@@ -1,6 +1,6 @@
 use Rattle.er_store.proofs.Prelude.{inl, inr, ◌∙◌, rules, IfOk-weaker, IfErr-weaker}
-use Rattle.er_store.proofs.{LoadLemmas.{unchanged_keeps, all_ok, all_err, told}, Exact.is_memory, TableLemmas.{refused, are_rows}}
-use Rattle.er_store.proofs.{TableLemmas.finds_rows, Refusals.{refused_damage, has_wrong_kind}, Selecting.{commits_nothing, shows_unchanged}}
+use Rattle.er_store.proofs.{TableLemmas.{refused, are_rows, finds_rows}, LoadLemmas.{unchanged_keeps, all_ok, all_err, told}}
+use Rattle.er_store.proofs.{Exact.is_memory, Refusals.{refused_damage, has_wrong_kind}, Selecting.{commits_nothing, shows_unchanged}}
 use Rattle.er_store.proofs.Selecting.{fails_keeping}
 use Rattle.er_store.proofs.reading.read_table.Goals as goal
 

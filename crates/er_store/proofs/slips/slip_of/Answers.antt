@@ -1,5 +1,5 @@
-use Rattle.er_store.proofs.Prelude.{◌≡◌, ◌∙◌, sym, ap, Some, nat_lt, true, false, arith, nat_tests, none-some, same_Some, Match, match_of}
-use Rattle.er_store.proofs.Prelude.{is_swapped}
+use Rattle.er_store.proofs.Prelude.{nat_lt, is_swapped, ◌≡◌, ◌∙◌, sym, ap, Some, true, false, arith, nat_tests, none-some, same_Some, Match}
+use Rattle.er_store.proofs.Prelude.{match_of}
 use Rattle.er_store.proofs.{SlipLemmas.{match_row, low_of, high_of, named_first, same_slip, reads_slip}, slips.slip_of.Goals.then-played}
 use Rattle.er_store.proofs.slips.slip_of.Goals.{else-played}
 use Rattle.er_store.proofs.slips.slip_of.Goals as goal

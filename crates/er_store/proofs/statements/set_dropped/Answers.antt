@@ -1,4 +1,4 @@
-use Rattle.er_store.proofs.Prelude.{on_ok_weaker, numbered}
+use Rattle.er_store.proofs.Prelude.{on_ok_weaker}
 use Rattle.er_store.proofs.Setting.{player_dropped}
 use Rattle.er_store.proofs.statements.set_dropped.Goals as goal
 

@@ -1,5 +1,5 @@
-use Rattle.er_store.proofs.Prelude.{rules, ◌≡◌, ◌∙◌, ◌++◌, ◌∷◌, [], map, List, sym, ap, ap₂, arith, none-some, same_Some, tally_row}
-use Rattle.er_store.proofs.Prelude.{tally_by, totals, Tally}
+use Rattle.er_store.proofs.Prelude.{tally_by, totals, rules, ◌≡◌, ◌∙◌, ◌++◌, ◌∷◌, [], map, List, sym, ap, ap₂, arith, none-some, same_Some}
+use Rattle.er_store.proofs.Prelude.{tally_row, Tally}
 use Rattle.er_store.proofs.Tallying.{player-at, rows-more}
 use Rattle.er_store.proofs.tallies.tallies_of.Goals as goal
 

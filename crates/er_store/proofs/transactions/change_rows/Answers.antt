@@ -1,5 +1,5 @@
-use Rattle.er_store.proofs.Prelude.{◌≡◌, true, false, List, Option, Some, None, IfSome, option_map, sym, ap, subst, ◌∙◌, rules}
-use Rattle.er_store.proofs.Prelude.{on_ok_weaker, after, with_player, SetDropped, Match, IsStage}
+use Rattle.er_store.proofs.Prelude.{after, with_player, ◌≡◌, true, false, List, Option, Some, None, IfSome, option_map, sym, ap, subst, ◌∙◌}
+use Rattle.er_store.proofs.Prelude.{rules, on_ok_weaker, SetDropped, Match, IsStage}
 use Rattle.std.proofs.Common.{Bor}
 use Rattle.er_event.specs.{Change.Fits, declared.changes.Change.TheVariants.SetScore}
 use Rattle.er_store.proofs.{Picking.numbered_before, Together.{player_added, makes_then}, Crash.{stays_then, was_clean}, Sizes.next_is}

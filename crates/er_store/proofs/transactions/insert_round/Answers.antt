@@ -1,4 +1,4 @@
-use Rattle.er_store.proofs.Prelude.{◌≡◌, ◌+◌, length, take, refl, sym, ap, ◌∙◌, arith, length-take-le, state, with_round, pairing_row}
+use Rattle.er_store.proofs.Prelude.{pairing_row, ◌≡◌, ◌+◌, length, take, refl, sym, ap, ◌∙◌, arith, length-take-le, state, with_round}
 use Rattle.er_store.proofs.{Crash.{stays_self, stays_then, was_clean}, Adding.{none_added, adds_none, adds_all, adds_next}}
 use Rattle.er_store.proofs.Sizes.{few_matches, some_matches}
 use Rattle.er_store.proofs.transactions.insert_round.Goals as goal

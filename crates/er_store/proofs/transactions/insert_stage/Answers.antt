@@ -1,4 +1,4 @@
-use Rattle.er_store.proofs.Prelude.{◌≡◌, ◌+◌, length, take, refl, sym, ap, ◌∙◌, arith, length-take-le, state, with_stage, bracket_row}
+use Rattle.er_store.proofs.Prelude.{bracket_row, ◌≡◌, ◌+◌, length, take, refl, sym, ap, ◌∙◌, arith, length-take-le, state, with_stage}
 use Rattle.er_store.proofs.{Crash.{stays_self, stays_then, was_clean}, Adding.{adds_none, adds_all, adds_next, no_slot_added}}
 use Rattle.er_store.proofs.transactions.insert_stage.Goals as goal
 

@@ -1,4 +1,4 @@
-use Rattle.er_store.proofs.Prelude.{◌≡◌, ap, ◌∙◌, after, tally_row, totals}
+use Rattle.er_store.proofs.Prelude.{tally_row, totals, ◌≡◌, ap, ◌∙◌, after}
 use Rattle.er_store.proofs.transactions.recount_player.Goals as goal
 
 pub returns-clause-makes : goal.returns-clause-makes
