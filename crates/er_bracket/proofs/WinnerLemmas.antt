@@ -1,6 +1,6 @@
 -- Each player of a sound event's bracket is one of the event's, and so is its champion.
-use Rattle.std.proofs.Common.{◌≡◌, ℕ, ◌≤◌, ◌&&◌, inr, Bool, true, false, cond, List, [], ◌∷◌, length, flat_map, Contains, IsSome, IfSome}
-use Rattle.std.proofs.Common.{Option, Some, None, is_some, refl, sym, ap, subst, ◌∙◌, true≢false, arith}
+use Rattle.std.proofs.{lemmas.Grind.common_steps, Common.{◌≡◌, ℕ, ◌≤◌, ◌&&◌, inr, Bool, true, List, [], ◌∷◌, length, flat_map, Contains}}
+use Rattle.std.proofs.Common.{IsSome, IfSome, Option, Some, None, is_some, sym, subst, true≢false, arith}
 use Rattle.std.proofs.{lemmas.List.Elements.recursion_from_All, lemmas.List.FromFn.{get_or-range_with_len, length-range_with_len}}
 use Rattle.std.proofs.lemmas.Option.{none-some, same_Some, MatchOption-at_some}
 use Rattle.std.specs.List.{slice_get, range_with_len, AllByRecursion}
@@ -10,16 +10,13 @@ use Rattle.er_event.specs.{Bracket.{winner_with, next_stage, SameSlots, FollowOn
 use Rattle.er_bracket.proofs.LastLemmas.{last-after}
 
 and-first : (a b : Bool) → (a && b) ≡ true → a ≡ true
-and-first true b h = refl
-and-first false b h = absurd (true≢false (sym h))
+and-first h1 b h = grind (arith, common_steps)
 
 and-second : (a b : Bool) → (a && b) ≡ true → b ≡ true
-and-second true b h = h
-and-second false b h = absurd (true≢false (sym h))
+and-second h1 b h = grind (arith, common_steps)
 
 played-true : (score : Option Games) → IsSome score → is_some score ≡ true
-played-true None h = absurd (true≢false (sym h))
-played-true (Some s) h = refl
+played-true h1 h = grind (arith, common_steps)
 
 -- ---- what both players of each match have, the winner has
 
@@ -35,13 +32,9 @@ module _ (P : ℕ → Type 0) where
   each-seated [] h = tt
   each-seated (m ∷ ms) h = ((h.0, h.1.0), each-seated ms h.1.1)
 
-  one-of-both : (more : Bool) (m : Match) → Both m → P (cond more m.a m.b)
-  one-of-both true m h = h.0
-  one-of-both false m h = h.1
-
   won-with : (m : Match) (score : Option Games) → is_some score ≡ true → Both m → P (winner_with m score)
   won-with m None played h = absurd (true≢false (sym played))
-  won-with m (Some s) played h = one-of-both _ m h
+  won-with m (Some s) played h = grind (arith, common_steps)
 
   won : (m : Match) → is_some m.score ≡ true → Both m → P (winner m)
   won m played h = won-with m m.score played h
@@ -66,8 +59,7 @@ module _ (P : ℕ → Type 0) where
   last-both (n ∷ []) [] m follow h is = subst Both (same_Some n m is) h.0
   last-both (n ∷ k ∷ more) [] m follow h is = absurd (none-some m is)
   last-both stage (next ∷ more) m follow h is =
-      last-both next more m follow.3 (same-each next (next_stage stage) follow.2 (next-each stage follow.0 h))
-      (sym (last-after stage next more) ∙ is)
+      grind (arith, common_steps, last-after, next-each, next_stage, same-each, last-both next more m follow.3)
 
   from-first : (stages : List (List Match)) (first : List Match) (m : Match) → slice_get stages 0 ≡ Some first → FollowOn stages
       → Each first → last_match stages ≡ Some m → Both m
@@ -77,12 +69,7 @@ module _ (P : ℕ → Type 0) where
 -- ---- the last match of an event whose playoff is over
 
 known-number : (players k : ℕ) → Contains (range_with_len 1 players) k → (1 ≤ k) × (k ≤ players)
-known-number players k has =
-    let len = length-range_with_len 1 players in
-    let below = has.1 in
-    let at = get_or-range_with_len 1 players has.0 k (omega arith) in
-    let is = has.2 in
-    (omega arith, omega arith)
+known-number players k has = grind (arith, common_steps, get_or-range_with_len, length-range_with_len)
 
 module _ (e : EventValue) (sound : IsSoundButForSeeds e) (over : e.phase ≡ Finished) (m : Match)
     (is : last_match e.bracket.stages ≡ Some m) where
@@ -102,5 +89,4 @@ module _ (e : EventValue) (sound : IsSoundButForSeeds e) (over : e.phase ≡ Fin
       (within.0, omega arith)
 
 pub some-number : (number : Option ℕ) (k : ℕ) → IsSome number → IfSome number (λ n. n ≡ k) → number ≡ Some k
-some-number None k some is = absurd (true≢false (sym some))
-some-number (Some n) k some is = ap Some is
+some-number h1 k some is = grind (arith, common_steps)

@@ -1,5 +1,5 @@
 -- What an opening makes of the tables that it finds.
-use Rattle.std.proofs.Common.{Option, Some, None, IfSome, ◌≡◌, ℕ, is_ok, IsTrue, sym, ap, ap₂, subst, ◌∙◌}
+use Rattle.std.proofs.{Common.{arith, Option, IfSome, ◌≡◌, ℕ, is_ok, IsTrue, sym, ap, ap₂, subst, ◌∙◌}, lemmas.Grind.common_steps}
 use Rattle.sqlite_trees.specs.declared.store.Store.{Ghosts}
 use Rattle.sqlite.specs.{Tree.Trees, Effect.{Database, IsDatabase}, State.{State, Opens, IsLive, HasCleanDisk, IsUnchanged}, Start.FindsIn}
 use Rattle.sqlite.specs.{Files.HoldsDatabase, Held.{Held, state}}
@@ -16,8 +16,7 @@ pub point_is : (point : Point) (e : EventValue) (n : ℕ) → e ≡ point.event 
 point_is point e n event serial = ap₂ (λ (x : EventValue) (k : ℕ). (let p : Point = record { event = x; serial = k } in p)) event serial
 
 pub shows_as : (s : State) (e f : EventValue) (m n : ℕ) → f ≡ e → n ≡ m → Shows s e m → Shows s f n
-shows_as s e f m n event serial shows = subst (λ (k : ℕ). Shows s f k) (sym serial)
-    (subst (λ (x : EventValue). Shows s x m) (sym event) shows)
+shows_as s e f m n event serial shows = grind (arith, common_steps)
 
 -- the event's rows are read where the tables are
 pub read_whole : (db : Database) (parts : Parts) → ReadsParts db parts → ReadsEvent db.schema
@@ -61,5 +60,4 @@ module _ (s : State) (image : Image) (opened : Opens s × IsLive s) (found : Fin
 
 -- less is told of what is left
 pub if_left : {A : Type 0} (o : Option A) (P Q : A → Type 0) → ((a : A) → P a → Q a) → IfSome o P → IfSome o Q
-if_left None P Q more h = tt
-if_left (Some a) P Q more h = more a h
+if_left h1 h2 h3 more h = grind (arith, common_steps)

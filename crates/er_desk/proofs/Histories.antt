@@ -1,6 +1,6 @@
 -- A history is one fold.
-use Rattle.std.proofs.Common.{◌≡◌, ◌⊎◌, inl, inr, ℕ, ◌+◌, eqb, true, false, List, [], ◌∷◌, ◌++◌, length, take, drop, Option, Some, None}
-use Rattle.std.proofs.Common.{Ok, MatchOption, IfSome, refl, sym, ap, ap₂, subst, ◌∙◌, arith, length-append, append-nil}
+use Rattle.std.proofs.{lemmas.Grind.common_steps, Common.{◌≡◌, ◌⊎◌, inl, inr, ℕ, ◌+◌, List, [], ◌∷◌, ◌++◌, length, take, drop, Option}}
+use Rattle.std.proofs.Common.{Some, None, Ok, MatchOption, IfSome, refl, sym, ap, ap₂, subst, ◌∙◌, arith, length-append}
 use Rattle.std.proofs.{lemmas.Bool.Decides.nat_tests, lemmas.List.{take-append-drop, take-take, drop-take, take_more}}
 use Rattle.std.proofs.{lemmas.List.Elements.All-nil, lemmas.Option.{none-some, slice_get_within, get_or_from_slice_get}}
 use Rattle.std.specs.List.{slice_get}
@@ -12,45 +12,25 @@ use Rattle.er_desk.proofs.Folding.{Folds-append, Folds-one}
 
 pub leads_then : (first mid last : Point) (xs ys : List Command) → LeadsTo first xs mid → LeadsTo mid ys last
     → LeadsTo first (xs ++ ys) last
-leads_then first mid last xs ys one two =
-    let long = length-append xs ys in
-    let a = one.serial in
-    let b = two.serial in
-    record { event = Folds-append first.event mid.event last.event xs ys one.event two.event; serial = omega arith }
+leads_then first mid last xs ys one two = grind (arith, common_steps, Folds-append, length-append)
 
 kept_leads : (first : Point) (s : Session) (last : Point) → EndsAfterKept first s last → LeadsTo first s.kept last
 kept_leads first s last ends = record { event = ends.event; serial = ends.serial }
 
 doubt_leads : (first : Point) (s : Session) (last : Point) (doubt : Command) → EndsWithDoubt first s last doubt
     → LeadsTo first (s.kept ++ doubt ∷ []) last
-doubt_leads first s last doubt ends =
-    let more : LeadsTo ends.mid (doubt ∷ []) last =
-    record { event = Folds-one ends.mid.event last.event doubt ends.event; serial = ends.serial } in
-    leads_then first ends.mid last s.kept (doubt ∷ []) (kept_leads first s ends.mid ends.kept) more
+doubt_leads first s last doubt ends = grind (arith, common_steps, Folds-one, kept_leads, leads_then)
 
 -- with the doubt, the serial is one higher
-doubt_serial : (first : Point) (s : Session) (last : Point) (doubt : Command) → EndsWithDoubt first s last doubt
-    → eqb last.serial (first.serial + length s.kept) ≡ false
-doubt_serial first s last doubt ends =
-    let a = ends.kept.serial in
-    let b = ends.serial in
-    grind (arith, nat_tests)
-
-kept_serial : (first : Point) (s : Session) (last : Point) → EndsAfterKept first s last
-    → eqb last.serial (first.serial + length s.kept) ≡ true
-kept_serial first s last ends = let a = ends.serial in grind (arith, nat_tests)
-
 -- what the next session found
 pub found_leads : (first : Point) (it : Ended) → MayEnd first it.session it.last → LeadsTo first (found_of first.serial it) it.last
-found_leads first it (inl kept) = rw (kept_serial first it.session it.last kept)
-    (rw (append-nil it.session.kept) (kept_leads first it.session it.last kept))
+found_leads first it (inl kept) = grind (arith, common_steps)
 found_leads first it (inr with_doubt) = by_doubt it.session.doubt refl with_doubt
   where
     by_doubt : (o : Option Command) → it.session.doubt ≡ o → MatchOption o ⊥ (EndsWithDoubt first it.session it.last)
         → LeadsTo first (found_of first.serial it) it.last
     by_doubt None is none = absurd none
-    by_doubt (Some doubt) is ends = rw (doubt_serial first it.session it.last doubt ends)
-        (rw is (doubt_leads first it.session it.last doubt ends))
+    by_doubt (Some doubt) is ends = grind (arith, common_steps, doubt_leads, nat_tests)
 
 -- the last session may have its doubt or not
 last_leads : (first : Point) (it : Ended) → MayEnd first it.session it.last
@@ -65,13 +45,8 @@ last_leads first it (inr with_doubt) = by_doubt it.session.doubt refl with_doubt
 
 pub history_leads : (first : Point) (ends : List Ended) (last : Point) → IsHistory first ends last
     → LeadsTo first (accepted first.serial ends) last ⊎ LeadsTo first (accepted_surely first.serial ends) last
-history_leads first [] last is = inl (record {
-  event = ap (λ (p : Point). p.event) is;
-  serial = let same = ap (λ (p : Point). p.serial) is in omega arith;
-})
-history_leads first (it ∷ []) last (ends, is) = subst
-    (λ (p : Point). LeadsTo first (it.session.kept ++ listed it.session.doubt) p ⊎ LeadsTo first it.session.kept p) (sym is)
-    (last_leads first it ends)
+history_leads first [] last is = grind (arith, common_steps)
+history_leads first (it ∷ []) last (ends, is) = grind (arith, common_steps, last_leads)
 history_leads first (it ∷ next ∷ more) last (ends, rest) =
     let before = found_leads first it ends in
     elim (history_leads it.last (next ∷ more) last rest) [
@@ -123,8 +98,7 @@ new_sound name rounds cut set_up = record {
 }
   where
     early : IsInPlayoff (created name rounds cut) → ⊥
-    early (inl is) = cc
-    early (inr is) = cc
+    early h1 = grind (arith, common_steps)
 
 -- ---- one list
 
@@ -139,13 +113,7 @@ one_more xs n d at = take_more xs n d (slice_get_within xs n d at) ∙ ap
 sent : (start : EventValue) (commands : List Command) (first : Point) (it : Ended) → Folds start (take first.serial commands) first.event
     → SendsFrom commands first.serial it.session → (mid : Point)
     → EndsAfterKept first it.session mid → Folds start (take mid.serial commands) mid.event
-sent start commands first it so_far sends mid ends =
-    let whole : take mid.serial commands ≡ take first.serial commands ++ it.session.kept
-    = ap (λ (n : ℕ). take n commands) ends.serial
-    ∙ (take_add first.serial (length it.session.kept) commands ∙ ap (λ (xs : List Command). take first.serial commands ++ xs)
-    (sym sends.kept)) in
-    subst (λ (xs : List Command). Folds start xs mid.event) (sym whole)
-    (Folds-append start first.event mid.event (take first.serial commands) it.session.kept so_far ends.event)
+sent start commands first it so_far sends mid ends = grind (arith, common_steps, Folds-append, take_add)
 
 one_sent : (start : EventValue) (commands : List Command) (first : Point) (it : Ended)
     → Folds start (take first.serial commands) first.event → SendsFrom commands first.serial it.session

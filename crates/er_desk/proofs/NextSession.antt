@@ -1,6 +1,6 @@
 -- A session goes on from where a history has ended.
-use Rattle.std.proofs.Common.{◌≡◌, List, [], ◌∷◌, ◌++◌, Bool, Result, Ok, Err, IfOk, IfErr, MatchResult, IsFalse, Vec, Global, inl, refl}
-use Rattle.std.proofs.Common.{sym, subst, ap₂, arith}
+use Rattle.std.proofs.{lemmas.Grind.common_steps, Common.{◌≡◌, List, [], ◌∷◌, ◌++◌, Result, Ok, Err, IfOk, IfErr, MatchResult, IsFalse}}
+use Rattle.std.proofs.Common.{Vec, Global, inl, refl, sym, subst, arith}
 use Rattle.sqlite_trees.specs.declared.store.Store.{Ghosts}
 use Rattle.sqlite.specs.{State.HasCleanDisk, Files.{HoldsDatabase, file_state}, Tree.Trees}
 use Rattle.sqlite_wal.specs.Recovery.{Image}
@@ -69,13 +69,7 @@ module _ (law : Histories) (image : Image) (new first : Point) (ends : List Ende
         quiet_begins trees
         ((found (before clean)).leaves (before clean) trees (subst (λ (d : Desk S g). (state g d).may_leave trees) same may))
 
-standing_is : (s : Standing) (point : Point) → IsFalse s.stopped → point_of s ≡ point → s ≡ running_at point
-standing_is s point runs is =
-    ap₂ (λ (p : Point) (b : Bool). (let at : Standing = record { event = p.event; serial = p.serial; stopped = b } in at)) is runs
-
 pub runs_from : {E : Type 0} (r : Result (Vec Reply Global) E) (commands : List Command) (old now : Standing) (point : Point)
     → IsFalse old.stopped → point_of old ≡ point → IfOk r (λ replies. IsRun old commands replies.items now)
     → IfOk r (λ replies. IsRun (running_at point) commands replies.items now)
-runs_from (Ok replies) commands old now point runs is ran =
-    subst (λ (s : Standing). IsRun s commands replies.items now) (standing_is old point runs is) ran
-runs_from (Err e) commands old now point runs is ran = tt
+runs_from h1 commands old now point runs is ran = grind (arith, common_steps)

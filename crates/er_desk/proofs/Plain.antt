@@ -1,12 +1,12 @@
 -- A run in plain words.
-use Rattle.std.proofs.Common.{◌≡◌, ◌⊎◌, inl, inr, ℕ, zero, suc, ◌+◌, ◌<◌, IsTrue, List, [], ◌∷◌, length, take, Some, Ok, Err, refl, sym}
-use Rattle.std.proofs.{Common.{ap, subst, ◌∙◌, arith}, lemmas.Option.{none-some, same_Some}}
+use Rattle.std.proofs.{lemmas.Grind.common_steps, Common.{◌≡◌, ◌⊎◌, inl, inr, ℕ, zero, suc, ◌+◌, ◌<◌, IsTrue, List, [], ◌∷◌, length, take}}
+use Rattle.std.proofs.{Common.{Some, Err, refl, sym, ap, subst, ◌∙◌, arith}, lemmas.Option.{none-some, same_Some}}
 use Rattle.std.specs.List.{slice_get}
-use Rattle.er_event.specs.{declared.commands.Command.Command, declared.refusals.Cause.Cause, declared.refusals.Refusal.Refusal}
-use Rattle.er_event.specs.{declared.refusals.Refusal.TheVariants.{Memory, Store, NeedsReopen}, Event.EventValue}
+use Rattle.er_event.specs.{declared.commands.Command.Command, declared.refusals.Cause.Cause, declared.refusals.Refusal.TheVariants.Store}
+use Rattle.er_event.specs.{declared.refusals.Refusal.TheVariants.NeedsReopen, Event.EventValue}
 use Rattle.er_rules.specs.Fold.{Folds}
-use Rattle.er_desk.specs.{Reply.{Reply, receipt, IsDue, IsLawful}, Desk.{Standing, Stops, Turn}, Run.{Runs, acknowledged, FailsAt, IsRun}}
-use Rattle.er_desk.proofs.{Turns.{reply-low, turn_fault, waits_of, stops_of, stopped_of}, Running.runs_lead}
+use Rattle.er_desk.specs.{Reply.{Reply, IsLawful}, Desk.{Standing, Stops, Turn}, Run.{Runs, acknowledged, FailsAt, IsRun}}
+use Rattle.er_desk.proofs.{Turns.{turn_fault, waits_of, stops_of, stopped_of}, Running.runs_lead}
 
 -- once stopped, it stays so
 runs_stopped : (old new : Standing) (cs : List Command) (rs : List Reply) → Runs old cs rs new → IsTrue old.stopped → IsTrue new.stopped
@@ -18,17 +18,7 @@ runs_stopped old new (c ∷ cs) (r ∷ rs) (mid, turn, rest) was = runs_stopped 
 -- each reply is lawful, or the desk is stopped
 pub turn_lawful : (old new : Standing) (c : Command) (r : Reply) → Turn old c r new
     → IsLawful old.event old.serial c r ⊎ ((r ≡ Err NeedsReopen) × IsTrue old.stopped)
-turn_lawful old new c r (inl it) =
-    inl (inl (Ok new.event, it.taken, it.answered ∙ (ap (λ (n : ℕ). Ok (receipt n)) it.serial_is ∙ reply-low old.serial new.event it.room)))
-turn_lawful old new c r (inr (inl it)) = by_cause it.cause
-  where
-    by_cause : (it.why ≡ Memory) ⊎ IsDue old.event old.serial c (Err it.why)
-        → IsLawful old.event old.serial c r ⊎ ((r ≡ Err NeedsReopen) × IsTrue old.stopped)
-    by_cause (inl memory) = inl (inr (inl (it.answered ∙ ap (λ (w : Refusal). Err w) memory)))
-    by_cause (inr due) = inl (inl (due.0, due.1, it.answered ∙ due.2))
-turn_lawful old new c r (inr (inr (inl it))) = inl
-    (inr (inr ((Ok it.next, it.taken, reply-low old.serial it.next it.room), it.why, it.fault, it.answered)))
-turn_lawful old new c r (inr (inr (inr it))) = inr (it.answered, it.was_stopped)
+turn_lawful old new c r h1 = grind (arith, common_steps)
 
 -- at each place
 abbrev At : Standing → List Command → List Reply → Standing → ℕ → Command → Reply → Type 0
@@ -43,10 +33,7 @@ split : (old new : Standing) (cs : List Command) (rs : List Reply) (k : ℕ) (c 
     × (IsTrue next.stopped → IsTrue new.stopped)
 split old new [] rs k c r is at there = absurd (none-some c at)
 split old new (x ∷ cs) [] k c r is at there = absurd (none-some r there)
-split old new (x ∷ cs) (y ∷ rs) zero c r (mid, turn, rest) at there =
-    let here : Turn old c r mid = subst (λ (a : Command). Turn old a r mid) (same_Some x c at)
-    (subst (λ (b : Reply). Turn old x b mid) (same_Some y r there) turn) in
-    (old, mid, refl, here, runs_stopped mid new cs rs rest)
+split old new (x ∷ cs) (y ∷ rs) zero c r (mid, turn, rest) at there = grind (arith, common_steps, runs_stopped, same_Some)
 split old new (x ∷ cs) (y ∷ rs) (suc k) c r (mid, turn, rest) at there =
     let more = split mid new cs rs k c r rest at there in
     (more.0, more.1, (mid, turn, more.2), more.3, more.4)
@@ -89,8 +76,7 @@ runs_fault : (old new : Standing) (cs : List Command) (rs : List Reply) → Runs
     → slice_get rs k ≡ Some (Err (Store cause)) → IsTrue new.stopped
 runs_fault old new cs [] is k cause at = absurd (none-some _ at)
 runs_fault old new [] (r ∷ rs) is k cause at = absurd is
-runs_fault old new (c ∷ cs) (r ∷ rs) (mid, turn, rest) zero cause at =
-    runs_stopped mid new cs rs rest (turn_fault old mid c r turn cause (same_Some r _ at))
+runs_fault old new (c ∷ cs) (r ∷ rs) (mid, turn, rest) zero cause at = grind (arith, common_steps, runs_stopped, same_Some, turn_fault)
 runs_fault old new (c ∷ cs) (r ∷ rs) (mid, turn, rest) (suc k) cause at = runs_fault mid new cs rs rest k cause at
 
 pub runs_plain : (old new : Standing) (cs : List Command) (rs : List Reply) → Runs old cs rs new → IsRun old cs rs new

@@ -1,6 +1,6 @@
 -- A run of commands, and where a crash leaves it.
-use Rattle.std.proofs.Common.{◌≡◌, ◌⊎◌, inl, inr, ℕ, ◌+◌, Bool, true, false, IsTrue, IsFalse, List, [], ◌∷◌, ◌++◌, length, Option, Some}
-use Rattle.std.proofs.Common.{None, Ok, Err, IfSome, MatchOption, refl, sym, ap, ap₂, subst, ◌∙◌, arith, true≢false}
+use Rattle.std.proofs.{lemmas.Grind.common_steps, Common.{◌≡◌, inl, inr, ◌+◌, Bool, true, false, IsTrue, IsFalse, List, [], ◌∷◌, ◌++◌}}
+use Rattle.std.proofs.Common.{Option, Some, None, Ok, Err, IfSome, MatchOption, refl, sym, ap, subst, ◌∙◌, arith, true≢false}
 use Rattle.sqlite_trees.specs.declared.store.Store.{Ghosts}
 use Rattle.sqlite.specs.{Tree.Trees, State.HasCleanDisk}
 use Rattle.er_event.specs.{declared.commands.Command.Command, declared.commands.Receipt.Receipt, declared.refusals.Refusal.Refusal}
@@ -17,30 +17,17 @@ use Rattle.er_desk.proofs.Turns.{waits_of, stops_of, keeps_then}
 no_receipt : (receipt : Receipt) (why : Refusal) → ◌≡◌ {A = Reply} (Ok receipt) (Err why) → ⊥
 no_receipt receipt why is = cc
 
-no_refusal : (receipt : Receipt) (why : Refusal) → ◌≡◌ {A = Reply} (Err why) (Ok receipt) → ⊥
-no_refusal receipt why is = cc
-
-never : (event : EventValue) (why : Refusal) → ◌≡◌ {A = Rattle.std.proofs.Common.Result EventValue Refusal} (Ok event) (Err why) → ⊥
-never event why is = cc
-
 -- what is taken is the step's
 pub steps_of : (event next : EventValue) (command : Command) → Answers event command (Ok next) → Steps event command (Ok next)
-steps_of event next command (inl steps) = steps.0
-steps_of event next command (inr budget) = absurd (never next _ budget.0)
+steps_of event next command h1 = grind (arith, common_steps)
 
 accepts_of : (old new : Standing) (command : Command) (receipt : Receipt) → Turn old command (Ok receipt) new
     → Accepts old command (Ok receipt) new
-accepts_of old new command receipt (inl it) = it
-accepts_of old new command receipt (inr (inl it)) = absurd (no_receipt receipt _ it.answered)
-accepts_of old new command receipt (inr (inr (inl it))) = absurd (no_receipt receipt _ it.answered)
-accepts_of old new command receipt (inr (inr (inr it))) = absurd (no_receipt receipt _ it.answered)
+accepts_of old new command receipt h1 = grind (arith, common_steps)
 
 -- a refusal leaves the event and its serial
 stays : (old new : Standing) (command : Command) (why : Refusal) → Turn old command (Err why) new → point_of new ≡ point_of old
-stays old new command why (inl it) = absurd (no_refusal _ why it.answered)
-stays old new command why (inr (inl it)) = ap point_of it.same
-stays old new command why (inr (inr (inl it))) = ap point_of it.stopped
-stays old new command why (inr (inr (inr it))) = ap point_of it.same
+stays old new command why h1 = grind (arith, common_steps)
 
 stops_now : (old new : Standing) (command : Command) (reply : Reply) → IsFalse old.stopped → IsTrue new.stopped → Turn old command reply new
     → Stops old command reply new
@@ -59,10 +46,7 @@ runs_push old mid new (d ∷ cs) (s ∷ rs) c r is turn = (is.0, is.1, runs_push
 -- the acknowledged commands lead to where the desk stands
 pub runs_lead : (old new : Standing) (cs : List Command) (rs : List Reply) → Runs old cs rs new
     → LeadsTo (point_of old) (acknowledged cs rs) (point_of new)
-runs_lead old new [] [] is = record {
-  event = ap (λ (s : Standing). s.event) is;
-  serial = let same = ap (λ (s : Standing). s.serial) is in omega arith;
-}
+runs_lead old new [] [] is = grind (arith, common_steps)
 runs_lead old new [] (r ∷ rs) is = absurd is
 runs_lead old new (c ∷ cs) [] is = absurd is
 runs_lead old new (c ∷ cs) (Ok r ∷ rs) (mid, turn, rest) =
@@ -71,8 +55,7 @@ runs_lead old new (c ∷ cs) (Ok r ∷ rs) (mid, turn, rest) =
     let one = it.serial_is in
     let others = more.serial in
     record { event = (mid.event, steps_of old.event mid.event c it.taken, more.event); serial = omega arith }
-runs_lead old new (c ∷ cs) (Err why ∷ rs) (mid, turn, rest) =
-    subst (λ (p : Point). LeadsTo p (acknowledged cs rs) (point_of new)) (stays old mid c why turn) (runs_lead mid new cs rs rest)
+runs_lead old new (c ∷ cs) (Err why ∷ rs) (mid, turn, rest) = grind (arith, common_steps, runs_lead mid new cs rs rest)
 
 refused_push : (old mid : Standing) (cs : List Command) (rs : List Reply) (c : Command) (why : Refusal) → Runs old cs rs mid
     → acknowledged (cs ++ c ∷ []) (rs ++ Err why ∷ []) ≡ acknowledged cs rs
@@ -97,19 +80,14 @@ tried_push old mid (d ∷ cs) [] c r tried is = absurd is
 tried_push old mid (d ∷ cs) (s ∷ rs) c r tried is = ap (λ (o : Option Command). tried_or o d s) (tried_push is.0 mid cs rs c r tried is.2)
 
 fault_tried : (c : Command) (why : Refusal) → IsFault why → tried_or None c (Err why) ≡ Some c
-fault_tried c why (inl memory) = ap (λ (w : Refusal). tried_or None c (Err w)) memory
-fault_tried c why (inr refused) = ap (λ (w : Refusal). tried_or None c (Err w)) refused
+fault_tried c why h1 = grind (arith, common_steps)
 
 -- ---- sessions
 
 -- a command that finds the desk stopped changes nothing of the session
 pub session_waits : (old mid : Standing) (cs : List Command) (rs : List Reply) (c : Command) (r : Reply) → r ≡ Err NeedsReopen
     → Runs old cs rs mid → session_of (cs ++ c ∷ []) (rs ++ r ∷ []) true ≡ session_of cs rs true
-session_waits old mid cs rs c r answer is =
-    let same : session_of (cs ++ c ∷ []) (rs ++ Err NeedsReopen ∷ []) true ≡ session_of cs rs true
-    = ap₂ (λ (k : List Command) (d : Option Command). (let s : Session = record { kept = k; doubt = d } in s))
-    (refused_push old mid cs rs c NeedsReopen is) (waited_push old mid cs rs c is) in
-    subst (λ (x : Reply). session_of (cs ++ c ∷ []) (rs ++ x ∷ []) true ≡ session_of cs rs true) (sym answer) same
+session_waits old mid cs rs c r answer is = grind (arith, common_steps, refused_push, waited_push)
 
 -- where the doubt is a command that the step takes, the session may end before or after it
 ends_either : (first : Point) (mid : Standing) (s : Session) (c : Command) (next : EventValue) (trees : Trees)
@@ -149,11 +127,7 @@ session_goes_on old new cs rs trees is stored =
 
 pub was_running : (old new : Standing) (command : Command) (reply : Reply) → IsFalse new.stopped → Turn old command reply new
     → IsFalse old.stopped
-was_running old new command reply runs (inl it) = it.was_running
-was_running old new command reply runs (inr (inl it)) = it.was_running
-was_running old new command reply runs (inr (inr (inl it))) = it.was_running
-was_running old new command reply runs (inr (inr (inr it))) =
-    absurd (true≢false (sym it.was_stopped ∙ (sym (ap (λ (s : Standing). s.stopped) it.same) ∙ runs)))
+was_running old new command reply runs h1 = grind (arith, common_steps)
 
 -- ---- desks
 
@@ -176,11 +150,7 @@ module _ {S : Type 0} (g : Ghosts S) (first : Desk S g) where
       where
         by_stop : (b : Bool) → (standing old).stopped ≡ b
             → IsStoredEnd (point_of (standing first)) (session_of (cs ++ c ∷ []) (rs ++ r ∷ []) true) trees
-        by_stop true is =
-            let left = before going shows (clean late) is trees (subst (λ (d : Desk S g). (state g d).may_leave trees) (waits is) may) in
-            subst (λ (s : Session). IsStoredEnd (point_of (standing first)) s trees)
-            (sym (session_waits (standing first) (standing old) cs rs c r (waits_of (standing old) (standing new) c r turn is) runs))
-            left
+        by_stop true is = grind (arith, common_steps, session_waits, waits_of)
         by_stop false is =
             session_stops (standing first) (standing old) (standing new) cs rs c r trees runs
             (stops_now (standing old) (standing new) c r is stopped turn) (undecided is (stands (clean late) shows is) late trees may)

@@ -1,5 +1,6 @@
 -- What reading the tables leaves of the tables of others.
-use Rattle.std.proofs.Common.{◌≡◌, Bool, Result, Ok, Err, IfOk, IfErr, OnErr, MatchResult, IsTrue, IsFalse, sym, subst}
+use Rattle.std.proofs.Common.{arith, ◌≡◌, Bool, Result, Ok, Err, IfOk, IfErr, OnErr, MatchResult, IsTrue, IsFalse, sym, subst}
+use Rattle.std.proofs.lemmas.Grind.{common_steps}
 use Rattle.sqlite.specs.{Effect.Database, State.{State, IsUnchanged}}
 use Rattle.er_event.specs.declared.refusals.Refusal.{Refusal}
 use Rattle.er_store.specs.{Reading.KeepsTables, Standing.KeepsOthers}
@@ -18,9 +19,7 @@ read_others Fails (Err why) stopped old new settled is_open stops same kept = ke
 -- what is known of either outcome, of one of them
 module _ {A E : Type 0} (P : A → Type 0) (Q : E → Type 0) where
   pub if_ok : (read : Result A E) → MatchResult read P Q → IfOk read P
-  if_ok (Ok it) either = either
-  if_ok (Err why) either = tt
+  if_ok h1 either = grind (arith, common_steps)
 
   pub if_err : (read : Result A E) → MatchResult read P Q → IfErr read Q
-  if_err (Ok it) either = tt
-  if_err (Err why) either = either
+  if_err h1 either = grind (arith, common_steps)

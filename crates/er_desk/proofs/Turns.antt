@@ -1,13 +1,13 @@
 -- What a command does to a desk.
-use Rattle.std.proofs.Common.{◌≡◌, ◌⊎◌, inl, inr, ℕ, ◌+◌, ◌<◌, eqb, Bool, cond, true, false, List, [], ◌∷◌, Result, Ok, Err, IfOk, IfErr}
-use Rattle.std.proofs.Common.{OnOk, IsErrAnd, IsTrue, IsFalse, refl, sym, ap, subst, ◌∙◌, arith, true≢false}
+use Rattle.std.proofs.{lemmas.Grind.common_steps, Common.{◌≡◌, ◌⊎◌, inl, inr, ℕ, ◌+◌, ◌<◌, eqb, Bool, cond, true, false, List, [], ◌∷◌}}
+use Rattle.std.proofs.Common.{Result, Ok, Err, IfOk, IfErr, OnOk, IsErrAnd, IsTrue, IsFalse, refl, sym, ap, subst, ◌∙◌, arith, true≢false}
 use Rattle.std.proofs.lemmas.Bool.Decides.{nat_tests}
 use Rattle.std.specs.List.{AllByRecursion}
 use Rattle.sqlite_trees.specs.declared.store.Store.{Ghosts}
 use Rattle.sqlite.specs.{Table.Table, Effect.Database, State.{State, IsUnchanged}}
-use Rattle.er_event.specs.{declared.refusals.Cause.Cause, declared.refusals.Cause.TheVariants.Refused, declared.commands.Command.Command}
-use Rattle.er_event.specs.{declared.commands.Receipt.Receipt, declared.refusals.Refusal.Refusal}
-use Rattle.er_event.specs.{declared.refusals.Refusal.TheVariants.{Memory, Budget, SerialFull, Store, NeedsReopen}, Event.EventValue}
+use Rattle.er_event.specs.{declared.refusals.Cause.Cause, declared.commands.Command.Command, declared.commands.Receipt.Receipt}
+use Rattle.er_event.specs.{declared.refusals.Refusal.Refusal, declared.refusals.Refusal.TheVariants.{Memory, Budget, SerialFull, Store}}
+use Rattle.er_event.specs.{declared.refusals.Refusal.TheVariants.NeedsReopen, Event.EventValue}
 use Rattle.er_rules.specs.{Refusing.IsOfRules, Step.{Answers, NeedsMoreSteps}}
 use Rattle.er_store.specs.{Fault.IsFault, Reading.KeepsTables, Standing.{IsOther, KeepsOthers}}
 use Rattle.er_desk.specs.{Reply.{Reply, reply_to, receipt, IsDue}, Desk.{Standing, Turn, Stops, ShowsOwn, IsOwn, point_of, state, standing}}
@@ -37,8 +37,7 @@ module _ (old : Standing) (runs : IsFalse old.stopped) (command : Command) where
       due (inr refuses) = inr (Err why, refuses, refl)
 
       own : (why ≡ Memory) ⊎ IsOfRules why → IsOwn why
-      own (inl memory) = inl memory
-      own (inr rules) = inr (inr rules)
+      own h1 = grind (arith, common_steps)
 
   -- all serials are given
   pub full : (next : EventValue) → Answers old.event command (Ok next) → old.serial ≡ 999999 → Turn old command (Err SerialFull) old
@@ -50,30 +49,9 @@ module _ (old : Standing) (runs : IsFalse old.stopped) (command : Command) where
       → IfOk result (λ r. (new ≡ record { event = next; serial = old.serial + 1; stopped = false }) × (r.serial ≡ old.serial + 1))
       → IfErr result (λ why. (Same × (why ≡ Memory)) ⊎ ((new ≡ record old { stopped = true }) × IsFault why))
       → Turn old command result new
-  written new (Ok r) next Same same taken room (is, numbered) refused =
-      let serial : new.serial ≡ old.serial + 1 = ap (λ (s : Standing). s.serial) is in
-      let number : r.serial ≡ new.serial = numbered ∙ sym serial in
-      inl (record {
-        was_running = runs;
-        taken = subst (λ (s : Standing). Answers old.event command (Ok s.event)) (sym is) taken;
-        room = room;
-        serial_is = serial;
-        runs = ap (λ (s : Standing). s.stopped) is;
-        answered = ap (λ (n : ℕ). Ok (receipt n)) number;
-      })
-  written new (Err e) next Same same taken room done (inl own) =
-      inr (inl (record { was_running = runs; same = same own.0; why = e; answered = refl; cause = inl own.1; own = inl own.1 }))
-  written new (Err e) next Same same taken room done (inr stops) =
-      inr (inr (inl (record {
-        was_running = runs;
-        next = next;
-        taken = taken;
-        room = room;
-        stopped = stops.0;
-        why = e;
-        fault = stops.1;
-        answered = refl;
-      })))
+  written new (Ok r) next Same same taken room (is, numbered) refused = grind (arith, common_steps)
+  written new (Err e) next Same same taken room done (inl own) = grind (arith, common_steps)
+  written new (Err e) next Same same taken room done (inr stops) = grind (arith, common_steps)
 
 -- ---- what a turn tells
 
@@ -84,112 +62,45 @@ no_receipt : (it : Receipt) (why : Refusal) → ◌≡◌ {A = Reply} (Ok it) (E
 no_receipt it why is = cc
 
 -- what the desk refuses by itself speaks neither of the store nor of reopening
-own_is_no_fault : (why : Refusal) (cause : Cause) → IsOwn why → why ≡ Store cause → ⊥
-own_is_no_fault why cause (inl memory) is = let never : Memory ≡ Store cause = sym memory ∙ is in cc
-own_is_no_fault why cause (inr (inl full)) is = let never : SerialFull ≡ Store cause = sym full ∙ is in cc
-own_is_no_fault why cause (inr (inr rules)) is = subst IsOfRules is rules
-
-own_asks_not : (why : Refusal) → IsOwn why → why ≡ NeedsReopen → ⊥
-own_asks_not why (inl memory) is = let never : Memory ≡ NeedsReopen = sym memory ∙ is in cc
-own_asks_not why (inr (inl full)) is = let never : SerialFull ≡ NeedsReopen = sym full ∙ is in cc
-own_asks_not why (inr (inr rules)) is = subst IsOfRules is rules
-
-fault_asks_not : (why : Refusal) → IsFault why → why ≡ NeedsReopen → ⊥
-fault_asks_not why (inl memory) is = let never : Memory ≡ NeedsReopen = sym memory ∙ is in cc
-fault_asks_not why (inr refused) is = let never : Store Refused ≡ NeedsReopen = sym refused ∙ is in cc
-
 module _ (old new : Standing) (command : Command) (result : Reply) where
   -- a fault of the store stops the desk
   pub turn_fault : Turn old command result new → (cause : Cause) → result ≡ Err (Store cause) → IsTrue new.stopped
-  turn_fault (inl it) cause is = absurd (no_receipt _ _ (sym it.answered ∙ is))
-  turn_fault (inr (inl it)) cause is = absurd (own_is_no_fault it.why cause it.own (same_refusal _ _ (sym it.answered ∙ is)))
-  turn_fault (inr (inr (inl it))) cause is = ap (λ (s : Standing). s.stopped) it.stopped
-  turn_fault (inr (inr (inr it))) cause is = ap (λ (s : Standing). s.stopped) it.same ∙ it.was_stopped
+  turn_fault h1 cause is = grind (arith, common_steps)
 
   -- and only a stopped desk asks for reopening
   pub turn_asks : Turn old command result new → result ≡ Err NeedsReopen → IsTrue old.stopped
-  turn_asks (inl it) is = absurd (no_receipt _ _ (sym it.answered ∙ is))
-  turn_asks (inr (inl it)) is = absurd (own_asks_not it.why it.own (same_refusal _ _ (sym it.answered ∙ is)))
-  turn_asks (inr (inr (inl it))) is = absurd (fault_asks_not it.why it.fault (same_refusal _ _ (sym it.answered ∙ is)))
-  turn_asks (inr (inr (inr it))) is = it.was_stopped
+  turn_asks h1 is = grind (arith, common_steps)
 
   pub waits_of : Turn old command result new → IsTrue old.stopped → result ≡ Err NeedsReopen
-  waits_of (inl it) stopped = absurd (true≢false (sym stopped ∙ it.was_running))
-  waits_of (inr (inl it)) stopped = absurd (true≢false (sym stopped ∙ it.was_running))
-  waits_of (inr (inr (inl it))) stopped = absurd (true≢false (sym stopped ∙ it.was_running))
-  waits_of (inr (inr (inr it))) stopped = it.answered
+  waits_of h1 stopped = grind (arith, common_steps)
 
   pub stops_of : Turn old command result new → IsTrue new.stopped → IsTrue old.stopped ⊎ Stops old command result new
-  stops_of (inl it) stopped = absurd (true≢false (sym stopped ∙ it.runs))
-  stops_of (inr (inl it)) stopped = inl (sym (ap (λ (s : Standing). s.stopped) it.same) ∙ stopped)
-  stops_of (inr (inr (inl it))) stopped = inr it
-  stops_of (inr (inr (inr it))) stopped = inl it.was_stopped
+  stops_of h1 stopped = grind (arith, common_steps)
 
   pub stopped_of : Turn old command result new → IsTrue old.stopped ⊎ Stops old command result new → IsTrue new.stopped
-  stopped_of turn (inr it) = ap (λ (s : Standing). s.stopped) it.stopped
-  stopped_of (inl it) (inl was) = absurd (true≢false (sym was ∙ it.was_running))
-  stopped_of (inr (inl it)) (inl was) = absurd (true≢false (sym was ∙ it.was_running))
-  stopped_of (inr (inr (inl it))) (inl was) = absurd (true≢false (sym was ∙ it.was_running))
-  stopped_of (inr (inr (inr it))) (inl was) = ap (λ (s : Standing). s.stopped) it.same ∙ was
+  stopped_of turn h1 = grind (arith, common_steps)
 
 -- ---- the budget
 
-no_reply : (it : Receipt) (why : Refusal) → ◌≡◌ {A = Reply} (Err why) (Ok it) → ⊥
-no_reply it why is = cc
-
-fault_is_no_budget : (why : Refusal) (steps : ℕ) → IsFault why → why ≡ Budget steps → ⊥
-fault_is_no_budget why steps (inl memory) is = let never : Memory ≡ Budget steps = sym memory ∙ is in cc
-fault_is_no_budget why steps (inr refused) is = let never : Store Refused ≡ Budget steps = sym refused ∙ is in cc
-
 full_or_taken : (b : Bool) (why : Refusal) (it : Receipt) → ◌≡◌ {A = Reply} (Err why) (cond b (Err SerialFull) (Ok it)) → why ≡ SerialFull
-full_or_taken true why it is = same_refusal why SerialFull is
-full_or_taken false why it is = absurd (no_reply it why is)
+full_or_taken h1 why it is = grind (arith, common_steps)
 
 module _ (old new : Standing) (command : Command) where
-  due_budget : (steps : ℕ) → IsDue old.event old.serial command (Err (Budget steps)) → Answers old.event command (Err (Budget steps))
-  due_budget steps (Ok next, answers, is) = let never : Budget steps ≡ SerialFull = full_or_taken _ _ _ is in absurd (cc)
-  due_budget steps (Err why, answers, is) = subst (λ (w : Refusal). Answers old.event command (Err w)) (sym (same_refusal _ _ is)) answers
-
-  declined_budget : (why : Refusal) (steps : ℕ) → why ≡ Budget steps → (why ≡ Memory) ⊎ IsDue old.event old.serial command (Err why)
-      → Answers old.event command (Err (Budget steps))
-  declined_budget why steps is (inl memory) = let never : Memory ≡ Budget steps = sym memory ∙ is in absurd (cc)
-  declined_budget why steps is (inr due) = due_budget steps (subst (λ (w : Refusal). IsDue old.event old.serial command (Err w)) is due)
-
   -- where the search has too few steps, the step said so
   pub turn_budget : (result : Reply) → Turn old command result new → (steps : ℕ) → result ≡ Err (Budget steps)
       → Answers old.event command (Err (Budget steps))
   turn_budget result (inl it) steps is = absurd (no_receipt _ _ (sym it.answered ∙ is))
-  turn_budget result (inr (inl it)) steps is = declined_budget it.why steps (same_refusal _ _ (sym it.answered ∙ is)) it.cause
-  turn_budget result (inr (inr (inl it))) steps is =
-      absurd (fault_is_no_budget it.why steps it.fault (same_refusal _ _ (sym it.answered ∙ is)))
-  turn_budget result (inr (inr (inr it))) steps is = let never : NeedsReopen ≡ Budget steps =
-      same_refusal _ _ (sym it.answered ∙ is) in absurd (cc)
+  turn_budget result (inr (inl it)) steps is = grind (arith, common_steps)
+  turn_budget result (inr (inr (inl it))) steps is = grind (arith, common_steps)
+  turn_budget result (inr (inr (inr it))) steps is = grind (arith, common_steps)
 
   not_taken : (next : EventValue) → NeedsMoreSteps old.event command → Answers old.event command (Ok next) → ⊥
-  not_taken next needs (inl steps) = steps.1 needs
-  not_taken next needs (inr budget) = let never = budget.0 in cc
-
-  due_searched : (why : Refusal) → NeedsMoreSteps old.event command → (why ≡ Memory) ⊎ IsDue old.event old.serial command (Err why)
-      → (why ≡ Memory) ⊎ ((steps : ℕ) × (why ≡ Budget steps))
-  due_searched why needs (inl memory) = inl memory
-  due_searched why needs (inr (Ok next, answers, is)) = absurd (not_taken next needs answers)
-  due_searched why needs (inr (Err w, inl steps, is)) = absurd (steps.1 needs)
-  due_searched why needs (inr (Err w, inr budget, is)) = let same : why ≡ w = same_refusal _ _ is in let last =
-      budget.0 in inr (_, same ∙ same_step w _ last)
-    where
-      same_step : (w v : Refusal) → ◌≡◌ {A = Result EventValue Refusal} (Err w) (Err v) → w ≡ v
-      same_step w v is = cc
+  not_taken next needs h1 = grind (arith, common_steps)
 
   -- and it always says so, where memory lasts
   pub turn_searched : (result : Reply) → Turn old command result new → IsFalse old.stopped → NeedsMoreSteps old.event command
       → (result ≡ Err Memory) ⊎ ((steps : ℕ) × (result ≡ Err (Budget steps)))
-  turn_searched result (inl it) runs needs = absurd (not_taken _ needs it.taken)
-  turn_searched result (inr (inl it)) runs needs = elim (due_searched it.why needs it.cause) [
-    | inl memory ↦ inl (it.answered ∙ ap (λ (w : Refusal). Err w) memory)
-    | inr (steps, is) ↦ inr (steps, it.answered ∙ ap (λ (w : Refusal). Err w) is)
-  ]
-  turn_searched result (inr (inr (inl it))) runs needs = absurd (not_taken _ needs it.taken)
-  turn_searched result (inr (inr (inr it))) runs needs = absurd (true≢false (sym it.was_stopped ∙ runs))
+  turn_searched result h1 runs needs = grind (arith, common_steps)
 
 -- ---- tables
 
@@ -208,11 +119,7 @@ keeps_rows old mid new [] one two = tt
 keeps_rows old mid new (t ∷ ts) one two = (λ other. two.0 other ∙ one.0 other, keeps_rows old mid new ts one.1 two.1)
 
 pub keeps_then : (old mid new : Database) → KeepsOthers old mid → KeepsOthers mid new → KeepsOthers old new
-keeps_then old mid new one two = record {
-  schema = two.schema ∙ one.schema;
-  rows = keeps_rows old mid new old.schema.tables one.rows
-      (subst (λ s. AllByRecursion (λ t. IsOther t.tree → new.trees t.tree ≡ mid.trees t.tree) s.tables) one.schema two.rows);
-}
+keeps_then old mid new one two = grind (arith, common_steps, keeps_rows)
 
 pub unchanged_keeps : (old new : State) → IsUnchanged old new → KeepsTables old new
 unchanged_keeps old new same settled is_open = (same.0.now_is, same.0.committed_is ∙ sym settled)
@@ -221,8 +128,7 @@ pub same_keeps : (s : State) → KeepsTables s s
 same_keeps s settled is_open = (refl, sym settled)
 
 pub on_error : {A E : Type 0} (r : Result A E) (P : Type 0) → P → IfErr r (λ _. P)
-on_error (Ok a) P p = tt
-on_error (Err e) P p = p
+on_error h1 h2 p = grind (arith, common_steps)
 
 module _ {S : Type 0} (g : Ghosts S) (old new : Desk S g) (result : Reply) where
   abbrev pub IsUnwritten : Type 0
@@ -233,27 +139,11 @@ module _ {S : Type 0} (g : Ghosts S) (old new : Desk S g) (result : Reply) where
   stops is runs = true≢false (sym (ap (λ (s : Standing). s.stopped) is) ∙ runs)
 
   pub same_unless : IsUnwritten → IfErr result (λ _. IsFalse (standing new).stopped → new ≡ old)
-  same_unless refused = at result refused
-    where
-      at : (r : Reply) → IfErr r (λ why. ((new ≡ old) × (why ≡ Memory))
-          ⊎ ((standing new ≡ record (standing old) { stopped = true }) × IsFault why))
-          → IfErr r (λ _. IsFalse (standing new).stopped → new ≡ old)
-      at (Ok r) h = tt
-      at (Err e) (inl own) = λ runs. own.0
-      at (Err e) (inr stopped) = λ runs. absurd (stops stopped.0 runs)
+  same_unless refused = grind (arith, common_steps)
 
   pub stands_after : ShowsOwn g old → OnOk result (ShowsOwn g new) → IsUnwritten → IsFalse (standing new).stopped → ShowsOwn g new
-  stands_after shows done refused runs = at result done (same_unless refused)
-    where
-      at : (r : Reply) → OnOk r (ShowsOwn g new) → IfErr r (λ _. IsFalse (standing new).stopped → new ≡ old) → ShowsOwn g new
-      at (Ok r) h same = h
-      at (Err e) h same = subst (ShowsOwn g) (sym (same runs)) shows
+  stands_after shows done refused runs = grind (arith, common_steps)
 
   pub leaves_refused : LeavesJust (state g old) (point_of (standing old)) → IsUnwritten
       → IfErr result (λ _. IsFalse (standing new).stopped → LeavesJust (state g new) (point_of (standing old)))
-  leaves_refused leaves refused = at result (same_unless refused)
-    where
-      at : (r : Reply) → IfErr r (λ _. IsFalse (standing new).stopped → new ≡ old)
-          → IfErr r (λ _. IsFalse (standing new).stopped → LeavesJust (state g new) (point_of (standing old)))
-      at (Ok r) h = tt
-      at (Err e) same = λ runs. subst (λ (d : Desk S g). LeavesJust (state g d) (point_of (standing old))) (sym (same runs)) leaves
+  leaves_refused leaves refused = grind (arith, common_steps)

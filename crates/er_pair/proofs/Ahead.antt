@@ -1,6 +1,7 @@
 -- Walks over the places that two rows leave free.
-use Rattle.std.proofs.Common.{◌≡◌, ℕ, ◌+◌, ◌*◌, ◌/◌, ◌%◌, ◌^◌, ◌<◌, ◌≤◌, ◌==◌, ◌||◌, ◌&&◌, not, Bool, true, false, get_or, arith, w64}
-use Rattle.std.proofs.{lemmas.Bool.Decides.nat_tests, lemmas.Nat.Bits.{bit_at-zero, bit_at-trailing_zeros}}
+use Rattle.std.proofs.{lemmas.Grind.common_steps, Common.{◌≡◌, ℕ, ◌+◌, ◌*◌, ◌/◌, ◌%◌, ◌^◌, ◌<◌, ◌≤◌, ◌==◌, ◌||◌, ◌&&◌, not, Bool, true}}
+use Rattle.std.proofs.{Common.{false, get_or, arith, w64}, lemmas.Bool.Decides.nat_tests, lemmas.Nat.Bits.bit_at-zero}
+use Rattle.std.proofs.lemmas.Nat.Bits.{bit_at-trailing_zeros}
 use Rattle.std.specs.{Prelude.{bit_and, bit_or}, Int.{bit_not, trailing_zeros}, Slice.Scan.{HoldsNowhere, IsFirstPlace}}
 use Rattle.er_pair.specs.{declared.rows.Row.Row, Rows.{has_place, is_ahead}}
 use Rattle.er_pair.proofs.Bits.{bit_less, less_set, not_set, and_not_set, neither_set, word_of}
@@ -37,9 +38,7 @@ module _ (one other : Row) (word left : ℕ) (test : ℕ → Bool) (same : (p : 
   pub next_word : left ≡ 0 → get_or one.words (word + 1) 0 < 2 ^ 64 → get_or other.words (word + 1) 0 < 2 ^ 64 → (p : ℕ)
       → is_ahead one other (word + 1) (bit_not w64 (bit_or (get_or one.words (word + 1) 0) (get_or other.words (word + 1) 0))) p ≡ test p
   unfolding is_ahead
-  next_word none fits suits p =
-      let free = neither_set (get_or one.words (word + 1) 0) (get_or other.words (word + 1) 0) (p % 64) fits suits (omega arith) in
-      grind (arith, nat_tests, same p, bit_at-zero (p % 64), word_of one (word + 1) p, word_of other (word + 1) p, free)
+  next_word none fits suits p = grind (arith, common_steps, bit_at-zero, nat_tests, neither_set, word_of)
 
   -- in the last word
   pub no_next : (end : ℕ) → left ≡ 0 → end ≤ 64 * (word + 1) → HoldsNowhere test 0 end
@@ -81,8 +80,7 @@ pub without_row : (row other : Row) (word left p : ℕ) → get_or row.words wor
     → is_ahead row other word (bit_and left (bit_not w64 (get_or row.words word 0))) p
     ≡ (is_ahead other other word left p && not (has_place row p))
 unfolding is_ahead
-without_row row other word left p fits =
-    grind (arith, nat_tests, and_not_set left (get_or row.words word 0) (p % 64) fits (omega arith), word_of row word p)
+without_row row other word left p fits = grind (arith, common_steps, and_not_set, nat_tests, word_of)
 
 -- of a place in a later word, which the row has from now on
 pub but_elsewhere : (row more : Row) (word left place p : ℕ) → (place / 64 ≡ word → ⊥)

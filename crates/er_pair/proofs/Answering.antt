@@ -1,11 +1,12 @@
 -- What the end of the search says of the order.
-use Rattle.std.proofs.Common.{◌≡◌, ℕ, ◌*◌, ◌%◌, ◌<◌, ◌≤◌, not, Bool, false, IsFalse, List, [], ◌∷◌, length, All, AllPairs, Option, Some}
-use Rattle.std.proofs.{Common.{None, sym, ap, ◌∙◌, arith}, lemmas.List.Elements.{All-nil, All-cons, All-head, All-tail, All-from_get_or}}
-use Rattle.std.proofs.{lemmas.List.FromFn.{length-range_with_len, get_or-range_with_len}, lemmas.List.Sorted.All-permutation}
+use Rattle.std.proofs.{lemmas.Grind.common_steps, Common.{◌≡◌, ℕ, ◌*◌, ◌%◌, ◌<◌, ◌≤◌, not, Bool, false, IsFalse, List, [], ◌∷◌, length}}
+use Rattle.std.proofs.{Common.{All, AllPairs, Some, None, ap, ◌∙◌, arith}, lemmas.List.Elements.{All-nil, All-cons, All-head, All-tail}}
+use Rattle.std.proofs.{lemmas.List.Elements.All-from_get_or, lemmas.List.FromFn.{length-range_with_len, get_or-range_with_len}}
+use Rattle.std.proofs.lemmas.List.Sorted.{All-permutation}
 use Rattle.std.specs.List.{range_with_len}
 use Rattle.er_pair.specs.{declared.rows.Cursor.Cursor, declared.rows.Row.Row, declared.search.Outcome.TheVariants.{Paired, DeadEnd}}
 use Rattle.er_pair.specs.{declared.pairings.TheConstants.MAX_STEPS, Pairing.{Pair, positions, all_positions, IsLegal, IsEarliest}}
-use Rattle.er_pair.specs.{Rows.{has_place, ahead_of, row_at}, Steps.{NeedsMore, met_at}, inside.Search.{SearchAnswers, search_of, met_in}}
+use Rattle.er_pair.specs.{Rows.{has_place, ahead_of, row_at}, Steps.{NeedsMore, met_at}, inside.Search.{SearchAnswers, search_of}}
 use Rattle.er_pair.specs.inside.Search.{free_ahead, answer_ahead}
 use Rattle.er_pair.proofs.{Bounds.{search_of-short, search_of-fresh}, Entries.{search_of-agree, earliest_found, none_found, no_more_needed}}
 use Rattle.er_pair.proofs.Passing.{passing-all}
@@ -26,9 +27,7 @@ module _ (used : Row) (ahead : Cursor) (none : (p : ℕ) → has_place used p �
   pub of_order : (met : ℕ → ℕ → Bool) (order : List ℕ) (rows : List Row) → length rows ≡ length order
       → ((p q : ℕ) → p < length order → q < length order → has_place (row_at rows p) q ≡ met_at met order p q)
       → answer_ahead rows used ahead ≡ search_of (met_at met order) (all_positions order)
-  of_order met order rows size same =
-      ap (search_of (met_in rows)) (all_free (length rows) ∙ ap (range_with_len 0) size)
-      ∙ search_of-agree (met_in rows) (met_at met order) order same
+  of_order met order rows size same = grind (arith, common_steps, all_free, search_of-agree)
 
 -- ---- what the answer says
 
@@ -65,9 +64,7 @@ module _ (met : ℕ → ℕ → Bool) (order : List ℕ) where
   unpaired steps left found answers = (none_found met order answers.0, no_more_needed met order steps (omega (arith, answers.1)))
 
   pub short_within : MAX_STEPS < (search_of (met_at met order) (all_positions order)).1 → length order ≤ 14 → ⊥
-  short_within more short =
-      let size = length-range_with_len 0 (length order) in
-      omega (arith, search_of-short (met_at met order) (all_positions order) (omega arith))
+  short_within more short = grind (arith, common_steps, length-range_with_len, search_of-short)
 
   -- where no two entries have met, no two positions have
   module _ (fresh : AllPairs (λ p q. IsFalse (met p q)) order) (even : length order % 2 ≡ 0) where
@@ -87,6 +84,4 @@ module _ (met : ℕ → ℕ → Bool) (order : List ℕ) where
     fresh_within more few = omega (arith, fresh_search.1)
 
     pub fresh_pairs : (search_of (met_at met order) (all_positions order)).0 ≡ None → ⊥
-    fresh_pairs none =
-        let e : ◌≡◌ {A = Option (List Pair)} None (Some fresh_search.0.0) = sym none ∙ fresh_search.0.1 in
-        absurd (cc)
+    fresh_pairs none = grind (arith, common_steps, fresh_search)

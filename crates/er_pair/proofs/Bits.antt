@@ -1,8 +1,8 @@
 -- Bits of words, and the places of rows for which they stand.
-use Rattle.std.proofs.Common.{◌≡◌, ℕ, ◌*◌, ◌/◌, ◌%◌, ◌^◌, ◌<◌, ◌==◌, ◌||◌, ◌&&◌, not, false, if◌then◌else◌, List, [], ◌∷◌, length, get_or}
-use Rattle.std.proofs.{Common.{set, arith, w64}, lemmas.Bool.Decides.nat_tests, lemmas.Grind.get_or-set_at, lemmas.List.get_or-set_other}
-use Rattle.std.proofs.{lemmas.List.{get_or-replicate, get_or_past}, lemmas.Nat.or_lt, lemmas.Nat.Bits.{bit_at-lt, bit_at-zero, bit_at_and}}
-use Rattle.std.proofs.lemmas.Nat.Bits.{bit_at_or, bit_at_not, bit_at_set_same, bit_at_set_other, bit_at_clear_same, bit_at_clear_other}
+use Rattle.std.proofs.{lemmas.Grind.common_steps, Common.{◌≡◌, ℕ, ◌*◌, ◌/◌, ◌%◌, ◌^◌, ◌<◌, ◌==◌, ◌||◌, ◌&&◌, not, false, if◌then◌else◌}}
+use Rattle.std.proofs.{Common.{List, [], ◌∷◌, length, get_or, set, arith, w64}, lemmas.Bool.Decides.nat_tests, lemmas.List.get_or_past}
+use Rattle.std.proofs.{lemmas.Nat.or_lt, lemmas.Nat.Bits.{bit_at-lt, bit_at-zero, bit_at_and, bit_at_or, bit_at_not, bit_at_set_same}}
+use Rattle.std.proofs.lemmas.Nat.Bits.{bit_at_set_other, bit_at_clear_same, bit_at_clear_other}
 use Rattle.std.specs.{Prelude.{bit_and, bit_or}, Int.bit_not}
 use Rattle.er_pair.specs.{declared.rows.Row.Row, Rows.{is_set, has_place}}
 
@@ -57,9 +57,7 @@ written row index word = record { words = set row.words index word }
 in_written : (row : Row) (index word other : ℕ) → index < length row.words
     → has_place (written row index word) other ≡ (if other / 64 == index then is_set word (other % 64) else has_place row other)
 unfolding has_place
-in_written row index word other within =
-    let words = row.words in
-    grind (arith, nat_tests, get_or-set_at words index (other / 64) word 0, get_or-set_other words index (other / 64) word 0)
+in_written row index word other within = grind (arith, common_steps)
 
 pub inserted : (row : Row) (place : ℕ) → place / 64 < length row.words → (other : ℕ)
     → has_place (written row (place / 64) (bit_more (get_or row.words (place / 64) 0) (place % 64))) other
@@ -72,17 +70,12 @@ inserted row place within other =
 pub removed : (row : Row) (place : ℕ) → place / 64 < length row.words → (other : ℕ)
     → has_place (written row (place / 64) (bit_less (get_or row.words (place / 64) 0) (place % 64))) other
     ≡ (not (other == place) && has_place row other)
-removed row place within other =
-    let word = get_or row.words (place / 64) 0 in
-    let new = in_written row (place / 64) (bit_less word (place % 64)) other within in
-    grind (arith, nat_tests, new, less_set word (place % 64) (other % 64) (omega arith) (omega arith), word_of row (place / 64) other)
+removed row place within other = grind (arith, common_steps, in_written, less_set, nat_tests, word_of)
 
 -- a row of zeros has no place
 pub no_place : (place : ℕ) → has_place (record { words = 0 ∷ 0 ∷ 0 ∷ 0 ∷ 0 ∷ 0 ∷ 0 ∷ 0 ∷ 0 ∷ [] }) place ≡ false
 unfolding has_place
-no_place place =
-    let words : List ℕ = 0 ∷ 0 ∷ 0 ∷ 0 ∷ 0 ∷ 0 ∷ 0 ∷ 0 ∷ 0 ∷ [] in
-    grind (arith, bit_at-zero (place % 64), get_or-replicate {A = ℕ} 9 (place / 64) 0 0, get_or_past words (place / 64) 0)
+no_place place = grind (arith, common_steps)
 
 -- nor has one without a word
 pub no_word : (place : ℕ) → has_place (record { words = [] }) place ≡ false

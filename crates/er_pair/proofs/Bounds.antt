@@ -1,7 +1,7 @@
 -- How many steps a search makes at most, and how many where nobody has met.
-use Rattle.std.proofs.Common.{◌≡◌, ℕ, zero, suc, ◌+◌, ◌*◌, ◌%◌, ◌≤◌, nat_lt, Bool, true, IsFalse, List, [], ◌∷◌, ◌++◌, length, AllPairs}
-use Rattle.std.proofs.{Common.{Option, Some, None, refl, ap, ◌∙◌, arith, append_assoc, not-suc-le-zero}, lemmas.Bool.agree_below_at}
-use Rattle.std.proofs.{lemmas.Bool.{cond_both, cond-false}, lemmas.Bool.Decides.nat_tests}
+use Rattle.std.proofs.{lemmas.Grind.common_steps, Common.{◌≡◌, ℕ, zero, suc, ◌+◌, ◌*◌, ◌%◌, ◌≤◌, nat_lt, Bool, true, IsFalse, List, []}}
+use Rattle.std.proofs.Common.{◌∷◌, ◌++◌, length, AllPairs, Option, Some, refl, ap, ◌∙◌, arith, append_assoc, not-suc-le-zero}
+use Rattle.std.proofs.{lemmas.Bool.{agree_below_at, cond_both, cond-false}, lemmas.Bool.Decides.nat_tests}
 use Rattle.er_pair.specs.{Pairing.Pair, inside.Search.{Answer, after_step, tries, search_of}}
 use Rattle.er_pair.proofs.{Picking.{Picked, Picked-length}, Picking.Picked.{here, there}, Searching.{search_of-none, search_of-cons}}
 
@@ -14,8 +14,7 @@ most (suc (suc n)) = suc n * suc (most n)
 after_step-most : (pair : Pair) (o : Option (List Pair)) (steps : ℕ) (later : Answer)
     → (after_step pair o steps later).1 ≤ suc (steps + later.1)
 unfolding after_step
-after_step-most pair None steps later = omega arith
-after_step-most pair (Some more) steps later = omega arith
+after_step-most pair h1 steps later = grind (arith, common_steps)
 
 one_more : (s m l n k : ℕ) → s ≤ m → l ≤ n * suc m → k ≤ suc (s + l) → k ≤ suc n * suc m
 one_more s m l n k a b c = omega arith

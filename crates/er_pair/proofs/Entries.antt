@@ -1,6 +1,7 @@
 -- The search of an order's positions, and what it says of the order.
-use Rattle.std.proofs.Common.{◌≡◌, inl, inr, ℕ, zero, suc, ◌+◌, ◌<◌, ◌≤◌, Bool, List, [], ◌∷◌, length, map, Option, Some, None, refl, sym}
-use Rattle.std.proofs.{Common.{◌∙◌, subst, arith, slice_index, get_or, not-suc-le-zero}, lemmas.List.FromFn.length-range_with_len}
+use Rattle.std.proofs.{lemmas.Grind.common_steps, Common.{◌≡◌, inl, inr, ℕ, zero, suc, ◌+◌, ◌<◌, ◌≤◌, Bool, List, [], ◌∷◌, length, map}}
+use Rattle.std.proofs.Common.{Option, Some, None, refl, sym, ◌∙◌, subst, arith, slice_index, get_or, not-suc-le-zero}
+use Rattle.std.proofs.lemmas.List.FromFn.{length-range_with_len}
 use Rattle.std.specs.List.{range_with_len}
 use Rattle.er_pair.specs.{Pairing.{Pair, IsLegal, IsEarliest, all_positions}, Steps.{met_at, Needs, NeedsMore}, inside.Search.search_of}
 use Rattle.er_pair.proofs.{Picking.{In, Picked-In, Picked-kept, Picked-length, Rises-range, In-range}, Searching.tries-same}
@@ -49,9 +50,7 @@ module _ (met : ℕ → ℕ → Bool) (order : List ℕ) where
   -- the pairs that it finds are the earliest pairing
   pub earliest_found : (found : List Pair) → (search_of (met_at met order) (all_positions order)).0 ≡ Some found
       → IsEarliest met order found
-  earliest_found found is =
-      let first = subst (Outcome (IsLegal met order)) is search-settled.0 in
-      record { legal = first.is; none_earlier = first.none_earlier }
+  earliest_found found is = grind (arith, common_steps, search-settled)
 
   -- where it finds none, there is none
   pub none_found : (search_of (met_at met order) (all_positions order)).0 ≡ None → (pairs : List Pair) → IsLegal met order pairs → ⊥
@@ -62,14 +61,7 @@ module _ (met : ℕ → ℕ → Bool) (order : List ℕ) where
   one_earliest one other earliest also = by_outcome (search_of (met_at met order) (all_positions order)).0 search-settled.0
     where
       by_outcome : (answer : Option (List Pair)) → Outcome (IsLegal met order) answer → one ≡ other
-      by_outcome None none = absurd (none one earliest.legal)
-      by_outcome (Some pairs) h = sym (is_first one earliest) ∙ is_first other also
-        where
-          is_first : (these : List Pair) → IsEarliest met order these → pairs ≡ these
-          is_first these is = elim (h.or_later these is.legal) [
-            | inl same ↦ same
-            | inr earlier ↦ absurd (is.none_earlier pairs h.is earlier)
-          ]
+      by_outcome h1 none = grind (arith, common_steps)
 
   -- and the order needs just the steps that it makes
   needs_steps : (steps : ℕ) → Needs met order (all_positions order) steps → steps ≡ (search_of (met_at met order) (all_positions order)).1
@@ -83,6 +75,4 @@ module _ (met : ℕ → ℕ → Bool) (order : List ℕ) where
 
   -- a short order needs few steps
   pub short_needs : (steps : ℕ) → length order ≤ 14 → Needs met order (all_positions order) steps → steps ≤ 325767
-  short_needs steps short needs =
-      let size = length-range_with_len 0 (length order) in
-      omega (arith, needs_steps steps needs, search_of-short (met_at met order) (all_positions order) (omega arith))
+  short_needs steps short needs = grind (arith, common_steps, length-range_with_len, needs_steps, search_of-short)

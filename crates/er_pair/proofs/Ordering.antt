@@ -1,8 +1,8 @@
 -- Places that are sorted give the order.
-use Rattle.std.proofs.Common.{AllPairs, ◌≡◌, ◌≢◌, ℕ, zero, suc, ◌+◌, ◌%◌, ◌<◌, ◌≤◌, ◌==◌, nat_lt, true, false, not, cond, List, [], ◌∷◌}
-use Rattle.std.proofs.Common.{◌++◌, length, map, filter, get_or, count_by, All, IsPermutation, length-append, refl, sym, ap, ◌∙◌, arith}
-use Rattle.std.proofs.{Common.not-suc-le-zero, lemmas.Bool.cond_both, lemmas.Bool.Decides.{nat_tests, Decides-eqb}, lemmas.List.length-map}
-use Rattle.std.proofs.{lemmas.List.get_or-map, lemmas.List.Elements.Contains-get_or, lemmas.List.Kept.AllPairs-cons}
+use Rattle.std.proofs.{lemmas.Grind.common_steps, Common.{AllPairs, ◌≡◌, ◌≢◌, ℕ, zero, suc, ◌+◌, ◌%◌, ◌<◌, ◌≤◌, ◌==◌, nat_lt, true, false}}
+use Rattle.std.proofs.Common.{not, cond, List, [], ◌∷◌, ◌++◌, length, map, filter, get_or, count_by, All, IsPermutation, refl, sym, ap}
+use Rattle.std.proofs.{Common.{◌∙◌, arith, not-suc-le-zero}, lemmas.Bool.cond_both, lemmas.Bool.Decides.{nat_tests, Decides-eqb}}
+use Rattle.std.proofs.{lemmas.List.{length-map, get_or-map}, lemmas.List.Elements.Contains-get_or, lemmas.List.Kept.AllPairs-cons}
 use Rattle.std.proofs.{lemmas.List.Quantifiers.all_pairs_push, lemmas.List.Sorted.{IsPermutation-map, IsPermutation-sym, All-permutation}}
 use Rattle.std.proofs.{lemmas.List.Sorted.{length_permutation, sorted_far}, lemmas.List.Sums.{sum_by-cons, count_by-le-length}}
 use Rattle.std.proofs.{lemmas.List.Sums.length-filter, lemmas.Map.Keys.IsDistinct-IsPermutation, lemmas.Map.Made.AllPairs-from_IsDistinct}
@@ -18,10 +18,7 @@ use Rattle.er_pair.proofs.Placing.{active_in}
 
 -- the test is one of an order
 place_order : IsStrictWeakOrder is_before
-place_order = record {
-  one_way = λ p q h. grind (arith, nat_tests, h);
-  chain = λ p q r one two. grind (arith, nat_tests, one, two);
-}
+place_order = grind (arith, common_steps)
 
 strictly_before : (p q : Entrant) → is_before q p ≡ false → (p.number ≡ q.number → ⊥) → is_before p q ≡ true
 strictly_before p q h apart = grind (arith, nat_tests)
@@ -103,8 +100,7 @@ seats_differ players apart positive = cond_both (length players % 2 == 1) (playe
     (λ even. apart)
 
 few_seats : (players : List ℕ) → length players ≤ 512 → length (seats_of players) ≤ 512
-few_seats players few = cond_both (length players % 2 == 1) (players ++ 0 ∷ []) players (λ l. length l ≤ 512)
-    (λ odd. grind (arith, nat_tests, length-append players (0 ∷ []))) (λ even. few)
+few_seats players few = grind (arith, common_steps)
 
 module _ (event : EventValue) (key : ℕ → ℕ) (order : List ℕ) (sound : IsSoundButForSeeds event) (is : IsOrder event key order) where
   pub stands_once : AllPairs (λ p q. p ≢ q) order

@@ -1,6 +1,7 @@
 -- Ascending lists, and one element taken out of a list.
-use Rattle.std.proofs.Common.{◌≡◌, ◌⊎◌, inl, inr, ℕ, zero, suc, ◌+◌, ◌<◌, List, [], ◌∷◌, length, Contains, refl, sym, ap, subst, arith}
-use Rattle.std.proofs.{Common.not-suc-le-zero, lemmas.List.FromFn.{length-range_with_len, get_or-range_with_len}}
+use Rattle.std.proofs.{lemmas.Grind.common_steps, Common.{◌≡◌, ◌⊎◌, inl, inr, ℕ, zero, suc, ◌+◌, ◌<◌, List, [], ◌∷◌, length, Contains}}
+use Rattle.std.proofs.{Common.{refl, sym, ap, subst, arith, not-suc-le-zero}, lemmas.List.FromFn.length-range_with_len}
+use Rattle.std.proofs.lemmas.List.FromFn.{get_or-range_with_len}
 use Rattle.std.specs.List.{range_with_len}
 
 -- x is below each
@@ -84,7 +85,4 @@ Rises-range a zero = tt
 Rises-range a (suc n) = (Above-range a (a + 1) n (omega arith), Rises-range (a + 1) n)
 
 pub In-range : (x a n : ℕ) → In x (range_with_len a n) → x < a + n
-In-range x a n found =
-    let at = Contains-from_In (range_with_len a n) x found in
-    let below : at.0 < n = omega (arith, at.1, length-range_with_len a n) in
-    omega (arith, at.2, get_or-range_with_len a n at.0 x below)
+In-range x a n found = grind (arith, common_steps, Contains-from_In, get_or-range_with_len, length-range_with_len)

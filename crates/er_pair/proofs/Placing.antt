@@ -1,7 +1,7 @@
 -- The active players by number, with their keys.
-use Rattle.std.proofs.Common.{◌≡◌, ℕ, ◌+◌, ◌<◌, Bool, false, not, cond, List, [], ◌∷◌, ◌++◌, length, take, map, filter, get_or, refl, ap}
-use Rattle.std.proofs.{Common.{◌∙◌, arith, not-suc-le-zero, length-append}, lemmas.Bool.{cond-true, not_from_false}, lemmas.List.length-map}
-use Rattle.std.proofs.{lemmas.List.map_push, lemmas.List.Elements.filter_more, lemmas.List.Sums.{length-filter, sum_by_more_le}}
+use Rattle.std.proofs.{lemmas.Grind.common_steps, Common.{◌≡◌, ℕ, ◌+◌, ◌<◌, false, not, List, [], ◌∷◌, ◌++◌, length, take, map, filter}}
+use Rattle.std.proofs.{Common.{get_or, refl, ◌∙◌, arith, not-suc-le-zero, length-append}, lemmas.List.length-map}
+use Rattle.std.proofs.lemmas.List.Sums.{length-filter, sum_by_more_le}
 use Rattle.er_event.specs.{declared.players.Player.Player, Event.EventValue, Totals.totals}
 use Rattle.er_pair.specs.{declared.entrants.Entrant.Entrant, inside.Entrant.{entrant_of, entrants_of}}
 
@@ -11,32 +11,17 @@ active_in players = map (λ p. p.no) (filter (λ p. not p.dropped) players)
 module _ (players : List Player) (i : ℕ) (p : Player) (below : i < length players) (is : p ≡ get_or players i p)
     (active : p.dropped ≡ false) where
   pub active_more : active_in (take (i + 1) players) ≡ active_in (take i players) ++ p.no ∷ []
-  active_more =
-      let more = filter_more (λ (q : Player). not q.dropped) players i p below in
-      let kept = cond-true (not p.dropped) (p ∷ []) [] (not_from_false p.dropped active) in
-      rw more (rw (← is) (rw kept (map_push (λ (q : Player). q.no) (filter (λ (q : Player). not q.dropped) (take i players)) p)))
+  active_more = grind (arith, common_steps)
 
   pub active_below : length (active_in (take i players)) < length (active_in players)
-  active_below =
-      let test : Player → Bool = λ q. not q.dropped in
-      let one : ◌≡◌ {A = ℕ} (cond (test (get_or players i p)) 1 0) 1 = rw (← is) (rw active) in
-      omega (
-        arith,
-        one,
-        sum_by_more_le (λ (q : Player). cond (test q) 1 0) players i p below,
-        length-map (filter test players) (λ (q : Player). q.no),
-        length-filter test players,
-        length-map (filter test (take i players)) (λ (q : Player). q.no),
-        length-filter test (take i players),
-      )
+  active_below = grind (arith, common_steps, length-filter, length-map, sum_by_more_le)
 
 pub placed-push : (event : EventValue) (ns keys : List ℕ) (n : ℕ) → length ns < length keys
     → entrants_of event (ns ++ n ∷ []) keys ≡ entrants_of event ns keys ++ entrant_of event n (get_or keys (length ns) 0) ∷ []
 placed-push event [] [] n below = absurd (not-suc-le-zero below)
 placed-push event [] (key ∷ keys) n below = refl
 placed-push event (m ∷ ns) [] n below = absurd (not-suc-le-zero below)
-placed-push event (m ∷ ns) (key ∷ keys) n below =
-    ap (λ (l : List Entrant). entrant_of event m key ∷ l) (placed-push event ns keys n (omega arith))
+placed-push event (m ∷ ns) (key ∷ keys) n below = grind (arith, common_steps, placed-push event ns keys n (omega arith))
 
 -- the next active player goes to the end
 pub placed_more : (event : EventValue) (players : List Player) (keys : List ℕ) (i : ℕ) (p : Player) (places new : List Entrant)

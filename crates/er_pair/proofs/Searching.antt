@@ -1,6 +1,6 @@
 -- The search as a function of what is left to pair, which needs no bound.
-use Rattle.std.proofs.Common.{◌≡◌, ℕ, zero, suc, ◌≤◌, Bool, List, [], ◌∷◌, ◌++◌, length, Some, refl, sym, ◌∙◌, arith, append_assoc}
-use Rattle.std.proofs.Common.{not-suc-le-zero}
+use Rattle.std.proofs.{lemmas.Grind.common_steps, Common.{◌≡◌, ℕ, zero, suc, ◌≤◌, Bool, List, [], ◌∷◌, ◌++◌, length, Some, refl, sym, ◌∙◌}}
+use Rattle.std.proofs.Common.{arith, append_assoc, not-suc-le-zero}
 use Rattle.er_pair.specs.inside.Search.{Answer, tries, search_within, search_of}
 use Rattle.er_pair.proofs.{Picking.{Picked, Picked-length}, Picking.Picked.{here, there}}
 
@@ -19,8 +19,7 @@ tries-same one two these those first passed (c ∷ left) same =
 
 search_within-none : (met : ℕ → ℕ → Bool) (bound : ℕ) → search_within met bound [] ≡ (Some [], zero)
 unfolding search_within
-search_within-none met zero = refl
-search_within-none met (suc bound) = refl
+search_within-none met h1 = grind (arith, common_steps)
 
 -- a greater bound changes nothing
 search_within-same : (met : ℕ → ℕ → Bool) (one two : ℕ) (list : List ℕ) → length list ≤ one → length list ≤ two

@@ -1,7 +1,7 @@
 -- What the search answers is the earliest legal pairing of the free positions, or that there is none, in the steps that they need.
-use Rattle.std.proofs.Common.{◌≡◌, ◌⊎◌, inl, inr, ℕ, zero, suc, ◌<◌, ◌≤◌, Bool, false, List, [], ◌∷◌, ◌++◌, length, take, slice_get, Some}
-use Rattle.std.proofs.{Common.{None, Option, MatchOption, refl, sym, ap, ◌∙◌, arith, append_assoc, not-suc-le-zero}, lemmas.Bool.true≢false}
-use Rattle.std.proofs.lemmas.Bool.{cond_both}
+use Rattle.std.proofs.{lemmas.Grind.common_steps, Common.{◌≡◌, ◌⊎◌, inl, inr, ℕ, zero, suc, ◌<◌, ◌≤◌, Bool, false, List, [], ◌∷◌, ◌++◌}}
+use Rattle.std.proofs.Common.{length, Some, None, Option, MatchOption, refl, sym, ap, ◌∙◌, arith, append_assoc, not-suc-le-zero}
+use Rattle.std.proofs.lemmas.Bool.{true≢false, cond_both}
 use Rattle.er_pair.specs.{Pairing.{Pair, IsLegalOf, IsEarlier}, Steps.{CanPair, met_at, Needs, Tries}, Steps.Needs.{empty, first_with}}
 use Rattle.er_pair.specs.{Steps.Tries.{none_left, has_met, partner, dead_end}, inside.Search.{Answer, after_step, tries, search_of}}
 use Rattle.er_pair.proofs.{Picking.{Rises, Picked, Above-In, Picked-In, Picked-Rises, Picked-length}, Picking.Picked.{here, there}}
@@ -23,12 +23,7 @@ Outcome These answer = MatchOption answer ((pairs : List Pair) → These pairs �
 -- where the pairings are the same, so is their first
 Outcome-same : (These Those : List Pair → Type 0) → ((pairs : List Pair) → These pairs → Those pairs)
     → ((pairs : List Pair) → Those pairs → These pairs) → (answer : Option (List Pair)) → Outcome These answer → Outcome Those answer
-Outcome-same These Those to from None none = λ pairs that. none pairs (from pairs that)
-Outcome-same These Those to from (Some pairs) h = record {
-  is = to pairs h.is;
-  none_earlier = λ other that. h.none_earlier other (from other that);
-  or_later = λ other that. h.or_later other (from other that);
-}
+Outcome-same h1 h2 to from h3 none = grind (arith, common_steps)
 
 earlier_on : (pair : Pair) (one other : List Pair) → IsEarlier one other → IsEarlier (pair ∷ one) (pair ∷ other)
 earlier_on pair one other e = record {
@@ -51,22 +46,7 @@ here_first first a b one other less = record {
 -- what is earlier has a smaller partner in the first pair, or the same one there and is earlier in the others
 earlier_off : (first a b : ℕ) (one other : List Pair) → IsEarlier ((first, a) ∷ one) ((first, b) ∷ other)
     → (a < b) ⊎ ((a ≡ b) × IsEarlier one other)
-earlier_off first a b one other e = by_place e.at e.pairs.0 e.pairs.1 e.same_before e.here.0 e.here.1 e.smaller
-  where
-    by_place : (at : ℕ) (p q : Pair) → take at ((first, a) ∷ one) ≡ take at ((first, b) ∷ other)
-        → slice_get ((first, a) ∷ one) at ≡ Some p → slice_get ((first, b) ∷ other) at ≡ Some q → p.1 < q.1
-        → (a < b) ⊎ ((a ≡ b) × IsEarlier one other)
-    by_place zero p q same is those less =
-        let e : ◌≡◌ {A = Option Pair} (Some (first, a)) (Some p) = is in
-        let f : ◌≡◌ {A = Option Pair} (Some (first, b)) (Some q) = those in
-        let low : a ≡ p.1 = cc in
-        let high : b ≡ q.1 = cc in
-        inl (omega arith)
-    by_place (suc at) p q same is those less =
-        let e : (first, a) ∷ take at one ≡ (first, b) ∷ take at other = same in
-        let heads : ◌≡◌ {A = Pair} (first, a) (first, b) = cc in
-        let later : IsEarlier one other = record { at = at; pairs = (p, q); same_before = cc; here = (is, those); smaller = less } in
-        inr (ap (λ (r : Pair). r.1) heads, later)
+earlier_off first a b one other e = grind (arith, common_steps)
 
 -- ---- of the pairings of a first position
 

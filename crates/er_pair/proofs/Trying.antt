@@ -1,8 +1,8 @@
 -- The search of the positions that are free and ahead, candidate by candidate.
-use Rattle.std.proofs.Common.{◌≡◌, inl, inr, ℕ, zero, suc, ◌+◌, ◌-◌, ◌*◌, ◌<◌, ◌≤◌, ◌==◌, ◌||◌, ◌&&◌, not, Bool, true, false, List, []}
-use Rattle.std.proofs.Common.{◌∷◌, ◌++◌, length, Option, Some, None, refl, sym, ap, ◌∙◌, arith, set, take, drop, append-nil}
-use Rattle.std.proofs.{Common.{length-append, nat_lt}, lemmas.Bool.{cases_lt, cases_Bool}, lemmas.Bool.Decides.nat_tests}
-use Rattle.std.proofs.lemmas.List.{take_all, drop_all, nil_from_length}
+use Rattle.std.proofs.{lemmas.Grind.common_steps, Common.{◌≡◌, inl, inr, ℕ, zero, suc, ◌+◌, ◌-◌, ◌*◌, ◌<◌, ◌≤◌, ◌==◌, ◌||◌, ◌&&◌, not}}
+use Rattle.std.proofs.Common.{Bool, true, false, List, [], ◌∷◌, ◌++◌, length, Option, Some, None, refl, sym, ap, ◌∙◌, arith, set, take}
+use Rattle.std.proofs.{Common.{drop, append-nil, length-append, nat_lt}, lemmas.Bool.{cases_lt, cases_Bool}, lemmas.Bool.Decides.nat_tests}
+use Rattle.std.proofs.lemmas.List.{nil_from_length}
 use Rattle.std.specs.Slice.Scan.{HoldsNowhere}
 use borrow.Rule.Slice.PartMut.{put_mid}
 use Rattle.er_pair.specs.{declared.dead_ends.KnownDeadEnd.KnownDeadEnd, declared.rows.Cursor.Cursor, declared.rows.Row.Row}
@@ -95,8 +95,7 @@ module _ (rows : List Row) (free : ℕ → Bool) (first : ℕ) where
 
 pub pairs_none : (rows : List Row) (list : List ℕ) (steps : ℕ) (pairs : List Pair) → length list ≡ 2 * length pairs → list ≡ []
     → SearchAnswers (search_of (met_in rows) list) steps pairs steps Paired
-pairs_none rows list steps [] size none = rw none (rw (search_of-none (met_in rows)) (refl, omega arith))
-pairs_none rows list steps (pair ∷ more) size none = absurd (omega (arith, ap length none))
+pairs_none rows list steps h1 size none = grind (arith, common_steps, search_of-none)
 
 pub free_none : (used : Row) (cursor : Cursor) (end : ℕ) → IsNoneAhead used used cursor end → free_ahead used cursor end ≡ []
 unfolding free_ahead
@@ -151,16 +150,14 @@ one_of_two used cursor behind first end size next none =
 
 after_step-least : (pair : Pair) (own : Option (List Pair)) (steps : ℕ) (later : Answer) → suc steps ≤ (after_step pair own steps later).1
 unfolding after_step
-after_step-least pair None steps later = omega arith
-after_step-least pair (Some more) steps later = omega arith
+after_step-least pair h1 steps later = grind (arith, common_steps)
 
 -- the others are a dead end
 after_step-dead : (pair : Pair) (own later : Answer) (steps left : ℕ) (found : List Pair) → 0 < steps
     → SearchAnswers own (steps - 1) found left DeadEnd
     → ((after_step pair own.0 own.1 later).0 ≡ later.0) × (left + (after_step pair own.0 own.1 later).1 ≡ steps + later.1)
 unfolding after_step
-after_step-dead pair (None, inner) later steps left found some answers = (refl, omega (arith, answers.1))
-after_step-dead pair (Some more, inner) later steps left found some answers = absurd (cc answers.0)
+after_step-dead pair h1 later steps left found some answers = grind (arith, common_steps)
 
 -- they are none
 after_step-found : (pair : Pair) (own later : Answer) (steps left : ℕ) (found : List Pair) (outcome : Outcome) → 0 < steps
@@ -168,26 +165,21 @@ after_step-found : (pair : Pair) (own later : Answer) (steps left : ℕ) (found 
     → SearchAnswers (after_step pair own.0 own.1 later) steps (pair ∷ found) left outcome
 unfolding after_step
 after_step-found pair (None, inner) later steps left found Paired some other answers = absurd (cc answers.0)
-after_step-found pair (Some more, inner) later steps left found Paired some other answers =
-    let same : more ≡ found = cc answers.0 in
-    (cc, omega (arith, answers.1))
+after_step-found pair (Some more, inner) later steps left found Paired some other answers = grind (arith, common_steps)
 after_step-found pair own later steps left found DeadEnd some other answers = absurd (other refl)
-after_step-found pair own later steps left found OutOfSteps some other answers =
-    omega (arith, answers, after_step-least pair own.0 own.1 later)
+after_step-found pair own later steps left found OutOfSteps some other answers = grind (arith, common_steps)
 
 -- ---- the pair that is written
 
 pub rest_size : (pairs : List Pair) (pair : Pair) → 0 < length pairs
     → length (take (length (set pairs 0 pair) - 1) (drop 1 (set pairs 0 pair))) ≡ length pairs - 1
-rest_size [] pair some = absurd (omega arith)
-rest_size (old ∷ more) pair some = rw (take_all (length (pair ∷ more) - 1) more (omega arith)) (omega arith)
+rest_size h1 pair some = grind (arith, common_steps)
 
 -- with those of the search behind it
 pub pair_and_more : (pairs found : List Pair) (pair : Pair) → length found ≡ length (set pairs 0 pair) - 1 → 0 < length pairs
     → put_mid 1 (length (set pairs 0 pair) - 1) (set pairs 0 pair) found ≡ pair ∷ found
 pair_and_more [] found pair size some = absurd (omega arith)
-pair_and_more (old ∷ more) found pair size some =
-    rw (drop_all (length (pair ∷ more) - 1) more (omega arith)) (rw (append-nil found))
+pair_and_more (old ∷ more) found pair size some = grind (arith, common_steps)
 
 -- ---- where the search is, at one of the candidates
 
@@ -208,21 +200,7 @@ pub starts : (rows : List Row) (used : Row) (list : List ℕ) (others candidates
     → ((other : Row) (p : ℕ) → ahead_of (row_at rows first) other candidates p
     ≡ (ahead_of other other others p && not (has_place (row_at rows first) p)))
     → candidates.index < WORDS → IsAt rows used used list others first candidates steps steps
-starts rows used list others candidates first steps is without word =
-    let free : ℕ → Bool = ahead_of used used others in
-    let size : length rows ≡ length rows - 0 = omega arith in
-    let all : search_of (met_in rows) list ≡ left_to_try rows free first 0 = ap (search_of (met_in rows)) is
-    ∙ (search_of-cons (met_in rows) first (passing free 0 (length rows))
-    ∙ ap (λ (n : ℕ). tries (met_in rows) (search_of (met_in rows)) first [] (passing free 0 n)) size) in
-    record {
-      next = 0;
-      within = omega arith;
-      same = λ p. refl;
-      outcome = ap (λ (a : Answer). a.0) all;
-      counted = omega (arith, ap (λ (a : Answer). a.1) all);
-      walk = λ p. grind (arith, nat_tests, without used p);
-      word = word;
-    }
+starts rows used list others candidates first steps is without word = grind (arith, common_steps, nat_tests, passing, search_of-cons)
 
 module _ (rows : List Row) (at_first used : Row) (list : List ℕ) (others : Cursor) (first : ℕ) (candidates : Cursor) (steps left : ℕ)
     (h : IsAt rows at_first used list others first candidates steps left) where
@@ -232,16 +210,11 @@ module _ (rows : List Row) (at_first used : Row) (list : List ℕ) (others : Cur
   from_rest : (found : List Pair) (last : ℕ) (outcome : Outcome)
       → SearchAnswers (left_to_try rows free first h.next) left found last outcome
       → SearchAnswers (search_of (met_in rows) list) steps found last outcome
-  from_rest found last Paired answers = (h.outcome ∙ answers.0, omega (arith, answers.1, h.counted))
-  from_rest found last DeadEnd answers = (h.outcome ∙ answers.0, omega (arith, answers.1, h.counted))
-  from_rest found last OutOfSteps answers = omega (arith, answers, h.counted)
+  from_rest found last h1 answers = grind (arith, common_steps)
 
   pub none_is_left : (found : List Pair) → IsNoneAhead (row_at rows first) used candidates (length rows)
       → SearchAnswers (search_of (met_in rows) list) steps found left DeadEnd
-  none_is_left found none =
-      let last = none_left rows free first h.next h.within
-      (λ p above below. grind (arith, nat_tests, h.walk p, none p (omega arith) below)) in
-      from_rest found left DeadEnd (rw last (refl, omega arith))
+  none_is_left found none = grind (arith, common_steps, from_rest, nat_tests, none_left)
 
   -- ---- at the next candidate
 
@@ -268,10 +241,7 @@ module _ (rows : List Row) (at_first used : Row) (list : List ℕ) (others : Cur
 
     -- without a step left, the search needs more
     pub without_step : left ≡ 0 → steps < (search_of (met_in rows) list).1
-    without_step none =
-        let own = search_of (met_in rows) (without_one rows free first c) in
-        from_rest [] 0 OutOfSteps
-        (rw step (omega (arith, after_step-least (first, c) own.0 own.1 (left_to_try rows free first (c + 1)))))
+    without_step none = grind (arith, common_steps, after_step-least, from_rest, step)
 
     -- and there is a pair to write
     pub some_pair : (size : ℕ) → list ≡ first ∷ passing free 0 (length rows) → length list ≡ 2 * size → 0 < size
@@ -282,9 +252,7 @@ module _ (rows : List Row) (at_first used : Row) (list : List ℕ) (others : Cur
       where
         rest_is : free_ahead more rest (length rows) ≡ without_one rows free first c
         unfolding free_ahead
-        rest_is = others_are rows free first (ahead_of more more rest) c is.0 (λ p.
-            let same = ahead-same used used at_first at_first others.index others.left p (h.same p) (h.same p) in
-            is_rest p ∙ ap (λ (b : Bool). b && not (p == c)) same)
+        rest_is = grind (arith, common_steps, ahead-same, others_are)
 
         pub rest_two_by_two : (size : ℕ) → list ≡ first ∷ passing free 0 (length rows) → length list ≡ 2 * size
             → length (free_ahead more rest (length rows)) ≡ 2 * (size - 1)
@@ -358,8 +326,7 @@ two_met rows first second met = rw (search_of-cons (met_in rows) first (second �
 two_new : (rows : List Row) (first second : ℕ) → met_in rows first second ≡ false
     → search_of (met_in rows) (first ∷ second ∷ []) ≡ (Some ((first, second) ∷ []), suc zero)
 unfolding tries after_step
-two_new rows first second new =
-    rw (search_of-cons (met_in rows) first (second ∷ [])) (rw new (rw (search_of-none (met_in rows))))
+two_new rows first second new = grind (arith, common_steps, search_of-cons, search_of-none)
 
 only_pair : (pairs : List Pair) (pair : Pair) → length pairs ≡ 1 → set pairs 0 pair ≡ pair ∷ []
 only_pair [] pair one = absurd (omega arith)

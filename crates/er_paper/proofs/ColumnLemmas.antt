@@ -1,17 +1,15 @@
 -- What a number with a width writes, and texts that are written piece by piece.
-use Rattle.std.proofs.{Common.{◌≡◌, ℕ, List, ◌++◌, refl, ◌∙◌, ap, arith, append_assoc, lit<, decimal}, Padding.padded_integral_right}
+use Rattle.std.proofs.{lemmas.Grind.common_steps, Common.{◌≡◌, ℕ, List, ◌++◌, refl, ◌∙◌, ap, arith, decimal}, Padding.padded_integral_right}
 use Rattle.std.proofs.Padding.{padded_integral_zeros}
 use Rattle.std.specs.Fmt.{styled_decimal, format_spec}
 use Rattle.er_paper.specs.Column.{right, two_digits}
 
 -- `{:>4}` and `{:>3}`
 pub right_4 : (n : ℕ) → styled_decimal (format_spec 32 3 0 4 18446744073709551615) n ≡ right 4 n
-right_4 n = padded_integral_right (format_spec 32 3 0 4 18446744073709551615) (decimal n) refl refl (λ e. omega arith)
-    (λ e. omega arith) (lit< tt)
+right_4 n = grind (arith, common_steps, padded_integral_right)
 
 pub right_3 : (n : ℕ) → styled_decimal (format_spec 32 3 0 3 18446744073709551615) n ≡ right 3 n
-right_3 n = padded_integral_right (format_spec 32 3 0 3 18446744073709551615) (decimal n) refl refl (λ e. omega arith)
-    (λ e. omega arith) (lit< tt)
+right_3 n = grind (arith, common_steps, padded_integral_right)
 
 -- `{:02}`
 pub two_digits_is : (n : ℕ) → styled_decimal (format_spec 32 0 4 2 18446744073709551615) n ≡ two_digits n
@@ -24,12 +22,8 @@ module _ {S : Type 0} (f : S → ℕ → List ℕ) (s t : S) (is : s ≡ t) wher
 
 -- three pieces, and five
 pub three_pieces : (t a b c x y z : List ℕ) → a ≡ t ++ x → b ≡ a ++ y → c ≡ b ++ z → c ≡ t ++ (x ++ (y ++ z))
-three_pieces t a b c x y z first second third =
-    third ∙ (ap (λ l. l ++ z) (second ∙ ap (λ l. l ++ y) first)
-    ∙ (ap (λ l. l ++ z) (append_assoc t x y) ∙ (append_assoc t (x ++ y) z ∙ ap (λ l. t ++ l) (append_assoc x y z))))
+three_pieces t a b c x y z first second third = grind (arith, common_steps)
 
 pub five_pieces : (t a b c d e x y z u v : List ℕ) → a ≡ t ++ x → b ≡ a ++ y → c ≡ b ++ z → d ≡ c ++ u → e ≡ d ++ v
     → e ≡ t ++ (x ++ (y ++ (z ++ (u ++ v))))
-five_pieces t a b c d e x y z u v first second third fourth fifth =
-    three_pieces t c d e (x ++ (y ++ z)) u v (three_pieces t a b c x y z first second third) fourth fifth
-    ∙ ap (λ l. t ++ l) (append_assoc x (y ++ z) (u ++ v) ∙ ap (λ l. x ++ l) (append_assoc y z (u ++ v)))
+five_pieces t a b c d e x y z u v first second third fourth fifth = grind (arith, common_steps)

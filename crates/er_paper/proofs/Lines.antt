@@ -1,6 +1,6 @@
 -- Rows that are read in turn.
-use Rattle.std.proofs.Common.{◌≡◌, ℕ, zero, suc, ◌+◌, ◌<◌, ◌≤◌, List, [], ◌∷◌, ◌++◌, length, map, drop, get_or, Option, Some, Result, Ok}
-use Rattle.std.proofs.Common.{Err, refl, sym, ap, ap₂, ◌∙◌, arith, append_assoc, drop-cons}
+use Rattle.std.proofs.{lemmas.Grind.common_steps, Common.{◌≡◌, ℕ, zero, suc, ◌+◌, ◌<◌, ◌≤◌, List, [], ◌∷◌, ◌++◌, length, map, drop, get_or}}
+use Rattle.std.proofs.Common.{Option, Some, Result, Ok, Err, refl, arith, drop-cons}
 use Rattle.csv.specs.Records.{Row, fields_of}
 use Rattle.er_paper.specs.{declared.imports.CsvFault.CsvFault, Reading.{lines_from, with_line}}
 
@@ -11,8 +11,7 @@ after_lines lines (Err fault) = Err fault
 
 after_one : {L : Type 0} (lines : List L) (place : ℕ) (line : L) (r : Result (List L) CsvFault)
     → after_lines lines (with_line place (Some line) r) ≡ after_lines (lines ++ line ∷ []) r
-after_one lines place line (Ok later) = ap Ok (sym (append_assoc lines (line ∷ []) later))
-after_one lines place line (Err fault) = refl
+after_one lines place line h1 = grind (arith, common_steps)
 
 none_left : {X : Type 0} (xs : List X) (n : ℕ) → length xs ≤ n → drop n xs ≡ []
 none_left [] zero h = refl
@@ -29,14 +28,8 @@ module _ {L : Type 0} (line : ℕ → List (List ℕ) → Option L) (rows : List
       (so_far : Reached lines at) where
     here : lines_from line 1 (map fields_of rows) ≡ after_lines lines
         (with_line (1 + at) (line (1 + at) (fields_of row)) (lines_from line (1 + at + 1) (map fields_of (drop (suc at) rows))))
-    here = so_far ∙ ap (λ (rs : List Row). after_lines lines (lines_from line (1 + at) (map fields_of rs)))
-        (drop-cons rows at row below ∙ ap (λ r. r ∷ drop (suc at) rows) (sym is))
+    here = grind (arith, common_steps, drop-cons)
 
     pub reached-more : (next : L) (place : ℕ) → line (1 + at) (fields_of row) ≡ Some next → place ≡ at + 1
         → Reached (lines ++ next ∷ []) place
-    reached-more next place e p =
-        let number : 1 + at + 1 ≡ 1 + place = omega arith in
-        let later : suc at ≡ place = omega arith in
-        here ∙ ap (λ o. after_lines lines (with_line (1 + at) o (lines_from line (1 + at + 1) (map fields_of (drop (suc at) rows))))) e
-        ∙ after_one lines (1 + at) next (lines_from line (1 + at + 1) (map fields_of (drop (suc at) rows)))
-        ∙ ap₂ (λ (n k : ℕ). after_lines (lines ++ next ∷ []) (lines_from line n (map fields_of (drop k rows)))) number later
+    reached-more next place e p = grind (arith, common_steps)

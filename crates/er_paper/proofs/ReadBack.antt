@@ -1,7 +1,7 @@
 -- What is written of an event is read as what it was made of.
-use Rattle.std.proofs.Common.{◌≡◌, ◌≢◌, ℕ, suc, ◌+◌, ◌^◌, ◌<◌, ◌≤◌, ◌==◌, eqb, Bool, true, false, ◌||◌, if◌then◌else◌, IsTrue, IsFalse}
-use Rattle.std.proofs.Common.{IfSome, List, [], ◌∷◌, ◌++◌, map, flat_map, length, All, AllPairs, Contains, Option, Some, None, Result, Ok}
-use Rattle.std.proofs.{Common.{refl, sym, ap, ap₂, subst, ◌∙◌, arith}, lemmas.Bool.Decides.{nat_tests, Decides-eqb}}
+use Rattle.std.proofs.{lemmas.Grind.common_steps, Common.{◌≡◌, ◌≢◌, ℕ, suc, ◌+◌, ◌<◌, ◌≤◌, ◌==◌, eqb, Bool, true, false, if◌then◌else◌}}
+use Rattle.std.proofs.Common.{IsTrue, IsFalse, IfSome, List, [], ◌∷◌, ◌++◌, map, flat_map, length, All, AllPairs, Contains, Option, Some}
+use Rattle.std.proofs.{Common.{None, Result, Ok, refl, sym, ap, ap₂, subst, ◌∙◌, arith}, lemmas.Bool.Decides.{nat_tests, Decides-eqb}}
 use Rattle.std.proofs.{lemmas.Fmt.decimal_nonempty, lemmas.List.map-append, lemmas.List.Elements.recursion_from_All}
 use Rattle.std.proofs.{lemmas.List.FromFn.{get_or-range_with_len, length-range_with_len}, lemmas.Map.Made.IsDistinct-from_AllPairs}
 use Rattle.std.proofs.lemmas.Map.Steps.{length-le_from_distinct_below}
@@ -9,14 +9,14 @@ use Rattle.std.specs.{List.{AllByRecursion, list_any, range_with_len}, Fmt.decim
 use Rattle.csv.specs.{Reading.{AreRecords, default_config, strip_bom}, Writing.{escaped, fields_text, is_blank, read_back}}
 use Rattle.csv.proofs.RoundTrip.{rows_text}
 use Rattle.er_event.specs.{declared.players.Player.Player, declared.matches.Match.Match, declared.rounds.Round.Round}
-use Rattle.er_event.specs.{declared.scores.Games.Games, Name.is_lawful_name, Round.{is_bye, numbered_from, seats, table_of}}
-use Rattle.er_event.specs.{Score.is_swiss_score, Event.EventValue, Sound.{IsRound, IsSoundButForSeeds, names, numbers}}
+use Rattle.er_event.specs.{declared.scores.Games.Games, Name.is_lawful_name, Round.{is_bye, numbered_from, seats}, Score.is_swiss_score}
+use Rattle.er_event.specs.{Event.EventValue, Sound.{IsRound, IsSoundButForSeeds, names, numbers}}
 use Rattle.er_paper.specs.{declared.imports.CsvFault.CsvFault, declared.imports.PlayerLine.PlayerLine}
-use Rattle.er_paper.specs.{declared.imports.ResultLine.ResultLine, Csv.HasRecords, Tables.{players_heading, flag_field, player_fields}}
-use Rattle.er_paper.specs.Tables.{players_table, results_heading, score_fields, result_fields, round_table, rounds_table, results_table}
-use Rattle.er_paper.specs.Reading.{number_within, lines_from, with_line, full_line, players_of, score_of, result_of, results_of}
-use Rattle.er_paper.specs.ReadBack.{line_of_player, line_of_match, lines_of_round, lines_of_rounds, exported_players, exported_results}
-use Rattle.er_paper.specs.ReadBack.{PlayersReadBack, ResultsReadBack}
+use Rattle.er_paper.specs.{declared.imports.ResultLine.ResultLine, Csv.HasRecords, Tables.{players_heading, player_fields, players_table}}
+use Rattle.er_paper.specs.Tables.{results_heading, score_fields, result_fields, round_table, rounds_table, results_table}
+use Rattle.er_paper.specs.{Reading.{lines_from, with_line, full_line, players_of, score_of, result_of, results_of}, ReadBack.line_of_player}
+use Rattle.er_paper.specs.ReadBack.{line_of_match, lines_of_round, lines_of_rounds, exported_players, exported_results, PlayersReadBack}
+use Rattle.er_paper.specs.ReadBack.{ResultsReadBack}
 use Rattle.er_paper.proofs.{Fields.within-decimal, Rows.{back, one_list}}
 use Rattle.csv.specs.declared.parser.State.TheVariants as st
 
@@ -45,21 +45,11 @@ players_same : (ps : List Player) → map read_back (map player_fields ps) ≡ m
 players_same [] = refl
 players_same (p ∷ ps) = ap (λ rows. player_fields p ∷ rows) (players_same ps)
 
-flag_back : (flag : Bool) → number_within 0 1 (flag_field flag) ≡ Some (if flag then 1 else 0)
-flag_back true = refl
-flag_back false = refl
-
 flag_same : (flag : Bool) → ((if flag then 1 else 0) == 1) ≡ flag
-flag_same true = refl
-flag_same false = refl
+flag_same h1 = grind (arith, common_steps)
 
 player_back : (p : Player) → p.no ≤ 512 → is_lawful_name p.name ≡ true → full_line p.no (player_fields p) ≡ Some (line_of_player p)
-player_back p few lawful = rw (
-  within-decimal p.no p.no p.no (omega arith) (omega arith) (omega arith),
-  flag_back p.dropped,
-  lawful,
-  flag_same p.dropped,
-) grind (arith, nat_tests)
+player_back p few lawful = grind (arith, common_steps, flag_same, nat_tests, within-decimal)
 
 players_back : (ps : List Player) (k : ℕ) → numbers ps ≡ range_with_len k (length ps) → k + length ps ≤ 513
     → AllByRecursion (λ name. is_lawful_name name ≡ true) (names ps)
@@ -74,9 +64,7 @@ players_back (p ∷ ps) k numbered few lawful =
     (players_back ps (k + 1) later (omega arith) lawful.1)
 
 players_as : (event : EventValue) → IsSoundButForSeeds event → players_of (players_table event) ≡ Ok (exported_players event)
-players_as event sound =
-    let lawful = recursion_from_All (λ name. IsTrue (is_lawful_name name)) (names event.players) sound.players.lawful in
-    players_back event.players 1 sound.players.numbered (let few = sound.players.few in omega arith) lawful
+players_as event sound = grind (arith, common_steps, players_back, recursion_from_All)
 
 pub players_read_back : PlayersReadBack
 players_read_back event sound =
@@ -100,25 +88,10 @@ matches_same round (n ∷ ns) = ap (λ rows. result_fields round n ∷ rows) (ma
 
 rounds_same : (rounds : List Round) (k : ℕ) → map read_back (rounds_table k rounds) ≡ rounds_table k rounds
 rounds_same [] k = refl
-rounds_same (r ∷ later) k =
-    map-append read_back (round_table k r.matches) (rounds_table (k + 1) later)
-    ∙ ap₂ (λ (front rest : List (List (List ℕ))). front ++ rest) (matches_same k (numbered_from 1 r.matches)) (rounds_same later (k + 1))
-
-nonempty : (n : ℕ) → n < 10 ^ 6 → (length (decimal n) == 0) ≡ false
-nonempty n small = let some : 0 < length (decimal n) = decimal_nonempty n (omega arith) in grind (arith, nat_tests)
+rounds_same (r ∷ later) k = grind (arith, common_steps, rounds_same later (k + 1), map-append, matches_same)
 
 score_back : (s : Games) → is_swiss_score s ≡ true → score_of (decimal s.x) (decimal s.y) (decimal s.d) ≡ Some (Some s)
-score_back s lawful =
-    let x : s.x ≤ 2 = grind (arith, nat_tests) in
-    let y : s.y ≤ 2 = grind (arith, nat_tests) in
-    let d : s.d ≤ 3 = grind (arith, nat_tests) in
-    rw (
-      nonempty s.x (omega arith),
-      within-decimal 0 255 s.x (omega arith) (omega arith) (omega arith),
-      within-decimal 0 255 s.y (omega arith) (omega arith) (omega arith),
-      within-decimal 0 255 s.d (omega arith) (omega arith) (omega arith),
-      lawful,
-    ) refl
+score_back s lawful = grind (arith, common_steps, decimal_nonempty, nat_tests, within-decimal)
 
 -- a match whose numbers and score a row may have
 record IsListed (m : Match) : Type 0 where
@@ -130,33 +103,13 @@ row_back : (round table a b : ℕ) (score : Option Games) → (1 ≤ round) × (
     → IfSome score (λ s. IsTrue (is_swiss_score s))
     → result_of (decimal round ∷ decimal table ∷ decimal a ∷ decimal b ∷ score_fields score) ≡ Some
     (record { round = round; table = table; a = a; b = b; score = score })
-row_back round table a b None r t first second lawful =
-    rw (
-      within-decimal 1 9 round (omega arith) r.0 r.1,
-      within-decimal 0 512 table (omega arith) (omega arith) t,
-      within-decimal 1 512 a (omega arith) first.0 first.1,
-      within-decimal 0 512 b (omega arith) (omega arith) second,
-    ) refl
-row_back round table a b (Some s) r t first second lawful =
-    rw (
-      within-decimal 1 9 round (omega arith) r.0 r.1,
-      within-decimal 0 512 table (omega arith) (omega arith) t,
-      within-decimal 1 512 a (omega arith) first.0 first.1,
-      within-decimal 0 512 b (omega arith) (omega arith) second,
-      score_back s lawful,
-    ) refl
-
-table_low : (n : ℕ) (bye : Bool) → n ≤ 512 → (if bye then 0 else n) ≤ 512
-table_low n true low = omega arith
-table_low n false low = low
+row_back round table a b None r t first second lawful = grind (arith, common_steps, within-decimal)
+row_back round table a b (Some s) r t first second lawful = grind (arith, common_steps, score_back, within-decimal)
 
 matches_back : (ms : List Match) (round n : ℕ) → (1 ≤ round) × (round ≤ 9) → n + length ms ≤ 513 → AllByRecursion IsListed ms
     → map result_of (map (result_fields round) (numbered_from n ms)) ≡ map Some (map (line_of_match round) (numbered_from n ms))
 matches_back [] round n r few listed = refl
-matches_back (m ∷ ms) round n r few listed =
-    let here = row_back round (table_of (n, m)) m.a m.b m.score r (table_low n (is_bye m) (omega arith)) listed.0.first listed.0.second
-    listed.0.lawful in
-    ap₂ (λ (o : Option ResultLine) (os : List (Option ResultLine)). o ∷ os) here (matches_back ms round (n + 1) r (omega arith) listed.1)
+matches_back (m ∷ ms) round n r few listed = grind (arith, common_steps, matches_back ms round (n + 1) r (omega arith) listed.1, row_back)
 
 -- a round whose matches a table may have
 abbrev IsListedRound : Round → Type 0
@@ -186,10 +139,7 @@ in_turn {L} line (row ∷ rows) (l ∷ ls) n e =
 -- ---- the matches of a sound round
 
 known_low : (players k : ℕ) → players ≤ 512 → Contains (range_with_len 1 players) k → (1 ≤ k) × (k ≤ 512)
-known_low players k few (at, below, is) =
-    let within : at < players = omega (arith, length-range_with_len 1 players) in
-    let number = get_or-range_with_len 1 players at k within in
-    (omega (arith, sym is ∙ number), omega (arith, sym is ∙ number))
+known_low players k few (at, below, is) = grind (arith, common_steps, get_or-range_with_len, length-range_with_len)
 
 second_low : (players b : ℕ) (bye : Bool) → (b == 0) ≡ bye → players ≤ 512 → (IsFalse bye → Contains (range_with_len 1 players) b) → b ≤ 512
 second_low players b true is few known = grind (arith, nat_tests)
@@ -214,15 +164,9 @@ seats_count : (ms : List Match) → length (flat_map seats ms) ≡ length ms + l
 seats_count [] = refl
 seats_count (m ∷ ms) = let later = seats_count ms in omega arith
 
-seated : (q a b : ℕ) (more : Bool) → a < 513 → b < 513 → (more ≡ true → q < 513) → (eqb q a || (eqb q b || more)) ≡ true → q < 513
-seated q a b more first second later has = grind (arith, nat_tests)
-
 seats_low : (ms : List Match) → AllByRecursion IsListed ms → (q : ℕ) → list_any (eqb q) (flat_map seats ms) ≡ true → q < 513
 seats_low [] listed q has = absurd (cc)
-seats_low (m ∷ ms) listed q has =
-    let first = listed.0.first.1 in
-    let second = listed.0.second in
-    seated q m.a m.b (list_any (eqb q) (flat_map seats ms)) (omega arith) (omega arith) (seats_low ms listed.1 q) has
+seats_low (m ∷ ms) listed q has = grind (arith, common_steps, seats_low ms listed.1 q)
 
 -- nobody sits twice, so there are few matches
 few_matches : (ms : List Match) → AllByRecursion IsListed ms → AllPairs (λ p q. p ≢ q) (flat_map seats ms) → length ms ≤ 512

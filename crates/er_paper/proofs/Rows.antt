@@ -1,6 +1,6 @@
 -- Many records as one text, and the one list of records of a text.
-use Rattle.std.proofs.Common.{◌≡◌, ℕ, suc, ◌+◌, ◌<◌, List, [], ◌∷◌, ◌++◌, map, flat_map, take, length, get_or, refl, sym, ap, ap₂, subst}
-use Rattle.std.proofs.{Common.{◌∙◌, arith, append_assoc, append-nil, Some, None}, lemmas.List.{map_more, take_more, length-take-le}}
+use Rattle.std.proofs.{lemmas.Grind.common_steps, Common.{◌≡◌, ℕ, ◌+◌, ◌<◌, List, [], ◌∷◌, ◌++◌, map, flat_map, take, length, get_or, refl}}
+use Rattle.std.proofs.{Common.{sym, ap, ap₂, subst, ◌∙◌, arith, append-nil, Some, None}, lemmas.List.{map_more, take_more, length-take-le}}
 use Rattle.csv.specs.{Machine.{Read, next_record}, Reading.{AreRecords, Reached, default_config}, Writing.{default_writer, row_text}}
 use Rattle.csv.specs.{Writing.read_back, declared.parser.State.State, declared.parser.Config.Config}
 use Rattle.csv.proofs.RoundTrip.{rows_text, read-write}
@@ -12,9 +12,7 @@ pub rows-push : (rows : List (List (List ℕ))) (row : List (List ℕ))
     → rows_text (rows ++ row ∷ []) ≡ rows_text rows ++ row_text default_writer row
 unfolding rows_text
 rows-push [] row = append-nil (row_text default_writer row)
-rows-push (r ∷ rows) row =
-    ap (λ t. row_text default_writer r ++ t) (rows-push rows row)
-    ∙ sym (append_assoc (row_text default_writer r) (rows_text rows) (row_text default_writer row))
+rows-push (r ∷ rows) row = grind (arith, common_steps, rows-push rows row)
 
 -- one more line
 pub lines_more : (lines : List Player) (i : ℕ) (d : Player) (old new : List ℕ) → i < length lines
@@ -46,10 +44,8 @@ one_from : (cfg : Config) (s : State) (xs : List ℕ) (a b : List (List (List �
     → Reached cfg s xs a s1 y1 → next_record cfg s1 [] [] y1 ≡ None → Reached cfg s xs b s2 y2 → next_record cfg s2 [] [] y2 ≡ None → a ≡ b
 unfolding Reached
 one_from cfg s xs [] [] s1 s2 y1 y2 p pe q qe = refl
-one_from cfg s xs [] (t ∷ ts) s1 s2 y1 y2 p pe q qe =
-    absurd (apart q.0 (sym q.1 ∙ ap₂ (λ (u : State) (ys : List ℕ). next_record cfg u [] [] ys) p.0 p.1 ∙ pe))
-one_from cfg s xs (r ∷ rs) [] s1 s2 y1 y2 p pe q qe =
-    absurd (apart p.0 (sym p.1 ∙ ap₂ (λ (u : State) (ys : List ℕ). next_record cfg u [] [] ys) q.0 q.1 ∙ qe))
+one_from cfg s xs [] (t ∷ ts) s1 s2 y1 y2 p pe q qe = grind (arith, common_steps)
+one_from cfg s xs (r ∷ rs) [] s1 s2 y1 y2 p pe q qe = grind (arith, common_steps)
 one_from cfg s xs (r ∷ rs) (t ∷ ts) s1 s2 y1 y2 p pe q qe =
     let same = step cfg s xs p.0 q.0 p.1 q.1 in
     let later = subst (λ (z : Read). Reached cfg z.1 z.2 ts s2 y2) (sym same) q.3 in
@@ -68,9 +64,7 @@ rows-first row = sym (append-nil (row_text default_writer row))
 pub rows-append : (rows more : List (List (List ℕ))) → rows_text (rows ++ more) ≡ rows_text rows ++ rows_text more
 unfolding rows_text
 rows-append [] more = refl
-rows-append (r ∷ rows) more =
-    ap (λ t. row_text default_writer r ++ t) (rows-append rows more)
-    ∙ sym (append_assoc (row_text default_writer r) (rows_text rows) (rows_text more))
+rows-append (r ∷ rows) more = grind (arith, common_steps, rows-append rows more)
 
 -- the text of a match's row
 abbrev pub result_row : ℕ → ℕ × Match → List ℕ
@@ -86,26 +80,14 @@ rounds-push : (n : ℕ) (rounds : List Round) (r : Round)
     → rows_text (rounds_table n (rounds ++ r ∷ [])) ≡ rows_text (rounds_table n rounds) ++ rows_text
     (round_table (n + length rounds) r.matches)
 unfolding rows_text
-rounds-push n [] r = let same : n ≡ n + 0 = omega arith in
-    ap rows_text (append-nil (round_table n r.matches)) ∙ ap (λ (k : ℕ). rows_text (round_table k r.matches)) same
-rounds-push n (first ∷ later) r =
-    let next : n + 1 + length later ≡ n + suc (length later) = omega arith in
-    let front = round_table n first.matches in
-    let last = λ (k : ℕ). rows_text (round_table k r.matches) in
-    rows-append front (rounds_table (n + 1) (later ++ r ∷ []))
-    ∙ ap (λ t. rows_text front ++ t) (rounds-push (n + 1) later r ∙ ap (λ (k : ℕ). rows_text (rounds_table (n + 1) later) ++ last k) next)
-    ∙ sym (append_assoc (rows_text front) (rows_text (rounds_table (n + 1) later)) (last (n + suc (length later))))
-    ∙ ap (λ t. t ++ last (n + suc (length later))) (sym (rows-append front (rounds_table (n + 1) later)))
+rounds-push n [] r = grind (arith, common_steps)
+rounds-push n (first ∷ later) r = grind (arith, common_steps, rounds-push (n + 1) later r, rows-append, rows_text)
 
 -- one more round
 pub rounds-more : (rounds : List Round) (i : ℕ) (r : Round) → i < length rounds → r ≡ get_or rounds i r
     → rows_text (rounds_table 1 (take (i + 1) rounds)) ≡ rows_text (rounds_table 1 (take i rounds)) ++ rows_text
     (round_table (1 + i) r.matches)
-rounds-more rounds i r below is =
-    let count : length (take i rounds) ≡ i = length-take-le i rounds (omega arith) in
-    ap (λ rs. rows_text (rounds_table 1 rs)) (take_more rounds i r below ∙ ap (λ x. take i rounds ++ x ∷ []) (sym is))
-    ∙ (rounds-push 1 (take i rounds) r ∙ ap (λ (k : ℕ). rows_text (rounds_table 1 (take i rounds)) ++ rows_text
-    (round_table (1 + k) r.matches)) count)
+rounds-more rounds i r below is = grind (arith, common_steps, length-take-le, rounds-push, rows_text, take_more)
 
 -- no rows, and then some
 pub no-rows : (text : List ℕ) → text ≡ text ++ rows_text []

@@ -1,5 +1,5 @@
 -- Bytes that are text, or not, and the games of their JSON.
-use Rattle.std.proofs.Common.{◌≡◌, ℕ, List, Bool, true, false, Option, Some, None, Result, Ok, Err, IfOk, refl, sym, ◌∙◌}
+use Rattle.std.proofs.{Common.{arith, ◌≡◌, ℕ, List, Bool, Option, Some, None, Result, Err, IfOk, refl}, lemmas.Grind.common_steps}
 use Rattle.std.proofs.lemmas.Str.{is_utf8-from_IsUtf8, IsUtf8-from_is_utf8}
 use Rattle.std.specs.{Option.ok_or, Str.{IsUtf8, is_utf8}}
 use Rattle.er_event.specs.declared.scores.Games.{Games}
@@ -15,17 +15,11 @@ unfolding slip_games
 games-unread text none = by (is_utf8 text) refl
   where
     by : (b : Bool) → is_utf8 text ≡ b → slip_games text ≡ None
-    by true e = let n = none (IsUtf8-from_is_utf8 text e) in rw (e, n) refl
-    by false e = rw e refl
+    by h1 e = grind (arith, common_steps, IsUtf8-from_is_utf8)
 
 -- what `ok_or` makes of the games
 pub games-ok : (slip o : Option Games) (r : Result Games SlipFault) → slip ≡ o → r ≡ ok_or o Bad → IfOk r (λ games. slip ≡ Some games)
-games-ok slip o r same e = rw e (by o same)
-  where
-    by : (o : Option Games) → slip ≡ o → IfOk (ok_or o Bad) (λ games. slip ≡ Some games)
-    by None s = tt
-    by (Some games) s = s
+games-ok slip o r same e = grind (arith, common_steps)
 
 pub games-bad : (slip o : Option Games) (r : Result Games SlipFault) → slip ≡ o → r ≡ ok_or o Bad → r ≡ Err Bad → slip ≡ None
-games-bad slip None r same e bad = same
-games-bad slip (Some games) r same e bad = let apart : Ok games ≡ Err Bad = sym e ∙ bad in absurd (cc)
+games-bad slip h1 r same e bad = grind (arith, common_steps)

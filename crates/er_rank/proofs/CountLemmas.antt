@@ -1,8 +1,7 @@
 -- How many matches each player has, one encounter after the other, and when there may be one more.
-use Rattle.std.proofs.Common.{◌≡◌, ℕ, ◌+◌, ◌<◌, ◌≤◌, ◌==◌, cond, List, [], ◌++◌, length, get_or, count_by, All, length-append, arith, inl}
-use Rattle.std.proofs.{Common.inr, Math.ListN.set, lemmas.Bool.cases_eq, lemmas.Bool.Decides.nat_tests, lemmas.List.get_or_append_left}
-use Rattle.std.proofs.{lemmas.List.{length-set, get_or-set_same, get_or-set_other}, lemmas.List.Elements.All-push}
-use Rattle.std.proofs.lemmas.List.Sums.{sum_by-append, sum_by_push}
+use Rattle.std.proofs.{lemmas.Grind.common_steps, Common.{◌≡◌, ℕ, ◌+◌, ◌<◌, ◌≤◌, ◌==◌, cond, List, [], ◌++◌, length, get_or, count_by, All}}
+use Rattle.std.proofs.{Common.{length-append, arith, inl, inr}, Math.ListN.set, lemmas.Bool.cases_eq, lemmas.Bool.Decides.nat_tests}
+use Rattle.std.proofs.{lemmas.List.get_or_append_left, lemmas.List.Elements.All-push, lemmas.List.Sums.sum_by-append}
 use Rattle.er_event.specs.{declared.events.TheConstants.MAX_ROUNDS, declared.totals.Totals.Totals}
 use Rattle.er_rank.specs.{inside.Counting.{with_match, AreCountsOf}, Meeting.{Encounter, IsRecord, AreEncounters}, Tally.IsKnown}
 use Rattle.er_rank.proofs.OpponentLemmas.{All-here}
@@ -27,19 +26,12 @@ pub record MayMeet (players : ℕ) (before : List Encounter) (player : ℕ) (opp
 
 module _ (before : List Encounter) (player : ℕ) (opponent : Totals) where
   count_of-more : (other : ℕ) → count_of (with_match before player opponent) other ≡ count_of before other + cond (player == other) 1 0
-  count_of-more other =
-      sum_by_push (λ (e : Encounter). cond (e.player == other) 1 0) before (record { player = player; opponent = opponent })
+  count_of-more other = grind (arith, common_steps)
 
   -- the player's own count is one more, and the others stay
   pub AreCountsOf-more : (counts : List ℕ) (at now : ℕ) → 1 + at ≡ player → at < length counts → now ≡ get_or counts at 0 + 1
       → AreCountsOf before counts → AreCountsOf (with_match before player opponent) (set counts at now)
-  AreCountsOf-more counts at now number within more are = λ k below. elim (cases_eq k at) [
-    | inl same ↦
-        rw (same, get_or-set_same counts at now 0 within) (grind (arith, nat_tests, more, are at within, count_of-more (1 + at)))
-    | inr other ↦
-        let inside : k < length counts = omega (arith, length-set counts at now, below) in
-        rw (get_or-set_other counts at k now 0 other) (grind (arith, nat_tests, are k inside, count_of-more (1 + k)))
-  ]
+  AreCountsOf-more counts at now number within more are = grind (arith, common_steps)
 
   module _ (players : ℕ) where
     pub AreEncounters-more : 1 ≤ player → AreEncounters players before → MayMeet players before player opponent

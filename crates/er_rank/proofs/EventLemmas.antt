@@ -1,8 +1,7 @@
 -- The tallies and the meetings of a sound event keep the limits.
-use Rattle.std.proofs.Common.{◌≡◌, ℕ, ◌*◌, ◌≤◌, ◌==◌, min, max, suc, Bool, List, [], ◌∷◌, map, filter, length, sum_by, get_or, All}
-use Rattle.std.proofs.{Common.{Option, Some, None, refl, sym, ap, ◌∙◌, arith}, lemmas.Bool.not-true, lemmas.Bool.Decides.nat_tests}
-use Rattle.std.proofs.{lemmas.List.length-map, lemmas.List.Elements.{All-map, All-filter, filter_passes}, lemmas.List.Sums.sum_by-cons}
-use Rattle.std.proofs.lemmas.List.Sums.{length-filter}
+use Rattle.std.proofs.{lemmas.Grind.common_steps, Common.{◌≡◌, ℕ, ◌*◌, ◌≤◌, ◌==◌, min, max, suc, Bool, List, [], ◌∷◌, map, filter, length}}
+use Rattle.std.proofs.{Common.{sum_by, get_or, All, Option, refl, sym, ap, ◌∙◌, arith}, lemmas.Bool.not-true, lemmas.List.length-map}
+use Rattle.std.proofs.{lemmas.List.Elements.{All-map, All-filter, filter_passes}, lemmas.List.Sums.{sum_by-cons, length-filter}}
 use Rattle.std.specs.List.{range_with_len}
 use Rattle.er_event.specs.{declared.scores.Games.Games, declared.tallies.Meeting.Meeting, declared.tallies.Tally.Tally, Event.EventValue}
 use Rattle.er_event.specs.{Lines.{Line, lines, own_lines}, Round.is_bye, Sound.IsSoundButForSeeds, Tallies.{tally_by, tallies}}
@@ -15,12 +14,10 @@ use Rattle.er_rank.proofs.{OpponentLemmas.met-count, SoundLemmas.{AreWithin-soun
 use Rattle.er_rank.proofs.StandingLemmas.{map-agree, totals_of-known}
 
 points-low : (seen : Option Games) → points_by seen ≤ 3
-points-low None = omega arith
-points-low (Some g) = grind (arith, nat_tests)
+points-low h1 = grind (arith, common_steps)
 
 game_points-low : (seen : Option Games) → game_points_by seen ≤ 3 * games_by seen
-game_points-low None = omega arith
-game_points-low (Some g) = omega arith
+game_points-low h1 = grind (arith, common_steps)
 
 -- what short lines come to
 record AreShort (own : List Line) : Type 0 where

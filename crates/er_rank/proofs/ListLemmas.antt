@@ -1,11 +1,10 @@
 -- The ranked placings are the standings, and there are no others.
-use Rattle.std.proofs.Common.{◌≡◌, ◌≢◌, ℕ, ◌+◌, ◌*◌, ◌<◌, ◌&&◌, ◌||◌, nat_lt, Bool, true, false, List, map, length, get_or, count_by}
-use Rattle.std.proofs.{Common.{AllPairs, Contains, IsTrue, refl, sym, ap, ap₂, ◌∙◌, arith}, Math.Nat.eq_of_mul-eq-mul_right}
+use Rattle.std.proofs.{lemmas.Grind.common_steps, Common.{◌≡◌, ◌≢◌, ℕ, ◌+◌, ◌*◌, ◌<◌, Bool, true, false, List, map, length, get_or}}
+use Rattle.std.proofs.{Common.{count_by, AllPairs, Contains, IsTrue, sym, ap, ◌∙◌, arith}, Math.Nat.eq_of_mul-eq-mul_right}
 use Rattle.std.proofs.{lemmas.Bool.Decides.nat_tests, lemmas.Cmp.nat_cmp_total, lemmas.List.{get_or-map, get_or_default, length-map}}
 use Rattle.std.proofs.{lemmas.List.same_lists, lemmas.List.Elements.All-map, lemmas.List.Sorted.{IsPermutation-map, IsPermutation-sym}}
 use Rattle.std.proofs.lemmas.List.Sorted.{IsPermutation-trans, length_permutation, All-permutation}
-use Rattle.std.specs.{Cmp.then_flip, List.Sorted.IsPermutation, declared.cmp.Ordering.Ordering, declared.cmp.Ordering.TheVariants.Less}
-use Rattle.std.specs.{declared.cmp.Ordering.TheVariants.{Equal, Greater}, Ordering.{ordering_then, ordering_reverse, is_eq, is_gt}}
+use Rattle.std.specs.{Cmp.then_flip, List.Sorted.IsPermutation, Ordering.{ordering_then, ordering_reverse}}
 use Rattle.er_share.specs.{Fraction.{Fraction, fraction_cmp}, Share.{IsShareOf, fraction_of}}
 use Rattle.er_event.specs.{declared.players.Player.Player, Event.EventValue, Sound.{numbers, IsSoundButForSeeds}}
 use Rattle.er_event.specs.{declared.tallies.Tally.Tally, Tallies.{tally_by, tallies, meetings}, Totals.totals}
@@ -66,10 +65,7 @@ AreStandings-placings e placings sound are =
 
 pub length-placings : (met : List Encounter) (list : List Tally) (placings : List Placing) → ArePlacingsInOrder met list placings
     → length placings ≡ length list
-length-placings met list placings are =
-    let long = length-map are.by_number (λ (p : Placing). p.player) in
-    let same = length_permutation are.by_number placings are.same in
-    omega (arith, ap length are.placed.numbers, length-map list (λ (t : Tally). t.no))
+length-placings met list placings are = grind (arith, common_steps, length-map, length_permutation)
 
 -- ---- the order is strict
 
@@ -78,21 +74,10 @@ unfolding fraction_cmp
 fraction_cmp-back f g = nat_cmp_total.antisymm (f.num * g.den) (g.num * f.den)
 
 standing_cmp-back : (e : EventValue) (p q : ℕ) → standing_cmp e p q ≡ ordering_reverse (standing_cmp e q p)
-standing_cmp-back e p q =
-    let points = nat_cmp_total.antisymm (totals e p).points (totals e q).points in
-    let omw = fraction_cmp-back (opponents_match_win e p) (opponents_match_win e q) in
-    let gwp = fraction_cmp-back (game_win e p) (game_win e q) in
-    let ogw = fraction_cmp-back (opponents_game_win e p) (opponents_game_win e q) in
-    ap₂ ordering_then points (ap₂ ordering_then omw (ap₂ ordering_then gwp ogw ∙ then_flip _ _) ∙ then_flip _ _) ∙ then_flip _ _
-
-not_both : (o o' : Ordering) (p q : ℕ) → o' ≡ ordering_reverse o → (is_gt o || (is_eq o && nat_lt p q)) ≡ true
-    → (is_gt o' || (is_eq o' && nat_lt q p)) ≡ false
-not_both Less o' p q back h = cc
-not_both Equal o' p q back h = rw back (grind (arith, nat_tests))
-not_both Greater o' p q back h = rw back refl
+standing_cmp-back e p q = grind (arith, common_steps, fraction_cmp-back, nat_cmp_total, ordering_then, then_flip)
 
 listed_one_way : (e : EventValue) (p q : ℕ) → is_listed_before e p q ≡ true → is_listed_before e q p ≡ false
-listed_one_way e p q h = not_both (standing_cmp e p q) (standing_cmp e q p) p q (standing_cmp-back e q p) h
+listed_one_way e p q h = grind (arith, common_steps, nat_tests, standing_cmp-back)
 
 -- ---- one row for a player
 
@@ -101,11 +86,7 @@ unfolding fraction_of
 one_share a b f first second = eq_of_mul-eq-mul_right f.den first.has_den a b (first.same ∙ sym second.same)
 
 same_player : (e : EventValue) → IsSoundButForSeeds e → (p q : Player) → Contains e.players p → Contains e.players q → p.no ≡ q.no → p ≡ q
-same_player e sound p q (i, i_below, p_is) (j, j_below, q_is) number =
-    let one = number_at e sound i p i_below in
-    let two = number_at e sound j q j_below in
-    let same : i ≡ j = omega (arith, ap (λ (r : Player). r.no) p_is, ap (λ (r : Player). r.no) q_is) in
-    sym p_is ∙ (ap (λ n. get_or e.players n p) same ∙ (get_or_default e.players j p q j_below ∙ q_is))
+same_player e sound p q (i, i_below, p_is) (j, j_below, q_is) number = grind (arith, common_steps, get_or, get_or_default, number_at)
 
 abbrev row_by : ℕ → ℕ → ℕ → ℕ → ℕ → ℕ → Bool → Row
 row_by rank player points omw gwp ogw dropped = record {

@@ -1,16 +1,14 @@
 -- Whom a player has met by the meetings is whom the player has met by the lines.
-use Rattle.std.proofs.Common.{◌≡◌, ℕ, ◌+◌, ◌<◌, ◌==◌, nat_lt, min, max, suc, Bool, true, not, if◌then◌else◌, List, [], ◌∷◌, ◌++◌, zero}
-use Rattle.std.proofs.Common.{map, filter, flat_map, length, take, get_or, All, Option, Some, None, refl, sym, ap, ap₂, ◌∙◌, arith}
-use Rattle.std.proofs.{Common.{append_assoc, append-nil, inl, inr}, lemmas.Bool.{cases_lt, cases_Bool, ne_eqb, not-true, cond_both}}
-use Rattle.std.proofs.{lemmas.Bool.{and_parts, and_from}, lemmas.Bool.Decides.nat_tests, lemmas.List.{map-append, take_more}}
-use Rattle.std.proofs.{lemmas.List.Concat.flat_map-append, lemmas.List.Elements.{All-nil, All-cons, All-append, filter-append}}
+use Rattle.std.proofs.{lemmas.Grind.common_steps, Common.{◌≡◌, ℕ, ◌+◌, ◌<◌, nat_lt, min, max, suc, Bool, true, not, if◌then◌else◌, List}}
+use Rattle.std.proofs.Common.{[], ◌∷◌, ◌++◌, map, filter, flat_map, length, take, get_or, All, Option, Some, None, refl, arith, inl, inr}
+use Rattle.std.proofs.{lemmas.Bool.{cases_Bool, not-true, cond_both, and_parts, and_from}, lemmas.List.map-append}
+use Rattle.std.proofs.lemmas.List.Elements.{All-nil, All-cons, All-append, filter-append}
 use Rattle.er_event.specs.{declared.matches.Match.Match, declared.rounds.Round.Round, declared.scores.Games.Games}
 use Rattle.er_event.specs.{declared.tallies.Meeting.Meeting, declared.totals.Totals.Totals, Event.EventValue, Lines.{own, lines_of_score}}
 use Rattle.er_event.specs.{Lines.{lines_of_match, counted_lines, lines_from}, Round.{is_bye, is_counted}, Tallies.counted_matches}
 use Rattle.er_event.specs.{Tallies.{meeting_by, meetings}, Totals.totals}
-use Rattle.er_rank.specs.Meeting.{Encounter, encounters_of, encounters, opponents_of, IsRecord, IsKnownTo, AreKnownTo}
-use Rattle.er_rank.specs.{Standings.opponents, Tally.IsKnown}
-use Rattle.er_rank.proofs.OpponentLemmas.{opponents_of-append}
+use Rattle.er_rank.specs.{Meeting.{Encounter, encounters, opponents_of, IsRecord, IsKnownTo, AreKnownTo}, Standings.opponents}
+use Rattle.er_rank.specs.Tally.{IsKnown}
 use Rattle.er_event.specs.Lines as event
 
 abbrev pub is_met : Match → Bool
@@ -38,43 +36,22 @@ module _ (come_to : ℕ → Totals) where
   abbrev seen_in : ℕ → List event.Line → List Totals
   seen_in player ls = map come_to (filter is_some (map opponent_in (own player ls)))
 
-  made_of-append : (xs ys : List Match) → made_of (xs ++ ys) ≡ made_of xs ++ made_of ys
-  made_of-append xs ys = simp (filter-append, map-append)
-
   met_in-append : (xs ys : List Match) → met_in (xs ++ ys) ≡ met_in xs ++ met_in ys
-  met_in-append xs ys = ap encounters (made_of-append xs ys) ∙ flat_map-append encounters_of (made_of xs) (made_of ys)
+  met_in-append xs ys = grind (arith, common_steps)
 
   seen_in-append : (player : ℕ) (xs ys : List event.Line) → seen_in player (xs ++ ys) ≡ seen_in player xs ++ seen_in player ys
   seen_in-append player xs ys = simp (filter-append, map-append)
 
-  one_match : (player r a b : ℕ) (s : Games) → 0 < a
-      → opponents_of (met_in (record { a = a; b = b; score = Some s } ∷ [])) player ≡ seen_in player (lines_of_score r a b (Some s))
-  one_match player r a zero s positive = elim (cases_Bool (a == player)) [ inl here ↦ rw here | inr apart ↦ rw apart ]
-  one_match player r a (suc b) s positive =
-      let seated = ne_eqb (suc b) 0 (λ e. absurd (omega arith)) in
-      elim (cases_lt (suc b) a) [
-        | inl after ↦
-            let lo : min a (suc b) ≡ suc b = omega arith in
-            let hi : max a (suc b) ≡ a = omega arith in
-            rw (seated, lo, hi) (grind (arith, nat_tests))
-        | inr before ↦
-            let lo : min a (suc b) ≡ a = omega arith in
-            let hi : max a (suc b) ≡ suc b = omega arith in
-            rw (seated, lo, hi) (grind (arith, nat_tests))
-      ]
-
   scored_match : (player r a b : ℕ) (score : Option Games) → is_counted (record { a = a; b = b; score = score } ∷ []) ≡ true → 0 < a
       → opponents_of (met_in (record { a = a; b = b; score = score } ∷ [])) player ≡ seen_in player (lines_of_score r a b score)
   scored_match player r a b None scored positive = cc
-  scored_match player r a b (Some s) scored positive = one_match player r a b s positive
+  scored_match player r a b (Some s) scored positive = grind (arith, common_steps)
 
   -- ---- the matches of a round, and the rounds
 
   joined : (player : ℕ) (xs ys : List Match) (ks ls : List event.Line) → opponents_of (met_in xs) player ≡ seen_in player ks
       → opponents_of (met_in ys) player ≡ seen_in player ls → opponents_of (met_in (xs ++ ys)) player ≡ seen_in player (ks ++ ls)
-  joined player xs ys ks ls here rest =
-      ap (λ (es : List Encounter). opponents_of es player) (met_in-append xs ys)
-      ∙ (opponents_of-append (met_in xs) (met_in ys) player ∙ (ap₂ ◌++◌ here rest ∙ sym (seen_in-append player ks ls)))
+  joined player xs ys ks ls here rest = grind (arith, common_steps)
 
   round_met : (player r : ℕ) (ms : List Match) → is_counted ms ≡ true → All (λ (m : Match). 0 < m.a) ms
       → opponents_of (met_in ms) player ≡ seen_in player (flat_map (lines_of_match r) ms)
@@ -141,20 +118,10 @@ module _ (come_to : ℕ → Totals) (list after : List Meeting) where
   pub met-more : (front : List Meeting) (ms : List Match) (i : ℕ) (m : Match) → i < length ms → m ≡ get_or ms i m
       → list ≡ front ++ made_of come_to (take i ms) → after ≡ list ++ made_of come_to (m ∷ [])
       → after ≡ front ++ made_of come_to (take (i + 1) ms)
-  met-more front ms i m below is so_far now =
-      let more = take_more ms i m below ∙ ap (λ (x : Match). take i ms ++ x ∷ []) (sym is) in
-      let split = ap (made_of come_to) more ∙ made_of-append come_to (take i ms) (m ∷ []) in
-      now ∙ (ap (λ (xs : List Meeting). xs ++ made_of come_to (m ∷ [])) so_far
-      ∙ (append_assoc front (made_of come_to (take i ms)) (made_of come_to (m ∷ [])) ∙ ap (λ (xs : List Meeting). front ++ xs) (sym split)))
+  met-more front ms i m below is so_far now = grind (arith, common_steps)
 
   pub counted-more : (rounds : List Round) (i : ℕ) (r : Round) → i < length rounds → r ≡ get_or rounds i r
       → list ≡ made_of come_to (counted_matches (take i rounds))
       → after ≡ list ++ made_of come_to (if is_counted r.matches then r.matches else [])
       → after ≡ made_of come_to (counted_matches (take (i + 1) rounds))
-  counted-more rounds i r below is so_far now =
-      let before = counted_matches (take i rounds) in
-      let more = take_more rounds i r below ∙ ap (λ (x : Round). take i rounds ++ x ∷ []) (sym is) in
-      let all = ap counted_matches more ∙ (flat_map-append counted_in (take i rounds) (r ∷ [])
-      ∙ ap (λ (ms : List Match). before ++ ms) (append-nil (counted_in r))) in
-      let split = ap (made_of come_to) all ∙ made_of-append come_to before (counted_in r) in
-      now ∙ (ap (λ (xs : List Meeting). xs ++ made_of come_to (counted_in r)) so_far ∙ sym split)
+  counted-more rounds i r below is so_far now = grind (arith, common_steps)

@@ -1,14 +1,12 @@
 -- Whom each player has met, one encounter after the other.
-use Rattle.std.proofs.Common.{◌≡◌, ℕ, ◌+◌, ◌-◌, ◌<◌, ◌==◌, true, cond, List, [], ◌∷◌, ◌++◌, map, filter, length, take, get_or, count_by}
-use Rattle.std.proofs.{Common.{All, sym, ap, ◌∙◌, arith, append-nil, append_assoc, inl, inr, zero, suc}, Math.ListN.set}
-use Rattle.std.proofs.{lemmas.Bool.{cases_eq, ne_eqb, eq-eqb}, lemmas.Bool.Decides.nat_tests, lemmas.List.{map-append, length-map}}
-use Rattle.std.proofs.{lemmas.List.{length-set, take_more, get_or-set_same, get_or-set_other}, lemmas.List.Concat.flat_map-append}
-use Rattle.std.proofs.{lemmas.List.Elements.filter-append, lemmas.List.Sums.{length-filter, sum_by-append, sum_by-cons}}
-use Rattle.std.proofs.lemmas.Slice.Zip.{AllZip-long}
+use Rattle.std.proofs.{lemmas.Grind.common_steps, Common.{◌≡◌, ℕ, ◌+◌, ◌-◌, ◌<◌, ◌==◌, cond, List, [], ◌∷◌, ◌++◌, map, length, take}}
+use Rattle.std.proofs.{Common.{get_or, count_by, All, sym, ap, ◌∙◌, arith, append_assoc, zero, suc}, Math.ListN.set}
+use Rattle.std.proofs.{lemmas.Bool.Decides.nat_tests, lemmas.List.{map-append, length-map}, lemmas.List.Elements.filter-append}
+use Rattle.std.proofs.{lemmas.List.Sums.{length-filter, sum_by-append, sum_by-cons}, lemmas.Slice.Zip.AllZip-long}
 use Rattle.er_share.specs.{Fraction.Fraction, Mean.{MeanValue, IsMeanOf}, Share.IsShareOf}
 use Rattle.er_event.specs.{declared.tallies.Meeting.Meeting, declared.totals.Totals.Totals}
-use Rattle.er_rank.specs.{declared.opponents.Opponents.Opponents, Meeting.{Encounter, encounters_of, encounters, opponents_of, IsRecord}}
-use Rattle.er_rank.specs.{Meeting.AreEncounters, inside.Merit.AreOpponents, inside.Opponents.{AreOpponentsOf, HasRoom}, Tally.IsKnown}
+use Rattle.er_rank.specs.{declared.opponents.Opponents.Opponents, Meeting.{Encounter, encounters, opponents_of, IsRecord, AreEncounters}}
+use Rattle.er_rank.specs.{inside.Merit.AreOpponents, inside.Opponents.{AreOpponentsOf, HasRoom}, Tally.IsKnown}
 
 -- as many shares came as there are opponents
 pub count-of : (mean : MeanValue) (f : Totals → Fraction) (totals : List Totals) → IsMeanOf mean (map f totals) → mean.count ≡ length totals
@@ -22,25 +20,13 @@ opponents_of-append xs ys player = simp (filter-append, map-append)
 pub AreOpponentsOf-met : (before : List Encounter) (e : Encounter) (list : List Opponents) (at : ℕ) (here : Opponents)
     → 1 + at ≡ e.player → at < length list → AreOpponentsOf before list
     → AreOpponents here (opponents_of before (1 + at) ++ e.opponent ∷ []) → AreOpponentsOf (before ++ e ∷ []) (set list at here)
-AreOpponentsOf-met before e list at here number within are now = λ k d below.
-    elim (cases_eq k at) [
-      | inl same ↦
-          let own : (e.player == 1 + at) ≡ true = eq-eqb e.player (1 + at) (sym number) in
-          rw (same, get_or-set_same list at here d within) (rw (opponents_of-append before (e ∷ []) (1 + at)) (rw own now))
-      | inr other ↦
-          let inside : k < length list = omega (arith, length-set list at here, below) in
-          let apart = ne_eqb e.player (1 + k) (λ same. other (omega arith)) in
-          rw (get_or-set_other list at k here d other)
-          (rw (opponents_of-append before (e ∷ []) (1 + k)) (rw apart (rw (append-nil (opponents_of before (1 + k))) (are k d inside))))
-    ]
+AreOpponentsOf-met before e list at here number within are now = grind (arith, common_steps)
 
 -- ---- room for one more
 
 pub met-count : (all : List Encounter) (player : ℕ)
     → length (opponents_of all player) ≡ count_by (λ (e : Encounter). e.player == player) all
-met-count all player =
-    length-map (filter (λ (e : Encounter). e.player == player) all) (λ (e : Encounter). e.opponent)
-    ∙ length-filter (λ (e : Encounter). e.player == player) all
+met-count all player = grind (arith, common_steps, length-filter, length-map)
 
 -- before an encounter of the player there is room
 HasRoom-here : (players : ℕ) (xs : List Encounter) (e : Encounter) (ys : List Encounter) (list : List Opponents)
@@ -66,10 +52,7 @@ second_of m = record { player = m.hi; opponent = m.lo_totals }
 
 pub encounters-more : (met : List Meeting) (i : ℕ) (m : Meeting) → i < length met → m ≡ get_or met i m
     → encounters (take (i + 1) met) ≡ (encounters (take i met) ++ first_of m ∷ []) ++ second_of m ∷ []
-encounters-more met i m below is =
-    ap encounters (take_more met i m below ∙ ap (λ (x : Meeting). take i met ++ x ∷ []) (sym is))
-    ∙ (flat_map-append encounters_of (take i met) (m ∷ [])
-    ∙ sym (append_assoc (encounters (take i met)) (first_of m ∷ []) (second_of m ∷ [])))
+encounters-more met i m below is = grind (arith, common_steps)
 
 -- those before, the two of this meeting, and those after
 pub encounters-split : (met : List Meeting) (i : ℕ) (m : Meeting) → i < length met → m ≡ get_or met i m
@@ -94,14 +77,10 @@ pub record AreBoth (players : ℕ) (m : Meeting) : Type 0 where
 module _ (players : ℕ) (met : List Meeting) (i : ℕ) (m : Meeting) (all : AreEncounters players (encounters met))
     (below : i < length met) (is : m ≡ get_or met i m) where
   split_first : (rest : List Encounter) × AreEncounters players (encounters (take i met) ++ first_of m ∷ rest)
-  split_first =
-      let split = encounters-split met i m below is in
-      (second_of m ∷ split.0, rw split.1 at all)
+  split_first = grind (arith, common_steps, encounters-split)
 
   split_second : (rest : List Encounter) × AreEncounters players ((encounters (take i met) ++ first_of m ∷ []) ++ second_of m ∷ rest)
-  split_second =
-      let split = encounters-split met i m below is in
-      (split.0, rw (append_assoc (encounters (take i met)) (first_of m ∷ []) (second_of m ∷ split.0)) (rw split.1 at all))
+  split_second = grind (arith, common_steps, append_assoc, encounters-split)
 
   pub both-here : AreBoth players m
   both-here =

@@ -1,16 +1,15 @@
 -- Placings in order, and their ranks.
-use Rattle.std.proofs.Common.{◌≡◌, ℕ, ◌+◌, ◌-◌, ◌<◌, ◌≤◌, ◌==◌, ◌&&◌, suc, zero, Bool, true, false, cond, List, [], ◌∷◌, ◌++◌, map}
-use Rattle.std.proofs.{Common.{length, take, get_or, count_by, All, refl, sym, ap, ◌∙◌, arith}, lemmas.Cmp.{nat_cmp_total, on_total}}
-use Rattle.std.proofs.{lemmas.Cmp.{then_total, back_total, alike_right}, lemmas.Bool.{true≢false, true_from_ne_false}}
-use Rattle.std.proofs.{lemmas.Bool.Decides.nat_tests, lemmas.List.{map_more, map_push, take_all, get_or-map, get_or_read}}
-use Rattle.std.proofs.{lemmas.List.FromFn.get_or-range_with_len, lemmas.List.Elements.All-push, lemmas.List.Sorted.{sorted_far, ranks_by}}
-use Rattle.std.proofs.lemmas.List.Sums.{sum_by-cons}
-use Rattle.std.specs.{declared.cmp.Ordering.Ordering, declared.cmp.Ordering.TheVariants.{Less, Equal, Greater}, Cmp.IsTotalOrder}
-use Rattle.std.specs.{Cmp.{bool_cmp_total, unsigned_ties, both_tied}, Ordering.{ordering_then, ordering_reverse, is_lt, is_eq}}
-use Rattle.std.specs.{List.Sorted.IsSorted, List.range_with_len}
+use Rattle.std.proofs.{lemmas.Grind.common_steps, Common.{◌≡◌, ℕ, ◌+◌, ◌-◌, ◌<◌, ◌≤◌, ◌==◌, ◌&&◌, suc, zero, Bool, true, false, cond, List}}
+use Rattle.std.proofs.Common.{[], ◌∷◌, ◌++◌, map, length, take, get_or, count_by, All, refl, sym, ap, ◌∙◌, arith}
+use Rattle.std.proofs.{lemmas.Cmp.{nat_cmp_total, on_total, then_total, back_total, alike_right}, lemmas.Bool.true≢false}
+use Rattle.std.proofs.{lemmas.Bool.true_from_ne_false, lemmas.Bool.Decides.nat_tests, lemmas.List.{get_or-map, get_or_read}}
+use Rattle.std.proofs.{lemmas.List.FromFn.get_or-range_with_len, lemmas.List.Sorted.{sorted_far, ranks_by}, lemmas.List.Sums.sum_by-cons}
+use Rattle.std.specs.{declared.cmp.Ordering.Ordering, declared.cmp.Ordering.TheVariants.Equal, Cmp.{IsTotalOrder, bool_cmp_total}}
+use Rattle.std.specs.{Cmp.{unsigned_ties, both_tied}, Ordering.{ordering_then, ordering_reverse, is_lt, is_eq}, List.Sorted.IsSorted}
+use Rattle.std.specs.List.{range_with_len}
 use Rattle.er_share.specs.Order.{share_cmp, share_cmp-total, share_cmp-eq}
 use Rattle.er_event.specs.declared.tallies.Tally.{Tally}
-use Rattle.er_rank.specs.{Meeting.{Encounter, opponents_of, totals_of}, inside.Merit.IsMerit, Tally.no_totals, declared.merits.Merit.Merit}
+use Rattle.er_rank.specs.{Meeting.{Encounter, opponents_of, totals_of}, inside.Merit.IsMerit, declared.merits.Merit.Merit}
 use Rattle.er_rank.specs.{declared.placings.Placing.Placing, declared.rows.Row.Row, inside.Placing.{merit_cmp, placing_cmp, is_above}}
 use Rattle.er_rank.specs.inside.Placing.{is_level, row_of, rank_in, ArePlacings}
 
@@ -27,9 +26,7 @@ placing_cmp-total =
     (then_total (on_total (λ (p : Placing). p.player) nat_cmp_total) (on_total (λ (p : Placing). p.dropped) bool_cmp_total))
 
 pub first_apart : (a b : Ordering) → is_lt (ordering_then a b) ≡ false → is_lt a ≡ false
-first_apart Less b h = h
-first_apart Equal b h = refl
-first_apart Greater b h = refl
+first_apart h1 b h = grind (arith, common_steps)
 
 -- ---- tests that count alike
 
@@ -59,9 +56,7 @@ count_front p (x ∷ xs) (suc i) within pass fail =
 -- ---- sorted placings
 
 level_by : (o p : Ordering) → p ≡ ordering_reverse o → is_lt o ≡ false → is_lt p ≡ false → is_eq o ≡ true
-level_by Less p back one other = cc
-level_by Equal p back one other = refl
-level_by Greater p back one other = cc
+level_by h1 p back one other = grind (arith, common_steps)
 
 module _ (placings : List Placing) (sorted : IsSorted placing_cmp placings) where
   -- the later of two isn't before the earlier
@@ -101,9 +96,7 @@ module _ (placings : List Placing) (sorted : IsSorted placing_cmp placings) wher
             absurd (true≢false (sym level ∙ differ)))
 
     pub rank-kept : (d : Placing) (rank : ℕ) → rank ≡ rank_in placings here → rank ≡ rank_in placings (get_or placings (i + 1 - 1) d)
-    rank-kept d rank ranks =
-        let same : i + 1 - 1 ≡ i = omega arith in
-        rw same (rw (← get_or_read placings i here below is d) ranks)
+    rank-kept d rank ranks = grind (arith, common_steps)
 
 -- equal merits share a rank
 pub rank-at_level : (placings : List Placing) (i : ℕ) (here last : Placing) (rank : ℕ) → last ≡ get_or placings (i - 1) last
@@ -115,9 +108,7 @@ rank-at_level placings i here last rank last_is same ranks =
     ranks ∙ (ap (rank_in placings) (sym last_is) ∙ ap (λ n. 1 + n) alike)
   where
     tie_of : (o : Ordering) → is_eq o ≡ true → o ≡ Equal
-    tie_of Less h = cc
-    tie_of Equal h = refl
-    tie_of Greater h = cc
+    tie_of h1 h = grind (arith, common_steps)
 
 -- ---- derived equality
 
@@ -140,9 +131,7 @@ row_in placings p = row_of (rank_in placings p) p
 -- a list of what f gives, where it got one more
 pub map-pushed : {X Y : Type 0} (f : X → Y) (xs : List X) (i : ℕ) (x : X) (ys after : List Y) (y : Y) → i < length xs → x ≡ get_or xs i x
     → ys ≡ map f (take i xs) → y ≡ f x → after ≡ ys ++ y ∷ [] → after ≡ map f (take (i + 1) xs)
-map-pushed f xs i x ys after y below is so_far own pushed =
-    let more = map_more f xs i x below in
-    cc
+map-pushed f xs i x ys after y below is so_far own pushed = grind (arith, common_steps)
 
 -- ---- one placing for each player
 
@@ -154,8 +143,7 @@ pub record AreFirst (met : List Encounter) (tallies : List Tally) (i : ℕ) (pla
 
 pub AreFirst-none : (met : List Encounter) (tallies : List Tally) (placings : List Placing) → placings ≡ []
     → AreFirst met tallies 0 placings
-AreFirst-none met tallies placings none =
-    rw none (record { numbers = refl; dropped = refl; merits = λ k d below. absurd (omega arith) })
+AreFirst-none met tallies placings none = grind (arith, common_steps)
 
 pub AreFirst-more : (met : List Encounter) (tallies : List Tally) (i : ℕ) (tally : Tally) (placings after : List Placing)
     (placing : Placing)
@@ -163,27 +151,11 @@ pub AreFirst-more : (met : List Encounter) (tallies : List Tally) (i : ℕ) (tal
     → placing.player ≡ tally.no → placing.dropped ≡ tally.dropped
     → IsMerit (totals_of tallies placing.player) (opponents_of met placing.player) placing.merit
     → after ≡ placings ++ placing ∷ [] → AreFirst met tallies (i + 1) after
-AreFirst-more met tallies i tally placings after placing below is are number dropped merit pushed =
-    rw pushed (record {
-      numbers =
-          let one = map_push (λ (p : Placing). p.player) placings placing in
-          let all = map_more (λ (t : Tally). t.no) tallies i tally below in
-          cc;
-      dropped =
-          let one = map_push (λ (p : Placing). p.dropped) placings placing in
-          let all = map_more (λ (t : Tally). t.dropped) tallies i tally below in
-          cc;
-      merits = All-push (λ (p : Placing). IsMerit (totals_of tallies p.player) (opponents_of met p.player) p.merit) placings placing
-          are.merits merit;
-    })
+AreFirst-more met tallies i tally placings after placing below is are number dropped merit pushed = grind (arith, common_steps)
 
 pub ArePlacings-first : (met : List Encounter) (tallies : List Tally) (i : ℕ) (placings : List Placing) → length tallies ≤ i
     → AreFirst met tallies i placings → ArePlacings met tallies placings
-ArePlacings-first met tallies i placings all are = record {
-  numbers = are.numbers ∙ ap (map (λ (t : Tally). t.no)) (take_all i tallies all);
-  dropped = are.dropped ∙ ap (map (λ (t : Tally). t.dropped)) (take_all i tallies all);
-  merits = are.merits;
-}
+ArePlacings-first met tallies i placings all are = grind (arith, common_steps)
 
 -- the player at a place
 pub number-here : (tallies : List Tally) (i : ℕ) (tally : Tally) → map (λ (t : Tally). t.no) tallies ≡ range_with_len 1 (length tallies)
@@ -196,6 +168,4 @@ number-here tallies i tally numbered below is =
 -- what stands at a player's place
 pub totals-here : (tallies : List Tally) (i player : ℕ) (tally : Tally) → i ≡ player - 1 → i < length tallies
     → tally ≡ get_or tallies i tally → tally.totals ≡ totals_of tallies player
-totals-here tallies i player tally at below is =
-    let here = get_or-map (λ (t : Tally). t.totals) tallies i tally no_totals below in
-    cc
+totals-here tallies i player tally at below is = grind (arith, common_steps)

@@ -1,14 +1,13 @@
 -- The lines of a sound event keep the limits.
-use Rattle.std.proofs.Common.{◌≡◌, ◌≢◌, ℕ, ◌+◌, ◌<◌, ◌≤◌, ◌==◌, suc, Bool, cond, List, [], ◌∷◌, flat_map, length, get_or, count_by, All}
-use Rattle.std.proofs.{Common.{AllPairs, Contains, IsTrue, IfSome, Option, Some, None, sym, arith, inl, inr}, lemmas.Bool.cases_eq}
-use Rattle.std.proofs.{lemmas.Bool.cond_both, lemmas.Bool.Decides.nat_tests, lemmas.List.get_or-map, lemmas.List.Elements.All-nil}
-use Rattle.std.proofs.{lemmas.List.Elements.{All-cons, All-append}, lemmas.List.FromFn.{get_or-range_with_len, length-range_with_len}}
+use Rattle.std.proofs.{lemmas.Grind.common_steps, Common.{◌≡◌, ◌≢◌, ℕ, ◌+◌, ◌<◌, ◌≤◌, ◌==◌, suc, Bool, cond, List, [], ◌∷◌, flat_map}}
+use Rattle.std.proofs.Common.{length, get_or, count_by, All, AllPairs, Contains, IsTrue, IfSome, Option, Some, None, arith, inl, inr}
+use Rattle.std.proofs.{lemmas.Bool.{cases_eq, cond_both}, lemmas.Bool.Decides.nat_tests, lemmas.List.get_or-map}
+use Rattle.std.proofs.{lemmas.List.Elements.{All-nil, All-append}, lemmas.List.FromFn.{get_or-range_with_len, length-range_with_len}}
 use Rattle.std.proofs.lemmas.List.Sums.{sum_by-cons, sum_by-append}
-use Rattle.std.specs.List.{range_with_len}
 use Rattle.er_event.specs.{declared.players.Player.Player, declared.matches.Match.Match, declared.rounds.Round.Round}
 use Rattle.er_event.specs.{declared.scores.Games.Games, Event.EventValue, Round.{is_counted, seats}, Score.is_swiss_score, Sound.numbers}
-use Rattle.er_event.specs.{Sound.{IsRound, IsSoundButForSeeds}, Lines.{Line, turned, as_second, lines_of_score, lines_of_match}}
-use Rattle.er_event.specs.{Lines.{counted_lines, lines_from, lines}, Totals.games_of, declared.events.TheConstants.MAX_ROUNDS}
+use Rattle.er_event.specs.{Sound.{IsRound, IsSoundButForSeeds}, Lines.{Line, turned, lines_of_score, lines_of_match, counted_lines}}
+use Rattle.er_event.specs.{Lines.{lines_from, lines}, Totals.games_of, declared.events.TheConstants.MAX_ROUNDS}
 use Rattle.er_rank.specs.{Meeting.AreKnownTo, declared.lists.TheConstants.MAX_GAMES_OF_MATCH, Tally.IsKnown}
 use Rattle.er_rank.proofs.PlacingLemmas.{count_front}
 
@@ -27,10 +26,7 @@ IsShort l = games_of l ≤ MAX_GAMES_OF_MATCH
 
 score_short : (r a b : ℕ) (score : Option Games) → IfSome score (λ s. IsTrue (is_swiss_score s)) → All IsShort (lines_of_score r a b score)
 score_short r a b None lawful = All-nil IsShort
-score_short r a b (Some s) lawful =
-    let games : s.x + s.y + s.d ≤ 6 = grind (arith, nat_tests) in
-    All-cons IsShort _ _ games (cond_both (b == 0) [] (second_line r a b s ∷ []) (All IsShort)
-    (λ bye. All-nil IsShort) (λ seated. All-cons IsShort (second_line r a b s) [] (omega arith) (All-nil IsShort)))
+score_short r a b (Some s) lawful = grind (arith, common_steps, cond_both, nat_tests)
 
 matches_short : (r : ℕ) (ms : List Match) → All (λ (m : Match). IfSome m.score (λ s. IsTrue (is_swiss_score s))) ms
     → All IsShort (flat_map (lines_of_match r) ms)
@@ -74,14 +70,7 @@ once player (q ∷ qs) apart =
 
 score_once : (player r a b : ℕ) (score : Option Games)
     → count_by (is_of player) (lines_of_score r a b score) ≤ count_by (is_no player) (a ∷ b ∷ [])
-score_once player r a b None = omega arith
-score_once player r a b (Some s) =
-    let bit : Line → ℕ = λ l. cond (is_of player l) 1 0 in
-    let first : Line = record { round = r; player = a; opponent = b; games = Some s } in
-    let second : count_by (is_of player) (as_second r a b s) ≤ cond (is_no player b) 1 0 =
-    cond_both (b == 0) [] (second_line r a b s ∷ []) (λ (ls : List Line). count_by (is_of player) ls ≤ cond (is_no player b) 1 0)
-    (λ bye. omega arith) (λ seated. omega arith) in
-    rw (sum_by-cons bit first (as_second r a b s)) (omega arith)
+score_once player r a b h1 = grind (arith, common_steps)
 
 matches_once : (player r : ℕ) (ms : List Match)
     → count_by (is_of player) (flat_map (lines_of_match r) ms) ≤ count_by (is_no player) (flat_map seats ms)
@@ -107,12 +96,6 @@ rounds_once player r (round ∷ rounds) apart =
 
 -- ---- a sound event
 
-known_number : (players q : ℕ) → Contains (range_with_len 1 players) q → IsKnown players q
-known_number players q (k, below, is) =
-    let within : k < players = omega (arith, length-range_with_len 1 players) in
-    let at = get_or-range_with_len 1 players k q within in
-    (omega (arith, sym is, at), omega (arith, sym is, at))
-
 module _ (e : EventValue) (sound : IsSoundButForSeeds e) where
   pub AreWithin-sound : AreWithin (lines e)
   AreWithin-sound =
@@ -134,7 +117,7 @@ module _ (e : EventValue) (sound : IsSoundButForSeeds e) where
   numbers_known = λ k d below. (omega (arith, number_at k d below), omega (arith, number_at k d below))
 
   is_known : (q : ℕ) → Contains (numbers e.players) q → IsKnown (length e.players) q
-  is_known q found = known_number (length e.players) q (rw sound.players.numbered at found)
+  is_known q found = grind (arith, common_steps, get_or-range_with_len, length-range_with_len)
 
   -- nobody sits first at a table without a number
   pub first_numbers : All (λ (r : Round). All (λ (m : Match). 0 < m.a) r.matches) e.stored

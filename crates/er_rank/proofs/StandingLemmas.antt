@@ -1,20 +1,18 @@
 -- Placings stand as the rules say.
-use Rattle.std.proofs.Common.{◌≡◌, ◌≢◌, ℕ, ◌+◌, ◌-◌, ◌<◌, ◌&&◌, ◌||◌, nat_lt, suc, Bool, true, false, cond, List, [], ◌∷◌, map, length}
-use Rattle.std.proofs.{Common.{get_or, count_by, All, Contains, refl, sym, ap, ap₂, ◌∙◌, arith}, lemmas.Bool.Decides.nat_tests}
-use Rattle.std.proofs.{lemmas.List.{get_or-map, get_or_default, length-map}, lemmas.List.Folds.fold-map}
-use Rattle.std.proofs.{lemmas.List.Sorted.sum_by-IsPermutation, lemmas.List.FromFn.get_or-map-range_with_len}
-use Rattle.std.specs.{List.range_with_len, List.Sorted.IsPermutation, declared.cmp.Ordering.Ordering}
-use Rattle.std.specs.{declared.cmp.Ordering.TheVariants.{Less, Equal, Greater}, Ordering.{nat_cmp, ordering_then, ordering_reverse, is_lt}}
-use Rattle.std.specs.Ordering.{is_eq, is_gt, bool_cmp}
+use Rattle.std.proofs.{lemmas.Grind.common_steps, Common.{◌≡◌, ◌≢◌, ℕ, ◌+◌, ◌-◌, ◌<◌, suc, Bool, true, false, cond, List, [], ◌∷◌, map}}
+use Rattle.std.proofs.{Common.{length, get_or, count_by, All, Contains, refl, sym, ap, ap₂, ◌∙◌, arith}, lemmas.List.get_or-map}
+use Rattle.std.proofs.{lemmas.List.{get_or_default, length-map}, lemmas.List.Folds.fold-map, lemmas.List.Sorted.sum_by-IsPermutation}
+use Rattle.std.proofs.lemmas.List.FromFn.{get_or-map-range_with_len}
+use Rattle.std.specs.{List.range_with_len, List.Sorted.IsPermutation, declared.cmp.Ordering.Ordering, Ordering.{nat_cmp, ordering_then}}
+use Rattle.std.specs.Ordering.{ordering_reverse, is_lt, is_gt}
 use Rattle.er_share.specs.{Share.IsShareOf, Order.share_cmp-same}
 use Rattle.er_event.specs.{declared.players.Player.Player, declared.matches.Match.Match, declared.rounds.Round.Round}
 use Rattle.er_event.specs.{declared.tallies.Tally.Tally, Event.EventValue, Sound.IsSoundButForSeeds, Tallies.{tally_by, tallies, meetings}}
 use Rattle.er_event.specs.{declared.totals.Totals.Totals, Totals.totals}
-use Rattle.er_rank.specs.{declared.placings.Placing.Placing, Tally.{no_totals, IsKnown, match_win_of, game_win_of}, Meeting.encounters}
-use Rattle.er_rank.specs.{Meeting.{opponents_of, totals_of}, inside.Merit.IsMerit, inside.Placing.{merit_cmp, placing_cmp, is_above}}
-use Rattle.er_rank.specs.{inside.Placing.ArePlacings, Standings.{game_win, opponents, opponents_match_win, opponents_game_win}}
-use Rattle.er_rank.specs.Standings.{standing_cmp, is_better, is_listed_before}
-use Rattle.er_rank.proofs.{PlacingLemmas.{merit_cmp-total, first_apart, count_by-agree}, MeetingLemmas.opponents-met}
+use Rattle.er_rank.specs.{declared.placings.Placing.Placing, Tally.{no_totals, IsKnown}, Meeting.{encounters, opponents_of, totals_of}}
+use Rattle.er_rank.specs.{inside.Merit.IsMerit, inside.Placing.{merit_cmp, placing_cmp, is_above, ArePlacings}, Standings.game_win}
+use Rattle.er_rank.specs.Standings.{opponents_match_win, opponents_game_win, standing_cmp, is_better, is_listed_before}
+use Rattle.er_rank.proofs.{PlacingLemmas.{merit_cmp-total, count_by-agree}, MeetingLemmas.opponents-met}
 
 -- ---- lists
 
@@ -59,21 +57,7 @@ module _ (e : EventValue) (sound : IsSoundButForSeeds e) where
     IsPlacing-merit : (p : Placing) (listed : Player) → Contains e.players listed → IsKnown (length e.players) p.player
         → p.player ≡ listed.no → p.dropped ≡ listed.dropped
         → IsMerit (totals_of (tallies e) p.player) (opponents_of (encounters (meetings e)) p.player) p.merit → IsPlacing e p
-    IsPlacing-merit p listed contains known number dropped merit =
-        let own = totals_of-known p.player known in
-        let met = opponents-met e p.player positive in
-        let match_wins = ap (map match_win_of) met ∙ map-map match_win_of (totals e) (opponents e p.player) in
-        let game_wins = ap (map game_win_of) met ∙ map-map game_win_of (totals e) (opponents e p.player) in
-        record {
-          listed = listed;
-          is_player = contains;
-          number = number;
-          dropped = dropped;
-          points = merit.points ∙ ap (λ (t : Totals). t.points) own;
-          omw = rw match_wins at merit.omw;
-          gwp = rw own at merit.gwp;
-          ogw = rw game_wins at merit.ogw;
-        }
+    IsPlacing-merit p listed contains known number dropped merit = grind (arith, common_steps, map-map, opponents-met, totals_of-known)
 
     pub ArePlacings-each : (placings : List Placing) → All (λ (q : Player). IsKnown (length e.players) q.no) e.players
         → ArePlacings (encounters (meetings e)) (tallies e) placings → All (IsPlacing e) placings
@@ -112,9 +96,7 @@ is_above-better e s t one other =
     ∙ (turned (merit_cmp t.merit s.merit) ∙ ap is_gt (merit_cmp-standing e t s other one))
   where
     turned : (o : Ordering) → is_lt (ordering_reverse o) ≡ is_gt o
-    turned Less = refl
-    turned Equal = refl
-    turned Greater = refl
+    turned h1 = grind (arith, common_steps)
 
 -- ---- ranks
 
@@ -132,16 +114,6 @@ rank-standing e by_number placings p all is same numbers =
 
 -- ---- the order of the list
 
-listed_by : (o : Ordering) (p q : ℕ) (later : Ordering) → is_lt (ordering_then o (ordering_then (nat_cmp q p) later)) ≡ false → p ≢ q
-    → (is_gt o || (is_eq o && nat_lt p q)) ≡ true
-listed_by Less p q later apart other = cc
-listed_by Equal p q later apart other =
-    let before = first_apart (nat_cmp q p) later apart in
-    grind (arith, nat_tests)
-listed_by Greater p q later apart other = refl
-
 pub listed_before : (e : EventValue) (above below : Placing) → IsPlacing e above → IsPlacing e below
     → is_lt (placing_cmp below above) ≡ false → above.player ≢ below.player → is_listed_before e above.player below.player ≡ true
-listed_before e above below one other apart differ =
-    rw (← merit_cmp-standing e below above other one)
-    (listed_by (merit_cmp below.merit above.merit) above.player below.player (bool_cmp below.dropped above.dropped) apart differ)
+listed_before e above below one other apart differ = grind (arith, common_steps, merit_cmp-standing)

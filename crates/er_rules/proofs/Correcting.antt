@@ -1,12 +1,11 @@
 -- A correction that is sent again at once is taken, and gives the same event.
-use Rattle.std.proofs.Common.{◌≡◌, inl, inr, ℕ, ◌+◌, ◌-◌, ◌==◌, true, false, not, List, [], ◌∷◌, map, get_or, Option, Some, None, is_none}
-use Rattle.std.proofs.{Common.{MatchOption, Ok, refl, sym, ap, ap₂, subst, ◌∙◌}, Math.ListN.set, lemmas.List.{set-set, get_or-set_same}}
-use Rattle.std.proofs.{lemmas.Option.slice_get_within, lemmas.Bool.{not-false, cases_Bool}}
-use Rattle.std.specs.List.{slice_get}
-use Rattle.er_event.specs.{declared.scores.Games.Games, declared.matches.Match.Match, declared.rounds.Round.Round}
-use Rattle.er_event.specs.{declared.commands.Command.TheVariants.Correct, declared.refusals.Refusal.Refusal}
-use Rattle.er_event.specs.{declared.refusals.Refusal.TheVariants.{IsBye, BadScore, NotReported}, Event.EventValue, Round.is_bye}
-use Rattle.er_event.specs.{Round.{numbered_from, is_at, match_in, match_at}, Score.is_swiss_score, Change.{score_table, with_score}}
+use Rattle.std.proofs.Common.{arith, ◌≡◌, inl, inr, ℕ, ◌+◌, true, false, not, List, [], ◌∷◌, map, Option, Some, None, is_none}
+use Rattle.std.proofs.{Common.{MatchOption, Ok, refl, sym, ap, ap₂, subst}, lemmas.Grind.common_steps, Math.ListN.set, lemmas.List.set-set}
+use Rattle.std.proofs.{lemmas.List.get_or-set_same, lemmas.Option.slice_get_within, lemmas.Bool.{not-false, cases_Bool}}
+use Rattle.er_event.specs.{declared.scores.Games.Games, declared.matches.Match.Match, declared.commands.Command.TheVariants.Correct}
+use Rattle.er_event.specs.{declared.refusals.Refusal.Refusal, declared.refusals.Refusal.TheVariants.{IsBye, BadScore, NotReported}}
+use Rattle.er_event.specs.{Event.EventValue, Round.{is_bye, numbered_from, is_at, match_at}, Score.is_swiss_score, Change.score_table}
+use Rattle.er_event.specs.Change.{with_score}
 use Rattle.er_rules.specs.{Commands.{first_refusal, is_swiss}, Step.{Steps, Makes, Refuses, checks}, Retry.RepeatsCorrection}
 use Rattle.er_rules.proofs.{Found.found_stored, Keeping.{is_taken, same_Ok, passes}, Sound.asked, Rescoring.{entered_now, scored_round}}
 
@@ -19,29 +18,13 @@ rescored n t s [] = refl
 rescored n t s (m ∷ ms) = ap₂ ◌∷◌ (twice t n s m) (rescored (n + 1) t s ms)
 
 -- the rounds after the same score twice
-same_rounds : (xs : List Round) (k t : ℕ) (s : Games) (r : Round) → slice_get xs (k - 1) ≡ Some r
-    → set (set xs (k - 1) (scored_round xs k t s)) (k - 1) (scored_round (set xs (k - 1) (scored_round xs k t s)) k t s)
-    ≡ set xs (k - 1) (scored_round xs k t s)
-same_rounds xs k t s r at =
-    let v = scored_round xs k t s in
-    let after = set xs (k - 1) v in
-    let none : Round = record { matches = [] } in
-    let read = get_or-set_same xs (k - 1) v none (slice_get_within xs (k - 1) r at) in
-    let Made : List Match → Round = λ ms. record { matches = ms } in
-    let again : scored_round after k t s ≡ v = ap (λ (q : Round). Made (map (score_table t s) (numbered_from 1 q.matches))) read
-    ∙ ap Made (rescored 1 t s (get_or xs (k - 1) none).matches) in
-    ap (λ (q : Round). set after (k - 1) q) again ∙ set-set xs (k - 1) v v
-
 module _ (e : EventValue) (round table : ℕ) (score : Games) (m : Match) (at : match_at e round table ≡ Some m) (two : is_bye m ≡ false)
   where
     abbrev after : EventValue
     after = with_score e round table score
 
     same_event : with_score after round table score ≡ after
-    same_event =
-        let it = found_stored (round == 0) (λ (r : Round). match_in r.matches table) e.stored (round - 1) m at in
-        ap (λ (rs : List Round). (let x : EventValue = record e { stored = rs } in x))
-        (same_rounds e.stored round table score it.1.0 it.1.1)
+    same_event = grind (arith, common_steps, found_stored, get_or-set_same, rescored, scored_round, set, set-set, slice_get_within)
 
     free : is_swiss e.phase ≡ true → is_swiss_score score ≡ true → first_refusal (checks after (Correct round table score)) ≡ None
     free swiss lawful =

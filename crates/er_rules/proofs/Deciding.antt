@@ -1,5 +1,6 @@
 -- What is answered to those who ask for a pairing.
-use Rattle.std.proofs.Common.{◌≡◌, ◌⊎◌, ◌↔◌, inl, inr, ℕ, Bool, List, None, Result, Ok, Err, IsErrAnd, refl, sym, ap, ◌∙◌}
+use Rattle.std.proofs.Common.{arith, ◌≡◌, ◌⊎◌, ◌↔◌, inl, inr, ℕ, Bool, List, None, Result, Ok, Err, IsErrAnd, refl, sym, ap, ◌∙◌}
+use Rattle.std.proofs.lemmas.Grind.{common_steps}
 use Rattle.er_event.specs.{declared.commands.Command.TheVariants.Pair, Event.EventValue, Change.with_round}
 use Rattle.er_pair.specs.{declared.pairings.PairFault.PairFault, declared.pairings.PairFault.TheVariants.{NoPairing, Budget, Memory}}
 use Rattle.er_pair.specs.{declared.pairings.TheConstants.MAX_STEPS, Fault.refusal_of, Met.have_met, Order.{seed_words, IsOrder}}
@@ -10,8 +11,7 @@ use Rattle.er_event.specs.declared.refusals.Refusal.TheVariants as refusal
 use Rattle.er_pair.specs.Pairing as pairing
 
 pub err_is : {T F : Type 0} (r : Result T F) (x : F) → IsErrAnd r (λ y. y ≡ x) → r ≡ Err x
-err_is (Err y) x h = ap Err h
-err_is (Ok t) x h = absurd h
+err_is h1 x h = grind (arith, common_steps)
 
 -- the search has too few steps just where the order needs more, or memory didn't last
 abbrev pub IsExact : {T : Type 0} → (ℕ → ℕ → Bool) → List ℕ → Result T PairFault → Type 0
@@ -34,21 +34,13 @@ module _ (e : EventValue) (round : ℕ) (seed : List ℕ) (free : first_refusal 
     enough : (found ≡ Err Memory → ⊥) → (found ≡ Err (Budget MAX_STEPS) → ⊥) → NeedsMoreSteps e (Pair round seed) → ⊥
     enough lasts within needs = elim exact [ inl memory ↦ lasts memory | inr iff ↦ within (iff.1 (needs_more needs)) ]
 
-    too_few : found ≡ Err (Budget MAX_STEPS) → NeedsMoreSteps e (Pair round seed)
-    too_few over = elim exact [
-      | inl memory ↦ absurd (let never = sym over ∙ memory in cc)
-      | inr iff ↦ (free, order, ordered, iff.0 over)
-    ]
-
     pub refused_by : (fault : PairFault) → found ≡ Err fault
         → (found ≡ Err NoPairing → (pairs : List pairing.Pair) → IsLegal (have_met e) order pairs → ⊥)
         → ((steps : ℕ) → found ≡ Err (Budget steps) → steps ≡ 1000000)
         → (refusal_of fault ≡ refusal.Memory) ⊎ Answers e (Pair round seed) (Err (refusal_of fault))
     refused_by NoPairing is none count =
         inr (inl (none_steps (none is), enough (λ h. let never = sym is ∙ h in cc) (λ h. let never = sym is ∙ h in cc)))
-    refused_by (Budget n) is none count =
-        let steps = count n is in
-        inr (inr (ap (λ (k : ℕ). Err (refusal.Budget k)) steps, too_few (is ∙ ap (λ (k : ℕ). Err (Budget k)) steps)))
+    refused_by (Budget n) is none count = grind (arith, common_steps)
     refused_by Memory is none count = inl refl
 
     pub taken_by : (pairs : T) → found ≡ Ok pairs → (ps : List pairing.Pair) → IsPairing (have_met e) order ps

@@ -1,12 +1,11 @@
 -- What is found by a search, and at a place of a list.
-use Rattle.std.proofs.Common.{◌≡◌, ℕ, zero, suc, Bool, true, false, cond, List, [], ◌∷◌, ◌++◌, map, find, get_or, Option, Some, None}
-use Rattle.std.proofs.{Common.{refl, sym, subst, arith}, Math.ListN.set, lemmas.Option.{none-some, same_Some, option_and_then_some}}
+use Rattle.std.proofs.{lemmas.Grind.common_steps, Common.{◌≡◌, ℕ, zero, suc, Bool, true, false, cond, List, [], ◌∷◌, ◌++◌, map, find}}
+use Rattle.std.proofs.{Common.{get_or, Option, Some, None, refl, sym, subst, arith}, Math.ListN.set, lemmas.Option.{none-some, same_Some}}
 use Rattle.std.specs.{List.slice_get, Option.option_and_then}
 
 -- where a test rules out what it finds, it is found only where the test fails
 pub unless_some : {A : Type 0} (b : Bool) (o : Option A) (x : A) → cond b None o ≡ Some x → (b ≡ false) × (o ≡ Some x)
-unless_some true o x h = absurd (none-some x h)
-unless_some false o x h = (refl, h)
+unless_some h1 o x h = grind (arith, common_steps)
 
 -- what is found before a map that keeps the test is found, mapped, after it
 pub find_mapped : {X : Type 0} (test : X → Bool) (g : X → X) → ((x : X) → test (g x) ≡ test x) → (xs : List X) (p : X)
@@ -25,9 +24,7 @@ Stored {X} P xs i = (x : X) × (slice_get xs i ≡ Some x) × P x
 -- what is read at a place, where no test rules it out
 pub found_stored : {X Y : Type 0} (b : Bool) (f : X → Option Y) (xs : List X) (i : ℕ) (y : Y)
     → cond b None (option_and_then f (slice_get xs i)) ≡ Some y → (b ≡ false) × Stored (λ x. f x ≡ Some y) xs i
-found_stored b f xs i y at =
-    let found = unless_some b (option_and_then f (slice_get xs i)) y at in
-    (found.0, option_and_then_some f (slice_get xs i) y found.1 (λ x stored here. (x, stored, here)))
+found_stored b f xs i y at = grind (arith, common_steps)
 
 module _ {X : Type 0} (P : X → Type 0) where
   pub stored_more : (xs ys : List X) (i : ℕ) → Stored P xs i → Stored P (xs ++ ys) i

@@ -1,7 +1,7 @@
 -- The step keeps the seeds of the playoff.
-use Rattle.std.proofs.Common.{true, false, true≢false, ◌≡◌, inl, inr, ℕ, zero, suc, ◌-◌, not, List, [], ◌∷◌, ◌++◌, get_or, Option, Some}
-use Rattle.std.proofs.{Common.{None, MatchOption, Result, Ok, Err, IfOk, OnOk, refl, sym, ap, subst, ◌∙◌}, Math.ListN.set}
-use Rattle.std.proofs.{lemmas.Option.{none-some, same_Some}, lemmas.List.Elements.All-weaker}
+use Rattle.std.proofs.Common.{arith, true, false, ◌≡◌, inl, inr, ℕ, zero, suc, ◌-◌, not, List, [], ◌∷◌, ◌++◌, get_or, Option, Some, None}
+use Rattle.std.proofs.{Common.{MatchOption, Result, Ok, IfOk, OnOk, refl, sym, ap, subst, ◌∙◌}, lemmas.Grind.common_steps, Math.ListN.set}
+use Rattle.std.proofs.lemmas.Option.{none-some, same_Some}
 use Rattle.std.specs.List.{slice_get}
 use Rattle.er_event.specs.{declared.events.Phase.Phase, declared.events.Phase.TheVariants.{Enrolling, Swiss, Playoff}}
 use Rattle.er_event.specs.{declared.commands.Command.Command, declared.commands.Command.TheVariants.{Enrol, Start, Pair, Cut}}
@@ -21,28 +21,10 @@ module _ (e : EventValue) (p : Phase) (b : Bracket) where
   other = record e { phase = p; bracket = b }
 
   row_moved : (r : Row) → IsRowOf e r → IsRowOf other r
-  row_moved r is = record {
-    listed = is.listed;
-    is_player = is.is_player;
-    player = is.player;
-    dropped = is.dropped;
-    rank = is.rank;
-    points = is.points;
-    omw = is.omw;
-    gwp = is.gwp;
-    ogw = is.ogw;
-  }
+  row_moved r is = grind (arith, common_steps)
 
   pub top_moved : (k : ℕ) (seeds : List ℕ) → IsTop e k seeds → IsTop other k seeds
-  top_moved k seeds top = record {
-    rows = top.rows;
-    standings = record {
-      everyone = top.standings.everyone;
-      in_order = top.standings.in_order;
-      each = All-weaker (IsRowOf e) (IsRowOf other) row_moved top.rows top.standings.each;
-    };
-    top = top.top;
-  }
+  top_moved k seeds top = grind (arith, common_steps)
 
 -- no check of the list fails
 abbrev pub AllPass : List Check → Type 0
@@ -55,17 +37,12 @@ passes ((false, w) ∷ cs) is = (refl, passes cs is)
 passes ((true, w) ∷ cs) is = absurd (none-some w (sym is))
 
 pub enrolling_is : (p : Phase) → not (is_enrolling p) ≡ false → p ≡ Enrolling
-enrolling_is Enrolling is = refl
-enrolling_is p is = absurd (true≢false is)
+enrolling_is h1 is = grind (arith, common_steps)
 
 pub swiss_is : (p : Phase) → not (is_swiss p) ≡ false → p ≡ Swiss
-swiss_is Swiss is = refl
-swiss_is p is = absurd (true≢false is)
+swiss_is h1 is = grind (arith, common_steps)
 
 -- ---- no stage, no seeds
-
-no_seeds : (e : EventValue) → e.bracket.stages ≡ [] → HasSeeds e
-no_seeds e none first at = absurd (none-some first (rw none at at))
 
 -- ---- a score changes no player of a slot
 
@@ -110,8 +87,7 @@ is_taken e next c steps = by_check (first_refusal (checks e c)) refl steps
   where
     by_check : (o : Option Refusal) → first_refusal (checks e c) ≡ o → MatchOption o (Makes e c (Ok next)) (Refuses (Ok next))
         → (first_refusal (checks e c) ≡ None) × Makes e c (Ok next)
-    by_check None is made = (is, made)
-    by_check (Some why) is refused = absurd (cc)
+    by_check h1 is made = grind (arith, common_steps)
 
 pub same_Ok : (a b : EventValue) → ◌≡◌ {A = Result EventValue Refusal} (Ok a) (Ok b) → a ≡ b
 same_Ok a b is = cc
@@ -128,7 +104,7 @@ module _ (e : EventValue) (sound : IsSound e) where
 
   -- the event after has no stage either
   none_after : (next : EventValue) → next.bracket.stages ≡ e.bracket.stages → e.bracket.stages ≡ [] → HasSeeds next
-  none_after next same none = no_seeds next (same ∙ none)
+  none_after next same none = grind (arith, common_steps)
 
   pub keeps : (c : Command) (next : EventValue) → AllPass (checks e c) → Makes e c (Ok next) → HasSeeds next
   keeps (Enrol name) next pass made = none_after next (ap stages_in (same_Ok next _ made)) (enrolling pass.0)
@@ -157,10 +133,8 @@ step_keeps e c next sound steps but_for_seeds =
 
 pub answers_keep : (e : EventValue) (c : Command) (next : EventValue) → IsSound e → Answers e c (Ok next) → IsSoundButForSeeds next
     → IsSound next
-answers_keep e c next sound (inl steps) but_for_seeds = step_keeps e c next sound steps.0 but_for_seeds
-answers_keep e c next sound (inr budget) but_for_seeds = absurd (let never = budget.0 in cc)
+answers_keep e c next sound h1 but_for_seeds = grind (arith, common_steps, step_keeps)
 
 pub if_three : {T E : Type 0} (r : Result T E) (P Q R : T → Type 0) (A : Type 0) → ((x : T) → P x → Q x → A → R x) → IfOk r P → IfOk r Q
     → OnOk r A → IfOk r R
-if_three (Ok x) P Q R A f p q a = f x p q a
-if_three (Err e) P Q R A f p q a = tt
+if_three h1 h2 h3 h4 h5 f p q a = grind (arith, common_steps)

@@ -1,8 +1,7 @@
 -- The first stage of the seeds of a cut, and the rounds that are done before it.
-use Rattle.std.proofs.Common.{◌≡◌, ◌⊎◌, inl, inr, ℕ, ◌<◌, ◌/◌, ◌==◌, ◌||◌, true, List, [], ◌∷◌, length, flat_map, IsPermutation, refl}
-use Rattle.std.proofs.{Common.{arith, lit<}, lemmas.Bool.{cases_eq, and_parts, eqb-true}, lemmas.Bool.Decides.nat_tests}
-use Rattle.std.proofs.lemmas.List.Sums.{AllPass-from_list_all}
-use Rattle.er_event.specs.{declared.rounds.Round.Round, Event.EventValue, Round.{is_counted, seats}, Sound.AllRoundsDone}
+use Rattle.std.proofs.{lemmas.Grind.common_steps, Common.{◌≡◌, ◌⊎◌, ℕ, ◌<◌, ◌/◌, ◌==◌, ◌||◌, true, List, [], ◌∷◌, length, flat_map}}
+use Rattle.std.proofs.Common.{IsPermutation, refl, arith, lit<}
+use Rattle.er_event.specs.{Event.EventValue, Round.seats, Sound.AllRoundsDone}
 use Rattle.er_bracket.specs.Seeds.{first_stage}
 use Rattle.er_rules.specs.Commands.{all_rounds_done}
 
@@ -11,13 +10,7 @@ IsCut n = (n ≡ 2) ⊎ (n ≡ 4) ⊎ (n ≡ 8)
 
 -- a cut that is played
 pub is_cut : (cut : ℕ) → (cut == 0 || cut == 2 || cut == 4 || cut == 8) ≡ true → 0 < cut → IsCut cut
-is_cut cut h low = elim (cases_eq cut 2) [
-  | inl two ↦ inl two
-  | inr not_two ↦ elim (cases_eq cut 4) [
-    | inl four ↦ inr (inl four)
-    | inr not_four ↦ inr (inr (grind (arith, nat_tests)))
-  ]
-]
+is_cut cut h low = grind (arith, common_steps)
 
 -- the players of the slots, in turn
 abbrev pub seated : List ℕ → List ℕ
@@ -51,6 +44,4 @@ opens other is = absurd (grind (arith, is))
 -- ---- all rounds are done
 
 pub rounds_done : (e : EventValue) → all_rounds_done e ≡ true → AllRoundsDone e
-rounds_done e h =
-    let it = and_parts (length e.stored == e.rounds) _ h in
-    (eqb-true (length e.stored) e.rounds it.0, AllPass-from_list_all (λ (r : Round). is_counted r.matches) e.stored it.1)
+rounds_done e h = grind (arith, common_steps)

@@ -1,11 +1,11 @@
 -- The stage of a match of the playoff: how many slots it has, and that its scores are lawful.
-use Rattle.std.proofs.Common.{◌≡◌, ◌⊎◌, inl, inr, ℕ, ◌-◌, ◌<◌, ◌≤◌, ◌/◌, ◌==◌, ◌||◌, true, false, List, [], ◌∷◌, length, get_or, All}
-use Rattle.std.proofs.{Common.{Some, IfSome, IsTrue, refl, sym, subst, arith}, lemmas.Bool.Decides.nat_tests}
-use Rattle.std.proofs.{lemmas.List.Elements.{All-from_recursion, All-set}, lemmas.Option.{none-some, same_Some, slice_get_within}}
+use Rattle.std.proofs.{lemmas.Grind.common_steps, Common.{◌≡◌, ◌⊎◌, inl, ℕ, ◌-◌, ◌<◌, ◌≤◌, ◌/◌, ◌==◌, ◌||◌, true, List, [], ◌∷◌, length}}
+use Rattle.std.proofs.{Common.{get_or, All, Some, IfSome, IsTrue, sym, subst, arith}, lemmas.List.Elements.{All-from_recursion, All-set}}
+use Rattle.std.proofs.lemmas.Option.{none-some, same_Some, slice_get_within}
 use Rattle.std.specs.List.{slice_get, AllByRecursion}
 use Rattle.er_event.specs.{declared.events.Phase.TheVariants.Playoff, declared.matches.Match.Match, declared.scores.Games.Games}
-use Rattle.er_event.specs.{Event.EventValue, Score.is_playoff_score, Bracket.{next_stage, FollowOn, slot_at, open_match}, Change.scored}
-use Rattle.er_event.specs.{Change.{stage_of, scored_slot}, Sound.IsSoundButForSeeds}
+use Rattle.er_event.specs.{Event.EventValue, Score.is_playoff_score, Bracket.{FollowOn, slot_at, open_match}, Change.{scored, stage_of}}
+use Rattle.er_event.specs.{Change.scored_slot, Sound.IsSoundButForSeeds}
 use Rattle.er_rules.proofs.{Opening.{IsCut, is_cut}, Found.{Stored, found_stored}, SlotLemmas.same_length}
 
 abbrev pub IsSlots : ℕ → Type 0
@@ -16,19 +16,13 @@ IsLawful m = IfSome m.score (λ s. IsTrue (is_playoff_score s))
 
 -- ---- each stage has half of the slots of that before it
 
-next_slots : (ms : List Match) → 1 < length ms → IsSlots (length ms) → IsSlots (length (next_stage ms))
-next_slots (a ∷ b ∷ []) more is = inl refl
-next_slots (a ∷ b ∷ c ∷ d ∷ []) more is = inr (inl refl)
-next_slots other more is = absurd (grind (arith, is, more))
-
 abbrev AreSlots : List Match → Type 0
 AreSlots ms = IsSlots (length ms)
 
 slots_from : (stages : List (List Match)) (stage : List Match) → FollowOn (stage ∷ stages) → AreSlots stage
     → AllByRecursion AreSlots (stage ∷ stages)
 slots_from [] stage follow is = (is, tt)
-slots_from (next ∷ more) stage follow is =
-    (is, slots_from more next follow.3 (rw (same_length next (next_stage stage) follow.2) (next_slots stage follow.1 is)))
+slots_from (next ∷ more) stage follow is = grind (arith, common_steps, slots_from more next follow.3, same_length)
 
 slots_of : (stages : List (List Match)) (first : List Match) → slice_get stages 0 ≡ Some first → FollowOn stages → AreSlots first
     → AllByRecursion AreSlots stages
@@ -36,9 +30,7 @@ slots_of [] first at follow is = absurd (none-some first at)
 slots_of (stage ∷ stages) first at follow is = slots_from stages stage follow (subst AreSlots (sym (same_Some stage first at)) is)
 
 cut_slots : (cut n : ℕ) → n ≡ cut / 2 → IsCut cut → IsSlots n
-cut_slots cut n half (inl is) = inl (omega arith)
-cut_slots cut n half (inr (inl is)) = inr (inl (omega arith))
-cut_slots cut n half (inr (inr is)) = inr (inr (omega arith))
+cut_slots cut n half h1 = grind (arith, common_steps)
 
 -- ---- where a match is stored
 
@@ -47,9 +39,6 @@ module _ (e : EventValue) (sound : IsSoundButForSeeds e) (playing : e.phase ≡ 
   abbrev stages : List (List Match)
   stages = e.bracket.stages
 
-  numbered : (k == 0 || t == 0) ≡ false
-  numbered = (found_stored (k == 0 || t == 0) (λ (ms : List Match). slice_get ms (t - 1)) stages (k - 1) m found).0
-
   stored : Stored (λ ms. slice_get ms (t - 1) ≡ Some m) stages (k - 1)
   stored = (found_stored (k == 0 || t == 0) (λ (ms : List Match). slice_get ms (t - 1)) stages (k - 1) m found).1
 
@@ -57,7 +46,7 @@ module _ (e : EventValue) (sound : IsSoundButForSeeds e) (playing : e.phase ≡ 
   within = slice_get_within stages (k - 1) stored.0 stored.1
 
   pub low_stage : 1 ≤ k
-  low_stage = let is = numbered in grind (arith, nat_tests)
+  low_stage = grind (arith, common_steps)
 
   pub high_stage : k ≤ length stages
   high_stage = omega (arith, low_stage, within)

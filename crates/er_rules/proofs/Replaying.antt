@@ -1,16 +1,16 @@
 -- A score of the playoff that was entered once is there at every later point.
-use Rattle.std.proofs.Common.{◌≡◌, inl, inr, ℕ, ◌-◌, ◌==◌, ◌||◌, Bool, true, false, cond, not, List, [], ◌∷◌, ◌++◌, Some, None, Result}
-use Rattle.std.proofs.{Common.{Ok, Err, refl, sym, ap, subst, ◌∙◌, true≢false}, Math.ListN.set, lemmas.Bool.{not-false, cases_Bool}}
+use Rattle.std.proofs.Common.{arith, ◌≡◌, ℕ, ◌-◌, ◌==◌, ◌||◌, Bool, true, false, cond, not, List, [], ◌∷◌, ◌++◌, Some, None, Result, Ok}
+use Rattle.std.proofs.{Common.{Err, refl, sym, ap, subst, ◌∙◌}, lemmas.Grind.common_steps, Math.ListN.set, lemmas.Bool.not-false}
 use Rattle.std.specs.List.{slice_get}
-use Rattle.er_event.specs.{declared.scores.Games.Games, declared.events.Phase.Phase, declared.events.Phase.TheVariants.{Playoff, Finished}}
+use Rattle.er_event.specs.{declared.scores.Games.Games, declared.events.Phase.Phase, declared.events.Phase.TheVariants.Finished}
 use Rattle.er_event.specs.{declared.matches.Match.Match, declared.commands.Command.Command, declared.commands.Command.TheVariants.Pair}
 use Rattle.er_event.specs.{declared.commands.Command.TheVariants.Cut, declared.refusals.Refusal.Refusal}
-use Rattle.er_event.specs.{declared.refusals.Refusal.TheVariants.{NotPlayoff, AlreadyReported, BadScore}, Event.EventValue, Bracket.slot_at}
-use Rattle.er_event.specs.{Bracket.open_match, Score.is_playoff_score, Change.{scored, stage_of, scored_slot}}
+use Rattle.er_event.specs.{declared.refusals.Refusal.TheVariants.BadScore, Event.EventValue, Bracket.{slot_at, open_match}}
+use Rattle.er_event.specs.{Score.is_playoff_score, Change.{scored, stage_of, scored_slot}}
 use Rattle.er_rules.specs.{Commands.{first_refusal, is_enrolling, is_swiss, is_playoff, already}, Step.{Steps, Makes, checks, scored_at}}
 use Rattle.er_rules.specs.{Fold.Folds, Retry.IsRetryRefusal}
 use Rattle.er_rules.proofs.{Found.{Stored, found_stored, stored_more, stored_now, stored_stays}, Keeping.{is_taken, same_Ok, stages_in}}
-use Rattle.er_rules.proofs.{Keeping.passes, Sound.asked, Retrying.{kept_on, refused_by, IsOver, over_stays, not_again}, Rescoring.HasScore}
+use Rattle.er_rules.proofs.{Keeping.passes, Sound.asked, Retrying.{kept_on, IsOver, over_stays, not_again}, Rescoring.HasScore}
 use Rattle.er_event.specs.declared.commands.Command.TheVariants.{Pair, Cut, Playoff as PlayOff}
 
 abbrev HasPlayedSlot : ℕ → List Match → Type 0
@@ -50,9 +50,7 @@ played_kept stage slot e next c steps has = (over_stays e next c steps has.0, ma
 
 playoff_over : (p : Phase) (b : Bool) → is_playoff p ≡ true
     → (is_enrolling (cond b Finished p) ≡ false) × (is_swiss (cond b Finished p) ≡ false)
-playoff_over p true is = (refl, refl)
-playoff_over Playoff false is = (refl, refl)
-playoff_over p false is = absurd (true≢false (sym is))
+playoff_over p h1 is = grind (arith, common_steps)
 
 -- a match of the playoff that is given a score has it
 played_now : (e : EventValue) (stage slot : ℕ) (s : Games) (m : Match) → slot_at e stage slot ≡ Some m
@@ -68,14 +66,7 @@ module _ (e next later : EventValue) (more : List Command) (folds : Folds next m
   Refused = (why : Refusal) × (result ≡ Err why) × IsRetryRefusal (PlayOff stage slot score) why
 
   refused_later : IsPlayed stage slot later.bracket.stages → Steps later (PlayOff stage slot score) result → Refused
-  refused_later it again = elim (cases_Bool (is_playoff later.phase)) [
-    | inr over ↦ (NotPlayoff, refused_by later (PlayOff stage slot score) NotPlayoff result (rw over refl) again, inr refl)
-    | inl plays ↦
-        let s = it.1.2.2.0 in
-        let why = refused_by later (PlayOff stage slot score) (AlreadyReported s) result
-        (rw (plays, it.0, it.1.1, it.1.2.1, it.1.2.2.1) refl) again in
-        (AlreadyReported s, why, inl (s, refl))
-  ]
+  refused_later it again = grind (arith, common_steps)
 
   pub play_again : Steps e (PlayOff stage slot score) (Ok next) → Steps later (PlayOff stage slot score) result → Refused
   play_again taken again =

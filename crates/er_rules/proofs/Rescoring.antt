@@ -1,16 +1,15 @@
 -- A score that was entered once is there at every later point.
-use Rattle.std.proofs.Common.{◌≡◌, ◌==◌, inl, inr, ℕ, ◌+◌, ◌-◌, false, not, List, [], ◌∷◌, ◌++◌, map, find, get_or, Option, Some, None}
-use Rattle.std.proofs.{Common.{Result, Ok, Err, refl, sym, ap, subst, ◌∙◌}, Math.ListN.set, lemmas.Option.{none-some, same_Some}}
-use Rattle.std.proofs.lemmas.Bool.{not-false, cases_Bool, cond_both}
+use Rattle.std.proofs.Common.{arith, ◌≡◌, ◌==◌, ℕ, ◌+◌, ◌-◌, false, not, List, [], ◌∷◌, ◌++◌, map, find, get_or, Option, Some, None}
+use Rattle.std.proofs.{Common.{Result, Ok, Err, refl, sym, ap, subst, ◌∙◌}, lemmas.Grind.common_steps, Math.ListN.set}
+use Rattle.std.proofs.{lemmas.Option.{none-some, same_Some}, lemmas.Bool.{not-false, cond_both}}
 use Rattle.std.specs.Option.{option_map}
 use Rattle.er_event.specs.{declared.scores.Games.Games, declared.matches.Match.Match, declared.rounds.Round.Round}
 use Rattle.er_event.specs.{declared.commands.Command.Command, declared.commands.Command.TheVariants.{Pair, Correct, Cut}}
-use Rattle.er_event.specs.{declared.refusals.Refusal.Refusal, declared.refusals.Refusal.TheVariants.{NotSwiss, AlreadyReported, IsBye}}
-use Rattle.er_event.specs.{declared.refusals.Refusal.TheVariants.BadScore, Event.EventValue, Round.{is_bye, numbered_from, is_at, match_in}}
-use Rattle.er_event.specs.{Round.match_at, Score.is_swiss_score, Change.{scored, score_table}}
-use Rattle.er_rules.specs.{Commands.{is_enrolling, is_swiss, already}, Step.{Steps, Makes, checks}, Fold.Folds, Retry.IsRetryRefusal}
+use Rattle.er_event.specs.{declared.refusals.Refusal.Refusal, declared.refusals.Refusal.TheVariants.{IsBye, BadScore}, Event.EventValue}
+use Rattle.er_event.specs.{Round.{is_bye, numbered_from, is_at, match_in, match_at}, Score.is_swiss_score, Change.{scored, score_table}}
+use Rattle.er_rules.specs.{Commands.{is_enrolling, already}, Step.{Steps, Makes, checks}, Fold.Folds, Retry.IsRetryRefusal}
 use Rattle.er_rules.proofs.{Found.{find_mapped, find_passes, Stored, found_stored, stored_more, stored_now, stored_stays}, Keeping.is_taken}
-use Rattle.er_rules.proofs.{Keeping.{same_Ok, passes}, Sound.asked, Retrying.{kept_on, refused_by, begun_stays, swiss_began}}
+use Rattle.er_rules.proofs.{Keeping.{same_Ok, passes}, Sound.asked, Retrying.{kept_on, begun_stays, swiss_began}}
 use Rattle.er_event.specs.declared.commands.Command.TheVariants.{Pair, Result as Report, Correct, Cut}
 
 -- ---- the tables of a round
@@ -125,15 +124,7 @@ module _ (e next later : EventValue) (more : List Command) (folds : Folds next m
   Refused = (why : Refusal) × (result ≡ Err why) × IsRetryRefusal (Report round table score) why
 
   refused_later : IsEntered round table later.stored → Steps later (Report round table score) result → Refused
-  refused_later it again = elim (cases_Bool (is_swiss later.phase)) [
-    | inr over ↦ (NotSwiss, refused_by later (Report round table score) NotSwiss result (rw over refl) again, inr refl)
-    | inl swiss ↦
-        let hit = it.1.2 in
-        let s = hit.3.0 in
-        let why = refused_by later (Report round table score) (AlreadyReported s) result
-        (rw (swiss, it.0, it.1.1, hit.1, hit.2, hit.3.1) refl) again in
-        (AlreadyReported s, why, inl (s, refl))
-  ]
+  refused_later it again = grind (arith, common_steps)
 
   pub report_again : Steps e (Report round table score) (Ok next) → Steps later (Report round table score) result → Refused
   report_again taken again =

@@ -1,18 +1,17 @@
 -- A command that was taken once is refused at every later point: enrolment, start, pairing, drop and cut.
-use Rattle.std.proofs.Common.{◌≡◌, inl, inr, ℕ, ◌+◌, ◌-◌, ◌≤◌, ◌==◌, ◌||◌, Bool, true, false, cond, not, List, [], ◌∷◌, length, map, find}
-use Rattle.std.proofs.Common.{Option, Some, None, MatchOption, Result, Ok, Err, refl, sym, ap, ap₂, subst, ◌∙◌, arith, true≢false}
-use Rattle.std.proofs.{Common.{length-append, length-set}, lemmas.Slice.Eq.bytes_eq-Decides, lemmas.Bool.{not-false, eqb-true, ne_eqb}}
-use Rattle.std.proofs.{lemmas.Bool.{cases_Bool, cond_both, or_left, or_right}, lemmas.List.Folds.list_any-append}
+use Rattle.std.proofs.{lemmas.Grind.common_steps, Common.{◌≡◌, inl, inr, ℕ, ◌+◌, ◌≤◌, ◌==◌, Bool, true, false, cond, not, List, [], ◌∷◌}}
+use Rattle.std.proofs.Common.{length, map, find, Option, Some, None, Result, Ok, Err, refl, sym, ap, subst, ◌∙◌, arith, length-append}
+use Rattle.std.proofs.{lemmas.Slice.Eq.bytes_eq-Decides, lemmas.Bool.{not-false, eqb-true, ne_eqb, cases_Bool, cond_both, or_left}}
+use Rattle.std.proofs.{lemmas.Bool.or_right, lemmas.List.Folds.list_any-append}
 use Rattle.std.specs.Str.{bytes_eq}
-use Rattle.er_event.specs.{declared.events.Phase.Phase, declared.events.Phase.TheVariants.{Enrolling, Finished}}
-use Rattle.er_event.specs.{declared.players.Player.Player, declared.commands.Command.Command, declared.commands.Command.TheVariants.Enrol}
-use Rattle.er_event.specs.{declared.commands.Command.TheVariants.{Start, Pair, Correct, Drop, Cut}, declared.refusals.Refusal.Refusal}
-use Rattle.er_event.specs.declared.refusals.Refusal.TheVariants.{NameTaken, NotEnrolling, NotSwiss, WrongRound, AlreadyDropped}
-use Rattle.er_event.specs.{Event.EventValue, Name.is_lawful_name, Change.{has_name, dropped_at, new_player}}
-use Rattle.er_rules.specs.{Commands.{first_refusal, is_enrolling, is_swiss, of_player}, Step.{Steps, Makes, Refuses, checks}, Fold.Folds}
+use Rattle.er_event.specs.{declared.events.Phase.Phase, declared.events.Phase.TheVariants.Finished, declared.players.Player.Player}
+use Rattle.er_event.specs.{declared.commands.Command.Command, declared.commands.Command.TheVariants.{Enrol, Start, Pair, Drop, Cut}}
+use Rattle.er_event.specs.{declared.refusals.Refusal.Refusal, declared.refusals.Refusal.TheVariants.{NameTaken, NotEnrolling, NotSwiss}}
+use Rattle.er_event.specs.{declared.refusals.Refusal.TheVariants.{WrongRound, AlreadyDropped}, Event.EventValue, Name.is_lawful_name}
+use Rattle.er_event.specs.Change.{has_name, dropped_at, new_player}
+use Rattle.er_rules.specs.{Commands.{first_refusal, is_enrolling, is_swiss, of_player}, Step.{Steps, Makes, checks}, Fold.Folds}
 use Rattle.er_rules.specs.Retry.{IsRetryRefusal}
 use Rattle.er_rules.proofs.{Found.{find_mapped, find_passes}, Keeping.{is_taken, same_Ok, AllPass, passes}}
-use Rattle.er_event.specs.declared.commands.Command.TheVariants.{Enrol, Start, Pair, Result as Report, Correct, Drop, Cut}
 use Rattle.er_event.specs.declared.commands.Command.TheVariants.{Playoff as PlayOff}
 
 -- ---- what a step leaves of an event
@@ -45,8 +44,7 @@ kept_on P keeps first last (c ∷ cs) (next, steps, rest) has = kept_on P keeps 
 -- where a check fails, the step refuses
 pub refused_by : (e : EventValue) (c : Command) (why : Refusal) (result : Result EventValue Refusal)
     → first_refusal (checks e c) ≡ Some why → Steps e c result → result ≡ Err why
-refused_by e c why result fails steps =
-    subst (λ (o : Option Refusal). MatchOption o (Makes e c result) (Refuses result)) fails steps
+refused_by e c why result fails steps = grind (arith, common_steps)
 
 -- nobody enrols again
 pub begun_stays : (e next : EventValue) (c : Command) → Steps e c (Ok next) → is_enrolling e.phase ≡ false → is_enrolling next.phase ≡ false
@@ -62,23 +60,10 @@ begun_stays e next c steps begun = made c (is_taken e next c steps).1
 -- ---- pairing: the rounds that are stored stay
 
 rounds_stay : (n : ℕ) (e next : EventValue) (c : Command) → Steps e c (Ok next) → n ≤ length e.stored → n ≤ length next.stored
-rounds_stay n e next c steps few = made c (is_taken e next c steps).1
-  where
-    as_many : {m : ℕ} → length next.stored ≡ m → length e.stored ≤ m → n ≤ length next.stored
-    as_many is more = omega (arith, is, more, few)
-
-    made : (c : Command) → Makes e c (Ok next) → n ≤ length next.stored
-    made (Pair round seed) is = as_many (ap count_of_rounds is.2.2 ∙ length-append e.stored _) (omega arith)
-    made (Report round table score) is =
-        as_many (ap count_of_rounds (same_Ok next _ is) ∙ length-set e.stored (round - 1) _) (omega arith)
-    made (Correct round table score) is =
-        as_many (ap count_of_rounds (same_Ok next _ is) ∙ length-set e.stored (round - 1) _) (omega arith)
-    made Cut is = as_many (ap count_of_rounds (same_Ok next _ is.2)) (omega arith)
-    made c is = as_many (ap count_of_rounds (same_Ok next _ is)) (omega arith)
+rounds_stay n e next c steps few = grind (arith, common_steps)
 
 pub swiss_began : (p : Phase) → is_swiss p ≡ true → is_enrolling p ≡ false
-swiss_began Enrolling is = absurd (true≢false (sym is))
-swiss_began p is = refl
+swiss_began h1 is = grind (arith, common_steps)
 
 -- ---- cut: the Swiss rounds are over
 
@@ -86,8 +71,7 @@ abbrev pub IsOver : EventValue → Type 0
 IsOver e = (is_enrolling e.phase ≡ false) × (is_swiss e.phase ≡ false)
 
 pub not_again : (b : Bool) → b ≡ false → not b ≡ false → ⊥
-not_again false is never = true≢false never
-not_again true is never = true≢false is
+not_again h1 is never = grind (arith, common_steps)
 
 pub over_stays : (e next : EventValue) (c : Command) → Steps e c (Ok next) → IsOver e → IsOver next
 over_stays e next c steps over = (begun_stays e next c steps over.0, made c (is_taken e next c steps))
@@ -101,18 +85,12 @@ over_stays e next c steps over = (begun_stays e next c steps over.0, made c (is_
 
 -- ---- enrolment: a name that is taken stays so
 
-name_stays : (k : ℕ) (x : Player) → (dropped_at k x).name ≡ x.name
-name_stays k x = cond_both (x.no == k) (record x { dropped = true }) x (λ (y : Player). y.name ≡ x.name) (λ _. refl) (λ _. refl)
-
-number_stays : (k : ℕ) (x : Player) → (dropped_at k x).no ≡ x.no
-number_stays k x = cond_both (x.no == k) (record x { dropped = true }) x (λ (y : Player). y.no ≡ x.no) (λ _. refl) (λ _. refl)
-
 drop_stays : (k : ℕ) (x : Player) → x.dropped ≡ true → (dropped_at k x).dropped ≡ true
 drop_stays k x is = cond_both (x.no == k) (record x { dropped = true }) x (λ (y : Player). y.dropped ≡ true) (λ _. refl) (λ _. is)
 
 names_stay : (k : ℕ) (name : List ℕ) (xs : List Player) → has_name (map (dropped_at k) xs) name ≡ has_name xs name
 names_stay k name [] = refl
-names_stay k name (x ∷ xs) = ap₂ (λ n more. bytes_eq n name || more) (name_stays k x) (names_stay k name xs)
+names_stay k name (x ∷ xs) = grind (arith, common_steps, names_stay k name xs)
 
 name_kept : (name : List ℕ) (e next : EventValue) (c : Command) → Steps e c (Ok next) → named name e ≡ true → named name next ≡ true
 name_kept name e next c steps has = made c (is_taken e next c steps).1
@@ -136,8 +114,7 @@ Gone n xs = (p : Player) × (find (of_number n) xs ≡ Some p) × (p.dropped ≡
 
 gone_after : (n k : ℕ) (xs : List Player) (p : Player) → find (of_number n) xs ≡ Some p → (dropped_at k p).dropped ≡ true
     → Gone n (map (dropped_at k) xs)
-gone_after n k xs p found gone =
-    (dropped_at k p, find_mapped (of_number n) (dropped_at k) (λ x. ap (λ (m : ℕ). m == n) (number_stays k x)) xs p found, gone)
+gone_after n k xs p found gone = grind (arith, common_steps, cond_both, find_mapped)
 
 gone_stays : (n k : ℕ) (xs : List Player) → Gone n xs → Gone n (map (dropped_at k) xs)
 gone_stays n k xs (p, found, dropped) = gone_after n k xs p found (drop_stays k p dropped)
@@ -162,8 +139,7 @@ gone_kept n e next c steps has = (begun_stays e next c steps has.0, made c (is_t
     made c is = as_before (ap players_in (same_Ok next _ is.1))
 
 listed_there : (o : Option Player) → AllPass (of_player o) → (p : Player) × (o ≡ Some p)
-listed_there None is = absurd (true≢false is.0)
-listed_there (Some p) is = (p, refl)
+listed_there h1 is = grind (arith, common_steps)
 
 module _ (e next later : EventValue) (more : List Command) (folds : Folds next more later) (result : Result EventValue Refusal) where
   abbrev Refused : Command → Type 0

@@ -1,9 +1,9 @@
 -- The tables of a legal pairing are a round that the event may have next.
-use Rattle.std.proofs.Common.{◌≡◌, ◌≢◌, ◌⊎◌, inl, inr, ℕ, ◌+◌, ◌-◌, ◌%◌, ◌<◌, ◌≤◌, ◌==◌, not, Bool, true, false, List, [], ◌∷◌, ◌++◌}
-use Rattle.std.proofs.Common.{length, map, filter, take, drop, flat_map, All, AllPairs, IsTrue, IsFalse, IfSome, IsPermutation, Contains}
-use Rattle.std.proofs.Common.{get_or, slice_index, Some, refl, sym, ap, ◌∙◌, true≢false, arith, length-append, append-nil, append_assoc}
-use Rattle.std.proofs.{lemmas.Bool.{cases_Bool, not-true, not-false, or_parts, eqb-true, eq-eqb}, lemmas.Bool.Decides.nat_tests}
-use Rattle.std.proofs.{lemmas.Bool.Decides.Decides-eqb, lemmas.List.{take-append-drop, take-append-le, get_or-map, get_or_append_left}}
+use Rattle.std.proofs.{lemmas.Grind.common_steps, Common.{◌≡◌, ◌≢◌, ◌⊎◌, inl, inr, ℕ, ◌+◌, ◌-◌, ◌<◌, ◌≤◌, ◌==◌, not, Bool, true, false}}
+use Rattle.std.proofs.Common.{List, [], ◌∷◌, ◌++◌, length, map, filter, take, drop, flat_map, All, AllPairs, IsTrue, IsFalse, IfSome}
+use Rattle.std.proofs.Common.{IsPermutation, Contains, get_or, slice_index, Some, refl, sym, ap, ◌∙◌, arith, length-append, append-nil}
+use Rattle.std.proofs.{Common.append_assoc, lemmas.Bool.{cases_Bool, not-true, not-false, or_parts, eqb-true}}
+use Rattle.std.proofs.{lemmas.Bool.Decides.{nat_tests, Decides-eqb}, lemmas.List.{take-append-drop, get_or-map, get_or_append_left}}
 use Rattle.std.proofs.{lemmas.List.length-map, lemmas.List.Concat.flat_map-append, lemmas.List.Elements.{All-push, All-contains}}
 use Rattle.std.proofs.lemmas.List.Elements.{All-append, All-filter, All-map, All-take, All-weaker, All-from_recursion, recursion_from_All}
 use Rattle.std.proofs.{lemmas.List.Elements.{Contains-get_or, filter_passes}, lemmas.List.FromFn.length-range_with_len}
@@ -15,8 +15,8 @@ use Rattle.std.specs.List.{list_any, range_with_len, AllByRecursion}
 use Rattle.er_event.specs.{declared.events.Phase.TheVariants.Swiss, declared.players.Player.Player, declared.matches.Match.Match}
 use Rattle.er_event.specs.{declared.rounds.Round.Round, Event.EventValue, Score.{is_swiss_score, bye_score}, Round.{is_bye, is_counted}}
 use Rattle.er_event.specs.{Round.{is_same_pairing, seats, matches_of}, Sound.{numbers, IsRound, IsSoundButForSeeds}, Change.IsNextRound}
-use Rattle.er_pair.specs.{Met.have_met, Order.{active_numbers, seats_of, IsOrder}, Pairing.{Pair, positions, all_positions, IsEarliest}}
-use Rattle.er_pair.specs.Pairing.{entries, match_of_pair, round_of}
+use Rattle.er_pair.specs.{Met.have_met, Order.{active_numbers, IsOrder}, Pairing.{Pair, positions, all_positions, IsEarliest, entries}}
+use Rattle.er_pair.specs.Pairing.{match_of_pair, round_of}
 use Rattle.er_rules.specs.{Commands.{active, newest_is_open}, Tables.{match_of, tables_of}}
 
 -- ---- the tables are the matches of the pairs, in another order
@@ -87,10 +87,7 @@ Plays m = IsFalse (is_bye m)
 
 last_bye : (front back : List Match) → All Plays front → length back ≤ 1 → All Plays (take (length (front ++ back) - 1) (front ++ back))
 last_bye front [] all few = All-take Plays (length (front ++ []) - 1) (front ++ []) (rw (append-nil front) all)
-last_bye front (b ∷ []) all few =
-    let count = length-append front (b ∷ []) in
-    let n = length (front ++ b ∷ []) - 1 in
-    rw (take-append-le n front (b ∷ []) (omega arith)) (All-take Plays n front all)
+last_bye front (b ∷ []) all few = grind (arith, common_steps)
 last_bye front (b ∷ c ∷ more) all few = absurd (omega arith)
 
 -- ---- the numbers of those who are paired
@@ -103,9 +100,6 @@ active_listed e =
     rw (get_or-map no e.players k d d.no below) at (Contains-get_or (numbers e.players) k d.no within) in
     All-map (Contains (numbers e.players)) (λ (p : Player). p.no) (filter (λ (p : Player). not p.dropped) e.players)
     (All-filter (λ (p : Player). not p.dropped) (λ (p : Player). Contains (numbers e.players) p.no) e.players listed)
-
-seats_cases : (players : List ℕ) → (seats_of players ≡ players) ⊎ (seats_of players ≡ players ++ 0 ∷ [])
-seats_cases players = elim (cases_Bool (length players % 2 == 1)) [ inl odd ↦ inr (rw odd) | inr even ↦ inl (rw even) ]
 
 -- each seat but the last is a player's
 front_player : (players order : List ℕ) (k : ℕ) → (order ≡ players) ⊎ (order ≡ players ++ 0 ∷ []) → k + 1 < length order
@@ -145,8 +139,7 @@ score_lawful : (p : Pair) → IfSome (match_of p).score (λ s. IsTrue (is_swiss_
 score_lawful p = elim (cases_Bool (p.1 == 0)) [ inl bye ↦ rw bye refl | inr plays ↦ rw plays tt ]
 
 sits_opposite : (e : EventValue) (p : Pair) → Sits e p.1 → IsFalse (is_bye (match_of p)) → Contains (numbers e.players) p.1
-sits_opposite e p (inl none) plays = absurd (true≢false (sym (eq-eqb p.1 0 none) ∙ plays))
-sits_opposite e p (inr has) plays = has
+sits_opposite e p h1 plays = grind (arith, common_steps)
 
 -- ---- the rounds before
 
@@ -189,16 +182,10 @@ module _ (e : EventValue) (key : ℕ → ℕ) (order : List ℕ) (ps : List Pair
   players_listed = All-permutation (Contains known) (active_numbers e) ordered.players ordered.everyone (active_listed e)
 
   seats_are : (order ≡ ordered.players) ⊎ (order ≡ ordered.players ++ 0 ∷ [])
-  seats_are = elim (seats_cases ordered.players) [ inl is ↦ inl (ordered.seated ∙ is) | inr is ↦ inr (ordered.seated ∙ is) ]
+  seats_are = grind (arith, common_steps)
 
   long : 2 ≤ length order
-  long =
-      let moved = length_permutation (active_numbers e) ordered.players ordered.everyone in
-      let count : length ordered.players ≡ length (active e) = moved ∙ length-map (active e) (λ (p : Player). p.no) in
-      elim seats_are [
-        | inl is ↦ omega (arith, ap length is, count, two)
-        | inr is ↦ omega (arith, ap length is, length-append ordered.players (0 ∷ []), count, two)
-      ]
+  long = grind (arith, common_steps, length-append, length-map, length_permutation, moved, seats_are)
 
   within : All (λ (p : Pair). (p.0 < length order) × (p.1 < length order)) it.pairs
   within = of_pairs (λ k. k < length order) it.pairs (All-permutation (λ k. k < length order) (all_positions order) (positions it.pairs)
@@ -228,8 +215,7 @@ module _ (e : EventValue) (key : ℕ → ℕ) (order : List ℕ) (ps : List Pair
       omega (arith, same, as_many, some_pair ps (omega (arith, all, long)))
     where
       some_pair : (qs : List Pair) → 0 < length (positions qs) → 0 < length qs
-      some_pair [] h = absurd (omega arith)
-      some_pair (q ∷ qs) h = omega arith
+      some_pair h1 h = grind (arith, common_steps)
 
   apart : Apart (all_seats (map match_of ps))
   apart =

@@ -1,7 +1,7 @@
 -- The first players of the standings: they are the event's, once each, and as many as are asked for where so many are active.
-use Rattle.std.proofs.Common.{◌≡◌, ◌≢◌, ℕ, zero, suc, ◌+◌, ◌<◌, ◌≤◌, not, Bool, true, false, List, [], ◌∷◌, length, map, filter, take}
-use Rattle.std.proofs.{Common.{All, AllPairs, inr, ◌++◌, ◌/◌, None, refl, Contains, get_or, sym, ap, ◌∙◌, arith}, lemmas.Bool.cond_both}
-use Rattle.std.proofs.{lemmas.Bool.Decides.Decides-eqb, lemmas.List.{get_or-map, get_or_default, get_or-take, length-map, length-take}}
+use Rattle.std.proofs.{lemmas.Grind.common_steps, Common.{◌≡◌, ◌≢◌, ℕ, zero, suc, ◌+◌, ◌<◌, ◌≤◌, not, Bool, true, false, List, [], ◌∷◌}}
+use Rattle.std.proofs.Common.{length, map, filter, take, All, AllPairs, inr, ◌++◌, ◌/◌, None, refl, Contains, get_or, sym, ap, ◌∙◌, arith}
+use Rattle.std.proofs.{lemmas.Bool.cond_both, lemmas.Bool.Decides.Decides-eqb, lemmas.List.{get_or-map, get_or_default, length-map}}
 use Rattle.std.proofs.{lemmas.List.length-take-le, lemmas.List.Elements.{All-contains, All-contains_itself, All-filter, All-map, All-take}}
 use Rattle.std.proofs.{lemmas.List.Elements.{All-weaker, filter_passes}, lemmas.List.FromFn.get_or-range_with_len}
 use Rattle.std.proofs.{lemmas.List.Kept.AllPairs-filter, lemmas.List.Sorted.{All-permutation, Contains-permutation}}
@@ -18,9 +18,7 @@ use Rattle.er_rules.proofs.{Rounds.apart_moved, Opening.{is_cut, seated, opens, 
 -- ---- lists
 
 contains_map : {X Y : Type 0} (f : X → Y) (xs : List X) (x : X) → Contains xs x → Contains (map f xs) (f x)
-contains_map f xs x has =
-    let long = length-map xs f in
-    (has.0, omega (arith, has.1), get_or-map f xs has.0 x (f x) has.1 ∙ ap f has.2)
+contains_map f xs x has = grind (arith, common_steps)
 
 contains_later : {X : Type 0} (y : X) (xs : List X) (x : X) → Contains xs x → Contains (y ∷ xs) x
 contains_later y xs x has = (suc has.0, omega (arith, has.1), has.2)
@@ -34,9 +32,7 @@ contains_filter {X} p (y ∷ xs) x (suc i) below is passes =
     cond_both (p y) (y ∷ filter p xs) (filter p xs) (λ (l : List X). Contains l x) (λ _. contains_later y (filter p xs) x has) (λ _. has)
 
 pairs_take : {X : Type 0} (R : X → X → Type 0) (k : ℕ) (xs : List X) → AllPairs R xs → AllPairs R (take k xs)
-pairs_take R k xs all i j d before within =
-    let long = length-take k xs in
-    rw (get_or-take k xs i d (omega arith), get_or-take k xs j d (omega arith)) (all i j d before (omega arith))
+pairs_take R k xs all i j d before within = grind (arith, common_steps)
 
 pairs_map : {X Y : Type 0} (R : Y → Y → Type 0) (f : X → Y) (xs : List X) → AllPairs (λ a b. R (f a) (f b)) xs → AllPairs R (map f xs)
 pairs_map R f [] all i j d before within = absurd (omega arith)
@@ -74,12 +70,7 @@ module _ (e : EventValue) (sound : IsSoundButForSeeds e) where
 
   -- a number is of one player
   same_drop : (p q : Player) → Contains e.players p → Contains e.players q → p.no ≡ q.no → p.dropped ≡ q.dropped
-  same_drop p q (i, i_below, p_is) (j, j_below, q_is) number =
-      let number_of : Player → ℕ = λ r. r.no in
-      let first = number_at i p i_below in
-      let second = number_at j q j_below in
-      let same : i ≡ j = omega (arith, ap number_of p_is, ap number_of q_is, number) in
-      ap (λ (r : Player). r.dropped) (sym p_is ∙ (ap (λ n. get_or e.players n p) same ∙ (get_or_default e.players j p q j_below ∙ q_is)))
+  same_drop p q (i, i_below, p_is) (j, j_below, q_is) number = grind (arith, common_steps, get_or_default, number_at)
 
   module _ (rows : List Row) (are : AreStandings e rows) where
     abbrev kept : List Row

@@ -1,6 +1,6 @@
 -- The step keeps an event sound.
-use Rattle.std.proofs.Common.{Result, ◌≡◌, ◌+◌, ◌<◌, ◌≤◌, ◌==◌, nat_le, nat_lt, false, not, List, [], ◌∷◌, ◌++◌, length, Option, Some}
-use Rattle.std.proofs.{Common.{None, Ok, refl, sym, ap, subst, ◌∙◌, arith, true≢false, is_none}, lemmas.Bool.not-false}
+use Rattle.std.proofs.{lemmas.Grind.common_steps, Common.{Result, ◌≡◌, ◌+◌, ◌<◌, ◌≤◌, ◌==◌, nat_le, nat_lt, false, not, List, [], ◌∷◌}}
+use Rattle.std.proofs.{Common.{◌++◌, length, Option, Some, None, Ok, refl, sym, ap, subst, ◌∙◌, arith, is_none}, lemmas.Bool.not-false}
 use Rattle.std.proofs.lemmas.Bool.Decides.{nat_tests}
 use Rattle.er_event.specs.{declared.scores.Games.Games, declared.events.Phase.TheVariants.{Enrolling, Swiss}, declared.matches.Match.Match}
 use Rattle.er_event.specs.declared.changes.Change.TheVariants.{AddPlayer, SetDropped, SetPhase, AddRound, SetScore, AddBracket}
@@ -19,12 +19,10 @@ use Rattle.er_event.specs.declared.commands.Command.TheVariants.{Enrol, Start, P
 use Rattle.er_event.specs.declared.commands.Command.TheVariants.{Playoff as PlayOff}
 
 pub asked : (o : Option Match) (more : Match → List Check) → AllPass (checks_at o more) → (m : Match) × (o ≡ Some m) × AllPass (more m)
-asked None more is = absurd (true≢false is.0)
-asked (Some m) more is = (m, refl, is)
+asked h1 more is = grind (arith, common_steps)
 
 pub open_yet : (o : Option Games) (rest : List Check) → AllPass (already o ++ rest) → (o ≡ None) × AllPass rest
-open_yet None rest is = (refl, is)
-open_yet (Some s) rest is = absurd (true≢false is.0)
+open_yet h1 rest is = grind (arith, common_steps)
 
 module _ (keeps : ChangesKeepSound) (once : StandOnce) (seats : LegalSeats) (e next : EventValue) (h : IsSoundButForSeeds e) where
   is_now : (after : EventValue) → ◌≡◌ {A = Result EventValue Refusal} (Ok next) (Ok after) → IsSoundButForSeeds after

@@ -4,22 +4,22 @@ use Rattle.std.proofs.Common.{Some, None, Result, Ok, Err, IsTrue, IsFalse, IfOk
 use Rattle.std.proofs.{Common.{refl, sym, ap, subst, ◌∙◌}, lemmas.Bool.Decides.nat_tests}
 use Rattle.std.specs.{Io.KnownBytes.Keeps, List.AllByRecursion, declared.alloc.AllocError.AllocError}
 use Rattle.sqlite.specs.{Table.Table, Effect.Database}
-use Rattle.er_event.specs.{declared.refusals.Refusal.Refusal, declared.refusals.Refusal.TheVariants.{Memory, NoSuchMatch, NeedsReopen}}
+use Rattle.er_event.specs.{declared.refusals.Refusal.Refusal, declared.refusals.Refusal.TheVariants.{Memory, NeedsReopen}}
 use Rattle.er_event.specs.{declared.commands.TheConstants.MAX_SERIAL, declared.scores.Games.Games, declared.slips.SlipRow.SlipRow}
 use Rattle.er_event.specs.Event.{EventValue}
 use Rattle.er_paper.specs.{Slip.slip_text, Texts.rows_text}
 use Rattle.er_rank.specs.declared.rows.Row.{Row}
-use Rattle.er_store.specs.{Standing.{IsOther, KeepsOthers}, Slip.FindsSlip}
+use Rattle.er_store.specs.Standing.{IsOther, KeepsOthers}
 use Rattle.sqlite_trees.specs.declared.store.Store.{Ghosts}
 use Rattle.er_desk.specs.{declared.desk.Desk.Desk, Desk.{Standing, Turn, ShowsEvent, ShowsOwn, point_of, standing, state, Reads, ReadsRows}}
-use Rattle.er_desk.specs.{Desk.ReadsSlip, Headline.{LeavesJust, AreTheStandings}, Reply.{Reply, receipt, reply_to, IsDue}}
+use Rattle.er_desk.specs.{Headline.{LeavesJust, AreTheStandings}, Reply.{Reply, receipt, reply_to, IsDue}}
 use Rattle.er_slips.specs.{declared.answer.Answer.Answer, declared.request.asked.Asked.Asked}
 use Rattle.er_slips.specs.{declared.request.asked.Asked.TheVariants.{Standings, Pairings, Slip, Report}, declared.request.asked.Fault.Fault}
 use Rattle.er_slips.specs.{declared.request.asked.Unasked.Unasked, declared.request.asked.Unasked.TheVariants.Refused}
 use Rattle.er_slips.specs.{declared.serve.Served.Served, declared.serve.Served.TheVariants.{Answered, ReadFault, WriteFault}, Request.Asks}
 use Rattle.er_slips.specs.{Request.TellsAsked, Answer.{AnswerValue, answer_value, fault_answer, refusal_answer, slip_answer, text_answer}}
-use Rattle.er_slips.specs.{Answer.status_of, Whole.{ShowsPairings, row_answer, reply_answer, IsAnswered, submitted, IsAnswerUnless503}}
-use Rattle.er_slips.specs.Serving.{IsRowsAnswer, IsSlipAnswer, AnswersRequest, IsServed, IsUnserved, Writes, EndsServing, IsWritten}
+use Rattle.er_slips.specs.{Answer.status_of, Whole.{reply_answer, IsAnswered, submitted, IsAnswerUnless503}, Serving.IsRowsAnswer}
+use Rattle.er_slips.specs.Serving.{IsSlipAnswer, AnswersRequest, IsServed, IsUnserved, Writes, EndsServing, IsWritten}
 use Rattle.er_event.specs.declared.commands.Command.TheVariants.{Result as Hand}
 
 pub reopening : (desk : Standing) (Shows : EventValue → AnswerValue → Type 0) (answer : AnswerValue) (why : Refusal)
@@ -30,8 +30,7 @@ reopening desk Shows answer why stopped is = inr (stopped.0, is ∙ ap refusal_a
 pub made-is : (made : Result Answer AllocError) (answer due : AnswerValue) → IfOk made (λ a. answer_value a ≡ due)
     → MatchResult made (λ a. answer ≡ answer_value a) (λ _. answer ≡ refusal_answer Memory)
     → (answer ≡ due) ⊎ (answer ≡ refusal_answer Memory)
-made-is (Ok a) answer due of is = inl (is ∙ of)
-made-is (Err e) answer due of is = inr is
+made-is h1 answer due of is = grind (arith, common_steps)
 
 pub slip-made : (read : Result SlipRow Refusal) (row : SlipRow) (made : Result Answer AllocError) (answer : AnswerValue) → read ≡ Ok row
     → IfOk made (λ a. answer_value a ≡ slip_answer (slip_text row))
@@ -62,18 +61,14 @@ rows-answered rows old new answer (inr (inr (stopped, same, e))) due = absurd (t
 module _ (Stood : Type 0) (input : Option (List ℕ)) (old new : Standing) (before after : Option (List ℕ)) (answer : AnswerValue) where
   ends : (served : Served) → Writes before after served answer → IsServed Stood input old answer new ⊎ IsUnserved old answer new
       → EndsServing Stood input old new before after served
-  ends (Answered status) wrote due = (answer, wrote, due)
-  ends (WriteFault sent) wrote due = (answer, wrote, due)
-  ends ReadFault wrote due = absurd wrote
+  ends h1 wrote due = grind (arith, common_steps)
 
   asks : (i : Option (List ℕ)) (asked : Asked) → IfSome i (λ xs. TellsAsked xs (Ok asked)) → IfSome i (λ xs. Asks xs (Ok asked))
-  asks None asked told = tt
-  asks (Some xs) asked told = told
+  asks h1 asked told = grind (arith, common_steps)
 
   asks-fault : (i : Option (List ℕ)) (fault : Fault) → IfSome i (λ xs. TellsAsked xs (Err (Refused fault)))
       → IfSome i (λ xs. Asks xs (Err fault))
-  asks-fault None fault told = tt
-  asks-fault (Some xs) fault told = told
+  asks-fault h1 fault told = grind (arith, common_steps)
 
   pub ends-asked : (served : Served) (asked : Asked) → IfSome input (λ xs. TellsAsked xs (Ok asked))
       → AnswersRequest Stood old (Ok asked) answer new
@@ -91,12 +86,10 @@ module _ (Stood : Type 0) (input : Option (List ℕ)) (old new : Standing) (befo
       ))
 
 pub keeps : (known : Option (List ℕ)) → Keeps known known
-keeps None = tt
-keeps (Some xs) = refl
+keeps h1 = grind (arith, common_steps)
 
 pub written-unread : (Runs Stood : Type 0) (input before : Option (List ℕ)) → IfSome input (λ xs. Runs → Stood → Keeps before before)
-written-unread Runs Stood None before = tt
-written-unread Runs Stood (Some xs) before = λ runs stood. keeps before
+written-unread h1 h2 h3 before = grind (arith, common_steps)
 
 pub ends-unserved : (Stood : Type 0) (input : Option (List ℕ)) (old : Standing) (before after : Option (List ℕ)) (answer : AnswerValue)
     (served : Served)
@@ -115,25 +108,6 @@ module _ (old new : Standing) (input : List ℕ) (answer : AnswerValue) (runs : 
 
   runs-on : {A : Type 0} → IsTrue old.stopped → A
   runs-on stopped = absurd (true≢false (sym stopped ∙ runs))
-
-  shown-by : (asked : Result Asked Fault) (Shows : EventValue → AnswerValue → Type 0) → Asks input asked
-      → (Shows old.event answer → IsAnswered old.event old.serial asked answer) → ShowsEvent refusal_answer old Shows answer
-      → IsAnswerUnless503 old.event old.serial input answer
-  shown-by asked Shows is to (inl (running, inl shows)) = exact asked is (to shows)
-  shown-by asked Shows is to (inl (running, inr memory)) = hindered Memory refl memory
-  shown-by asked Shows is to (inr (stopped, e)) = runs-on stopped
-
-  slip-by : (round table : ℕ) (read : Result SlipRow Refusal) → Asks input (Ok (Slip round table)) → ReadsSlip old read new
-      → FindsSlip old.event round table read
-      → IsSlipAnswer read answer → IsAnswerUnless503 old.event old.serial input answer
-  slip-by round table (Ok row) is reads found (inl e) = exact (Ok (Slip round table)) is (e ∙ ap row_answer (sym found))
-  slip-by round table (Ok row) is reads found (inr memory) = hindered Memory refl memory
-  slip-by round table (Err why) is (inl (running, same, inl ok)) found e = absurd (true≢false (sym ok))
-  slip-by round table (Err why) is (inl (running, same, inr none)) found e =
-      let no-match : why ≡ NoSuchMatch = cc in
-      exact (Ok (Slip round table)) is (e ∙ ap refusal_answer no-match ∙ ap row_answer (sym (found no-match)))
-  slip-by round table (Err why) is (inr (inl (running, same, other, fault, f))) found e = grind (arith, common_steps)
-  slip-by round table (Err why) is (inr (inr (stopped, same, f))) found e = runs-on stopped
 
   rows-by : (read : Result (Vec Row Global) Refusal) → Asks input (Ok Standings) → ReadsRows old read new
       → IfOk read (λ rows. AreTheStandings old.event rows.items)
@@ -172,8 +146,8 @@ module _ (old new : Standing) (input : List ℕ) (answer : AnswerValue) (runs : 
       → IsAnswerUnless503 old.event old.serial input answer
   answered-by Stood stood (Err fault) is answers = exact (Err fault) is answers.0
   answered-by Stood stood (Ok Standings) is (read, reads, found, e) = rows-by read is reads (found stood) e
-  answered-by Stood stood (Ok (Pairings round)) is answers = shown-by (Ok (Pairings round)) (ShowsPairings round) is (λ s. s) answers.0
-  answered-by Stood stood (Ok (Slip round table)) is (read, reads, found, e) = slip-by round table read is reads (found stood) e
+  answered-by Stood stood (Ok (Pairings round)) is answers = grind (arith, common_steps)
+  answered-by Stood stood (Ok (Slip round table)) is (read, reads, found, e) = grind (arith, common_steps)
   answered-by Stood stood (Ok (Report round table score)) is (reply, turn, e) = reply-by round table score reply is turn e
 
   due-by : (Stood : Type 0) → Stood → IsServed Stood (Some input) old answer new ⊎ IsUnserved old answer new
@@ -208,12 +182,9 @@ module _ {S : Type 0} (g : Ghosts S) (old new : Desk S g) where
       → IfErr reply (λ _. IsFalse (standing new).stopped → new ≡ old)
       → ShowsOwn g old → LeavesJust (state g old) (point_of (standing old)) → IsFalse (standing new).stopped
       → LeavesJust (state g new) (point_of (standing new))
-  replied-leaves (Ok receipt) acknowledged same shows before runs = acknowledged shows
-  replied-leaves (Err why) acknowledged same shows before runs = grind (arith, common_steps)
+  replied-leaves h1 acknowledged same shows before runs = grind (arith, common_steps)
 
   -- after reading, the desk stands where it stood
   pub read-leaves : {A : Type 0} (passing : Refusal) (read : Result A Refusal) → Reads passing (standing old) read (standing new)
       → LeavesJust (state g new) (point_of (standing old)) → LeavesJust (state g new) (point_of (standing new))
-  read-leaves passing read (inl (running, same, e)) leaves = grind (arith, common_steps)
-  read-leaves passing read (inr (inl (running, same, why, fault, e))) leaves = grind (arith, common_steps)
-  read-leaves passing read (inr (inr (stopped, same, e))) leaves = grind (arith, common_steps)
+  read-leaves passing read h1 leaves = grind (arith, common_steps)

@@ -1,8 +1,8 @@
 -- What a head asks for, read from its spans, and the body behind it.
-use Rattle.std.proofs.{lemmas.Grind.common_steps, Common.{◌≡◌, ℕ, ◌+◌, ◌-◌, ◌<◌, ◌≤◌, ◌==◌, Bool, true, false, List, [], ◌∷◌, ◌++◌, length}}
-use Rattle.std.proofs.Common.{take, drop, get_or, All, slice_range, Option, Some, None, Result, Ok, Err, IfSome, refl, sym, ap, subst}
-use Rattle.std.proofs.{Common.{◌∙◌, arith, length-append, length-drop, append-nil}, lemmas.List.{drop-append-le, drop-take, take-take}}
-use Rattle.std.proofs.{lemmas.List.{take-append-le, length-take-le, length-take}, lemmas.Bool.Decides.nat_tests, lemmas.Str.IsUtf8-take}
+use Rattle.std.proofs.{lemmas.Grind.common_steps, Common.{◌≡◌, ℕ, ◌+◌, ◌-◌, ◌<◌, ◌≤◌, ◌==◌, Bool, List, [], ◌∷◌, ◌++◌, length, take, drop}}
+use Rattle.std.proofs.Common.{get_or, All, slice_range, Option, Some, None, Result, Ok, Err, IfSome, refl, sym, ap, subst, ◌∙◌, arith}
+use Rattle.std.proofs.{Common.{length-append, length-drop, append-nil}, lemmas.List.{drop-append-le, drop-take, take-take, take-append-le}}
+use Rattle.std.proofs.{lemmas.List.{length-take-le, length-take}, lemmas.Bool.Decides.nat_tests, lemmas.Str.IsUtf8-take}
 use Rattle.std.specs.{Str.{IsUtf8, IsCharBoundary}, Io.KnownBytes.{Consumes, IsAtEnd}}
 use Rattle.er_paper.specs.Slip.{slip_games}
 use Rattle.httparse.specs.{Grammar.{RequestHead, ReadsRequest}, Spans.{span_bytes, IsHeaderWithin, IsRequestAt}}
@@ -28,8 +28,7 @@ path-cut (b ∷ t) = by (b == 63) refl (path-cut t)
         × (length (path_of t) < length t → get_or t (length (path_of t)) 0 ≡ 63)
         → (path_of (b ∷ t) ≡ take (length (path_of (b ∷ t))) (b ∷ t)) × (length (path_of (b ∷ t)) ≤ length (b ∷ t))
         × (length (path_of (b ∷ t)) < length (b ∷ t) → get_or (b ∷ t) (length (path_of (b ∷ t))) 0 ≡ 63)
-    by true e later = let is : b ≡ 63 = grind (arith, nat_tests) in rw e (refl, omega arith, λ l. is)
-    by false e later = rw e (ap (λ r. b ∷ r) later.0, omega (arith, later.1), λ l. later.2 (omega (arith, l)))
+    by h1 e later = grind (arith, common_steps)
 
 pub path-text : (t : List ℕ) → IsUtf8 t → IsUtf8 (path_of t)
 path-text t is = by (path-cut t)
@@ -93,13 +92,11 @@ module _ (input after : Option (List ℕ)) (bytes : List ℕ) (headers : List He
   tells-asked xs due (Err unasked.Unread) t is = absurd t
 
   if-some : (i : Option (List ℕ)) (P Q : List ℕ → Type 0) → ((xs : List ℕ) → P xs → Q xs) → IfSome i P → IfSome i Q
-  if-some None P Q f p = tt
-  if-some (Some xs) P Q f p = f xs p
+  if-some h1 h2 h3 f p = grind (arith, common_steps)
 
   behind : (xs : List ℕ) (a : Option (List ℕ)) (front : List ℕ) → Consumes (Some xs) a front
       → (ys : List ℕ) × (xs ≡ front ++ ys) × (IsAtEnd a → ys ≡ [])
-  behind xs None front c = absurd c
-  behind xs (Some ys) front c = (ys, c, λ e. e)
+  behind xs h1 front c = grind (arith, common_steps)
 
   long-enough : (round table n : ℕ) (rest : List ℕ) → n ≤ length rest
       → asked_with (Ok (Body round table n)) rest ≡ reported round table (slip_games (take n rest))

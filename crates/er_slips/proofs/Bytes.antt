@@ -1,15 +1,13 @@
 -- The bytes that were read, against the whole input.
-use Rattle.std.proofs.{KnownBytes.Consumes-trans, Common.{◌≡◌, ℕ, ◌+◌, ◌-◌, ◌≤◌, List, ◌++◌, take, drop, length, take-take, sym, ap, subst}}
-use Rattle.std.proofs.{Common.{◌∙◌, arith, Option, Some, None, IfSome, slice_range, length-drop}, lemmas.List.take_all, Math.Seq.take-add}
-use Rattle.std.proofs.Math.Seq.{take-append_seam, take-append-add}
+use Rattle.std.proofs.{lemmas.Grind.common_steps, KnownBytes.Consumes-trans, Common.{◌≡◌, ℕ, ◌+◌, ◌-◌, ◌≤◌, List, ◌++◌, take, drop, length}}
+use Rattle.std.proofs.{Common.{take-take, sym, ap, ◌∙◌, arith, Option, Some, None, IfSome, slice_range, length-drop}, lemmas.List.take_all}
+use Rattle.std.proofs.Math.Seq.{take-add, take-append_seam, take-append-add}
 use Rattle.std.specs.Io.KnownBytes.{Consumes}
 use Rattle.httparse.specs.Grammar.{HasNoRequest, print_request}
 use Rattle.er_slips.specs.{declared.request.head.TheConstants.MAX_HEAD, Head.HasNoHead}
 
 pub grown : (old new : List ℕ) (f n : ℕ) → take f new ≡ take f old → take f old ++ slice_range new f (f + n) ≡ take (f + n) new
-grown old new f n kept =
-    let e : f + n - f ≡ n = omega arith in
-    ap (λ k. take f old ++ take k (drop f new)) e ∙ ap (λ t. t ++ take n (drop f new)) (sym kept) ∙ sym (take-add f n new)
+grown old new f n kept = grind (arith, common_steps, take-add)
 
 -- bytes and then others are a head that fits in them, so they are one
 cut : (bytes more p rest : List ℕ) → bytes ++ more ≡ p ++ rest → length p ≤ length bytes → bytes ≡ p ++ take (length bytes - length p) rest
@@ -28,9 +26,7 @@ full (Some xs) (Some ys) bytes e none len = λ h rest is.
 
 pub sent_more : (bytes : List ℕ) (sent n : ℕ) → take sent bytes ++ take n (take (length bytes - sent) (drop sent bytes)) ≡ take
     (sent + n) bytes
-sent_more bytes sent n =
-    let short : length (drop sent bytes) ≤ length bytes - sent = omega (arith, length-drop sent bytes) in
-    ap (λ t. take sent bytes ++ take n t) (take_all (length bytes - sent) (drop sent bytes) short) ∙ sym (take-add sent n bytes)
+sent_more bytes sent n = grind (arith, common_steps, length-drop, take-add, take_all)
 
 -- the same front, and so the same shorter front
 pub shorter : (old new : List ℕ) (m n : ℕ) → m ≤ n → take n new ≡ take n old → take m new ≡ take m old
@@ -38,5 +34,4 @@ shorter old new m n le same = sym (take-take m n new le) ∙ ap (take m) same �
 
 pub came_more : (start a b : Option (List ℕ)) (old new : List ℕ) (f n : ℕ) → take f new ≡ take f old → Consumes start a (take f old)
     → Consumes a b (slice_range new f (f + n)) → Consumes start b (take (f + n) new)
-came_more start a b old new f n kept before came =
-    subst (λ bs. Consumes start b bs) (grown old new f n kept) (Consumes-trans start a b _ _ before came)
+came_more start a b old new f n kept before came = grind (arith, common_steps, Consumes-trans, grown)

@@ -1,6 +1,6 @@
 -- The fields of a head, one at a time.
-use Rattle.std.proofs.{lemmas.Grind.common_steps, Common.{◌≡◌, ℕ, ◌+◌, ◌<◌, Bool, true, false, ◌||◌, Bor, List, [], ◌∷◌, ◌++◌, codes, take}}
-use Rattle.std.proofs.Common.{drop, length, map, filter, get_or, Option, Some, None, Err, refl, sym, ap, ◌∙◌, arith, take-append-drop}
+use Rattle.std.proofs.{lemmas.Grind.common_steps, Common.{◌≡◌, ℕ, ◌+◌, ◌<◌, Bool, true, false, Bor, List, [], ◌∷◌, ◌++◌, codes, take, drop}}
+use Rattle.std.proofs.Common.{length, map, filter, get_or, Option, Some, None, Err, refl, sym, ap, ◌∙◌, arith, take-append-drop}
 use Rattle.std.proofs.{Common.if◌then◌else◌, lemmas.List.get_or-map, lemmas.List.Elements.filter-append}
 use Rattle.std.specs.{List.list_any, Option.is_some}
 use Rattle.httparse.specs.{Spans.header_bytes, declared.spans.HeaderSpan.HeaderSpan}
@@ -21,10 +21,6 @@ filter-at : (fields : List HeadField) (i : ℕ) (field : HeadField) → i < leng
     → filter counted (take (i + 1) fields) ≡ filter counted (take i fields) ++ filter counted (field ∷ [])
 filter-at fields i field below is = grind (arith, common_steps)
 
-any-at : (fields : List HeadField) (i : ℕ) (field : HeadField) → i < length fields → field ≡ get_or fields i field
-    → list_any refused (take (i + 1) fields) ≡ (list_any refused (take i fields) || (refused field || false))
-any-at fields i field below is = grind (arith, common_steps)
-
 whole : (fields : List HeadField) (i : ℕ) → take i fields ++ drop i fields ≡ fields
 whole fields i = take-append-drop i fields
 
@@ -32,13 +28,12 @@ whole fields i = take-append-drop i fields
 pub whole-more : (fields : List HeadField) (i : ℕ) (field : HeadField) → i < length fields → field ≡ get_or fields i field
     → refused field ≡ false
     → list_any refused (take i fields) ≡ false → list_any refused (take (i + 1) fields) ≡ false
-whole-more fields i field below is not so_far = any-at fields i field below is ∙ rw (so_far, not) refl
+whole-more fields i field below is not so_far = grind (arith, common_steps)
 
 pub found-same : (fields : List HeadField) (i : ℕ) (field : HeadField) (found : Option (Bor (List ℕ))) → i < length fields
     → field ≡ get_or fields i field → counted field ≡ false
     → HasFound (take i fields) found → HasFound (take (i + 1) fields) found
-found-same fields i field None below is not so_far = filter-at fields i field below is ∙ rw (so_far, not) refl
-found-same fields i field (Some value) below is not so_far = (so_far.0, filter-at fields i field below is ∙ rw (so_far.1, not) refl)
+found-same fields i field h1 below is not so_far = grind (arith, common_steps)
 
 pub found-new : (fields : List HeadField) (i : ℕ) (field : HeadField) (value : Bor (List ℕ)) → i < length fields
     → field ≡ get_or fields i field → counted field ≡ true
@@ -52,8 +47,7 @@ pub refused-at : (fields : List HeadField) (i : ℕ) (field : HeadField) → i <
 refused-at fields i field below is so = grind (arith, common_steps)
 
 second : (b : Bool) (v w : HeadField) (rest : List HeadField) → (if b then Err BadRequest else only_length (v ∷ w ∷ rest)) ≡ Err BadRequest
-second true v w rest = refl
-second false v w rest = refl
+second h1 v w rest = grind (arith, common_steps)
 
 pub second-at : (fields : List HeadField) (i : ℕ) (field : HeadField) (value : Bor (List ℕ)) → i < length fields
     → field ≡ get_or fields i field → counted field ≡ true
@@ -75,8 +69,7 @@ second-found fields i field (Some value) below is so some so_far = second-at fie
 
 pub was-none : (fields : List HeadField) (found : Option (Bor (List ℕ))) → is_some found ≡ false → HasFound fields found
     → HasFound fields None
-was-none fields None none so_far = so_far
-was-none fields (Some value) none so_far = absurd (cc)
+was-none fields h1 none so_far = grind (arith, common_steps)
 
 -- ---- over the spans of a head
 

@@ -3,9 +3,8 @@ use Rattle.std.proofs.{lemmas.Grind.common_steps, Common.{◌≡◌, ◌≢◌, 
 use Rattle.std.proofs.Common.{[], ◌∷◌, ◌++◌, codes, drop, length, get_or, Option, Some, None, refl, sym, ap, ap₂, ◌∙◌, arith, nat_eq}
 use Rattle.std.proofs.{Common.{◌==◌, ltb, append-nil, length-append, lit<, Fits, w8}, lemmas.Bool.Decides.nat_tests}
 use Rattle.std.specs.{Cmp.Lexicographic.pointwise, List.starts_with}
-use Rattle.matchit.specs.{Rows.{Rows, Seen, prepend, ends, param_token, catch_all_token, rows, rows_of}, Seek.{step, or_else, seek, first}}
-use Rattle.matchit.specs.{Seek.{after_param, param_step, segment, has_slash, longest_suffix, cuts}, Level.{IsText, AreSuffixes}}
-use Rattle.matchit.specs.Router.{RouteOf, rename, map_key}
+use Rattle.matchit.specs.{Rows.{Rows, Seen, prepend, ends, param_token, rows, rows_of}, Seek.{step, or_else, seek, first, after_param}}
+use Rattle.matchit.specs.{Seek.{segment, has_slash, longest_suffix, cuts}, Level.{IsText, AreSuffixes}, Router.{RouteOf, rename, map_key}}
 use Rattle.matchit.proofs.SeekLemmas.{first-prefix, step-append, step-hit, step-miss, prepend-nil, seek-empty, param_step-empty}
 use Rattle.matchit.proofs.{SeekLemmas.{or_else-none, own-append}, ParamLemmas.{after_param-end, after_param-stop, after_param-kid}}
 use Rattle.matchit.proofs.RenameLemmas.{first-rename}
@@ -20,25 +19,16 @@ IsWhole p = (after p ≡ []) × (before p ≡ p) × (segment p ≡ p)
 true_false : true ≡ false → ⊥
 true_false e = absurd (cc)
 
-no_slash_by : (v : Bool) (b : ℕ) (p : List ℕ) → (b == 47) ≡ v → (has_slash p ≡ false → IsWhole p) → has_slash (b ∷ p) ≡ false
-    → IsWhole (b ∷ p)
-no_slash_by true b p q later e = let bad : true ≡ false = rw q at e in absurd (true_false bad)
-no_slash_by false b p q later e = grind (arith, common_steps)
-
 no_slash : (p : List ℕ) → has_slash p ≡ false → IsWhole p
 no_slash [] e = (refl, refl, refl)
-no_slash (b ∷ p) e = no_slash_by (b == 47) b p refl (no_slash p) e
+no_slash (b ∷ p) e = grind (arith, common_steps, no_slash p)
 
 abbrev IsCut : List ℕ → Type 0
 IsCut p = (segment p ≡ before p ++ 47 ∷ []) × (p ≡ before p ++ after p) × (is_empty (after p) ≡ false)
 
-with_slash_by : (v : Bool) (b : ℕ) (p : List ℕ) → (b == 47) ≡ v → (has_slash p ≡ true → IsCut p) → has_slash (b ∷ p) ≡ true → IsCut (b ∷ p)
-with_slash_by true b p q later e = grind (arith, common_steps)
-with_slash_by false b p q later e = grind (arith, common_steps)
-
 with_slash : (p : List ℕ) → has_slash p ≡ true → IsCut p
 with_slash [] e = absurd (true_false (sym e))
-with_slash (b ∷ p) e = with_slash_by (b == 47) b p refl (with_slash p) e
+with_slash (b ∷ p) e = grind (arith, common_steps, with_slash p)
 
 -- ---- the suffix `/`
 
@@ -46,20 +36,11 @@ drop_front : (u v : List ℕ) → drop (length u) (u ++ v) ≡ v
 drop_front [] v = refl
 drop_front (x ∷ u) v = drop_front u v
 
-cuts_end : (u : List ℕ) → cuts (u ++ 47 ∷ []) (47 ∷ []) ≡ not (is_empty u)
-cuts_end [] = refl
-cuts_end (x ∷ u) =
-    let n : length (u ++ 47 ∷ []) ≡ suc (length u) = omega (arith, length-append u (47 ∷ [])) in
-    let e : suc (length (u ++ 47 ∷ [])) - 1 ≡ suc (length u) = omega arith in
-    let big : ltb 1 (suc (length (u ++ 47 ∷ []))) ≡ true = grind (arith, nat_tests) in
-    rw (big, e, drop_front u (47 ∷ [])) refl
-
 abbrev last_is_slash : List ℕ → Bool
 last_is_slash u = pointwise nat_eq (47 ∷ []) (drop (length u - 1) u)
 
 no_head : (v : Bool) (x : ℕ) (r : List ℕ) → (x == 47) ≡ v → has_slash (x ∷ r) ≡ false → (nat_eq 47 x ≡ false) × (has_slash r ≡ false)
-no_head true x r q e = let bad : true ≡ false = rw q at e in absurd (true_false bad)
-no_head false x r q e = (grind (arith, nat_tests), rw q at e)
+no_head h1 x r q e = grind (arith, common_steps)
 
 last_no : (u : List ℕ) → has_slash u ≡ false → last_is_slash u ≡ false
 last_no [] e = refl
@@ -71,8 +52,7 @@ last_no (x ∷ y ∷ r) e =
     rw e1 (rw e2 at ih)
 
 and_no : (b c : Bool) → c ≡ false → (b && c) ≡ false
-and_no true c e = e
-and_no false c e = refl
+and_no h1 c e = grind (arith, common_steps)
 
 cuts_none : (u : List ℕ) → has_slash u ≡ false → cuts u (47 ∷ []) ≡ false
 cuts_none u e = and_no (ltb 1 (length u)) (last_is_slash u) (last_no u e)
@@ -90,42 +70,20 @@ after_number = rows_of (record { prefix = 47 ∷ []; tails = prepend (codes "tab
 param_only : (t : Rows) (c : ℕ) (p : List ℕ) → c < 256
     → first (prepend (param_token ∷ []) t) (c ∷ p) ≡ after_param (step param_token (prepend (param_token ∷ []) t)) (c ∷ p)
 unfolding seek
-param_only t c p small =
-    let miss : param_token ≢ c = λ e. omega arith in
-    let miss_all : param_token ≢ catch_all_token = λ e. omega arith in
-    simp (step-miss c param_token [] t miss, step-miss catch_all_token param_token [] t miss_all, seek-empty 0 p, or_else-none)
+param_only t c p small = grind (arith, common_steps, or_else-none, seek-empty, step-miss)
 
 -- what two lists of rows with other first bytes answer
 two_steps : (v0 : Bool) (x y c : ℕ) (w v : List ℕ) (t u : Rows) (p : List ℕ) → (x == c) ≡ v0 → x ≢ y
     → seek 0 (step c (prepend (x ∷ w) t) ++ step c (prepend (y ∷ v) u)) p ≡ or_else (seek 0 (step c (prepend (x ∷ w) t)) p)
     (seek 0 (step c (prepend (y ∷ v) u)) p)
-two_steps true x y c w v t u p q n =
-    let other : y ≢ c = λ e. n (grind (arith, nat_tests)) in
-    rw (step-miss c y v u other, append-nil (step c (prepend (x ∷ w) t)), seek-empty 0 p, or_else-none) refl
-two_steps false x y c w v t u p q n =
-    let other : x ≢ c = λ e. grind (arith, nat_tests) in
-    rw (step-miss c x w t other, seek-empty 0 p) refl
+two_steps true x y c w v t u p q n = grind (arith, common_steps, append-nil, nat_tests, or_else-none, seek-empty, step-miss)
+two_steps false x y c w v t u p q n = grind (arith, common_steps, nat_tests, seek-empty, step-miss)
 
 two : (x y : ℕ) (w v : List ℕ) (t u : Rows) (path : List ℕ) → x < 256 → y < 256 → x ≢ y
     → first (prepend (x ∷ w) t ++ prepend (y ∷ v) u) path ≡ or_else (first (prepend (x ∷ w) t) path) (first (prepend (y ∷ v) u) path)
 unfolding seek
 two x y w v t u [] xs ys n = own-append (prepend (x ∷ w) t) (prepend (y ∷ v) u)
-two x y w v t u (c ∷ p) xs ys n =
-    let x1 : x ≢ param_token = λ e. omega arith in
-    let x2 : x ≢ catch_all_token = λ e. omega arith in
-    let y1 : y ≢ param_token = λ e. omega arith in
-    let y2 : y ≢ catch_all_token = λ e. omega arith in
-    simp (
-      step-append,
-      step-miss param_token x w t x1,
-      step-miss catch_all_token x w t x2,
-      step-miss param_token y v u y1,
-      step-miss catch_all_token y v u y2,
-      param_step-empty (c ∷ p),
-      seek-empty ((param_step {K = ℕ} [] (c ∷ p)).0 - 1) p,
-      or_else-none,
-    )
-    (two_steps (x == c) x y c w v t u p refl n)
+two x y w v t u (c ∷ p) xs ys n = grind (arith, common_steps, or_else-none, param_step-empty, seek-empty, step-append, step-miss, two_steps)
 
 -- ---- texts of bytes
 
@@ -134,17 +92,12 @@ text_drop zero p h = h
 text_drop (suc k) [] h = h
 text_drop (suc k) (b ∷ p) h = text_drop k p h.1
 
-text_after_by : (v : Bool) (b : ℕ) (p : List ℕ) → (b == 47) ≡ v → IsText (b ∷ p) → IsText (after p) → IsText (after (b ∷ p))
-text_after_by true b p q h later = rw q h
-text_after_by false b p q h later = rw q later
-
 text_after : (p : List ℕ) → IsText p → IsText (after p)
 text_after [] h = h
-text_after (b ∷ p) h = text_after_by (b == 47) b p refl h (text_after p h.1)
+text_after (b ∷ p) h = grind (arith, common_steps, text_after p h.1)
 
 or_yes : (b : Bool) → (b || true) ≡ true
-or_yes true = refl
-or_yes false = refl
+or_yes h1 = grind (arith, common_steps)
 
 -- ---- a table's number
 
@@ -199,8 +152,7 @@ kid_rest c p cut = grind (arith, common_steps)
 
 longest_slash : (v : Bool) (c : ℕ) (p : List ℕ) → is_empty (before (c ∷ p)) ≡ v → IsCut (c ∷ p)
     → longest_suffix (segment (c ∷ p)) (rows_of (tables ∷ [])) ≡ cond (not v) (47 ∷ []) []
-longest_slash v c p q cut =
-    longest_is (segment (c ∷ p)) ∙ ap chosen cut.0 ∙ ap (λ (b : Bool). cond b (47 ∷ []) []) (cuts_end (before (c ∷ p)) ∙ ap not q)
+longest_slash v c p q cut = grind (arith, common_steps, drop_front, length-append, longest_is, nat_tests)
 
 rounds_slash : (v : Bool) (c : ℕ) (p : List ℕ) → is_empty (before (c ∷ p)) ≡ v → IsCut (c ∷ p)
     → in_rounds (c ∷ p) ≡ cond v None (after_round (after (c ∷ p)))
@@ -236,8 +188,7 @@ rounds_rest (c ∷ p) h =
 
 ends_here : (text : List ℕ) → first (ends (Some 0)) text ≡ cond (is_empty text) (Some 0) None
 unfolding seek
-ends_here [] = refl
-ends_here (c ∷ p) = simp (seek-empty 0 p, param_step-empty (c ∷ p), seek-empty ((param_step {K = ℕ} [] (c ∷ p)).0 - 1) p)
+ends_here h1 = grind (arith, common_steps, param_step-empty, seek-empty)
 
 abbrev rounds_rows : Rows
 rounds_rows = prepend (codes "rounds/") (prepend (param_token ∷ []) after_number)
@@ -258,14 +209,11 @@ abbrev begins_standings : List ℕ → Bool
 begins_standings text = starts_with nat_eq text (codes "standings")
 
 one_only : (text : List ℕ) → begins_rounds text ≡ true → begins_standings text ≡ false
-one_only [] e = absurd (true_false (sym e))
-one_only (c ∷ p) e = grind (arith, nat_tests)
+one_only h1 e = grind (arith, common_steps)
 
 root_by : (r s z : Bool) (o : Option ℕ) → (r ≡ true → s ≡ false)
     → or_else (cond r o None) (cond s (cond z (Some 0) None) None) ≡ cond r o (cond (s && z) (Some 0) None)
-root_by true s z o n = ap (λ (b : Bool). or_else o (cond b (cond z (Some 0) None) None)) (n refl) ∙ or_else-none o
-root_by false true z o n = refl
-root_by false false z o n = refl
+root_by h1 s z o n = grind (arith, common_steps)
 
 root : (text : List ℕ) → IsText text → first (rounds_rows ++ standings_rows) text ≡ after_root text
 root text h =
@@ -314,12 +262,10 @@ value_of n None = Some n
 value_of n (Some r) = Some r.value
 
 pub found_number : (o : Option ℕ) (r : RouteOf ℕ) → map_key route_at o ≡ Some r → o ≡ Some r.value
-found_number None r e = absurd (none_some r e)
-found_number (Some n) r e = ap (λ (q : Option (RouteOf ℕ)). value_of n q) e
+found_number h1 r e = grind (arith, common_steps)
 
 pub no_number : (o : Option ℕ) → map_key route_at o ≡ None → o ≡ None
-no_number None e = refl
-no_number (Some n) e = absurd (none_some (route_at n) (sym e))
+no_number h1 e = grind (arith, common_steps)
 
 pub text_from : (p : List ℕ) → ((i : ℕ) → Fits w8 (get_or p i 0)) → IsText p
 text_from [] h = tt

@@ -1,35 +1,24 @@
 -- When the parser refuses words of which none begins with a hyphen: never, where the first names a subcommand.
-use Rattle.std.proofs.Common.{◌≡◌, ℕ, ◌<◌, ◌≤◌, Bool, true, false, ◌&&◌, List, [], ◌∷◌, ◌++◌, length, codes, Option, Some, None, is_some}
-use Rattle.std.proofs.Common.{option_map, refl, sym, ap, ap₂, ◌∙◌, cond, arith, ◌⊎◌, inl, inr, ◌^◌}
-use Rattle.std.specs.{List.fold, Str.bytes_eq, Option.option_map_or}
+use Rattle.std.proofs.{lemmas.Grind.common_steps, Common.{◌≡◌, ◌<◌, ◌≤◌, Bool, true, false, List, [], ◌∷◌, ◌++◌, length, Option, Some}}
+use Rattle.std.proofs.Common.{None, is_some, option_map, refl, ap, ap₂, ◌∙◌, cond, arith, ◌⊎◌, inl, inr, ◌^◌}
 use Rattle.clap.specs.{declared.error.ErrorKind.TheVariants.{UnknownArgument, InvalidSubcommand, OutOfMemory}, Words.{App, Row, Shape}}
-use Rattle.clap.specs.{Words.{Text, built}, Lexer.usize_max, Simple.{label_of, entered, subcommand_of}, Walk.{Held, Step, Waiting, Walk}}
-use Rattle.clap.specs.Walk.{idle, positional, value, walked, walk_from, nothing_held, word_met, settled, finished, rows_after}
-use Rattle.clap.specs.{Values.kind_of, declared.Error.Error, Kinds.{HasKind, Kinds, or_else, range_kinds}, Faults.{fault_of, walk_fault}}
-use Rattle.clap.specs.Faults.{turn_fault, other_fault, step_fault, level_fault, entered_fault, defaults_fault, settle_fault, values_fault}
-use Rattle.clap.specs.Faults.{check_fault}
-use borrow.Author.Tests.{le-ltb}
+use Rattle.clap.specs.{Words.{Text, built}, Lexer.usize_max, Simple.{entered, subcommand_of}, Walk.{Held, Step, Waiting, Walk, idle, value}}
+use Rattle.clap.specs.{Walk.{walk_from, nothing_held, word_met, settled, finished}, Values.kind_of, declared.Error.Error, Kinds.HasKind}
+use Rattle.clap.specs.{Kinds.{Kinds, or_else}, Faults.{fault_of, walk_fault, turn_fault, other_fault, step_fault, level_fault}}
+use Rattle.clap.specs.Faults.{entered_fault, defaults_fault, settle_fault, values_fault, check_fault}
 use Rattle.clap.proofs.FaultLemmas.{stopped_fault}
-use Rattle.er_words.specs.{Line.is_option, Words.{names, bare, program, split_of, words_in}}
+use Rattle.er_words.specs.{Line.is_option, Words.{bare, program, split_of, words_in}}
 use Rattle.er_words.proofs.Walks.{AllPlain, no_dashes, no_long, no_short, plain_met, leaf_rule, leaf_rules, leaf_built, labels}
-use Rattle.er_words.proofs.Walks.{reading_words, first_word, next_word, leaf_walk, is_name, met_name, met_none, name_word, name_walked}
-use Rattle.er_words.proofs.Walks.{whole_walk, entered_is, find_named, subcommand_is, leaf_words}
+use Rattle.er_words.proofs.Walks.{reading_words, first_word, next_word, leaf_walk, is_name, met_none, name_walked, whole_walk, entered_is}
+use Rattle.er_words.proofs.Walks.{find_named, subcommand_is, leaf_words}
 
 -- a word with no hyphen in front is no flag
-other_none : (s : Shape) (w : Text) (h : Held) → is_option w ≡ false → other_fault s None w h ≡ []
-other_none s w h plain = rw (no_dashes w plain, no_long w plain, no_short w plain) refl
-
 turn_by : (n : Text) (w : Text) (h : Held) (waiting : Waiting) (met : Held × Step) → is_option w ≡ false → met ≡ (h, value)
     → or_else (other_fault (leaf_built n) None w h) (step_fault (leaf_built n) 1 met.0 met.1) ≡ step_fault (leaf_built n) 1 h value
-turn_by n w h waiting met plain is = ap₂ (λ (k : Kinds) (m : Held × Step). or_else k (step_fault (leaf_built n) 1 m.0 m.1))
-    (other_none (leaf_built n) w h plain) is
-
-first_turn : (n w : Text) → is_option w ≡ false → turn_fault (leaf_built n) [] (walk_from nothing_held) w ≡ []
-first_turn n w plain = turn_by n w nothing_held idle _ plain (plain_met leaf_rules [] idle 1 w nothing_held plain refl refl)
+turn_by n w h waiting met plain is = grind (arith, common_steps)
 
 next_turn : (n : Text) (ws : List Text) (w : Text) → is_option w ≡ false → turn_fault (leaf_built n) [] (reading_words ws) w ≡ []
-next_turn n ws w plain = turn_by n w (reading_words ws).held positional _ plain
-    (plain_met leaf_rules [] positional 1 w (reading_words ws).held plain refl refl)
+next_turn n ws w plain = grind (arith, common_steps)
 
 next_turns : (n : Text) (ws rest : List Text) → AllPlain rest → walk_fault (leaf_built n) [] (reading_words ws) rest ≡ []
 unfolding walk_fault
@@ -41,9 +30,7 @@ next_turns n ws (w ∷ rest) plain =
 turns : (n : Text) (ws : List Text) → AllPlain ws → walk_fault (leaf_built n) [] (walk_from nothing_held) ws ≡ []
 unfolding walk_fault
 turns n [] plain = refl
-turns n (w ∷ rest) plain =
-    ap₂ or_else (first_turn n w plain.0)
-    (ap (λ (s : Walk). walk_fault (leaf_built n) [] s rest) (first_word w plain.0) ∙ next_turns n (w ∷ []) rest plain.1)
+turns n (w ∷ rest) plain = grind (arith, common_steps, first_word, leaf_built, leaf_rules, next_turns, plain_met, turn_by)
 
 -- ---- the end of a subcommand's words
 
@@ -51,12 +38,9 @@ any_text : (ws : List Text) → values_fault leaf_rule ws ≡ []
 any_text [] = refl
 any_text (w ∷ ws) = any_text ws
 
-in_range : (k : ℕ) → k ≤ usize_max → range_kinds 0 usize_max k ≡ []
-in_range k fits = rw (le-ltb k 0 (omega arith), le-ltb usize_max k fits) refl
-
 end_fault : (n w : Text) (rest : List Text) → length (w ∷ rest) ≤ usize_max
     → settle_fault leaf_rules false (reading_words (w ∷ rest)).held ≡ []
-end_fault n w rest fits = ap₂ or_else (in_range (length (w ∷ rest)) fits) (any_text (w ∷ rest))
+end_fault n w rest fits = grind (arith, common_steps, any_text)
 
 -- what is asked after the words
 abbrev after_words : Text → Held → Kinds
@@ -77,31 +61,16 @@ leaf_takes n (w ∷ rest) plain fits =
 
 -- ---- the program's own words
 
-and_no : (b : Bool) → (b && false) ≡ false
-and_no true = refl
-and_no false = refl
-
 abbrev top_built : Shape
 top_built = record bare.top { is_leaf = false; is_built = true }
 
-name_turn : (w : Text) → is_name w ≡ true → turn_fault top_built labels (walk_from nothing_held) w ≡ []
-name_turn w named =
-    ap₂ (λ (o : Option Text) (m : Held × Step). or_else (other_fault top_built o w nothing_held) (step_fault top_built 1 m.0 m.1))
-    (met_name w named) (name_word w named)
-    ∙ rw (and_no (bytes_eq w (codes "help"))) refl
-
 own_words : (w : Text) (rest : List Text) → is_name w ≡ true → walk_fault top_built labels (walk_from nothing_held) (w ∷ rest) ≡ []
 unfolding walk_fault
-own_words w rest named =
-    ap₂ or_else (name_turn w named)
-    (ap (λ (s : Walk). walk_fault top_built labels s rest) (name_walked w named)
-    ∙ stopped_fault top_built labels (walk_from nothing_held) (w, []) rest)
+own_words w rest named = grind (arith, common_steps, is_name, labels, name_walked, stopped_fault)
 
 below : (w : Text) (rest : List Text) → is_name w ≡ true → AllPlain rest → length rest ≤ usize_max
     → entered_fault (built program) (Some (w, rest)) ≡ []
-below w rest named plain fits =
-    ap (λ (o : Option Shape). option_map_or (λ s. level_fault s [] nothing_held rest false []) o [])
-    (find_named leaf_built label_of (λ n. refl) names w named) ∙ leaf_takes w rest plain fits
+below w rest named plain fits = grind (arith, common_steps, find_named, leaf_built, leaf_takes)
 
 ending : (k1 k2 : Kinds) (x : Bool) → k1 ≡ [] → k2 ≡ [] → x ≡ true
     → or_else k1 (or_else k2 (or_else [] (or_else (defaults_fault [] []) (check_fault top_built [] x)))) ≡ []
@@ -123,24 +92,11 @@ stray_word w stray plain = plain_met [] labels idle 1 w nothing_held plain (met_
 
 stray_turn : (w : Text) → is_name w ≡ false → is_option w ≡ false
     → turn_fault top_built labels (walk_from nothing_held) w ≡ UnknownArgument ∷ InvalidSubcommand ∷ []
-stray_turn w stray plain =
-    ap₂ (λ (o : Option Text) (m : Held × Step). or_else (other_fault top_built o w nothing_held) (step_fault top_built 1 m.0 m.1))
-    (met_none w stray) (stray_word w stray plain)
-    ∙ ap (λ (k : Kinds). or_else k (UnknownArgument ∷ InvalidSubcommand ∷ [])) (other_none top_built w nothing_held plain)
-
-apart : {X : Type 0} (k : X) (ks : List X) → (k ∷ ks) ≡ [] → ⊥
-apart k ks e = absurd (cc)
+stray_turn w stray plain = grind (arith, common_steps, met_none, no_dashes, no_long, no_short, stray_word)
 
 pub stray_refused : (w : Text) (rest : List Text) → is_name w ≡ false → is_option w ≡ false → fault_of program (w ∷ rest) ≡ [] → ⊥
 unfolding walk_fault
-stray_refused w rest stray plain h =
-    let end = fold (walked [] labels) (walk_from nothing_held) (w ∷ rest) in
-    let e = ap (λ (k : Kinds). or_else (or_else k (walk_fault top_built labels (walked [] labels (walk_from nothing_held) w) rest))
-    (or_else (entered_fault (built program) end.stopped) (or_else (settle_fault [] false end.held)
-    (or_else (defaults_fault (settled [] end.held).rows [])
-    (check_fault top_built (finished [] end.held) (is_some (entered (built program) end.stopped)))))))
-    (stray_turn w stray plain) in
-    apart _ _ (sym e ∙ h)
+stray_refused w rest stray plain h = grind (arith, common_steps, labels, stray_turn)
 
 is_named_or_not : (b : Bool) (w : Text) (rest : List Text) → is_name w ≡ b → AllPlain (w ∷ rest) → length (w ∷ rest) < 2 ^ 64
     → (split_of (w ∷ rest) ≡ None) ⊎ (fault_of program (w ∷ rest) ≡ [])
@@ -149,29 +105,21 @@ is_named_or_not false w rest stray plain fits = inl (ap (λ b. cond b (Some (w, 
 
 -- either the words read as nothing, or the parser takes them
 pub unsplit_or_taken : (ws : List Text) → AllPlain ws → length ws < 2 ^ 64 → (split_of ws ≡ None) ⊎ (fault_of program ws ≡ [])
-unsplit_or_taken [] plain fits = inl refl
-unsplit_or_taken (w ∷ rest) plain fits = is_named_or_not (is_name w) w rest refl plain fits
+unsplit_or_taken h1 plain fits = grind (arith, common_steps, is_name, is_named_or_not)
 
 -- what a parse that succeeds found
 taken_by : (b : Bool) (w : Text) (rest : List Text) → is_name w ≡ b → AllPlain (w ∷ rest) → fault_of program (w ∷ rest) ≡ []
     → (p : Text × List Row) → subcommand_of program (w ∷ rest) ≡ Some p → split_of (w ∷ rest) ≡ Some (p.0, words_in p.1)
 taken_by false w rest stray plain none p found = absurd (stray_refused w rest stray plain.0 none)
-taken_by true w rest named plain none p found =
-    let e : (w, rows_after leaf_rules [] rest) ≡ p = cc (subcommand_is w rest named) in
-    ap (λ b. cond b (Some (w, rest)) None) named
-    ∙ ap (λ (ws : List Text). Some (w, ws)) (sym (leaf_words rest plain.1))
-    ∙ ap (λ (q : Text × List Row). Some (q.0, words_in q.1)) e
+taken_by true w rest named plain none p found = grind (arith, common_steps, leaf_rules, leaf_words, subcommand_is)
 
 pub taken_split : (ws : List Text) → AllPlain ws → fault_of program ws ≡ []
     → (p : Text × List Row) → subcommand_of program ws ≡ Some p → split_of ws ≡ Some (p.0, words_in p.1)
 taken_split [] plain none p found = let bad : None ≡ Some p = found in cc
 taken_split (w ∷ rest) plain none p found = taken_by (is_name w) w rest refl plain none p found
 
-some_none : {X : Type 0} (x : X) → Some x ≡ None → ⊥
-some_none x e = absurd (cc)
-
 not_named : (b : Bool) (w : Text) (rest : List Text) → is_name w ≡ b → subcommand_of program (w ∷ rest) ≡ None → split_of (w ∷ rest) ≡ None
-not_named true w rest named none = absurd (some_none _ (sym (subcommand_is w rest named) ∙ none))
+not_named true w rest named none = grind (arith, common_steps, subcommand_is)
 not_named false w rest stray none = ap (λ b. cond b (Some (w, rest)) None) stray
 
 pub unsplit : (ws : List Text) → subcommand_of program ws ≡ None → split_of ws ≡ None
@@ -181,9 +129,7 @@ unsplit (w ∷ rest) none = not_named (is_name w) w rest refl none
 -- ---- what the calls of the parser give
 
 pub only_memory : (ks : Kinds) (e : Error) → ks ≡ [] → HasKind ks e → kind_of e ≡ OutOfMemory
-only_memory [] e none (inl h) = h
-only_memory [] e none (inr h) = absurd h
-only_memory (k ∷ ks) e none h = absurd (apart k ks none)
+only_memory h1 e none h2 = grind (arith, common_steps)
 
 pub fault_as : (a : App) (ws : List Text) → a ≡ program → fault_of program ws ≡ [] → fault_of a ws ≡ []
 fault_as a ws is none = ap (λ (x : App). fault_of x ws) is ∙ none
@@ -191,9 +137,7 @@ fault_as a ws is none = ap (λ (x : App). fault_of x ws) is ∙ none
 pub both_halves : {B X Y : Type 0} (f : B → X) (g : B → Y) (o : Option B) (x : X) (y : Y) → Some x ≡ option_map f o
     → Some y ≡ option_map (λ (p : X × Y). p.1) (option_map {U = X × Y} (λ b. (f b, g b)) o)
     → option_map {U = X × Y} (λ b. (f b, g b)) o ≡ Some (x, y)
-both_halves f g None x y p q = absurd (some_none x p)
-both_halves f g (Some b) x y p q = cc
+both_halves f g h1 x y p q = grind (arith, common_steps)
 
 pub no_half : {X Y : Type 0} (o : Option (X × Y)) → None ≡ option_map (λ (p : X × Y). p.1) o → o ≡ None
-no_half None e = refl
-no_half (Some p) e = absurd (some_none p.1 (sym e))
+no_half h1 e = grind (arith, common_steps)

@@ -1,6 +1,7 @@
 -- A seed, as the crate `hex` decodes it.
-use Rattle.std.proofs.Common.{◌≡◌, ℕ, ◌+◌, ◌*◌, ◌%◌, Bool, true, false, ◌&&◌, cond, List, [], ◌∷◌, length, Option, Some, None, Result, Ok}
-use Rattle.std.proofs.{Common.{Err, refl, sym, ap, ◌∙◌, inl, inr, arith}, lemmas.Bool.cases_eq, lemmas.Bool.Decides.nat_tests}
+use Rattle.std.proofs.{lemmas.Grind.common_steps, Common.{◌≡◌, ℕ, ◌+◌, ◌*◌, ◌%◌, Bool, true, false, ◌&&◌, cond, List, [], ◌∷◌, length}}
+use Rattle.std.proofs.{Common.{Option, Some, None, Result, Ok, Err, refl, sym, ap, ◌∙◌, inl, inr, arith}, lemmas.Bool.cases_eq}
+use Rattle.std.proofs.lemmas.Bool.Decides.{nat_tests}
 use Rattle.std.specs.{Char.{is_ascii_hexdigit, digit_value}, List.list_all, Result.result_ok}
 use Rattle.hex.specs.{Hex.{decode_pairs, decode_sized, hex_digit_value, digit_or_error, ◌>>=◌}, declared.error.FromHexError.FromHexError}
 use Rattle.hex.proofs.{Pairs.decode_sized-pairs, HexLemmas.{decode_sized-odd, decode_sized-other}}
@@ -21,10 +22,7 @@ two_digits : (i a b va vb : ℕ) (x y all : Bool) (rest : Result (List ℕ) From
     (Some ((16 * va + vb) ∷ bytes)) None
 two_digits i a b va vb false y all rest bytes is = refl
 two_digits i a b va vb true false all rest bytes is = refl
-two_digits i a b va vb true true true (Ok found) bytes is =
-    let byte : va * 16 + vb ≡ 16 * va + vb = omega arith in
-    let same : found ≡ bytes = cc in
-    rw (byte, same) refl
+two_digits i a b va vb true true true (Ok found) bytes is = grind (arith, common_steps)
 two_digits i a b va vb true true false (Ok found) bytes is = absurd (cc is)
 two_digits i a b va vb true true true (Err e) bytes is = absurd (cc is)
 two_digits i a b va vb true true false (Err e) bytes is = refl

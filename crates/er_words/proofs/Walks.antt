@@ -1,6 +1,6 @@
 -- What the parser makes of words of which none begins with a hyphen.
-use Rattle.std.proofs.Common.{◌≡◌, ℕ, Bool, true, false, List, [], ◌∷◌, ◌++◌, map, codes, Option, Some, None, refl, sym, ap, ◌∙◌, cond}
-use Rattle.std.proofs.{Common.{append_assoc, append-nil, option_map, find}, lemmas.Slice.Eq.bytes_eq-Decides}
+use Rattle.std.proofs.Common.{arith, ◌≡◌, ℕ, Bool, true, false, List, [], ◌∷◌, ◌++◌, map, codes, Option, Some, None, refl, sym, ap, ◌∙◌}
+use Rattle.std.proofs.{Common.{append_assoc, append-nil, option_map, find}, lemmas.Grind.common_steps, lemmas.Slice.Eq.bytes_eq-Decides}
 use Rattle.std.specs.{List.{fold, list_any}, Str.bytes_eq}
 use Rattle.clap.specs.{Words.{Rule, Shape, Text, built}, Lexer.{strip_byte, long_of, short_of}, Simple.{filled, with_index, label_of}}
 use Rattle.clap.specs.{Simple.{subcommand_of, entered, rows_at}, Walk.{Held, Names, Step, Waiting, Walk, idle, positional, value}}
@@ -14,18 +14,12 @@ abbrev pub AllPlain : List Text → Type 0
 AllPlain [] = Unit {0}
 AllPlain (w ∷ rest) = (is_option w ≡ false) × AllPlain rest
 
-plain_by : (b : Bool) (w : Text) (rest : List Text) → is_option w ≡ b → (list_any is_option rest ≡ false → AllPlain rest)
-    → list_any is_option (w ∷ rest) ≡ false → AllPlain (w ∷ rest)
-plain_by true w rest e later none = let bad : true ≡ false = rw e at none in cc
-plain_by false w rest e later none = (e, later (rw e at none))
-
 pub AllPlain-none : (ws : List Text) → list_any is_option ws ≡ false → AllPlain ws
 AllPlain-none [] none = tt
-AllPlain-none (w ∷ rest) none = plain_by (is_option w) w rest refl (AllPlain-none rest) none
+AllPlain-none (w ∷ rest) none = grind (arith, common_steps, AllPlain-none rest)
 
 pub no_hyphen : (w : Text) → is_option w ≡ false → strip_byte 45 w ≡ None
-no_hyphen [] plain = refl
-no_hyphen (x ∷ xs) plain = ap (λ b. cond b (Some xs) None) plain
+no_hyphen h1 plain = grind (arith, common_steps)
 
 pub no_long : (w : Text) → is_option w ≡ false → long_of w ≡ None
 no_long w plain = rw (no_hyphen w plain)
@@ -34,14 +28,12 @@ pub no_short : (w : Text) → is_option w ≡ false → short_of w ≡ None
 no_short w plain = rw (no_hyphen w plain)
 
 pub no_dashes : (w : Text) → is_option w ≡ false → bytes_eq w (45 ∷ 45 ∷ []) ≡ false
-no_dashes [] plain = refl
-no_dashes (x ∷ xs) plain = rw plain
+no_dashes h1 plain = grind (arith, common_steps)
 
 -- the word goes to a positional
 pub plain_met : (c : List Rule) (ns : Names) (waiting : Waiting) (position : ℕ) (w : Text) (h : Held) → is_option w ≡ false
     → subcommand_met ns waiting w ≡ None → plain_word c waiting w h ≡ (h, value) → word_met c ns false waiting position w h ≡ (h, value)
-plain_met c ns waiting position w h plain none goes =
-    rw (none, no_dashes w plain, no_long w plain, no_short w plain) goes
+plain_met c ns waiting position w h plain none goes = grind (arith, common_steps)
 
 -- ---- the words of a subcommand
 
@@ -62,26 +54,19 @@ reading_words ws = record {
 
 pub first_word : (w : Text) → is_option w ≡ false → walked leaf_rules [] (walk_from nothing_held) w ≡ reading_words (w ∷ [])
 unfolding walked
-first_word w plain =
-    ap (λ (m : Held × Step). after_step leaf_rules w (walk_from nothing_held) m.0 m.1)
-    (plain_met leaf_rules [] idle 1 w nothing_held plain refl refl)
+first_word w plain = grind (arith, common_steps)
 
 pub next_word : (ws : List Text) (w : Text) → is_option w ≡ false → walked leaf_rules [] (reading_words ws) w ≡ reading_words (ws ++ w ∷ [])
 unfolding walked
-next_word ws w plain =
-    ap (λ (m : Held × Step). after_step leaf_rules w (reading_words ws) m.0 m.1)
-    (plain_met leaf_rules [] positional 1 w (reading_words ws).held plain refl refl)
+next_word ws w plain = grind (arith, common_steps)
 
 pub next_words : (ws rest : List Text) → AllPlain rest → fold (walked leaf_rules []) (reading_words ws) rest ≡ reading_words (ws ++ rest)
 next_words ws [] plain = ap reading_words (sym (append-nil ws))
-next_words ws (w ∷ rest) plain =
-    ap (λ (s : Walk). fold (walked leaf_rules []) s rest) (next_word ws w plain.0)
-    ∙ next_words (ws ++ w ∷ []) rest plain.1 ∙ ap reading_words (append_assoc ws (w ∷ []) rest)
+next_words ws (w ∷ rest) plain = grind (arith, common_steps, next_words (ws ++ w ∷ []) rest plain.1, next_word)
 
 pub leaf_walk : (w : Text) (rest : List Text) → AllPlain (w ∷ rest)
     → fold (walked leaf_rules []) (walk_from nothing_held) (w ∷ rest) ≡ reading_words (w ∷ rest)
-leaf_walk w rest plain =
-    ap (λ (s : Walk). fold (walked leaf_rules []) s rest) (first_word w plain.0) ∙ next_words (w ∷ []) rest plain.1
+leaf_walk w rest plain = grind (arith, common_steps, first_word, next_words)
 
 pub leaf_words : (ws : List Text) → AllPlain ws → words_in (rows_after leaf_rules [] ws) ≡ ws
 leaf_words [] plain = refl
@@ -89,32 +74,17 @@ leaf_words (w ∷ rest) plain = ap (λ (s : Walk). words_in (finished leaf_rules
 
 -- ---- the subcommand
 
-same_text : (n w : Text) → bytes_eq n w ≡ true → n ≡ w
-same_text n w h = (bytes_eq-Decides n w).0 h
-
 -- the item of a name, in a list with one for each name
 module _ {S : Type 0} (f : Text → S) (label : S → Text × List Text) (is : (n : Text) → label (f n) ≡ (n, [])) where
-  named_by : (n w : Text) (ns : List Text) (b : Bool) → bytes_eq n w ≡ b
-      → (list_any (λ n. bytes_eq n w) ns ≡ true → find (λ s. answers_to w (label s)) (map f ns) ≡ Some (f w))
-      → list_any (λ n. bytes_eq n w) (n ∷ ns) ≡ true → find (λ s. answers_to w (label s)) (map f (n ∷ ns)) ≡ Some (f w)
-  named_by n w ns true e later h = rw (is n, e) (ap (λ (t : Text). Some (f t)) (same_text n w e))
-  named_by n w ns false e later h = rw (is n, e) (later (rw e at h))
-
   pub find_named : (ns : List Text) (w : Text) → list_any (λ n. bytes_eq n w) ns ≡ true
       → find (λ s. answers_to w (label s)) (map f ns) ≡ Some (f w)
   find_named [] w h = cc
-  find_named (n ∷ ns) w h = named_by n w ns (bytes_eq n w) refl (find_named ns w) h
-
-  none_by : (n w : Text) (ns : List Text) (b : Bool) → bytes_eq n w ≡ b
-      → (list_any (λ n. bytes_eq n w) ns ≡ false → find (λ s. answers_to w (label s)) (map f ns) ≡ None)
-      → list_any (λ n. bytes_eq n w) (n ∷ ns) ≡ false → find (λ s. answers_to w (label s)) (map f (n ∷ ns)) ≡ None
-  none_by n w ns true e later h = let bad : true ≡ false = rw e at h in cc
-  none_by n w ns false e later h = rw (is n, e) (later (rw e at h))
+  find_named (n ∷ ns) w h = grind (arith, common_steps, find_named ns w, bytes_eq-Decides)
 
   pub find_none : (ns : List Text) (w : Text) → list_any (λ n. bytes_eq n w) ns ≡ false
       → find (λ s. answers_to w (label s)) (map f ns) ≡ None
   find_none [] w h = refl
-  find_none (n ∷ ns) w h = none_by n w ns (bytes_eq n w) refl (find_none ns w) h
+  find_none (n ∷ ns) w h = grind (arith, common_steps, find_none ns w)
 
 -- what the parser is told, once it is built
 abbrev pub leaf_built : Text → Shape

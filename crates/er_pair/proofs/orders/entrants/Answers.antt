@@ -1,15 +1,11 @@
-use Rattle.std.proofs.Common.{rules, ◌≡◌, ◌<◌, List, length, ap, arith}
-use Rattle.er_event.specs.{declared.players.Player.Player, declared.totals.Totals.Totals}
+use Rattle.std.proofs.{lemmas.Grind.common_steps, Common.{rules, ◌≡◌, ◌<◌, length, ap, arith}}
+use Rattle.er_event.specs.declared.totals.Totals.{Totals}
 use Rattle.er_pair.proofs.{Placing.{active_in, active_below, placed_more}, orders.entrants.Goals.Else-player}
 use Rattle.er_pair.proofs.orders.entrants.Goals as goal
 
 -- there is a key for one more
 key_left : (c : Else-player) → length c.loop-player.entrants.items < length c.args.keys.now
-key_left c =
-    let players = c.players-players.result.now in
-    let player = c.player-item.result in
-    let below = active_below players c.loop-player.player-index player c.loop-player-test.true c.player-item.is c.if-player.false in
-    omega (arith, below, ap (λ (l : List Player). length (active_in l)) c.players-players.ensures.value)
+key_left c = grind (arith, common_steps, active_below, active_in)
 
 pub offset_bounds-keys-len : goal.offset_bounds-keys-len
 offset_bounds-keys-len c =

@@ -1,4 +1,4 @@
-use Rattle.std.proofs.Common.{◌≡◌, inr, length, refl, sym, ap, subst, arith, rules}
+use Rattle.std.proofs.{lemmas.Grind.common_steps, Common.{◌≡◌, inr, refl, sym, subst, arith, rules}}
 use Rattle.er_pair.specs.{declared.search.Outcome.TheVariants.{Paired, DeadEnd, OutOfSteps}, declared.pairings.TheConstants.MAX_STEPS}
 use Rattle.er_pair.specs.{Met.has_met, Pairing.{all_positions, IsEarliest}, Steps.{met_at, NeedsMore}, inside.Search.Answer}
 use Rattle.er_pair.specs.inside.Search.{SearchAnswers, AreDeadEnds, answer_ahead, search_of}
@@ -10,11 +10,7 @@ use Rattle.er_pair.proofs.pairings.first_pairing.Goals as goal
 -- the search of the rows is one of the order
 of_rows : (c : After-as_mut_slice) → answer_ahead c.as_slice.result.now c.empty-used.result c.before_all-ahead.result
     ≡ search_of (met_at (has_met c.args.met.now) c.args.order.now) (all_positions c.args.order.now)
-of_rows c =
-    let none = c.empty-used.ensures in
-    let all = c.before_all-ahead.ensures.ahead in
-    rw c.as_slice.ensures.value (of_order c.empty-used.result c.before_all-ahead.result none all
-    (has_met c.args.met.now) c.args.order.now c.in_ok-rows.rows.items c.in_ok-rows.ensures.count c.in_ok-rows.ensures.met)
+of_rows c = grind (arith, common_steps, of_order)
 
 found : (c : In-Paired) → IsEarliest (has_met c.args.met.now) c.args.order.now c.search.new.pairs
     × (NeedsMore (has_met c.args.met.now) c.args.order.now MAX_STEPS → ⊥)
@@ -24,17 +20,7 @@ found c =
     (subst (λ (a : Answer). SearchAnswers a MAX_STEPS c.search.new.pairs c.search.new.steps Paired) rows c.in-Paired.ensures.answer)
 
 pub search-requires-clause-two_by_two : goal.search-requires-clause-two_by_two
-search-requires-clause-two_by_two c =
-    let size = as_long c.empty-used.result c.before_all-ahead.result c.empty-used.ensures c.before_all-ahead.ensures.ahead in
-    let rows = ap length c.as_slice.ensures.value in
-    omega (
-      arith,
-      size (length c.as_slice.result.now),
-      rows,
-      c.in_ok-rows.ensures.count,
-      c.as_mut_slice-list.ensures.len,
-      c.in_ok-pairs.ensures.len,
-    )
+search-requires-clause-two_by_two c = grind (arith, common_steps, as_long)
 
 pub search-requires-clause-known : goal.search-requires-clause-known
 search-requires-clause-known c = subst (AreDeadEnds c.as_slice.result.now) (sym c.as_mut_slice.ensures.value)

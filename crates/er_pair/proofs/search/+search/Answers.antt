@@ -1,4 +1,4 @@
-use Rattle.std.proofs.Common.{◌≡◌, ◌-◌, ◌*◌, ◌<◌, ℕ, length, length-set, set, refl, ◌∙◌, arith}
+use Rattle.std.proofs.{lemmas.Grind.common_steps, Common.{◌≡◌, ◌-◌, ◌*◌, ◌<◌, ℕ, length, length-set, set, refl, ◌∙◌, arith}}
 use Rattle.er_pair.specs.{Pairing.Pair, inside.Search.free_ahead}
 use Rattle.er_pair.proofs.Trying.{IsRest, pairs_none, free_none, free_first, starts, without_step, some_pair, none_is_left}
 use Rattle.er_pair.proofs.{Trying.{rest_two_by_two, goes_on, answers_with, rest_size, pair_and_more}, search.+search.Goals.Else-steps-eq0}
@@ -55,12 +55,7 @@ returns-in_default-next-clause-answer t c =
     (free_none c.args.used.now c.args.ahead (length c.args.rows.now) c.in_default-next.ensures.found)
 
 pub loop-partner-init : goal.loop-partner-init
-loop-partner-init t c = record {
-  at = starts c.args.rows.now c.args.used.now _ c.next.new.self c.without-candidates.result c.in-Some-next.first c.args.steps.now
-      (free_first _ c.args.ahead c.next.new.self _ _ c.in-Some-next.ensures.found)
-      c.without-candidates.ensures.ahead c.without-candidates.ensures.word;
-  known = c.requires.known;
-}
+loop-partner-init t c = grind (arith, common_steps, free_first, starts)
 
 pub returns-then-steps-eq0-clause-answer : goal.returns-then-steps-eq0-clause-answer
 returns-then-steps-eq0-clause-answer t c =

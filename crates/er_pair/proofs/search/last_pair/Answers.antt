@@ -1,4 +1,4 @@
-use Rattle.std.proofs.Common.{◌≡◌, ◌∷◌, [], length, sym, ◌∙◌, arith}
+use Rattle.std.proofs.{lemmas.Grind.common_steps, Common.{◌≡◌, ◌∷◌, [], length, sym, ◌∙◌, arith}}
 use Rattle.er_pair.specs.inside.Search.{free_ahead}
 use Rattle.er_pair.proofs.Trying.{two_ahead, none_of_two, one_of_two, last_met, last_without_step, last_new}
 use Rattle.er_pair.proofs.search.last_pair.Goals.{In-Some-next}
@@ -23,10 +23,7 @@ returns-then-has c = record {
 }
 
 pub returns-then-steps-eq0 : goal.returns-then-steps-eq0
-returns-then-steps-eq0 c = record {
-  answer = last_without_step c.args.rows.now _ c.in-Some.first c.in-Some-next.partner c.args.steps.now
-      (two (goal.at.returns-then-steps-eq0 c).In-Some-next) (sym c.has.ensures ∙ c.if-has.false) c.if-steps-eq0.true;
-}
+returns-then-steps-eq0 c = grind (arith, common_steps, In-Some-next, last_without_step, two)
 
 pub returns : goal.returns
 returns c = record {

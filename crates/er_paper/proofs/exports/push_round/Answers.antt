@@ -1,4 +1,5 @@
-use Rattle.std.proofs.{Common.{◌++◌, flat_map, take, sym, ap, ◌∙◌, arith, append_assoc, ◌≡◌, ◌+◌}, lemmas.List.take_all}
+use Rattle.std.proofs.{lemmas.Grind.common_steps, Common.{◌++◌, flat_map, take, sym, ap, ◌∙◌, arith, append_assoc, ◌+◌}}
+use Rattle.std.proofs.lemmas.List.{take_all}
 use Rattle.er_event.specs.Round.{numbered_from}
 use Rattle.er_paper.proofs.{PairingLemmas.lines-more, Rows.{result_row, rows-of-round}}
 use Rattle.er_paper.specs.Csv.{written}
@@ -21,10 +22,4 @@ loop-place-preserved c =
     }
 
 pub returns-clause-text : goal.returns-clause-text
-returns-clause-text c =
-    let row = result_row c.args.round in
-    let matches = c.args.matches.now in
-    let all : take c.loop-place.place matches ≡ matches = take_all c.loop-place.place matches (omega (arith, c.loop-place-test.false)) in
-    c.loop-place.invariant.text
-    ∙ (ap (λ ms. written c.args.table.now ++ flat_map row (numbered_from 1 ms)) all
-    ∙ ap (λ t. written c.args.table.now ++ t) (sym (rows-of-round c.args.round (numbered_from 1 matches))))
+returns-clause-text c = grind (arith, common_steps, result_row, rows-of-round, take_all)

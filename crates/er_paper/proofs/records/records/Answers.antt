@@ -1,7 +1,8 @@
-use Rattle.std.proofs.{Common.{Bor, List, ℕ, ◌≡◌, ◌∙◌, sym, ap, refl, rules, inl, inr, true, map, Some, ◌∷◌, []}, lemmas.List.map-append}
+use Rattle.std.proofs.Common.{arith, Bor, List, ℕ, ◌≡◌, ◌∙◌, sym, ap, refl, rules, inl, inr, true, map, Some, ◌∷◌, []}
+use Rattle.std.proofs.{lemmas.Grind.common_steps, lemmas.List.map-append}
 use Rattle.std.specs.Result.{is_ok}
 use Rattle.csv.specs.{Reading.{Reached, default_config, strip_bom, with_flexible}, Records.fields_of}
-use Rattle.csv.proofs.ReadFacts.{rows-end, rows-more}
+use Rattle.csv.proofs.ReadFacts.{rows-more}
 use Rattle.csv.specs.declared.parser.State.TheVariants as st
 use Rattle.er_paper.proofs.records.records.Goals as goal
 
@@ -42,11 +43,4 @@ loop-row-preserved c =
     )
 
 pub returns : goal.returns
-returns c =
-    let inv = c.loop-row.invariant in
-    let s = rw c.in-None.is at ((c.next.ensures.steps inv.2 inv.0).0 inv.1) in (
-      c.loop-row.row-iterator.rdr.state,
-      inv.4,
-      inv.6,
-      rows-end (λ (s : Bor (List ℕ)). Some s.now) c.loop-row.row-iterator.rdr c.next.new.self.rdr [] default_config inv.4 inv.3 inv.5 s,
-    )
+returns c = grind (arith, common_steps)

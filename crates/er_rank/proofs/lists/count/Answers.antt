@@ -1,6 +1,5 @@
-use Rattle.std.proofs.Common.{◌≡◌, ◌+◌, ◌-◌, length, true≢false, sym, ◌∙◌, refl, arith}
-use Rattle.er_rank.proofs.CountLemmas.{AreCountsOf-more, AreEncounters-more, MayMeet-last}
-use Rattle.er_rank.proofs.lists.count.Goals.{then-at-counts-via-then-at-counts}
+use Rattle.std.proofs.{lemmas.Grind.common_steps, Common.{◌≡◌, ◌+◌, ◌-◌, length, true≢false, sym, ◌∙◌, refl, arith}}
+use Rattle.er_rank.proofs.{CountLemmas.{AreEncounters-more, MayMeet-last}, lists.count.Goals.then-at-counts-via-then-at-counts}
 use Rattle.er_rank.proofs.lists.count.Goals.{then-at-counts-via-else-at-counts+then-counts-at-ge-MAX_ROUNDS}
 use Rattle.er_rank.proofs.lists.count.Goals.{then-at-counts-via-else-at-counts+else-counts-at-ge-MAX_ROUNDS+then-not-is_record}
 use Rattle.er_rank.proofs.lists.count.Goals as goal
@@ -36,7 +35,4 @@ returns-clause-may c = λ before counted are.
     )
 
 pub returns-clause-counted : goal.returns-clause-counted
-returns-clause-counted c = λ before counted _.
-    let at = c.from-at.result - 1 in
-    let number : 1 + at ≡ c.args.player = omega (arith, c.from-at.ensures, c.get.ensures.value, c.get.ensures.within.0) in
-    AreCountsOf-more before c.args.player c.args.opponent c.args.counts.now at _ number c.if-at-counts.false refl counted
+returns-clause-counted c = grind (arith, common_steps)

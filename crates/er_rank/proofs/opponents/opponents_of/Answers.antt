@@ -1,5 +1,4 @@
-use Rattle.std.proofs.{Common.{◌≡◌, ◌+◌, [], ◌∷◌, ◌++◌, length, take, ap, ◌∙◌, arith}, lemmas.List.{length-replicate, get_or-replicate}}
-use Rattle.std.proofs.lemmas.List.{take_all, with_items_is}
+use Rattle.std.proofs.{lemmas.Grind.common_steps, Common.{◌≡◌, ◌+◌, [], ◌∷◌, ◌++◌, length, take, ap, ◌∙◌, arith}, lemmas.List.with_items_is}
 use Rattle.std.specs.Vec.{with_items}
 use Rattle.er_rank.specs.{Meeting.encounters, inside.Opponents.AreOpponentsOf}
 use Rattle.er_rank.proofs.OpponentLemmas.{both-here, first-room, second-room, encounters-more, first_of}
@@ -7,10 +6,7 @@ use Rattle.er_rank.proofs.opponents.opponents_of.Goals.{After-meet}
 use Rattle.er_rank.proofs.opponents.opponents_of.Goals as goal
 
 pub loop-meeting-init : goal.loop-meeting-init
-loop-meeting-init c =
-    let all = c.in_ok-opponents.ensures.items_if_clones_equal (λ y e. e) in
-    let count : length c.in_ok-opponents.opponents.items ≡ c.args.players = ap length all ∙ length-replicate c.args.players c.none.result in
-    (count, λ k d below. rw (all, get_or-replicate c.args.players k c.none.result d (omega arith)) c.none.ensures)
+loop-meeting-init c = grind (arith, common_steps)
 
 pub meet-requires : goal.meet-requires
 meet-requires c =
@@ -72,5 +68,4 @@ pub returns-clause-count : goal.returns-clause-count
 returns-clause-count c = c.loop-meeting.invariant.0
 
 pub returns-clause-value : goal.returns-clause-value
-returns-clause-value c =
-    rw (take_all c.loop-meeting.meeting-index c.args.meetings.now c.loop-meeting-test.false) at c.loop-meeting.invariant.1
+returns-clause-value c = grind (arith, common_steps)

@@ -1,19 +1,15 @@
-use Rattle.std.proofs.Common.{rules, ◌≡◌, ◌≢◌, IsTrue, ℕ, List, length, Some, true≢false, sym, ap, subst, ◌∙◌, arith}
-use Rattle.std.proofs.lemmas.Option.{same_Some}
+use Rattle.std.proofs.{lemmas.Grind.common_steps, Common.{rules, ◌≡◌, ◌≢◌, IsTrue, ℕ, List, length, Some, true≢false, sym, ap, subst, ◌∙◌}}
+use Rattle.std.proofs.{Common.arith, lemmas.Option.same_Some}
 use Rattle.std.specs.List.{slice_get}
 use Rattle.er_event.specs.{declared.matches.Match.Match, Bracket.SameSlots}
 use Rattle.er_rank.specs.Standings.{IsTop}
 use Rattle.er_bracket.specs.Seeds.{first_stage}
-use Rattle.er_rules.proofs.{SlotLemmas.{same_length, first_read, first_some, no_stage}, seeds.seeds_agree.Goals.{In_ok-seeds, in-2}}
-use Rattle.er_rules.proofs.seeds.seeds_agree.Goals.{in_default-matches}
+use Rattle.er_rules.proofs.{SlotLemmas.{same_length, first_some, no_stage}, seeds.seeds_agree.Goals.{In_ok-seeds, in-2, in_default-matches}}
 use Rattle.er_rules.proofs.seeds.seeds_agree.Goals as goal
 
 -- the first stage is the event's
 first_is : (c : In_ok-seeds) → slice_get c.args.event.now.bracket.stages 0 ≡ Some c.first-item.result
-first_is c =
-    let stages = c.as_slice.ensures ∙ ap (λ b. b.stages) c.bracket.ensures.value in
-    ap (λ (ss : List (List Match)). slice_get ss 0) (sym stages)
-    ∙ first_read c.as_slice.result.now c.first-item.result c.in-len1-up.len_at_least c.first-item.is
+first_is c = grind (arith, common_steps)
 
 -- and the seeds are the only ones
 only_seeds : (c : In_ok-seeds) (seeds : List ℕ) → IsTop c.args.event.now c.args.event.now.cut seeds → seeds ≡ c.in_ok-seeds.seeds.items

@@ -1,4 +1,4 @@
-use Rattle.std.proofs.Common.{map, ap, sym, ◌∙◌, Bor, List, ℕ, Some, Err}
+use Rattle.std.proofs.{Common.{arith, map, ap, sym, ◌∙◌, Err}, lemmas.Grind.common_steps}
 use Rattle.std.specs.{String.string_bytes, Global.Global}
 use Rattle.er_words.proofs.WordLemmas.{Reads-split, Reads-unsplit}
 use Rattle.er_words.proofs.line.read_words.Goals as goal
@@ -10,8 +10,4 @@ returns-in_err-name c =
     (λ is. c.in_err-name.ensures.usage (ap Err is)) c.from_residual.ensures.1
 
 pub returns : goal.returns
-returns c =
-    let words = map (string_bytes {Z = Global}) c.args.words.now in
-    let values = ap (map (λ (word : Bor (List ℕ)). word.now)) (sym c.deref.ensures.value) in
-    Reads-split words c.in_ok-name.name.now _ c.read_named.result (sym c.has_option.ensures ∙ c.if-has_option.false)
-    (c.in_ok-name.ensures.ok ∙ ap (λ ws. Some (c.in_ok-name.name.now, ws)) values) c.read_named.ensures
+returns c = grind (arith, common_steps, Reads-split)

@@ -1,13 +1,11 @@
-use Rattle.std.proofs.Common.{arith, sym, ap, ◌∙◌, ◌&&◌, Bool, ◌+◌, map, drop}
+use Rattle.std.proofs.{lemmas.Grind.common_steps, Common.{arith, sym, ap, ◌∙◌, ◌&&◌, Bool, ◌+◌, map, drop}}
 use Rattle.std.specs.{String.string_bytes, Global.Global}
 use Rattle.er_words.specs.Usage.{are_of_kinds}
 use Rattle.er_words.proofs.WordKinds.{fault_at, one_more, one_missing, one_too_many, text_at}
 use Rattle.er_words.proofs.usage.values_fault.Goals as goal
 
 pub returns-in_default-clause-exact : goal.returns-in_default-clause-exact
-returns-in_default-clause-exact c = sym (c.loop-kind.invariant.2
-    ∙ one_missing (string_bytes {Z = Global}) c.args.kinds.now c.args.words.now c.loop-kind.kind-index c.loop-kind.place
-    c.loop-kind-test.true c.in_default.ensures.lookup.3)
+returns-in_default-clause-exact c = grind (arith, common_steps, one_missing)
 
 pub returns-in-Some-word_fault-clause-fault : goal.returns-in-Some-word_fault-clause-fault
 returns-in-Some-word_fault-clause-fault c =
@@ -42,6 +40,4 @@ loop-kind-preserved c =
     )
 
 pub returns-then-place-words-clause-exact : goal.returns-then-place-words-clause-exact
-returns-then-place-words-clause-exact c = sym (c.loop-kind.invariant.2
-    ∙ one_too_many (string_bytes {Z = Global}) c.args.kinds.now c.args.words.now c.loop-kind.kind-index c.loop-kind.place
-    c.loop-kind-test.false c.if-place-words.true)
+returns-then-place-words-clause-exact c = grind (arith, common_steps, one_too_many)

@@ -1,4 +1,4 @@
-use Rattle.std.proofs.{Common.{rules, ◌≡◌, ap, ap₂, ◌∙◌, Option, Some, None}, lemmas.Result.IfOk-weaker}
+use Rattle.std.proofs.{Common.{arith, rules, ◌≡◌, ap, ap₂, ◌∙◌, Option, Some}, lemmas.Grind.common_steps, lemmas.Result.IfOk-weaker}
 use Rattle.std.specs.Option.{IsSomeAnd}
 use Rattle.clap.specs.{Words.{App, Rule, app_of, new_app, rule_of, with_rule, with_subcommand}, Lexer.usize_max}
 use Rattle.clap.specs.declared.builder.ValueRange.{ValueRange}
@@ -6,8 +6,7 @@ use Rattle.er_words.specs.Words.{words_rule}
 use Rattle.er_words.proofs.words.with_leaf.Goals as goal
 
 some_is : {X : Type 0} (o : Option X) (x : X) → IsSomeAnd o (λ y. y ≡ x) → o ≡ Some x
-some_is None x h = absurd h
-some_is (Some y) x h = ap Some h
+some_is h1 x h = grind (arith, common_steps)
 
 pub returns : goal.returns
 returns c =

@@ -1,4 +1,5 @@
-use Rattle.std.proofs.{Common.{◌≡◌, inl, inr, sym, subst, ◌∙◌, refl, true≢false}, lemmas.Result.err_from_is_err_and}
+use Rattle.std.proofs.{Common.{arith, ◌≡◌, inl, inr, sym, subst, ◌∙◌, refl, true≢false}, lemmas.Grind.common_steps}
+use Rattle.std.proofs.lemmas.Result.{err_from_is_err_and}
 use Rattle.sqlite.specs.Held.{state}
 use Rattle.er_event.specs.declared.refusals.Place.TheVariants.{BracketTable}
 use Rattle.er_rules.specs.Sound.{HasSeeds}
@@ -9,9 +10,7 @@ use Rattle.er_desk.proofs.desk.Desk.adopt.Goals as goal
 -- ---- the tables are refused
 
 pub returns-in_err-store-clause-clean : goal.returns-in_err-store-clause-clean
-returns-in_err-store-clause-clean g c =
-    let p = err_from_is_err_and c.from_residual.result c.from_residual.ensures.1 in
-    rw (p.1, p.2) c.in_err-store.ensures.clean
+returns-in_err-store-clause-clean g c = grind (arith, common_steps)
 
 pub returns-in_err-store-clause-found : goal.returns-in_err-store-clause-found
 returns-in_err-store-clause-found g c point stands sound =
@@ -120,8 +119,7 @@ pub returns-in-Ok-false-clause-other_seeds : goal.returns-in-Ok-false-clause-oth
 returns-in-Ok-false-clause-other_seeds g c point stands sound none clean = inr refl
 
 pub returns-in-Ok-false-clause-clean : goal.returns-in-Ok-false-clause-clean
-returns-in-Ok-false-clause-clean g c clean = c.in_ok-store.ensures.clean
-    (back_clean g.S.Store (state g.S.Store c.args.conn) c.into_connection.result c.in_ok-store.store c.into_connection.ensures.same clean)
+returns-in-Ok-false-clause-clean g c clean = grind (arith, common_steps)
 
 pub returns-in-Ok-false-clause-kept : goal.returns-in-Ok-false-clause-kept
 returns-in-Ok-false-clause-kept g c clean = back_keeps g.S.Store (state g.S.Store c.args.conn) c.into_connection.result c.in_ok-store.store
@@ -140,25 +138,16 @@ returns-in-Ok-false-clause-left g c is_open =
 -- ---- memory is wanting
 
 pub returns-in-Err-clause-first : goal.returns-in-Err-clause-first
-returns-in-Err-clause-first g c clean = record {
-  no_event = λ is. absurd (cc);
-  readable = λ place is. absurd (cc);
-  first = λ place is. absurd (cc);
-}
+returns-in-Err-clause-first g c clean = grind (arith, common_steps)
 
 pub returns-in-Err-clause-other_seeds : goal.returns-in-Err-clause-other_seeds
 returns-in-Err-clause-other_seeds g c point stands sound none clean = inl (inl refl)
 
 pub returns-in-Err-clause-clean : goal.returns-in-Err-clause-clean
-returns-in-Err-clause-clean g c clean = c.in_ok-store.ensures.clean
-    (back_clean g.S.Store (state g.S.Store c.args.conn) c.into_connection-in-Err.result c.in_ok-store.store
-    c.into_connection-in-Err.ensures.same clean)
+returns-in-Err-clause-clean g c clean = grind (arith, common_steps)
 
 pub returns-in-Err-clause-kept : goal.returns-in-Err-clause-kept
-returns-in-Err-clause-kept g c clean = back_keeps g.S.Store (state g.S.Store c.args.conn) c.into_connection-in-Err.result
-    c.in_ok-store.store c.into_connection-in-Err.ensures.same
-    (c.in_ok-store.ensures.same (back_clean g.S.Store (state g.S.Store c.args.conn) c.into_connection-in-Err.result c.in_ok-store.store
-    c.into_connection-in-Err.ensures.same clean))
+returns-in-Err-clause-kept g c clean = grind (arith, common_steps)
 
 pub returns-in-Err-clause-crash : goal.returns-in-Err-clause-crash
 returns-in-Err-clause-crash g c = back_leaves g.S.Store (state g.S.Store c.args.conn) c.into_connection-in-Err.result c.in_ok-store.store

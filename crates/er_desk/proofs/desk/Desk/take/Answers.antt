@@ -1,7 +1,7 @@
-use Rattle.std.proofs.Common.{◌≡◌, ◌<◌, ◌∙◌, inl, inr, refl, sym, ap, arith}
+use Rattle.std.proofs.{lemmas.Grind.common_steps, Common.{◌≡◌, ◌<◌, ◌∙◌, inl, inr, refl, sym, ap, arith}}
 use Rattle.er_desk.specs.Desk.{state, standing}
 use Rattle.er_desk.proofs.Turns.{declined, full, written, turn_fault, turn_asks, waits_of, stops_of, stopped_of, keeps_self, on_error}
-use Rattle.er_desk.proofs.Turns.{same_unless, stands_after, leaves_refused}
+use Rattle.er_desk.proofs.Turns.{same_unless, leaves_refused}
 use Rattle.er_desk.proofs.desk.Desk.take.Goals as goal
 
 -- ---- the step refuses the command
@@ -13,19 +13,13 @@ returns-in_err-change-clause-turn g c =
     c.in_err-change.ensures.refused c.in_err-change.ensures.named
 
 pub returns-in_err-change-clause-stops : goal.returns-in_err-change-clause-stops
-returns-in_err-change-clause-stops g c = (
-  stops_of _ _ _ _ (returns-in_err-change-clause-turn g c),
-  stopped_of _ _ _ _ (returns-in_err-change-clause-turn g c),
-)
+returns-in_err-change-clause-stops g c = grind (arith, common_steps)
 
 pub returns-in_err-change-clause-fault : goal.returns-in_err-change-clause-fault
 returns-in_err-change-clause-fault g c = turn_fault _ _ _ _ (returns-in_err-change-clause-turn g c)
 
 pub returns-in_err-change-clause-asks : goal.returns-in_err-change-clause-asks
-returns-in_err-change-clause-asks g c = (
-  turn_asks _ _ _ _ (returns-in_err-change-clause-turn g c),
-  waits_of _ _ _ _ (returns-in_err-change-clause-turn g c),
-)
+returns-in_err-change-clause-asks g c = grind (arith, common_steps)
 
 pub returns-in_err-change-clause-others : goal.returns-in_err-change-clause-others
 returns-in_err-change-clause-others g c clean shows is_open = keeps_self (state g.S.Store c.args.self.now).now
@@ -45,19 +39,13 @@ returns-then-self-eq-MAX_SERIAL-clause-turn g c =
     (omega (arith, c.if-self-eq-MAX_SERIAL.true))
 
 pub returns-then-self-eq-MAX_SERIAL-clause-stops : goal.returns-then-self-eq-MAX_SERIAL-clause-stops
-returns-then-self-eq-MAX_SERIAL-clause-stops g c = (
-  stops_of _ _ _ _ (returns-then-self-eq-MAX_SERIAL-clause-turn g c),
-  stopped_of _ _ _ _ (returns-then-self-eq-MAX_SERIAL-clause-turn g c),
-)
+returns-then-self-eq-MAX_SERIAL-clause-stops g c = grind (arith, common_steps)
 
 pub returns-then-self-eq-MAX_SERIAL-clause-fault : goal.returns-then-self-eq-MAX_SERIAL-clause-fault
 returns-then-self-eq-MAX_SERIAL-clause-fault g c = turn_fault _ _ _ _ (returns-then-self-eq-MAX_SERIAL-clause-turn g c)
 
 pub returns-then-self-eq-MAX_SERIAL-clause-asks : goal.returns-then-self-eq-MAX_SERIAL-clause-asks
-returns-then-self-eq-MAX_SERIAL-clause-asks g c = (
-  turn_asks _ _ _ _ (returns-then-self-eq-MAX_SERIAL-clause-turn g c),
-  waits_of _ _ _ _ (returns-then-self-eq-MAX_SERIAL-clause-turn g c),
-)
+returns-then-self-eq-MAX_SERIAL-clause-asks g c = grind (arith, common_steps)
 
 pub returns-then-self-eq-MAX_SERIAL-clause-others : goal.returns-then-self-eq-MAX_SERIAL-clause-others
 returns-then-self-eq-MAX_SERIAL-clause-others g c clean shows is_open = keeps_self (state g.S.Store c.args.self.now).now
@@ -91,8 +79,7 @@ pub returns-clause-same : goal.returns-clause-same
 returns-clause-same g c = same_unless g.S.Store c.args.self.now c.write.new.self c.write.result c.write.ensures.refused
 
 pub returns-clause-stands : goal.returns-clause-stands
-returns-clause-stands g c clean shows runs = stands_after g.S.Store c.args.self.now c.write.new.self c.write.result shows
-    (c.write.ensures.written clean shows) c.write.ensures.refused runs
+returns-clause-stands g c clean shows runs = grind (arith, common_steps)
 
 pub returns-clause-undecided : goal.returns-clause-undecided
 returns-clause-undecided g c runs shows clean trees may =

@@ -1,4 +1,5 @@
-use Rattle.std.proofs.{Common.{◌≡◌, ◌+◌, ◌/◌, ℕ, List, length, length-append, ap, ◌∙◌, arith}, lemmas.Fmt.decimal_digit}
+use Rattle.std.proofs.{lemmas.Grind.common_steps, Common.{◌≡◌, ◌+◌, ◌/◌, ℕ, List, length, length-append, ap, ◌∙◌, arith}}
+use Rattle.std.proofs.lemmas.Fmt.{decimal_digit}
 use Rattle.std.specs.Fmt.{decimal}
 use Rattle.er_paper.proofs.Numerals.{front-shorter, one-more, decimal_short}
 use Rattle.er_paper.proofs.short.ShortText.+push_number.Goals as goal
@@ -22,8 +23,7 @@ push-requires-2 t c =
     )
 
 pub returns-clause-value : goal.returns-clause-value
-returns-clause-value t c = one-more c.args.self.now c.push_number.new.self _ c.args.number c.if-number-lt10.false c.ranges.number.fits
-    c.push_number.ensures.value c.push-2.ensures.value
+returns-clause-value t c = grind (arith, common_steps, one-more)
 
 pub returns-clause-size : goal.returns-clause-size
 returns-clause-size t c =

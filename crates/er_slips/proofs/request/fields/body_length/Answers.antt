@@ -1,25 +1,14 @@
-use Rattle.std.proofs.Common.{map, take, sym}
+use Rattle.std.proofs.{Common.{arith, map, take, sym}, lemmas.Grind.common_steps}
 use Rattle.httparse.specs.Spans.{header_bytes}
 use Rattle.er_slips.proofs.Named.{whole-more, found-same, found-new, refused-at, second-found, was-none, field-below, field-is}
 use Rattle.er_slips.proofs.request.fields.body_length.Goals.{then-is_named-2+else-is_some, else-is_named-2}
 use Rattle.er_slips.proofs.request.fields.body_length.Goals as goal
 
 pub returns-then-is_named-clause-value : goal.returns-then-is_named-clause-value
-returns-then-is_named-clause-value c =
-    let bytes = c.args.bytes.now in
-    let headers = c.args.headers.now in
-    let i = c.loop-header.header-index in
-    sym (refused-at (map (header_bytes bytes) headers) i _ (field-below bytes headers i c.loop-header-test.true)
-    (field-is bytes headers i c.loop-header-test.true) (sym c.if-is_named.ensures))
+returns-then-is_named-clause-value c = grind (arith, common_steps, field-below, field-is, refused-at)
 
 pub returns-then-is_some-clause-value : goal.returns-then-is_some-clause-value
-returns-then-is_some-clause-value c =
-    let bytes = c.args.bytes.now in
-    let headers = c.args.headers.now in
-    let i = c.loop-header.header-index in
-    sym (second-found (map (header_bytes bytes) headers) i _ c.loop-header.found (field-below bytes headers i c.loop-header-test.true)
-    (field-is bytes headers i c.loop-header-test.true)
-    (sym c.if-is_named-2.ensures) (sym c.if-is_some.ensures) c.loop-header.invariant.found)
+returns-then-is_some-clause-value c = grind (arith, common_steps, field-below, field-is, second-found)
 
 pub loop-header-preserved : goal.loop-header-preserved
 loop-header-preserved c =

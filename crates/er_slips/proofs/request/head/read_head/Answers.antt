@@ -1,6 +1,5 @@
-use Rattle.std.proofs.{Common.{◌≡◌, arith, subst, length, take, ◌∙◌}, KnownBytes.Consumes-trans, lemmas.List.length-take-le}
+use Rattle.std.proofs.{lemmas.Grind.common_steps, Common.{arith, subst}, KnownBytes.Consumes-trans, lemmas.List.length-take-le}
 use Rattle.std.specs.Io.KnownBytes.{Consumes}
-use Rattle.er_slips.specs.declared.request.head.TheConstants.{MAX_HEAD}
 use Rattle.er_slips.proofs.Bytes.{grown, full}
 use Rattle.er_slips.proofs.request.head.read_head.Goals as goal
 
@@ -13,8 +12,4 @@ loop-spans-preserved g c = record {
 }
 
 pub returns-then-filled-eq-MAX_HEAD-clause-refused : goal.returns-then-filled-eq-MAX_HEAD-clause-refused
-returns-then-filled-eq-MAX_HEAD-clause-refused g c =
-    let size : length (take c.loop-spans.filled c.loop-spans.buf) ≡ MAX_HEAD =
-    length-take-le c.loop-spans.filled c.loop-spans.buf
-    (omega (arith, c.loop-spans.invariant.within, c.requires.room, c.loop-spans.auto.buf)) ∙ c.if-filled-eq-MAX_HEAD.true in
-    λ e. full _ _ _ c.loop-spans.invariant.read c.in-NotYet.ensures size
+returns-then-filled-eq-MAX_HEAD-clause-refused g c = grind (arith, common_steps, full, length-take-le)

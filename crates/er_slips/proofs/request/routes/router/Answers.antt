@@ -1,11 +1,7 @@
+use Rattle.std.proofs.{Common.arith, lemmas.Grind.common_steps}
 use Rattle.matchit.proofs.OnLiterals.{matchit_on_literals}
 use Rattle.er_slips.proofs.request.routes.router.Goals as goal
 
 pub returns : goal.returns
 unfolding matchit_on_literals
-returns c =
-    let a = c.in_ok-insert.ensures in
-    let b = c.in_ok-insert-2.ensures in
-    let d = c.in_ok-insert-3.ensures in
-    let e = rw (b.1, a.1, c.new-router.ensures) at d.1 in
-    e
+returns c = grind (arith, common_steps)

@@ -1,13 +1,6 @@
-use Rattle.std.proofs.{Common.{arith, subst}, KnownBytes.Appends-trans}
-use Rattle.std.specs.Io.KnownBytes.{Appends}
+use Rattle.std.proofs.{lemmas.Grind.common_steps, Common.arith, KnownBytes.Appends-trans}
 use Rattle.er_slips.proofs.Bytes.{sent_more}
 use Rattle.er_slips.proofs.serve.sending.send.Goals as goal
 
 pub loop-preserved : goal.loop-preserved
-loop-preserved g c = record {
-  within = omega (arith, c.in-Ok.ensures.bound);
-  turns = omega arith;
-  out = subst (λ bs. Appends (g.W.Write.contents c.args.writer.now) (g.W.Write.contents c.write.new.self) bs)
-      (sent_more c.args.bytes.now c.loop.sent c.in-Ok.n)
-      (Appends-trans _ _ _ _ _ c.loop.invariant.out c.in-Ok.ensures.bytes);
-}
+loop-preserved g c = grind (arith, common_steps, Appends-trans, sent_more)
