@@ -1,12 +1,12 @@
 -- The names of the crates below, and of what this one promises, that several proofs cite.
-pub use Rattle.std.proofs.Common.{arith, ◌≡◌, sym, ◌∙◌, List, length, ap, false, [], subst, take, true, get_or, ℕ, ◌<◌, ◌∷◌, refl, All, ◌≤◌}
-pub use Rattle.std.proofs.Common.{◌+◌, ◌-◌, ◌++◌, ◌≢◌, Bool, Some, IsTrue, drop, AllPairs, flat_map, suc, Option, None, IsFalse, ◌==◌, map}
-pub use Rattle.std.proofs.Common.{not, zero, true≢false, Contains, IfSome, option_map, ◌↔◌, ap₂, Bor, rules, length-append, cond, inr, pos}
+pub use Rattle.std.proofs.Common.{arith, ◌≡◌, sym, ◌∙◌, List, length, ap, false, [], subst, true, take, ℕ, ◌<◌, ◌∷◌, get_or, refl, All, ◌≤◌}
+pub use Rattle.std.proofs.Common.{◌+◌, ◌-◌, ◌++◌, ◌≢◌, Bool, Some, IsTrue, drop, AllPairs, flat_map, suc, Option, None, map, IsFalse, ◌==◌}
+pub use Rattle.std.proofs.Common.{not, true≢false, zero, Contains, IfSome, option_map, rules, ap₂, ◌↔◌, Bor, length-append, cond, inr, pos}
 pub use Rattle.std.proofs.Common.{ℤ, find, inl, ◌&&◌, ◌/◌, is_some, not-suc-le-zero, ◌⊎◌, MatchResult, Result, ◌*◌, ◌||◌, if◌then◌else◌}
 pub use Rattle.std.proofs.Math.ListN.{set, length-map}
 pub use Rattle.std.proofs.lemmas.Bool.Decides.{nat_tests, Decides-int_eq}
 pub use Rattle.std.proofs.lemmas.Grind.{common_steps}
-pub use Rattle.std.proofs.lemmas.List.{take_more, take_all, length-drop, take_rest, get_or_default, map-append, length-set, drop_all}
+pub use Rattle.std.proofs.lemmas.List.{take_more, take_all, get_or_default, length-drop, take_rest, map-append, length-set, drop_all}
 pub use Rattle.std.proofs.lemmas.List.{drop_more, nil_from_length}
 pub use Rattle.std.proofs.lemmas.List.Elements.{All-weaker, All-push, recursion_from_All, All-cons, All-from_recursion, All-nil, All-drop}
 pub use Rattle.std.proofs.lemmas.List.Elements.{All-take}
@@ -35,14 +35,14 @@ pub use Rattle.er_event.specs.Round.{is_counted, seats, is_bye, numbered_from, m
 pub use Rattle.er_event.specs.Rows.{bracket_rows_from, keyed_rows_from, player_row, keyed_round_rows, pairing_row, bracket_row, phase_code}
 pub use Rattle.er_event.specs.Rows.{tally_row}
 pub use Rattle.er_event.specs.Score.{is_playoff_score, is_swiss_score, bye_score}
-pub use Rattle.er_event.specs.Sound.{IsSoundButForSeeds, numbers, IsRound, names, AreRounds, IsBracket, ArePlayers, IsPlayoff, AreStages}
+pub use Rattle.er_event.specs.Sound.{IsSoundButForSeeds, numbers, IsRound, names, AreRounds, IsBracket, ArePlayers, AreStages, IsPlayoff}
 pub use Rattle.er_event.specs.Sound.{is_lawful_cut}
 pub use Rattle.er_event.specs.Totals.{totals, totals_of}
 pub use Rattle.er_event.specs.declared.changes.Change.TheVariants.{SetScore, SetBracketScore, AddRound, SetDropped, AddBracket}
 pub use Rattle.er_event.specs.declared.commands.TheConstants.{MAX_SERIAL}
 pub use Rattle.er_event.specs.declared.events.Phase.{Phase}
 pub use Rattle.er_event.specs.declared.events.Phase.TheVariants.{Swiss, Enrolling, Finished}
-pub use Rattle.er_event.specs.declared.events.parts.PartsFault.TheVariants.{Memory}
+pub use Rattle.er_event.specs.declared.events.parts.PartsFault.TheVariants.{Memory, Damaged}
 pub use Rattle.er_event.specs.declared.matches.Match.{Match}
 pub use Rattle.er_event.specs.declared.players.Player.{Player}
 pub use Rattle.er_event.specs.declared.players.TheConstants.{MAX_PLAYERS}
@@ -51,6 +51,7 @@ pub use Rattle.er_event.specs.declared.rows.bracket.BracketRow.{BracketRow}
 pub use Rattle.er_event.specs.declared.rows.event.EventRow.{EventRow}
 pub use Rattle.er_event.specs.declared.rows.event.Setup.{Setup}
 pub use Rattle.er_event.specs.declared.rows.pairing.PairingRow.{PairingRow}
+pub use Rattle.er_event.specs.declared.rows.tally.TallyRow.{TallyRow}
 pub use Rattle.er_event.specs.declared.scores.Games.{Games}
 pub use Rattle.er_event.specs.inside.EventFields.{value_of}
 pub use Rattle.er_event.specs.inside.Reading.{IsSetUpAs, MayFollow}

@@ -38,7 +38,13 @@ counted-set (suc k) (n ∷ ms) s m is = grind (arith, common_steps, counted-set 
 
 absent-scored : (player k : ℕ) (ms : List Match) (s : Games) (d : Match) → IsAbsent player ms
     → IsAbsent player (set ms k (scored s (get_or ms k d)))
-absent-scored player k ms s d away j e below = grind (arith, common_steps, away j e, away k d)
+absent-scored player k [] s d away = away
+absent-scored player zero (m ∷ ms) s d away =
+    All-cons (λ (n : Match). (n.a ≢ player) × (n.b ≢ player)) (scored s m) ms (away 0 m (omega arith))
+    (λ k d' below. away (suc k) d' (omega arith))
+absent-scored player (suc k) (m ∷ ms) s d away =
+    All-cons (λ (n : Match). (n.a ≢ player) × (n.b ≢ player)) m (set ms k (scored s (get_or ms k d))) (away 0 m (omega arith))
+    (absent-scored player k ms s d (λ j d' below. away (suc j) d' (omega arith)))
 
 scored-lines : (player n t : ℕ) (ms : List Match) (s : Games) → IsAbsent player (recounted_in ms t s)
     → own player (counted_lines n (record { matches = scored_slot ms t s })) ≡ own player (counted_lines n (record { matches = ms }))

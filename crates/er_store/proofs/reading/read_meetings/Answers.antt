@@ -1,11 +1,10 @@
-use Rattle.er_store.proofs.Prelude.{state, out_of_memory, rules, ◌≡◌, ◌⊎◌, inl, inr, [], ◌∷◌, ◌++◌, map, List, Result, IfErr, IsErrAnd}
-use Rattle.er_store.proofs.Prelude.{refl, sym, ap, subst, ◌∙◌, arith, map-append, Error, Row, State, HasCleanDisk, IsUnchanged, Survives}
-use Rattle.er_store.proofs.Prelude.{unchanged_then, survives_then, meeting_rows, IsReadRefused, first_columns, meeting_columns}
-use Rattle.er_store.proofs.Prelude.{CommitsShowing, FailsToQuery, Shown}
-use Rattle.er_store.proofs.{Meaning.{meeting_query, meetings_selected}, Refusals.meetings_refused, Selecting.commits_nothing}
-use Rattle.er_store.proofs.Selecting.{fails_keeping, selects, begun-select, given-shown, row-among, refused-after, unchanged-refl}
-use Rattle.er_store.proofs.{LoadLemmas.{all_err, kept_stands, told}, Exact.is_memory, Meetings.{meetings-listed, meetings-exact}}
-use Rattle.er_store.proofs.{Meetings.meetings-read, Effects.selected}
+use Rattle.er_store.proofs.Prelude.{state, out_of_memory, rules, ◌≡◌, ◌⊎◌, inl, inr, [], ◌∷◌, ◌++◌, map, List, Result, IfErr, refl, sym, ap}
+use Rattle.er_store.proofs.Prelude.{subst, ◌∙◌, arith, map-append, Error, Row, State, HasCleanDisk, IsUnchanged, unchanged_then}
+use Rattle.er_store.proofs.Prelude.{survives_then, meeting_rows, IsReadRefused, first_columns, meeting_columns, FailsToQuery, Shown}
+use Rattle.er_store.proofs.{Meaning.{meeting_query, meetings_selected}, Refusals.meetings_refused, LoadLemmas.{all_err, kept_stands, told}}
+use Rattle.er_store.proofs.Selecting.{commits_nothing, fails_keeping, selects, begun-select, given-shown, row-among, refused-after}
+use Rattle.er_store.proofs.{Selecting.unchanged-refl, Exact.is_memory, Meetings.{meetings-listed, meetings-exact, meetings-read}}
+use Rattle.er_store.proofs.Effects.{selected}
 use Rattle.er_store.specs.Tables as sql
 use Rattle.er_store.proofs.reading.read_meetings.Goals as goal
 
@@ -16,29 +15,16 @@ ends r old new then same = subst (λ (s : State). IfErr r (λ w. (w ≡ out_of_m
 
 pub returns-in_err-rows-clause-refused : goal.returns-in_err-rows-clause-refused
 returns-in_err-rows-clause-refused g c clean e s stands sound =
-    let old = state g.S.Store c.args.conn.now in
-    let new = state g.S.Store c.query.follows.lender-at-none in
-    let held = c.query.follows.holds-at-none in
-    let failed : FailsToQuery sql.read_meetings [] old new c.in_err-rows.field-0.0 = (rw c.in_err-rows.was at held).err clean in
-    let why : (c.in_err-rows.field-0.0 ≡ out_of_memory) ⊎ IsReadRefused old new c.in_err-rows.field-0.0 =
-    inr (meetings_refused _ _ _ (selected stands.tables meetings_selected) failed) in
-    search (rules, why)
+    told c.from_residual.result c.in_err-rows.field-0.0 _ (search rules) (inr (meetings_refused _ _ _
+    (selected stands.tables meetings_selected) ((rw c.in_err-rows.was at c.query.follows.holds-at-none).err clean)))
 
 pub returns-in_err-rows-clause-kept : goal.returns-in_err-rows-clause-kept
 returns-in_err-rows-clause-kept g c clean =
-    let old = state g.S.Store c.args.conn.now in
-    let new = state g.S.Store c.query.follows.lender-at-none in
-    let held = c.query.follows.holds-at-none in
-    let failed : FailsToQuery sql.read_meetings [] old new c.in_err-rows.field-0.0 = (rw c.in_err-rows.was at held).err clean in
-    all_err c.from_residual.result (fails_keeping _ _ _ _ _ selects.meetings failed)
+    all_err c.from_residual.result
+    (fails_keeping _ _ _ _ _ selects.meetings ((rw c.in_err-rows.was at c.query.follows.holds-at-none).err clean))
 
 pub returns-in_err-rows-clause-survives : goal.returns-in_err-rows-clause-survives
-returns-in_err-rows-clause-survives g c =
-    let old = state g.S.Store c.args.conn.now in
-    let new = state g.S.Store c.query.follows.lender-at-none in
-    let held = c.query.follows.holds-at-none in
-    let kept : Survives old new (CommitsShowing sql.read_meetings [] old) = search rules in
-    commits_nothing _ _ selects.meetings kept
+returns-in_err-rows-clause-survives g c = commits_nothing sql.read_meetings [] selects.meetings (search rules)
 
 pub loop-rows-init : goal.loop-rows-init
 loop-rows-init g c =
@@ -78,12 +64,8 @@ returns-in_err-row-clause-refused g c clean e s stands sound =
     let failed : FailsToQuery sql.read_meetings [] now then c.in_err-row.field-0.0 =
     (rw c.in_err-row.was at (moved.err late)) sql.read_meetings [] was.0 was.1 in
     let refused = meetings_refused _ _ _ (selected here.tables meetings_selected) failed in
-    let why : (c.in_err-row.field-0.0 ≡ out_of_memory) ⊎ IsReadRefused old then c.in_err-row.field-0.0 =
-    inr (refused-after old now then (λ _. ⊥) c.in_err-row.field-0.0 was.3 c.loop-rows.invariant.1 refused) in
-    let is : IsErrAnd c.from_residual-in_err-row.result (λ x. x ≡ c.in_err-row.field-0.0) = search rules in
-    let there = told c.from_residual-in_err-row.result c.in_err-row.field-0.0
-    (λ w. (w ≡ out_of_memory) ⊎ IsReadRefused old then w) is why in
-    ends c.from_residual-in_err-row.result old _ then (search rules) there
+    ends c.from_residual-in_err-row.result old _ then (search rules) (told c.from_residual-in_err-row.result c.in_err-row.field-0.0 _
+    (search rules) (inr (refused-after old now then (λ _. ⊥) c.in_err-row.field-0.0 was.3 c.loop-rows.invariant.1 refused)))
 
 pub loop-rows-preserved : goal.loop-rows-preserved
 loop-rows-preserved g c =

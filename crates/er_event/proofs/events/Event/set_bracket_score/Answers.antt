@@ -1,10 +1,12 @@
-use Rattle.er_event.proofs.Prelude.{Fits, one_more, with_bracket_score, EventValue, SetBracketScore, value_of, ap, arith, subst, sym, ◌∙◌}
-use Rattle.er_event.proofs.Prelude.{◌≡◌, common_steps}
+use Rattle.er_event.proofs.Prelude.{Fits, one_more, with_bracket_score, EventValue, IsSoundButForSeeds, SetBracketScore, Match, value_of}
+use Rattle.er_event.proofs.Prelude.{List, ap, subst, sym, ◌∙◌, ◌≡◌}
 use Rattle.er_event.proofs.{EndLemmas.{slot-more, written-slot}, PlayoffLemmas.in_playoff}
 use Rattle.er_event.proofs.events.Event.set_bracket_score.Goals as goal
 
 pub invariant_of-self : goal.invariant_of-self
-invariant_of-self c = grind (arith, common_steps, in_playoff, value_of)
+invariant_of-self c =
+    let e = value_of c.self.inside in
+    subst (λ (ss : List (List Match)). IsSoundButForSeeds (in_playoff e e.phase ss)) (sym c.in-Err.ensures.err) c.self.invariant
 
 pub score_slot-requires : goal.score_slot-requires
 score_slot-requires c =

@@ -1,6 +1,5 @@
-use Rattle.er_event.proofs.Prelude.{List, [], arith, sym, ℤ, ◌∙◌, ◌∷◌, ◌≡◌, Decides}
+use Rattle.er_event.proofs.Prelude.{List, [], arith, sym, ℤ, ◌∙◌, ◌∷◌, ◌≡◌, Decides, TallyRow}
 use Rattle.er_event.proofs.RowLemmas.{agree, agree-Decides}
-use Rattle.er_event.specs.declared.rows.tally.TallyRow.{TallyRow}
 use Rattle.er_event.proofs.rows.tally.is_row_of.Goals as goal
 
 abbrev columns : TallyRow → TallyRow → List (ℤ × ℤ)
