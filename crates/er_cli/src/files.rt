@@ -1,7 +1,8 @@
 ghost use Rattle.std.specs.Prelude.{◌≡◌, ◌⊎◌, ◌≤◌, false, IsFalse, IfOk, IfErr, MatchResult};
 ghost use Rattle.er_event.specs.declared.commands.TheConstants.{MAX_SERIAL};
 ghost use Rattle.er_rules.specs.Sound.{IsSound};
-ghost use Rattle.er_desk.specs.Desk.{AreLimits, standing};
+ghost use Rattle.er_event.specs.Sound.{AreLimits};
+ghost use Rattle.er_desk.specs.Desk.{standing};
 ghost use Rattle.er_desk.specs.Reply.{Reply, receipt};
 ghost use Rattle.er_words.specs.declared.action.Action.TheVariants.{Open};
 ghost use Rattle.er_words.specs.Action.{action_of};

@@ -2,7 +2,8 @@ ghost use Rattle.std.specs.Prelude.{◌≡◌, false, IfOk, IfErr, OnOk, OnErr, 
 ghost use Rattle.sqlite.specs.Steps.{over_memory};
 ghost use Rattle.er_event.specs.Change.{created};
 ghost use Rattle.er_store.specs.Fault.{IsFault};
-ghost use Rattle.er_desk.specs.Desk.{AreLimits, ShowsOwn, standing};
+ghost use Rattle.er_event.specs.Sound.{AreLimits};
+ghost use Rattle.er_desk.specs.Desk.{ShowsOwn, standing};
 ghost use Rattle.er_words.specs.Fields.{script_action};
 ghost use Rattle.er_words.specs.declared.action.Action.TheVariants.{Init, Open};
 ghost use Rattle.er_words.specs.declared.action.Task.TheVariants.{Ask};

@@ -1,5 +1,5 @@
 ghost use Rattle.std.specs.Prelude.{◌≡◌, IfOk, IfErr, IsTrue, IsFalse};
-ghost use Rattle.er_desk.specs.Desk.{AreLimits};
+ghost use Rattle.er_event.specs.Sound.{AreLimits};
 ghost use Rattle.er_cli.specs.Setup.{is_setup};
 
 use er_event::{Event, Name, Refusal};

@@ -7,7 +7,6 @@ use Rattle.er_event.specs.declared.commands.Command.{Command}
 use Rattle.er_event.specs.declared.refusals.Refusal.{Refusal}
 use Rattle.er_event.specs.declared.refusals.Refusal.TheVariants.{Memory, SerialFull, NoSuchMatch, NeedsReopen}
 use Rattle.er_event.specs.declared.commands.TheConstants.{MAX_SERIAL}
-use Rattle.er_event.specs.declared.events.TheConstants.{MAX_ROUNDS}
 use Rattle.er_event.specs.declared.slips.SlipRow.{SlipRow}
 use Rattle.er_event.specs.Event.{EventValue}
 use Rattle.er_rules.specs.Refusing.{IsOfRules}
@@ -37,10 +36,6 @@ point_of s = record { event = s.event; serial = s.serial }
 -- with no fault behind
 abbrev pub running_at : Point → Standing
 running_at point = record { event = point.event; serial = point.serial; stopped = false }
-
--- what an event may be set up with
-abbrev pub AreLimits : ℕ → ℕ → Type 0
-AreLimits rounds cut = (1 ≤ rounds) × (rounds ≤ MAX_ROUNDS) × IsTrue (cut == 0 || cut == 2 || cut == 4 || cut == 8)
 
 -- what its store shows
 abbrev pub state : {S : Type 0} (g : Ghosts S) → Desk S g → State

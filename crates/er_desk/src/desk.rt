@@ -52,7 +52,7 @@ impl<S: Alter> Desk<S> {
     ghost use Rattle.sqlite.specs.Held as sqlite;
     ghost use Rattle.er_event.specs.declared.refusals.Cause.{Cause};
     ghost use Rattle.er_event.specs.Change.{created, after, Fits};
-    ghost use Rattle.er_event.specs.Sound.{IsSoundButForSeeds};
+    ghost use Rattle.er_event.specs.Sound.{AreLimits, IsSoundButForSeeds};
     ghost use Rattle.er_event.specs.declared.commands.TheConstants.{MAX_SERIAL};
     ghost use Rattle.er_rules.specs.Sound.{IsSound, HasSeeds};
     ghost use Rattle.er_rules.specs.Step.{NeedsMoreSteps};
@@ -62,7 +62,7 @@ impl<S: Alter> Desk<S> {
     ghost use Rattle.er_store.specs.Loading.{ShowsEvent};
     ghost use Rattle.er_store.specs.Slip.{FindsSlip};
     ghost use Rattle.er_store.specs.Reading.{KeepsTables};
-    ghost use Rattle.er_desk.specs.Desk.{Point, Turn, Stops, ReadsRows, ReadsSlip, ShowsOwn, AreLimits, point_of, state, standing};
+    ghost use Rattle.er_desk.specs.Desk.{Point, Turn, Stops, ReadsRows, ReadsSlip, ShowsOwn, point_of, state, standing};
     ghost use Rattle.er_desk.specs.Run.{Runs, IsRun, session_of};
     ghost use Rattle.er_desk.specs.Headline.{IsEmptyFile, LeavesJust, LeavesEither, LeavesEnd, FindsAgain, RepeatsNobody, AreTheStandings};
     ghost use Rattle.er_desk.specs.History.{new_point};

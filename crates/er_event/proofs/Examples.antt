@@ -5,7 +5,8 @@ use Rattle.er_event.proofs.Prelude.{is_playoff_score, totals_of}
 use Rattle.std.specs.{Prelude.{◌≡◌, ℕ, pos, Bool, true, false, List, [], ◌∷◌, ◌++◌, map, replicate, codes, Some, None, refl}, Str.is_utf8}
 use Rattle.std.specs.Str.{chars}
 use Rattle.er_event.specs.Rows.{player_rows, keyed_pairing_rows, bracket_rows, event_row, pairing_rows}
-use Rattle.er_event.specs.{declared.events.TheConstants.MAX_ROUNDS, declared.events.fits.TheConstants.MAX_SLOTS}
+use Rattle.er_share.specs.declared.TheConstants.{MAX_ROUNDS}
+use Rattle.er_event.specs.declared.events.fits.TheConstants.{MAX_SLOTS}
 use Rattle.er_event.specs.{declared.names.TheConstants.MAX_NAME_BYTES, declared.rows.bracket.TheConstants.MAX_STAGES, Slip.slip_of}
 
 -- ---- each limit as the rules have it, so that the code's constant can't move from it

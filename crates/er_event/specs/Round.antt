@@ -1,9 +1,11 @@
--- Stored matches, and which rounds are complete.
-use Rattle.std.specs.Prelude.{ℕ, ◌+◌, ◌-◌, ◌==◌, ◌&&◌, ◌||◌, Bool, if◌then◌else◌, List, [], ◌∷◌, flat_map, find, slice_get, Option, None, is_some, option_map, option_and_then}
+-- Stored matches, the matches of a round that is paired, and which rounds are complete.
+use Rattle.std.specs.Prelude.{ℕ, ◌+◌, ◌-◌, ◌==◌, ◌&&◌, ◌||◌, not, Bool, if◌then◌else◌, List, [], ◌∷◌, ◌++◌, map, filter, flat_map, find, slice_get}
+use Rattle.std.specs.Prelude.{Option, Some, None, is_some, option_map, option_and_then}
 use Rattle.std.specs.List.{list_all}
 use Rattle.er_event.specs.declared.matches.Match.{Match}
 use Rattle.er_event.specs.declared.rounds.Round.{Round}
 use Rattle.er_event.specs.Event.{EventValue}
+use Rattle.er_event.specs.Score.{bye_score}
 
 abbrev pub is_bye : Match → Bool
 is_bye m = m.b == 0
@@ -16,9 +18,21 @@ is_counted matches = list_all (λ m. is_some m.score) matches
 abbrev pub seats : Match → List ℕ
 seats m = m.a ∷ m.b ∷ []
 
+-- the two are these two, in either order
+abbrev pub are_pair : ℕ → ℕ → ℕ → ℕ → Bool
+are_pair a b p q = (a == p && b == q) || (a == q && b == p)
+
 -- the same two players, whoever is named first
 abbrev pub is_same_pairing : Match → Match → Bool
-is_same_pairing m n = (m.a == n.a && m.b == n.b) || (m.a == n.b && m.b == n.a)
+is_same_pairing m n = are_pair m.a m.b n.a n.b
+
+-- the match of two who are paired; a bye is won 2-0
+abbrev pub match_of : ℕ × ℕ → Match
+match_of pair = record { a = pair.0; b = pair.1; score = if pair.1 == 0 then Some bye_score else None }
+
+-- tables in turn, and then the bye
+abbrev pub tables_of : List (ℕ × ℕ) → List Match
+tables_of pairs = let all = map match_of pairs in filter (λ m. not (is_bye m)) all ++ filter is_bye all
 
 abbrev pub matches_of : List Round → List Match
 matches_of rounds = flat_map (λ (r : Round). r.matches) rounds

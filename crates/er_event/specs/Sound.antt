@@ -1,7 +1,7 @@
 -- What is true of every event that the rules can bring about, but for who is seeded where in the playoff.
 use Rattle.std.specs.Prelude.{◌≡◌, ◌≢◌, ◌⊎◌, ℕ, Bool, ◌-◌, ◌<◌, ◌≤◌, ◌==◌, ◌/◌, ◌||◌, IsTrue, IsFalse, List, [], length, map, flat_map, take, All, AllPairs, Contains, IfSome, Some, slice_get}
 use Rattle.std.specs.List.{range_with_len}
-use Rattle.er_event.specs.declared.events.TheConstants.{MAX_ROUNDS}
+use Rattle.er_share.specs.declared.TheConstants.{MAX_ROUNDS}
 use Rattle.er_event.specs.declared.players.TheConstants.{MAX_PLAYERS}
 use Rattle.er_event.specs.declared.events.Phase.{Phase}
 use Rattle.er_event.specs.declared.events.Phase.TheVariants.{Enrolling, Swiss, Playoff, Finished}
@@ -45,6 +45,10 @@ pub record IsBracket (known : List ℕ) (cut : ℕ) (stages : List (List Match))
 
 abbrev pub is_lawful_cut : ℕ → Bool
 is_lawful_cut cut = cut == 0 || cut == 2 || cut == 4 || cut == 8
+
+-- how many Swiss rounds, and which cut, an event may be set up with
+abbrev pub AreLimits : ℕ → ℕ → Type 0
+AreLimits rounds cut = (1 ≤ rounds) × (rounds ≤ MAX_ROUNDS) × IsTrue (is_lawful_cut cut)
 
 -- a name, a number of Swiss rounds and a cut that an event may be set up with
 pub record IsSetUp (title : List ℕ) (limit size : ℕ) : Type 0 where

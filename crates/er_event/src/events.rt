@@ -3,7 +3,7 @@ ghost use Rattle.er_event.specs.declared.scores.Games.{Games};
 ghost use Rattle.er_event.specs.Round.{is_bye, match_at};
 ghost use Rattle.er_event.specs.Bracket.{slot_at, following, is_over};
 ghost use Rattle.er_event.specs.Score.{is_swiss_score, is_playoff_score};
-ghost use Rattle.er_event.specs.Sound.{is_lawful_cut, AllRoundsDone, IsSoundButForSeeds};
+ghost use Rattle.er_event.specs.Sound.{AreLimits, AllRoundsDone, IsSoundButForSeeds};
 ghost use Rattle.er_event.specs.Change.{created, has_name, stage_of, scored_slot, Fits, IsNextRound, IsOpening};
 ghost use Rattle.er_event.specs.declared.matches.Match.{Match};
 
@@ -20,12 +20,10 @@ use crate::names::Name;
 use crate::players::{MAX_PLAYERS, Player, has_name, player_of};
 use crate::refusals::Refusal;
 use crate::rounds::{Round, are_counted};
+use er_share::MAX_ROUNDS;
 pub use parts::{Parts, PartsFault};
 use std::alloc::{AllocError, Global};
 use std::marker::Model;
-
-/// How many Swiss rounds an event may have.
-pub const MAX_ROUNDS: u8 = 9;
 
 /// Where an event is.
 #[derive(Clone, Copy, Debug, PartialEq, Eq)]
@@ -55,7 +53,7 @@ impl Phase {
 
 /// Whether an event may be set up with so many Swiss rounds and this cut.
 pub(crate) fn is_setup(rounds: u8, cut: u8) -> bool
-    ensures { IsTrue result ↔ ((1 ≤ rounds) × (rounds ≤ MAX_ROUNDS) × IsTrue (is_lawful_cut cut)) }
+    ensures { IsTrue result ↔ AreLimits rounds cut }
 {
     (1..=MAX_ROUNDS).contains(&rounds) && matches!(cut, 0 | 2 | 4 | 8)
 }
@@ -88,8 +86,7 @@ impl Event {
     /// An event with no player, whose Swiss rounds are 1 to 9, and whose playoff is of 2, 4 or 8 players, or 0 for none. It takes no memory.
     pub fn create(alloc: Global, name: Name, rounds: u8, cut: u8) -> Result<Event, Refusal>
         ensures value { IfOk result (λ e. e ≡ created name rounds cut) }
-        ensures within { IsOk result ↔ ((1 ≤ rounds) × (rounds ≤ MAX_ROUNDS)
-            × IsTrue (cut == 0 || cut == 2 || cut == 4 || cut == 8)) }
+        ensures within { IsOk result ↔ AreLimits rounds cut }
         ensures refused { IfErr result (λ why. why ≡ Refusal.BadSetup) }
         ensures sound { IfOk result IsSoundButForSeeds }
     {

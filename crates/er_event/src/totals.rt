@@ -1,4 +1,5 @@
 ghost use Rattle.std.specs.Prelude.{◌≡◌, ◌≢◌, ℕ, List, [], ◌∷◌, ◌++◌, Some, ◌+◌, ◌<◌, ◌≤◌, ◌==◌, nat_lt, if◌then◌else◌, length, flat_map, slice_index_or, All, IfSome};
+ghost use Rattle.er_share.specs.declared.TheConstants.{MAX_ROUNDS};
 ghost use Rattle.er_event.specs.declared.rounds.Round.{Round};
 ghost use Rattle.er_event.specs.Lines.{own, lines_of_match, counted_lines, lines_from};
 ghost use Rattle.er_event.specs.Totals.{totals_of, totals_of_games, plus, totals};
@@ -7,11 +8,12 @@ ghost use Rattle.er_event.specs.Change.{scored_slot, after, Fits};
 ghost use Rattle.er_event.specs.inside.Seen.{AreSeen, AreFew, AreOver, IsSeatedOnce, HasTable, rescored};
 
 use crate::changes::Change;
-use crate::events::{Event, MAX_ROUNDS};
+use crate::events::Event;
 use crate::matches::{Match, is_complete};
 use crate::players::PlayerNo;
 use crate::rounds::Round;
 use crate::scores::{Games, Score};
+use er_share::MAX_ROUNDS;
 use std::cmp::Ordering;
 
 /// What a player's matches of the complete rounds come to.

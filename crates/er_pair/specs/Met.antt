@@ -1,15 +1,11 @@
 -- Who has met whom.
-use Rattle.std.specs.Prelude.{◌≡◌, ℕ, ◌==◌, ◌||◌, ◌&&◌, nat_lt, Bool, List, length}
+use Rattle.std.specs.Prelude.{◌≡◌, ℕ, ◌&&◌, nat_lt, Bool, List, length}
 use Rattle.std.specs.List.{list_any}
 use Rattle.er_pair.specs.declared.meetings.TheConstants.{NUMBERS}
 use Rattle.er_pair.specs.declared.rows.Row.{Row}
 use Rattle.er_event.specs.Event.{EventValue}
-use Rattle.er_event.specs.Round.{matches_of}
+use Rattle.er_event.specs.Round.{are_pair, matches_of}
 use Rattle.er_pair.specs.Rows.{has_place, row_at}
-
--- the two are these two, in either order
-abbrev pub are_pair : ℕ → ℕ → ℕ → ℕ → Bool
-are_pair a b p q = (a == p && b == q) || (a == q && b == p)
 
 -- the two have a stored match together, counted or not; 0 stands for the bye
 abbrev pub have_met : EventValue → ℕ → ℕ → Bool

@@ -1,9 +1,8 @@
 -- The earliest legal pairing of an order.
-use Rattle.std.specs.Prelude.{◌≡◌, ℕ, ◌<◌, ◌==◌, Bool, not, IsTrue, IsFalse, if◌then◌else◌, List, [], ◌∷◌, ◌++◌, length, map, filter, take, flat_map, All, Contains, IsPermutation, slice_index, slice_get, Some, None}
+use Rattle.std.specs.Prelude.{◌≡◌, ℕ, ◌<◌, ◌==◌, Bool, IsTrue, IsFalse, List, [], ◌∷◌, length, map, take, flat_map, All, Contains, IsPermutation, slice_index, slice_get, Some}
 use Rattle.std.specs.List.{list_any, range_with_len}
 use Rattle.er_event.specs.declared.matches.Match.{Match}
-use Rattle.er_event.specs.Score.{bye_score}
-use Rattle.er_event.specs.Round.{is_bye}
+use Rattle.er_event.specs.Round.{tables_of}
 
 -- two positions of the order
 abbrev pub Pair : Type 0
@@ -50,10 +49,6 @@ IsEarliest met order pairs = IsEarliestOf met order (all_positions order) pairs
 abbrev pub entries : List ℕ → List Pair → List Pair
 entries order pairs = map (λ (p : Pair). (slice_index order p.0, slice_index order p.1)) pairs
 
--- the round that a pairing of the order makes: tables in turn, and then the bye, which is won 2-0
-abbrev pub match_of_pair : List ℕ → Pair → Match
-match_of_pair order pair = let second = slice_index order pair.1 in
-    record { a = slice_index order pair.0; b = second; score = if second == 0 then Some bye_score else None }
-
+-- the round that a pairing of the order makes
 abbrev pub round_of : List ℕ → List Pair → List Match
-round_of order pairs = let all = map (match_of_pair order) pairs in filter (λ m. not (is_bye m)) all ++ filter is_bye all
+round_of order pairs = tables_of (entries order pairs)

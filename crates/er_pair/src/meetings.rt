@@ -1,5 +1,6 @@
 ghost use Rattle.std.specs.Prelude.{◌≡◌, ℕ, ◌<◌, ◌≤◌, ◌||◌, length, IsFalse, IsOk, IfOk, MatchOption};
-ghost use Rattle.er_pair.specs.Met.{are_pair, have_met, has_met};
+ghost use Rattle.er_event.specs.Round.{are_pair};
+ghost use Rattle.er_pair.specs.Met.{have_met, has_met};
 ghost use Rattle.er_pair.specs.Rows.{has_place};
 
 use crate::rows::{Row, empty_rows};

@@ -2,7 +2,8 @@
 use Rattle.std.proofs.{lemmas.Grind.common_steps, Common.{◌≡◌, ℕ, ◌+◌, ◌<◌, ◌≤◌, ◌==◌, cond, List, [], ◌++◌, length, get_or, count_by, All}}
 use Rattle.std.proofs.{Common.{length-append, arith, inl, inr}, Math.ListN.set, lemmas.Bool.cases_eq, lemmas.Bool.Decides.nat_tests}
 use Rattle.std.proofs.{lemmas.List.get_or_append_left, lemmas.List.Elements.All-push, lemmas.List.Sums.sum_by-append}
-use Rattle.er_event.specs.{declared.events.TheConstants.MAX_ROUNDS, declared.totals.Totals.Totals}
+use Rattle.er_share.specs.declared.TheConstants.{MAX_ROUNDS}
+use Rattle.er_event.specs.declared.totals.Totals.{Totals}
 use Rattle.er_rank.specs.{inside.Counting.{with_match, AreCountsOf}, Meeting.{Encounter, IsRecord, AreEncounters}, Tally.IsKnown}
 use Rattle.er_rank.proofs.OpponentLemmas.{All-here}
 

@@ -1,7 +1,8 @@
 -- The opponents in the lines of one player.
 use Rattle.std.proofs.{Common.{◌≡◌, ℕ, ◌≤◌, ◌==◌, nat_lt, List, length, map, arith}, lemmas.List.length-map, lemmas.List.Sums.length-filter}
 use Rattle.std.proofs.lemmas.List.Sums.{count_by-le-length}
-use Rattle.er_event.specs.{declared.events.TheConstants.MAX_ROUNDS, Event.EventValue, Lines.{Line, lines, own_lines}}
+use Rattle.er_share.specs.declared.TheConstants.{MAX_ROUNDS}
+use Rattle.er_event.specs.{Event.EventValue, Lines.{Line, lines, own_lines}}
 use Rattle.er_rank.specs.Standings.{opponents}
 use Rattle.er_rank.proofs.SoundLemmas.{AreWithin}
 

@@ -7,7 +7,8 @@ use Rattle.std.proofs.lemmas.List.Sums.{sum_by-cons, sum_by-append}
 use Rattle.er_event.specs.{declared.players.Player.Player, declared.matches.Match.Match, declared.rounds.Round.Round}
 use Rattle.er_event.specs.{declared.scores.Games.Games, Event.EventValue, Round.{is_counted, seats}, Score.is_swiss_score, Sound.numbers}
 use Rattle.er_event.specs.{Sound.{IsRound, IsSoundButForSeeds}, Lines.{Line, turned, lines_of_score, lines_of_match, counted_lines}}
-use Rattle.er_event.specs.{Lines.{lines_from, lines}, Totals.games_of, declared.events.TheConstants.MAX_ROUNDS}
+use Rattle.er_event.specs.{Lines.{lines_from, lines}, Totals.games_of}
+use Rattle.er_share.specs.declared.TheConstants.{MAX_ROUNDS}
 use Rattle.er_rank.specs.{Meeting.AreKnownTo, declared.lists.TheConstants.MAX_GAMES_OF_MATCH, Tally.IsKnown}
 use Rattle.er_rank.proofs.PlacingLemmas.{count_front}
 

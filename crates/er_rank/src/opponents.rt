@@ -1,5 +1,5 @@
 ghost use Rattle.std.specs.Prelude.{◌≡◌, ◌+◌, ◌<◌, ◌≤◌, ℕ, List, [], ◌∷◌, ◌++◌, IfOk, length, count_by};
-ghost use Rattle.er_event.specs.declared.events.TheConstants.{MAX_ROUNDS};
+ghost use Rattle.er_share.specs.declared.TheConstants.{MAX_ROUNDS};
 ghost use Rattle.er_event.specs.declared.totals.Totals.{Totals};
 ghost use Rattle.er_share.specs.Share.{IsShareOf, IsBase};
 ghost use Rattle.er_rank.specs.Meeting.{Encounter, encounters, IsRecord, AreEncounters};

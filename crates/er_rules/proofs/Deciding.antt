@@ -5,8 +5,9 @@ use Rattle.er_event.specs.{declared.commands.Command.TheVariants.Pair, Event.Eve
 use Rattle.er_pair.specs.{declared.pairings.PairFault.PairFault, declared.pairings.PairFault.TheVariants.{NoPairing, Budget, Memory}}
 use Rattle.er_pair.specs.{declared.pairings.TheConstants.MAX_STEPS, Fault.refusal_of, Met.have_met, Order.{seed_words, IsOrder}}
 use Rattle.er_pair.specs.{Pairing.IsLegal, Steps.NeedsMore}
-use Rattle.er_rules.specs.{Commands.{first_refusal, pair_checks}, Step.{Steps, NeedsMoreSteps, Answers}, Tables.tables_of}
-use Rattle.er_rules.proofs.Rounds.{IsPairing, tables_are}
+use Rattle.er_event.specs.Round.{tables_of}
+use Rattle.er_rules.specs.{Commands.{first_refusal, pair_checks}, Step.{Steps, NeedsMoreSteps, Answers}}
+use Rattle.er_rules.proofs.Rounds.{IsPairing}
 use Rattle.er_event.specs.declared.refusals.Refusal.TheVariants as refusal
 use Rattle.er_pair.specs.Pairing as pairing
 
@@ -24,7 +25,7 @@ module _ (e : EventValue) (round : ℕ) (seed : List ℕ) (free : first_refusal 
   none_steps none = rw free (order, ordered, (refl, none))
 
   steps : (ps : List pairing.Pair) → IsPairing (have_met e) order ps → Steps e (Pair round seed) (Ok (with_round e (tables_of ps)))
-  steps ps it = rw free (order, ordered, (it.pairs, it.earliest, ap (with_round e) (ap tables_of it.are ∙ tables_are order it.pairs)))
+  steps ps it = rw free (order, ordered, (it.pairs, it.earliest, ap (with_round e) (ap tables_of it.are)))
 
   needs_more : NeedsMoreSteps e (Pair round seed) → NeedsMore (have_met e) order MAX_STEPS
   needs_more needs = rw (one (seed_words seed) needs.1 order needs.2 ordered) at needs.3

@@ -10,7 +10,8 @@ use Rattle.er_event.specs.declared.refusals.Refusal.TheVariants.{AllRoundsPaired
 use Rattle.er_event.specs.declared.refusals.Refusal.TheVariants.{IsBye, NoSuchPlayer, AlreadyDropped, RoundsNotDone, NoCut, TooFewForCut}
 use Rattle.er_event.specs.{declared.refusals.Refusal.TheVariants.NotPlayoff, declared.matches.Match.Match, declared.scores.Games.Games}
 use Rattle.er_event.specs.{Bracket.open_match, Event.EventValue}
-use Rattle.er_rules.specs.{Commands.first_refusal, Step.{checks, with_stage_score}, Tables.tables_of}
+use Rattle.er_event.specs.Round.{tables_of}
+use Rattle.er_rules.specs.{Commands.first_refusal, Step.{checks, with_stage_score}}
 use Rattle.er_event.specs.declared.commands.Command.TheVariants.{Enrol, Start, Pair, Result, Correct, Drop, Cut, Playoff as PlayOff}
 
 abbrev games : ℕ → ℕ → ℕ → Games

@@ -16,8 +16,8 @@ use Rattle.er_event.specs.{declared.events.Phase.TheVariants.Swiss, declared.pla
 use Rattle.er_event.specs.{declared.rounds.Round.Round, Event.EventValue, Score.{is_swiss_score, bye_score}, Round.{is_bye, is_counted}}
 use Rattle.er_event.specs.{Round.{is_same_pairing, seats, matches_of}, Sound.{numbers, IsRound, IsSoundButForSeeds}, Change.IsNextRound}
 use Rattle.er_pair.specs.{Met.have_met, Order.{active_numbers, IsOrder}, Pairing.{Pair, positions, all_positions, IsEarliest, entries}}
-use Rattle.er_pair.specs.Pairing.{match_of_pair, round_of}
-use Rattle.er_rules.specs.{Commands.{active, newest_is_open}, Tables.{match_of, tables_of}}
+use Rattle.er_rules.specs.Commands.{active, newest_is_open}
+use Rattle.er_event.specs.Round.{match_of, tables_of}
 
 -- ---- the tables are the matches of the pairs, in another order
 
@@ -59,13 +59,6 @@ seats_split (m ∷ ms) =
 pairs_seats : (ps : List Pair) → flat_map seats (map match_of ps) ≡ positions ps
 pairs_seats [] = refl
 pairs_seats (p ∷ ps) = ap (λ (l : List ℕ). p.0 ∷ p.1 ∷ l) (pairs_seats ps)
-
-same_round : (order : List ℕ) (pairs : List Pair) → map match_of (entries order pairs) ≡ map (match_of_pair order) pairs
-same_round order [] = refl
-same_round order (p ∷ ps) = ap (λ (l : List Match). match_of_pair order p ∷ l) (same_round order ps)
-
-pub tables_are : (order : List ℕ) (pairs : List Pair) → tables_of (entries order pairs) ≡ round_of order pairs
-tables_are order pairs = ap (λ (all : List Match). seated all ++ byes all) (same_round order pairs)
 
 abbrev Apart : List ℕ → Type 0
 Apart = AllPairs (λ p q. p ≢ q)

@@ -12,8 +12,8 @@ use Rattle.er_event.specs.{Bracket.{slot_at, following, is_over}, Change.with_ro
 use Rattle.er_bracket.specs.Seeds.{first_stage}
 use Rattle.er_pair.specs.{Met.have_met, Order.seed_words, Pairing.entries, Laws.{StandOnce, LegalSeats}}
 use Rattle.er_rules.specs.{Commands.{Check, active, already, checks_at}, Step.{Steps, Makes, checks, scored_at}, Sound.IsSound}
-use Rattle.er_rules.specs.Tables.{tables_of}
-use Rattle.er_rules.proofs.{Rounds.{IsPairing, may_come_next, tables_are}, Seeding.{top_opens, begins}, Keeping.{is_taken, same_Ok}}
+use Rattle.er_event.specs.Round.{tables_of}
+use Rattle.er_rules.proofs.{Rounds.{IsPairing, may_come_next}, Seeding.{top_opens, begins}, Keeping.{is_taken, same_Ok}}
 use Rattle.er_rules.proofs.Keeping.{AllPass, passes, enrolling_is, swiss_is, step_keeps}
 use Rattle.er_event.specs.declared.commands.Command.TheVariants.{Enrol, Start, Pair, Result as Report, Correct, Drop, Cut}
 use Rattle.er_event.specs.declared.commands.Command.TheVariants.{Playoff as PlayOff}
@@ -55,7 +55,7 @@ module _ (keeps : ChangesKeepSound) (once : StandOnce) (seats : LegalSeats) (e n
       } in
       let distinct = once e (seed_words seed) order h ordered in
       let may = may_come_next e (seed_words seed) order ps ordered distinct two it h (swiss_is e.phase pass.0) room pass.1.1.1.0 in
-      let same = ap (λ (ms : List Match). with_round e ms) (tables_are order pairs) ∙ sym is in
+      let same = sym is in
       subst IsSoundButForSeeds same (keeps e (AddRound (tables_of ps)) h may)
   after (Report round table score) pass made =
       let m = asked (match_at e round table)

@@ -2,12 +2,11 @@
 -- check that fails, memory aside.
 --
 -- Commands has the checks of each command as a list in their order, and what the command makes of the event. Step is
--- the whole rule: taken with one event after it, or refused in one way. Tables are the matches of those who are paired.
+-- the whole rule: taken with one event after it, or refused in one way.
 -- Sound adds to an event's soundness the seeds of the standings. Fold is the event after many commands, Retry what a
 -- command meets that is sent again, and Refusing which refusals are the rules' own.
 pub mod Commands
 pub mod Refusing
-pub mod Tables
 pub mod Step
 pub mod Sound
 pub mod Fold

@@ -8,7 +8,7 @@ ghost use Rattle.er_pair.specs.Order.{seed_words, IsOrder};
 ghost use Rattle.er_rules.specs.Commands.{active, newest_is_open, first_refusal, pair_checks};
 ghost use Rattle.er_rules.specs.Refusing.{IsOfRules};
 ghost use Rattle.er_rules.specs.Step.{Answers};
-ghost use Rattle.er_rules.specs.Tables.{match_of, tables_of};
+ghost use Rattle.er_event.specs.Round.{match_of, tables_of};
 
 use er_event::{BYE, Change, Event, Items, MAX_PLAYERS, Match, Phase, Refusal, Score};
 use er_pair::{Met, first_pairing, keys, order};

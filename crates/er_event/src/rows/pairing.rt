@@ -9,16 +9,17 @@ ghost use Rattle.er_event.specs.Rows.{pairing_row, keyed_round_rows, keyed_rows_
 ghost use Rattle.er_event.specs.Round.{is_bye, numbered_from, table_of};
 ghost use Rattle.er_event.specs.Score.{is_swiss_score};
 ghost use Rattle.er_event.specs.Match.{MayStand};
-ghost use Rattle.er_event.specs.declared.events.TheConstants.{MAX_ROUNDS};
+ghost use Rattle.er_share.specs.declared.TheConstants.{MAX_ROUNDS};
 ghost use Rattle.er_event.specs.Pairings.{FitsRow, AreTables, FitRows, table_rows, is_of};
 
 use super::event::Setup;
-use crate::events::{MAX_ROUNDS, PartsFault, Phase};
+use crate::events::{PartsFault, Phase};
 use crate::items::Items;
 use crate::matches::{Match, may_stand};
 use crate::refusals::Place;
 use crate::rounds::{Round, are_counted, are_rounds};
 use crate::scores::{Games, Score};
+use er_share::MAX_ROUNDS;
 use std::alloc::{AllocError, Global};
 
 /// A row of the table `pairing`.

@@ -1,6 +1,6 @@
 -- The opponents of each player, by number.
 use Rattle.std.specs.Prelude.{ℕ, ◌+◌, ◌-◌, ◌<◌, List, length, slice_index_or}
-use Rattle.er_event.specs.declared.events.TheConstants.{MAX_ROUNDS}
+use Rattle.er_share.specs.declared.TheConstants.{MAX_ROUNDS}
 use Rattle.er_event.specs.declared.totals.Totals.{Totals}
 use Rattle.er_rank.specs.declared.opponents.Opponents.{Opponents}
 use Rattle.er_rank.specs.Meeting.{Encounter, opponents_of}

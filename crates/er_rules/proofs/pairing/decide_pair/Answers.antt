@@ -3,7 +3,8 @@ use Rattle.er_event.specs.{declared.changes.Change.TheVariants.AddRound, declare
 use Rattle.er_event.specs.{declared.matches.Match.Match, Change.{with_round, Fits}}
 use Rattle.er_pair.specs.{declared.pairings.PairFault.TheVariants.NoPairing, Fault.refusal_of, Met.{has_met, have_met}, Order.seed_words}
 use Rattle.er_pair.specs.Pairing.{IsLegal}
-use Rattle.er_rules.specs.{Step.Answers, Tables.tables_of}
+use Rattle.er_event.specs.Round.{tables_of}
+use Rattle.er_rules.specs.Step.{Answers}
 use Rattle.er_rules.proofs.{Rounds.{IsPairing, moved, may_come_next}, Deciding.{IsExact, err_is, refused_by, taken_by}}
 use Rattle.er_rules.proofs.pairing.decide_pair.Goals.{After-first_pairing}
 use Rattle.er_pair.specs.Pairing as pairing

@@ -1,6 +1,6 @@
 use Rattle.std.proofs.Common.{◌≡◌, ◌++◌, not, map, filter, take}
 use Rattle.er_event.specs.Round.{is_bye}
-use Rattle.er_rules.specs.Tables.{match_of}
+use Rattle.er_event.specs.Round.{match_of}
 use Rattle.er_rules.proofs.pairing.push_tables.Given as goal
 
 -- the matches of the pairs that were looked at

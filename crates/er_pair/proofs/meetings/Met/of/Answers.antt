@@ -1,6 +1,6 @@
 use Rattle.std.proofs.Common.{sym, arith}
 use Rattle.er_event.specs.declared.matches.Match.{Match}
-use Rattle.er_pair.specs.Met.{are_pair}
+use Rattle.er_event.specs.Round.{are_pair}
 use Rattle.er_pair.proofs.Meeting.{seats_small, met_more}
 use Rattle.er_pair.proofs.meetings.Met.of.Goals as goal
 

@@ -1,7 +1,8 @@
 use Rattle.std.proofs.Common.{◌≡◌, ◌||◌, ℕ, Bool, take}
 use Rattle.std.specs.List.{list_any}
 use Rattle.er_event.specs.{declared.matches.Match.Match, Round.matches_of}
-use Rattle.er_pair.specs.Met.{are_pair, has_met}
+use Rattle.er_event.specs.Round.{are_pair}
+use Rattle.er_pair.specs.Met.{has_met}
 use Rattle.er_pair.proofs.meetings.Met.of.Given as goal
 
 abbrev have_met : ℕ → ℕ → Match → Bool
