@@ -48,12 +48,14 @@ abbrev pub IsRowsAnswer : EventValue → Result (Vec Row Global) Refusal → Ans
 IsRowsAnswer event (Ok rows) answer = (answer ≡ Text (rows_text event rows.items)) ⊎ (answer ≡ Refused Memory)
 IsRowsAnswer event (Err why) answer = answer ≡ Refused why
 
--- What a desk answers, and where it stands then. A text of what it holds leaves it as it is. `Stood` is that its tables stood for its event, on a clean disk: on this rest the standings, which are read of them.
+-- What a desk answers, and where it stands then. A text of what it holds leaves it as it is. `Stood` is that its tables
+-- stood for its event, on a clean disk: on this rest the standings, which are read of them.
 abbrev pub DeskAnswers : Type 0 → Standing → Request → Answer → Standing → Type 0
 DeskAnswers Stood old (Submit command) answer new = (reply : Reply) × Turn old command reply new × (answer ≡ reply_answer reply)
 DeskAnswers Stood old Players answer new = ShowsEvent Refused old ShowsPlayers answer × (new ≡ old)
 DeskAnswers Stood old Standings answer new =
-    (read : Result (Vec Row Global) Refusal) × ReadsRows old read new × (Stood → IfOk read (λ rows. AreTheStandings old.event rows.items)) × IsRowsAnswer old.event read answer
+    (read : Result (Vec Row Global) Refusal) × ReadsRows old read new
+    × (Stood → IfOk read (λ rows. AreTheStandings old.event rows.items)) × IsRowsAnswer old.event read answer
 DeskAnswers Stood old (Slips round) answer new = ShowsEvent Refused old (ShowsSlips round) answer × (new ≡ old)
 DeskAnswers Stood old Bracket answer new = ShowsEvent Refused old ShowsBracket answer × (new ≡ old)
 DeskAnswers Stood old (Export kind) answer new = ShowsEvent Refused old (ShowsExport kind) answer × (new ≡ old)

@@ -5,7 +5,8 @@ use Rattle.er_cli.specs.declared.TheConstants.{USAGE}
 use Rattle.er_cli.specs.declared.complaints.TheConstants.{TRY_HELP, NO_TEXT}
 use Rattle.er_cli.specs.declared.texts.Answer.TheVariants.{Refused}
 use Rattle.er_words.specs.declared.usage.UsageFault.{UsageFault}
-use Rattle.er_words.specs.declared.usage.UsageFault.TheVariants.{UnknownSubcommand, LeadingDash, TooFew, TooMany, BadNumber, BadSeed, BadCount, BadKind}
+use Rattle.er_words.specs.declared.usage.UsageFault.TheVariants.{UnknownSubcommand, LeadingDash, TooFew, TooMany, BadNumber, BadSeed}
+use Rattle.er_words.specs.declared.usage.UsageFault.TheVariants.{BadCount, BadKind}
 use Rattle.er_cli.specs.Help.{Says, Tells, subcommand_text}
 use Rattle.er_words.specs.Usage.{HasFault}
 
@@ -14,7 +15,8 @@ what_is_wrong UnknownSubcommand = codes "is no subcommand\n"
 what_is_wrong (LeadingDash place) = codes "begins with `-`, which no word may\n"
 what_is_wrong (TooFew place) = codes "a word is missing at the end\n"
 what_is_wrong (TooMany place) = codes "is a word too many\n"
-what_is_wrong (BadNumber place most) = if most == 255 then codes "is no whole number from 0 to 255\n" else codes "is no whole number from 0 to 65535\n"
+what_is_wrong (BadNumber place most) =
+    if most == 255 then codes "is no whole number from 0 to 255\n" else codes "is no whole number from 0 to 65535\n"
 what_is_wrong (BadSeed place) = codes "is not 64 hexadecimal digits\n"
 what_is_wrong (BadCount place) = codes "is no whole number from 1 to 1000000\n"
 what_is_wrong (BadKind place) = codes "is no kind of list: players or results\n"
@@ -44,10 +46,12 @@ complaint_with words fault advice = (opened (slice_get words (place_of fault)) +
 -- a fault that is there is named, and how to go on; words that are no text come as none
 abbrev pub Complains : List (List ℕ) → List ℕ → Type 0
 Complains [] text = text ≡ NO_TEXT.now
-Complains (name ∷ words) text = (fault : UsageFault) × HasFault (name ∷ words) fault × (text ≡ complaint_with (name ∷ words) fault (advice name))
+Complains (name ∷ words) text =
+    (fault : UsageFault) × HasFault (name ∷ words) fault × (text ≡ complaint_with (name ∷ words) fault (advice name))
 
 -- What is wrong goes to the errors, or that memory is wanting. The output stays as it is.
 abbrev pub EndsAsUsage : List (List ℕ) → (out out_then err err_then : Option (List ℕ)) → ℕ → Type 0
 EndsAsUsage words out out_then err err_then status =
-    ((text : List ℕ) × Complains words text × Says text USAGE (record { meant = err; other = out }) (record { meant = err_then; other = out_then }) status)
+    ((text : List ℕ) × Complains words text
+    × Says text USAGE (record { meant = err; other = out }) (record { meant = err_then; other = out_then }) status)
     ⊎ Tells (Refused Memory) out out_then err err_then status

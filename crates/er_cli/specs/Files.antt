@@ -39,7 +39,10 @@ MakesInFile answer = (reply : Reply) × IsMade reply × (answer ≡ reply_answer
 
 -- What is checked of an event that is to be made comes before any file is touched.
 abbrev pub InitAnswers : List ℕ → ℕ → ℕ → Answer → Type 0
-InitAnswers name rounds cut answer = MatchOption (first_refusal (init_checks false name rounds cut)) (MakesInFile answer ⊎ (answer ≡ Refused Memory)) (λ why. (answer ≡ Refused why) ⊎ (answer ≡ Refused Memory))
+InitAnswers name rounds cut answer =
+    MatchOption (first_refusal (init_checks false name rounds cut))
+    (MakesInFile answer ⊎ (answer ≡ Refused Memory))
+    (λ why. (answer ≡ Refused why) ⊎ (answer ≡ Refused Memory))
 
 module _ (out out_then err err_then : Option (List ℕ)) (status : ℕ) where
   -- clients were served, or the port can't be had
@@ -59,14 +62,17 @@ pub record IsOpened {S : Type 0} (g : Ghosts S) (desk : Desk S g) : Type 0 where
 -- what is done with an event that was opened, by its desk
 abbrev pub Does : {S : Type 0} (g : Ghosts S) → Desk S g → Task → (out out_then err err_then : Option (List ℕ)) → ℕ → Type 0
 Does {S} g desk (Ask request) out out_then err err_then status =
-    (answer : Answer) × (last : Desk S g) × DeskAnswers (HasCleanDisk (state g last) × ShowsOwn g desk) (standing desk) request answer (standing last)
+    (answer : Answer) × (last : Desk S g)
+    × DeskAnswers (HasCleanDisk (state g last) × ShowsOwn g desk) (standing desk) request answer (standing last)
     × Tells answer out out_then err err_then status
-Does g desk (Import list) out out_then err err_then status = (last : Standing) × Imports (standing desk) last out out_then err err_then status
+Does g desk (Import list) out out_then err err_then status =
+    (last : Standing) × Imports (standing desk) last out out_then err err_then status
 Does g desk (Serve port count) out out_then err err_then status = Serves out out_then err err_then status count
 
 -- What a command line does to the output and the errors, and its status. An event is opened by a desk over such a store.
 abbrev pub EndsLine : {S : Type 0} → Ghosts S → Action → (out out_then err err_then : Option (List ℕ)) → ℕ → Type 0
-EndsLine g (Init name rounds cut) out out_then err err_then status = (answer : Answer) × InitAnswers name rounds cut answer × Tells answer out out_then err err_then status
+EndsLine g (Init name rounds cut) out out_then err err_then status =
+    (answer : Answer) × InitAnswers name rounds cut answer × Tells answer out out_then err err_then status
 EndsLine {S} g (Open task) out out_then err err_then status =
     ((answer : Answer) × IsNotOpened answer × Tells answer out out_then err err_then status)
     ⊎ ((desk : Desk S g) × IsOpened g desk × Does g desk task out out_then err err_then status)

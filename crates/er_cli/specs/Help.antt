@@ -8,7 +8,8 @@ use Rattle.er_cli.specs.Texts.{answer_text, AppendsPart}
 use Rattle.er_cli.specs.declared.texts.Answer.{Answer}
 use Rattle.er_cli.specs.declared.texts.Answer.TheVariants.{Accepted, Text, Refused, Usage}
 use Rattle.er_cli.specs.declared.TheConstants.{DONE, REFUSED, USAGE, DEVICE, MEMORY}
-use Rattle.er_cli.specs.declared.help.TheConstants.{VERSION, HELP, INIT, ENROL, IMPORT, START, PAIR, RESULT, CORRECT, DROP, CUT, PLAYOFF, STANDINGS, PLAYERS, SLIPS, BRACKET, EXPORT, SERVE}
+use Rattle.er_cli.specs.declared.help.TheConstants.{VERSION, HELP, INIT, ENROL, IMPORT, START, PAIR, RESULT, CORRECT, DROP, CUT, PLAYOFF}
+use Rattle.er_cli.specs.declared.help.TheConstants.{STANDINGS, PLAYERS, SLIPS, BRACKET, EXPORT, SERVE}
 
 abbrev pub is_help : List ℕ → Bool
 is_help word = bytes_eq word (codes "--help") || bytes_eq word (codes "-h")
@@ -46,7 +47,10 @@ subcommand_text = text_in (
 
 -- the text of the subcommand, or the version, behind the name of one
 abbrev pub text_behind : List ℕ → List ℕ → Option (List ℕ)
-text_behind name word = option_and_then (λ text. if is_help word then Some text else (if is_version word then Some VERSION.now else None)) (subcommand_text name)
+text_behind name word =
+    option_and_then
+    (λ text. if is_help word then Some text else (if is_version word then Some VERSION.now else None))
+    (subcommand_text name)
 
 -- the text that the words ask for: an option alone, or behind a subcommand
 abbrev pub text_for : List (List ℕ) → Option (List ℕ)
@@ -80,9 +84,13 @@ streams (Refused why) out err = record { meant = err; other = out }
 streams Usage out err = record { meant = err; other = out }
 streams answer out err = record { meant = out; other = err }
 
--- The text goes to the one stream, and the other stays. Where a write fails, a beginning of the text is there, and the status is the device's.
+-- The text goes to the one stream, and the other stays. Where a write fails, a beginning of the text is there, and the
+-- status is the device's.
 abbrev pub Says : List ℕ → ℕ → (old new : Streams) → ℕ → Type 0
-Says text due old new status = (((status ≡ due) × Appends old.meant new.meant text) ⊎ ((status ≡ DEVICE) × AppendsPart old.meant new.meant text)) × (new.other ≡ old.other)
+Says text due old new status =
+    (((status ≡ due) × Appends old.meant new.meant text) ⊎ ((status ≡ DEVICE) × AppendsPart old.meant new.meant text))
+    × (new.other ≡ old.other)
 
 abbrev pub Tells : Answer → (out out_then err err_then : Option (List ℕ)) → ℕ → Type 0
-Tells answer out out_then err err_then status = Says (answer_text answer) (status_of answer) (streams answer out err) (streams answer out_then err_then) status
+Tells answer out out_then err err_then status =
+    Says (answer_text answer) (status_of answer) (streams answer out err) (streams answer out_then err_then) status

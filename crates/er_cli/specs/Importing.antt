@@ -1,5 +1,6 @@
 -- What enrolling the names of a list does to the desk, and what is printed of it.
-use Rattle.std.specs.Prelude.{◌≡◌, ◌⊎◌, ◌≤◌, ℕ, Bool, true, false, ◌≢◌, IsTrue, IsFalse, List, [], ◌∷◌, ◌++◌, length, map, take, Option, Some, None, IfSome, MatchOption, Ok, Err, is_ok, not, codes}
+use Rattle.std.specs.Prelude.{◌≡◌, ◌⊎◌, ◌≤◌, ℕ, Bool, true, false, ◌≢◌, IsTrue, IsFalse, List, [], ◌∷◌, ◌++◌, length, map, take, Option}
+use Rattle.std.specs.Prelude.{Some, None, IfSome, MatchOption, Ok, Err, is_ok, not, codes}
 use Rattle.std.specs.List.{filter, list_any}
 use Rattle.std.specs.Fmt.{decimal}
 use Rattle.std.specs.Io.KnownBytes.{Appends}
@@ -90,6 +91,8 @@ module _ (old new : Standing) (out out_then err err_then : Option (List ℕ)) (s
   -- The list can't be read, or memory is wanting for it, or it is taken. Nobody is enrolled but by the last.
   abbrev pub Imports : Type 0
   Imports =
-      ((new ≡ old) × Says (codes "cannot read\n") DEVICE (record { meant = err; other = out }) (record { meant = err_then; other = out_then }) status)
+      ((new ≡ old)
+      × Says (codes "cannot read\n") DEVICE
+      (record { meant = err; other = out }) (record { meant = err_then; other = out_then }) status)
       ⊎ ((new ≡ old) × Tells (Refused Memory) out out_then err err_then status)
       ⊎ ((list : List ℕ) × (length list ≤ MAX_LIST_BYTES) × TakesList list)

@@ -1,5 +1,6 @@
 -- What the lines of a script are answered.
-use Rattle.std.specs.Prelude.{◌≡◌, ◌⊎◌, ⊤, ℕ, false, IsFalse, IfSome, List, [], ◌∷◌, take, flat_map, Option, Some, None, MatchOption, option_map, is_some}
+use Rattle.std.specs.Prelude.{◌≡◌, ◌⊎◌, ⊤, ℕ, false, IsFalse, IfSome, List, [], ◌∷◌, take, flat_map, Option, Some, None, MatchOption}
+use Rattle.std.specs.Prelude.{option_map, is_some}
 use Rattle.std.specs.Io.KnownBytes.{Appends}
 use Rattle.sqlite_trees.specs.declared.store.Store.{Ghosts}
 use Rattle.sqlite_trees.specs.declared.memory.MemStore.{MemStore}
@@ -31,10 +32,13 @@ CreatesEvent old name rounds cut answer new =
     ((answer ≡ Accepted (record { serial = 0 })) × (new ≡ Some (record { event = created name rounds cut; serial = 0; stopped = false })))
     ⊎ ((why : Refusal) × IsFault why × (answer ≡ Refused why) × (new ≡ old))
 
--- What an action is answered, and where the desk stands then. The tables in memory stand for its event. All but `init` want an event. A script imports no list, and serves no clients.
+-- What an action is answered, and where the desk stands then. The tables in memory stand for its event. All but `init`
+-- want an event. A script imports no list, and serves no clients.
 abbrev pub Acts : Option Standing → Action → Answer → Option Standing → Type 0
 Acts old (Init name rounds cut) answer new =
-    MatchOption (first_refusal (init_checks (is_some old) name rounds cut)) (CreatesEvent old name rounds cut answer new) (λ why. ((answer ≡ Refused why) ⊎ (answer ≡ Refused Memory)) × (new ≡ old))
+    MatchOption (first_refusal (init_checks (is_some old) name rounds cut))
+    (CreatesEvent old name rounds cut answer new)
+    (λ why. ((answer ≡ Refused why) ⊎ (answer ≡ Refused Memory)) × (new ≡ old))
 Acts old (Open (Import list)) answer new = (answer ≡ Usage) × (new ≡ old)
 Acts None (Open (Ask request)) answer new = (answer ≡ Refused NoEvent) × (new ≡ None)
 Acts (Some old) (Open (Ask request)) answer new = (next : Standing) × DeskAnswers ⊤ old request answer next × (new ≡ Some next)
@@ -48,7 +52,8 @@ LineAnswers old (Some action) answer new = Acts old action answer new ⊎ ((answ
 -- the answers to these lines, in order
 abbrev pub RunsLines : Option Standing → List (List ℕ) → List Answer → Option Standing → Type 0
 RunsLines old [] [] new = new ≡ old
-RunsLines old (line ∷ lines) (answer ∷ answers) new = (next : Option Standing) × LineAnswers old (script_action line) answer next × RunsLines next lines answers new
+RunsLines old (line ∷ lines) (answer ∷ answers) new =
+    (next : Option Standing) × LineAnswers old (script_action line) answer next × RunsLines next lines answers new
 RunsLines old [] (answer ∷ answers) new = ⊥
 RunsLines old (line ∷ lines) [] new = ⊥
 

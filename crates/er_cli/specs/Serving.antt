@@ -38,4 +38,6 @@ served count = codes "served " ++ (decimal count ++ (10 ∷ []))
 -- the port that is listened at, and at the end how many clients were served, or a beginning of this
 abbrev pub PrintsServed : ℕ → (before after : Option (List ℕ)) → ℕ → Type 0
 PrintsServed count before after status =
-    (port : ℕ) × (port ≤ 65535) × (((status ≡ DONE) × Appends before after (listening port ++ served count)) ⊎ ((status ≡ DEVICE) × AppendsPart before after (listening port ++ served count)))
+    (port : ℕ) × (port ≤ 65535)
+    × (((status ≡ DONE) × Appends before after (listening port ++ served count))
+    ⊎ ((status ≡ DEVICE) × AppendsPart before after (listening port ++ served count)))

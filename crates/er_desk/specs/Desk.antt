@@ -46,7 +46,9 @@ standing desk = record { event = desk.event; serial = desk.serial; stopped = sto
 
 -- the event is shown, where memory serves and no fault of the store is behind
 abbrev pub ShowsEvent : {A : Type 0} → (Refusal → A) → Standing → (EventValue → A → Type 0) → A → Type 0
-ShowsEvent refused desk Shows answer = (IsFalse desk.stopped × (Shows desk.event answer ⊎ (answer ≡ refused Memory))) ⊎ (IsTrue desk.stopped × (answer ≡ refused NeedsReopen))
+ShowsEvent refused desk Shows answer =
+    (IsFalse desk.stopped × (Shows desk.event answer ⊎ (answer ≡ refused Memory)))
+    ⊎ (IsTrue desk.stopped × (answer ≡ refused NeedsReopen))
 
 -- a crash leaves the event after the command, whole
 abbrev pub IsStoredAfter : EventValue → ℕ → Command → Trees → Type 0
@@ -99,7 +101,8 @@ module _ (old : Standing) (command : Command) (reply : Reply) (new : Standing) w
   abbrev pub Turn : Type 0
   Turn = Accepts ⊎ Declines ⊎ Stops ⊎ Waits
 
--- Reading what the tables keep. What is read leaves the desk as it is, and so does one refusal that is no fault of the store. A fault of the store stops it, and a desk that was stopped asks for reopening.
+-- Reading what the tables keep. What is read leaves the desk as it is, and so does one refusal that is no fault of the
+-- store. A fault of the store stops it, and a desk that was stopped asks for reopening.
 abbrev pub Reads : {A : Type 0} → Refusal → Standing → Result A Refusal → Standing → Type 0
 Reads passing old result new =
     (IsFalse old.stopped × (new ≡ old) × (IsOk result ⊎ (result ≡ Err passing)))

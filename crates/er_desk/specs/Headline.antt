@@ -2,7 +2,8 @@
 -- commands makes, one that holds every acknowledged command. The standings are those that the rules define on it, and no stored round of it
 -- repeats an opponent or a bye.
 --
--- What it supposes: the creation of the event, in an empty file, was acknowledged; nobody else writes the file, and the device returns what was
+-- What it supposes: the creation of the event, in an empty file, was acknowledged; nobody else writes the file, and the
+-- device returns what was
 -- written and keeps the storage crate's model of crashes (`HasCleanDisk`, in each `Leaves`); an opening begins on what a crash may leave.
 use Rattle.std.specs.Prelude.{◌≡◌, ◌⊎◌, ℕ, List, [], ◌∷◌, ◌++◌, AllPairs, IsFalse}
 use Rattle.sqlite_trees.specs.declared.store.Store.{Ghosts}
@@ -60,7 +61,8 @@ AreTheStandings event rows = AreStandings event rows × OneStandings event rows
 
 -- ---- many sessions
 
--- The event at the end of a history is sound, repeats no opponent and no bye, and is the fold of all accepted commands, or of all but the last
+-- The event at the end of a history is sound, repeats no opponent and no bye, and is the fold of all accepted commands,
+-- or of all but the last
 -- session's doubt. Its serial is their number.
 pub record IsEndOf (new : Point) (ends : List Ended) (last : Point) : Type 0 where
   pub sound : IsSound last.event

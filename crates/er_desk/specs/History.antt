@@ -22,7 +22,9 @@ listed (Some command) = command ∷ []
 
 -- The commands of a session that the next one found. The serial tells whether the doubt is among them.
 abbrev pub found_of : ℕ → Ended → List Command
-found_of serial ended = ended.session.kept ++ (if ended.last.serial == serial + length ended.session.kept then [] else listed ended.session.doubt)
+found_of serial ended =
+    ended.session.kept
+    ++ (if ended.last.serial == serial + length ended.session.kept then [] else listed ended.session.doubt)
 
 -- all accepted commands
 abbrev pub accepted : ℕ → List Ended → List Command

@@ -1,5 +1,6 @@
 -- A list of commands, and the session that it makes.
-use Rattle.std.specs.Prelude.{◌≡◌, ◌⊎◌, ℕ, ◌+◌, ◌<◌, Bool, if◌then◌else◌, IsTrue, List, [], ◌∷◌, length, take, slice_get, Option, Some, None, Ok, Err, IfSome, MatchOption}
+use Rattle.std.specs.Prelude.{◌≡◌, ◌⊎◌, ℕ, ◌+◌, ◌<◌, Bool, if◌then◌else◌, IsTrue, List, [], ◌∷◌, length, take, slice_get, Option, Some}
+use Rattle.std.specs.Prelude.{None, Ok, Err, IfSome, MatchOption}
 use Rattle.sqlite.specs.Tree.{Trees}
 use Rattle.er_event.specs.declared.commands.Command.{Command}
 use Rattle.er_event.specs.declared.refusals.Cause.{Cause}
@@ -33,17 +34,20 @@ FailsAt replies k =
     ((why : Refusal) × IsFault why × (slice_get replies k ≡ Some (Err why)))
     × ((later : ℕ) (reply : Reply) → k < later → slice_get replies later ≡ Some reply → reply ≡ Err NeedsReopen)
 
--- The run in plain words. Each reply is lawful at the fold of the commands that were acknowledged before it, or says that the file wants to be opened anew.
+-- The run in plain words. Each reply is lawful at the fold of the commands that were acknowledged before it, or says
+-- that the file wants to be opened anew.
 pub record IsRun (old : Standing) (commands : List Command) (replies : List Reply) (new : Standing) : Type 0 where
   pub all : length replies ≡ length commands
   pub each : (k : ℕ) (command : Command) (reply : Reply) → slice_get commands k ≡ Some command → slice_get replies k ≡ Some reply
       → (mid : EventValue) × Folds old.event (acknowledged (take k commands) (take k replies)) mid
-      × (IsLawful mid (old.serial + length (acknowledged (take k commands) (take k replies))) command reply ⊎ ((reply ≡ Err NeedsReopen) × IsTrue new.stopped))
+      × (IsLawful mid (old.serial + length (acknowledged (take k commands) (take k replies))) command reply
+      ⊎ ((reply ≡ Err NeedsReopen) × IsTrue new.stopped))
   pub event_is : Folds old.event (acknowledged commands replies) new.event
   pub serial_is : new.serial ≡ old.serial + length (acknowledged commands replies)
   -- the desk is stopped where it was before, or by a fault of the store in one of the commands
   pub stopped_by : IsTrue new.stopped → IsTrue old.stopped ⊎ ((k : ℕ) × FailsAt replies k)
-  pub was_stopped : IsTrue old.stopped → IsTrue new.stopped × ((k : ℕ) (reply : Reply) → slice_get replies k ≡ Some reply → reply ≡ Err NeedsReopen)
+  pub was_stopped : IsTrue old.stopped
+      → IsTrue new.stopped × ((k : ℕ) (reply : Reply) → slice_get replies k ≡ Some reply → reply ≡ Err NeedsReopen)
   pub stops : (k : ℕ) (cause : Cause) → slice_get replies k ≡ Some (Err (Store cause)) → IsTrue new.stopped
 
 -- ---- sessions
@@ -72,7 +76,10 @@ last_tried (command ∷ commands) [] = None
 
 -- the session of a run: where the store has failed, it failed in the last command that was tried
 abbrev pub session_of : List Command → List Reply → Bool → Session
-session_of commands replies stopped = record { kept = acknowledged commands replies; doubt = if stopped then last_tried commands replies else None }
+session_of commands replies stopped = record {
+  kept = acknowledged commands replies;
+  doubt = if stopped then last_tried commands replies else None;
+}
 
 -- the session ends after what was acknowledged
 pub record EndsAfterKept (first : Point) (session : Session) (last : Point) : Type 0 where

@@ -1,5 +1,6 @@
 -- Single elimination: who goes on, and when a next stage stands.
-use Rattle.std.specs.Prelude.{◌≡◌, ℕ, ◌-◌, ◌<◌, ◌==◌, ◌&&◌, ◌||◌, nat_lt, Bool, if◌then◌else◌, List, [], ◌∷◌, length, slice_get, option_and_then, option_map, Option, Some, None, IsTrue, IsSome, MatchOption}
+use Rattle.std.specs.Prelude.{◌≡◌, ℕ, ◌-◌, ◌<◌, ◌==◌, ◌&&◌, ◌||◌, nat_lt, Bool, if◌then◌else◌, List, [], ◌∷◌, length, slice_get}
+use Rattle.std.specs.Prelude.{option_and_then, option_map, Option, Some, None, IsTrue, IsSome, MatchOption}
 use Rattle.er_event.specs.declared.scores.Games.{Games}
 use Rattle.er_event.specs.declared.events.Phase.{Phase}
 use Rattle.er_event.specs.declared.events.Phase.TheVariants.{Finished}
@@ -62,7 +63,9 @@ champion event = champion_in event.phase event.bracket.stages
 
 -- the match of a slot of a stage, both numbered from 1
 abbrev pub slot_in : List (List Match) → ℕ → ℕ → Option Match
-slot_in stages stage slot = if stage == 0 || slot == 0 then None else option_and_then (λ (matches : List Match). slice_get matches (slot - 1)) (slice_get stages (stage - 1))
+slot_in stages stage slot =
+    if stage == 0 || slot == 0 then None
+    else option_and_then (λ (matches : List Match). slice_get matches (slot - 1)) (slice_get stages (stage - 1))
 
 abbrev pub slot_at : EventValue → ℕ → ℕ → Option Match
 slot_at event stage slot = slot_in event.bracket.stages stage slot

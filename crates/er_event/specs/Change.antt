@@ -1,9 +1,11 @@
 -- What a change does to an event, and when it fits.
-use Rattle.std.specs.Prelude.{◌≡◌, ◌≢◌, ◌↔◌, ℕ, ◌+◌, ◌-◌, ◌/◌, ◌<◌, ◌==◌, Bool, true, false, IsTrue, IsFalse, if◌then◌else◌, List, [], ◌∷◌, ◌++◌, length, map, flat_map, slice_set, slice_index_or, Option, Some, None, All, AllPairs, Contains, IfSome}
+use Rattle.std.specs.Prelude.{◌≡◌, ◌≢◌, ◌↔◌, ℕ, ◌+◌, ◌-◌, ◌/◌, ◌<◌, ◌==◌, Bool, true, false, IsTrue, IsFalse, if◌then◌else◌, List, [], ◌∷◌}
+use Rattle.std.specs.Prelude.{◌++◌, length, map, flat_map, slice_set, slice_index_or, Option, Some, None, All, AllPairs, Contains, IfSome}
 use Rattle.std.specs.List.{list_any}
 use Rattle.std.specs.Str.{bytes_eq}
 use Rattle.er_event.specs.declared.changes.Change.{Change}
-use Rattle.er_event.specs.declared.changes.Change.TheVariants.{AddPlayer, SetDropped, SetPhase, AddRound, SetScore, AddBracket, SetBracketScore}
+use Rattle.er_event.specs.declared.changes.Change.TheVariants.{AddPlayer, SetDropped, SetPhase, AddRound, SetScore, AddBracket}
+use Rattle.er_event.specs.declared.changes.Change.TheVariants.{SetBracketScore}
 use Rattle.er_event.specs.declared.events.Phase.{Phase}
 use Rattle.er_event.specs.declared.events.Phase.TheVariants.{Enrolling, Swiss, Playoff, Finished}
 use Rattle.er_event.specs.declared.players.Player.{Player}
@@ -18,7 +20,15 @@ use Rattle.er_event.specs.Sound.{numbers, IsRound, AllRoundsDone, IsSoundButForS
 
 -- an event as it is set up
 abbrev pub created : List ℕ → ℕ → ℕ → EventValue
-created name rounds cut = record { name = name; rounds = rounds; cut = cut; phase = Enrolling; players = []; stored = []; bracket = record { stages = [] } }
+created name rounds cut = record {
+  name = name;
+  rounds = rounds;
+  cut = cut;
+  phase = Enrolling;
+  players = [];
+  stored = [];
+  bracket = record { stages = [] };
+}
 
 abbrev pub has_name : List Player → List ℕ → Bool
 has_name players name = list_any (λ (p : Player). bytes_eq p.name name) players
@@ -55,7 +65,10 @@ score_table table score numbered = if is_at table numbered then scored score num
 abbrev pub with_score : EventValue → ℕ → ℕ → Games → EventValue
 with_score event round table score =
     let r = slice_index_or event.stored (round - 1) (record { matches = [] }) in
-    record event { stored = slice_set event.stored (round - 1) (record { matches = map (score_table table score) (numbered_from 1 r.matches) }) }
+    record event {
+      stored = slice_set event.stored (round - 1)
+          (record { matches = map (score_table table score) (numbered_from 1 r.matches) });
+    }
 
 -- one more stage of the playoff
 abbrev pub with_stage : EventValue → List Match → EventValue
@@ -73,7 +86,9 @@ stage_of stages stage = slice_index_or stages (stage - 1) []
 
 -- the match of this slot of this stage has the score, and all else is as it was
 abbrev pub with_slot_score : EventValue → ℕ → ℕ → Games → EventValue
-with_slot_score e stage slot score = record e { bracket = record { stages = slice_set e.bracket.stages (stage - 1) (scored_slot (stage_of e.bracket.stages stage) slot score) } }
+with_slot_score e stage slot score = record e {
+  bracket = record { stages = slice_set e.bracket.stages (stage - 1) (scored_slot (stage_of e.bracket.stages stage) slot score) };
+}
 
 abbrev pub one_more : Option (List Match) → List (List Match)
 one_more None = []
@@ -84,7 +99,10 @@ scored_stages stages stage slot score next = slice_set stages (stage - 1) (score
 
 -- the match of this slot of this stage has the score, the next stage, if there is one, stands behind, and the playoff may be over
 abbrev pub with_bracket_score : EventValue → ℕ → ℕ → Games → Option (List Match) → Bool → EventValue
-with_bracket_score e stage slot score next finished = record e { phase = if finished then Finished else e.phase; bracket = record { stages = scored_stages e.bracket.stages stage slot score next } }
+with_bracket_score e stage slot score next finished = record e {
+  phase = if finished then Finished else e.phase;
+  bracket = record { stages = scored_stages e.bracket.stages stage slot score next };
+}
 
 -- the event after the change
 abbrev pub after : EventValue → Change → EventValue

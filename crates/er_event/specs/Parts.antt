@@ -11,7 +11,12 @@ use Rattle.er_event.specs.Sound.{numbers, IsSetUp, ArePlayers, AreRounds, AreSta
 
 -- the rows of an event with this serial, each table in the order of its key
 abbrev pub parts_of : EventValue → ℕ → Parts
-parts_of e serial = record { event = event_row 1 e serial ∷ []; players = player_rows e; pairings = keyed_pairing_rows e; bracket = bracket_rows e }
+parts_of e serial = record {
+  event = event_row 1 e serial ∷ [];
+  players = player_rows e;
+  pairings = keyed_pairing_rows e;
+  bracket = bracket_rows e;
+}
 
 -- the rows are those of the event, with some serial
 pub record IsOf (parts : Parts) (e : EventValue) : Type 0 where

@@ -20,7 +20,8 @@ recounted_in matches table score =
 -- none while the round stays open
 abbrev pub recounted : EventValue → Change → List Match
 recounted event (AddRound matches) = if is_counted matches then matches else []
-recounted event (SetScore round table score) = recounted_in (slice_index_or event.stored (round - 1) (record { matches = [] })).matches table score
+recounted event (SetScore round table score) =
+    recounted_in (slice_index_or event.stored (round - 1) (record { matches = [] })).matches table score
 recounted event _ = []
 
 abbrev pub IsAbsent : ℕ → List Match → Type 0

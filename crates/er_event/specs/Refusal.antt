@@ -1,7 +1,11 @@
 -- The number and the name of each refusal, in one table.
 use Rattle.std.specs.Prelude.{ℕ, List, codes}
 use Rattle.er_event.specs.declared.refusals.Refusal.{Refusal}
-use Rattle.er_event.specs.declared.refusals.Refusal.TheVariants.{BadName, NameTaken, PlayersFull, NotEnrolling, TooFewPlayers, NotSwiss, WrongRound, RoundOpen, AllRoundsPaired, NoPairing, Budget, NoSuchMatch, BadScore, AlreadyReported, NotReported, IsBye, NoSuchPlayer, AlreadyDropped, RoundsNotDone, NoCut, TooFewForCut, NotPlayoff, SerialFull, Memory, Store, NeedsReopen, NoEvent, EventExists, Damaged, BadSetup}
+use Rattle.er_event.specs.declared.refusals.Refusal.TheVariants.{BadName, NameTaken, PlayersFull, NotEnrolling, TooFewPlayers, NotSwiss}
+use Rattle.er_event.specs.declared.refusals.Refusal.TheVariants.{WrongRound, RoundOpen, AllRoundsPaired, NoPairing, Budget, NoSuchMatch}
+use Rattle.er_event.specs.declared.refusals.Refusal.TheVariants.{BadScore, AlreadyReported, NotReported, IsBye, NoSuchPlayer}
+use Rattle.er_event.specs.declared.refusals.Refusal.TheVariants.{AlreadyDropped, RoundsNotDone, NoCut, TooFewForCut, NotPlayoff, SerialFull}
+use Rattle.er_event.specs.declared.refusals.Refusal.TheVariants.{Memory, Store, NeedsReopen, NoEvent, EventExists, Damaged, BadSetup}
 
 abbrev pub entry_of : Refusal → ℕ × List ℕ
 entry_of BadName = (1, codes "BadName")

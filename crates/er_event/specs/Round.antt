@@ -1,5 +1,6 @@
 -- Stored matches, the matches of a round that is paired, and which rounds are complete.
-use Rattle.std.specs.Prelude.{ℕ, ◌+◌, ◌-◌, ◌==◌, ◌&&◌, ◌||◌, not, Bool, if◌then◌else◌, List, [], ◌∷◌, ◌++◌, map, filter, flat_map, find, slice_get}
+use Rattle.std.specs.Prelude.{ℕ, ◌+◌, ◌-◌, ◌==◌, ◌&&◌, ◌||◌, not, Bool, if◌then◌else◌, List, [], ◌∷◌, ◌++◌, map, filter, flat_map, find}
+use Rattle.std.specs.Prelude.{slice_get}
 use Rattle.std.specs.Prelude.{Option, Some, None, is_some, option_map, option_and_then}
 use Rattle.std.specs.List.{list_all}
 use Rattle.er_event.specs.declared.matches.Match.{Match}
@@ -53,4 +54,6 @@ abbrev pub match_in : List Match → ℕ → Option Match
 match_in matches table = option_map (λ (found : ℕ × Match). found.1) (find (is_at table) (numbered_from 1 matches))
 
 abbrev pub match_at : EventValue → ℕ → ℕ → Option Match
-match_at event round table = if round == 0 then None else option_and_then (λ (r : Round). match_in r.matches table) (slice_get event.stored (round - 1))
+match_at event round table =
+    if round == 0 then None
+    else option_and_then (λ (r : Round). match_in r.matches table) (slice_get event.stored (round - 1))

@@ -1,5 +1,6 @@
 -- The rows of the five tables that an event has.
-use Rattle.std.specs.Prelude.{ℕ, ℤ, pos, ◌+◌, min, max, nat_lt, Bool, not, if◌then◌else◌, List, [], ◌∷◌, ◌++◌, map, filter, Option, Some, None, is_some}
+use Rattle.std.specs.Prelude.{ℕ, ℤ, pos, ◌+◌, min, max, nat_lt, Bool, not, if◌then◌else◌, List, [], ◌∷◌, ◌++◌, map, filter, Option, Some}
+use Rattle.std.specs.Prelude.{None, is_some}
 use Rattle.er_event.specs.declared.events.Phase.{Phase}
 use Rattle.er_event.specs.declared.events.Phase.TheVariants.{Enrolling, Swiss, Playoff, Finished}
 use Rattle.er_event.specs.declared.players.Player.{Player}
@@ -27,7 +28,15 @@ phase_code Finished = 3
 
 -- in tables of this version
 abbrev pub event_row : ℕ → EventValue → ℕ → EventRow
-event_row version e serial = record { id = pos 1; version = pos version; serial = pos serial; name = e.name; rounds = pos e.rounds; cut = pos e.cut; phase = pos (phase_code e.phase) }
+event_row version e serial = record {
+  id = pos 1;
+  version = pos version;
+  serial = pos serial;
+  name = e.name;
+  rounds = pos e.rounds;
+  cut = pos e.cut;
+  phase = pos (phase_code e.phase);
+}
 
 abbrev pub player_row : Player → PlayerRow
 player_row p = record { no = pos p.no; name = p.name; dropped = flag p.dropped }
@@ -107,7 +116,13 @@ abbrev pub bracket_rows : EventValue → List BracketRow
 bracket_rows e = bracket_rows_from 1 e.bracket.stages
 
 abbrev pub tally_row : ℕ → Totals → TallyRow
-tally_row number t = record { no = pos number; points = pos t.points; rounds = pos t.rounds; gamepoints = pos t.game_points; games = pos t.games }
+tally_row number t = record {
+  no = pos number;
+  points = pos t.points;
+  rounds = pos t.rounds;
+  gamepoints = pos t.game_points;
+  games = pos t.games;
+}
 
 -- of these players, by what their matches come to
 abbrev pub tally_rows_by : (ℕ → Totals) → List Player → List TallyRow

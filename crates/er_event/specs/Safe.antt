@@ -2,7 +2,8 @@
 use Rattle.std.specs.Prelude.{◌≡◌, ◌≢◌, ◌<◌, ◌≤◌, IsTrue, IsFalse, length, None, Some}
 use Rattle.er_event.specs.declared.players.TheConstants.{MAX_PLAYERS}
 use Rattle.er_event.specs.declared.changes.Change.{Change}
-use Rattle.er_event.specs.declared.changes.Change.TheVariants.{AddPlayer, SetDropped, SetPhase, AddRound, SetScore, AddBracket, SetBracketScore}
+use Rattle.er_event.specs.declared.changes.Change.TheVariants.{AddPlayer, SetDropped, SetPhase, AddRound, SetScore, AddBracket}
+use Rattle.er_event.specs.declared.changes.Change.TheVariants.{SetBracketScore}
 use Rattle.er_event.specs.declared.events.Phase.TheVariants.{Enrolling, Swiss}
 use Rattle.er_event.specs.declared.matches.Match.{Match}
 use Rattle.er_event.specs.Event.{EventValue}

@@ -23,7 +23,13 @@ abbrev pub second_of : EventValue → ℕ → Option (ℕ × List ℕ)
 second_of event number = if number == 0 then None else Some (side_of event number)
 
 abbrev pub slip_row : EventValue → ℕ → ℕ → Match → SlipRow
-slip_row event round table m = record { round = round; table = table; first = side_of event m.a; second = second_of event m.b; score = m.score }
+slip_row event round table m = record {
+  round = round;
+  table = table;
+  first = side_of event m.a;
+  second = second_of event m.b;
+  score = m.score;
+}
 
 -- none where no such match is stored
 abbrev pub slip_of : EventValue → ℕ → ℕ → Option SlipRow

@@ -1,5 +1,6 @@
 -- What is true of every event that the rules can bring about, but for who is seeded where in the playoff.
-use Rattle.std.specs.Prelude.{◌≡◌, ◌≢◌, ◌⊎◌, ℕ, Bool, ◌-◌, ◌<◌, ◌≤◌, ◌==◌, ◌/◌, ◌||◌, IsTrue, IsFalse, List, [], length, map, flat_map, take, All, AllPairs, Contains, IfSome, Some, slice_get}
+use Rattle.std.specs.Prelude.{◌≡◌, ◌≢◌, ◌⊎◌, ℕ, Bool, ◌-◌, ◌<◌, ◌≤◌, ◌==◌, ◌/◌, ◌||◌, IsTrue, IsFalse, List, [], length, map, flat_map}
+use Rattle.std.specs.Prelude.{take, All, AllPairs, Contains, IfSome, Some, slice_get}
 use Rattle.std.specs.List.{range_with_len}
 use Rattle.er_share.specs.declared.TheConstants.{MAX_ROUNDS}
 use Rattle.er_event.specs.declared.players.TheConstants.{MAX_PLAYERS}

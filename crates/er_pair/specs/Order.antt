@@ -1,5 +1,6 @@
 -- The order in which the active players are paired, and the words that break its ties.
-use Rattle.std.specs.Prelude.{◌≡◌, ℕ, ◌%◌, ◌<◌, ◌==◌, ◌||◌, ◌&&◌, nat_lt, Bool, not, IsTrue, if◌then◌else◌, List, [], ◌∷◌, ◌++◌, length, map, filter, count_by, slice_index, AllPairs, IsPermutation}
+use Rattle.std.specs.Prelude.{◌≡◌, ℕ, ◌%◌, ◌<◌, ◌==◌, ◌||◌, ◌&&◌, nat_lt, Bool, not, IsTrue, if◌then◌else◌, List, [], ◌∷◌, ◌++◌, length}
+use Rattle.std.specs.Prelude.{map, filter, count_by, slice_index, AllPairs, IsPermutation}
 use Rattle.rand_chacha.specs.ChaCha.{word_at, key_of}
 use Rattle.er_event.specs.Event.{EventValue}
 use Rattle.er_event.specs.Totals.{totals}

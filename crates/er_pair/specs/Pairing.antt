@@ -1,5 +1,6 @@
 -- The earliest legal pairing of an order.
-use Rattle.std.specs.Prelude.{◌≡◌, ℕ, ◌<◌, ◌==◌, Bool, IsTrue, IsFalse, List, [], ◌∷◌, length, map, take, flat_map, All, Contains, IsPermutation, slice_index, slice_get, Some}
+use Rattle.std.specs.Prelude.{◌≡◌, ℕ, ◌<◌, ◌==◌, Bool, IsTrue, IsFalse, List, [], ◌∷◌, length, map, take, flat_map, All, Contains}
+use Rattle.std.specs.Prelude.{IsPermutation, slice_index, slice_get, Some}
 use Rattle.std.specs.List.{list_any, range_with_len}
 use Rattle.er_event.specs.declared.matches.Match.{Match}
 use Rattle.er_event.specs.Round.{tables_of}
@@ -13,7 +14,8 @@ positions pairs = flat_map (λ p. p.0 ∷ p.1 ∷ []) pairs
 
 -- the first of the pair is the least free position that no pair before uses
 abbrev pub OpensWithLeast : List ℕ → List Pair → Pair → Type 0
-OpensWithLeast free before pair = (other : ℕ) → Contains free other → other < pair.0 → IsTrue (list_any (λ used. used == other) (positions before))
+OpensWithLeast free before pair =
+    (other : ℕ) → Contains free other → other < pair.0 → IsTrue (list_any (λ used. used == other) (positions before))
 
 -- a legal pairing of those positions of the order that are free
 pub record IsLegalOf (met : ℕ → ℕ → Bool) (order free : List ℕ) (pairs : List Pair) : Type 0 where

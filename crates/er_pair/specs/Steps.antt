@@ -30,7 +30,8 @@ mutual
     dead_end : {first candidate : ℕ} {passed left : List ℕ} {inner steps : ℕ}
         → IsFalse (met_at met order first candidate) → (CanPair met order (passed ++ left) → ⊥)
         → Needs met order (passed ++ left) inner
-        → Tries met order first (passed ++ candidate ∷ []) left steps → Tries met order first passed (candidate ∷ left) (suc (inner + steps))
+        → Tries met order first (passed ++ candidate ∷ []) left steps
+        → Tries met order first passed (candidate ∷ left) (suc (inner + steps))
 
 -- the order needs more steps than the budget
 abbrev pub NeedsMore : (ℕ → ℕ → Bool) → List ℕ → ℕ → Type 0

@@ -1,5 +1,6 @@
 -- What tables of fields are read as, and which row is the first bad one.
-use Rattle.std.specs.Prelude.{◌≡◌, ℕ, ◌+◌, ◌==◌, nat_lt, nat_le, Bool, true, false, ◌&&◌, if◌then◌else◌, List, [], ◌∷◌, length, Option, Some, None, option_map, option_and_then, Result, Ok, Err, codes}
+use Rattle.std.specs.Prelude.{◌≡◌, ℕ, ◌+◌, ◌==◌, nat_lt, nat_le, Bool, true, false, ◌&&◌, if◌then◌else◌, List, [], ◌∷◌, length, Option}
+use Rattle.std.specs.Prelude.{Some, None, option_map, option_and_then, Result, Ok, Err, codes}
 use Rattle.std.specs.List.{list_all}
 use Rattle.std.specs.Char.{is_ascii_digit}
 use Rattle.std.specs.Str.{bytes_eq}
@@ -23,7 +24,9 @@ use Rattle.er_paper.specs.Tables.{players_heading, results_heading}
 
 -- 1 to 6 digits
 abbrev pub number_of : List ℕ → Option ℕ
-number_of field = if nat_lt 0 (length field) && nat_le (length field) 6 && list_all is_ascii_digit field then Some (digits_value 10 field) else None
+number_of field =
+    if nat_lt 0 (length field) && nat_le (length field) 6 && list_all is_ascii_digit field
+    then Some (digits_value 10 field) else None
 
 abbrev pub is_within : ℕ → ℕ → ℕ → Bool
 is_within low high n = nat_le low n && nat_le n high
@@ -54,11 +57,14 @@ lines_from line row (fields ∷ later) = with_line row (line row fields) (lines_
 -- ---- players
 
 abbrev pub player_line : ℕ → List ℕ → Option ℕ → Option PlayerLine
-player_line place name flag = if nat_le place MAX_PLAYERS && is_lawful_name name then option_map (λ f. record { no = place; name = name; dropped = f == 1 }) flag else None
+player_line place name flag =
+    if nat_le place MAX_PLAYERS && is_lawful_name name
+    then option_map (λ f. record { no = place; name = name; dropped = f == 1 }) flag else None
 
 -- The number is the row's place. A row after the 512th is bad.
 abbrev pub full_line : ℕ → List (List ℕ) → Option PlayerLine
-full_line place (number ∷ name ∷ dropped ∷ []) = option_and_then (λ n. player_line place name (number_within 0 1 dropped)) (number_within place place number)
+full_line place (number ∷ name ∷ dropped ∷ []) =
+    option_and_then (λ n. player_line place name (number_within 0 1 dropped)) (number_within place place number)
 full_line place _ = None
 
 -- numbered by place, and nobody dropped
@@ -91,14 +97,19 @@ if_lawful games = if is_swiss_score games then Some (Some games) else None
 
 -- none where all three fields are empty
 abbrev pub score_of : List ℕ → List ℕ → List ℕ → Option (Option Games)
-score_of x y d = if length x == 0 && length y == 0 && length d == 0 then Some None else option_and_then if_lawful (games_with (number_within 0 255 x) (number_within 0 255 y) (number_within 0 255 d))
+score_of x y d =
+    if length x == 0 && length y == 0 && length d == 0 then Some None
+    else option_and_then if_lawful (games_with (number_within 0 255 x) (number_within 0 255 y) (number_within 0 255 d))
 
 abbrev pub result_line : Option ℕ → Option ℕ → Option ℕ → Option ℕ → Option (Option Games) → Option ResultLine
-result_line (Some round) (Some table) (Some a) (Some b) (Some score) = Some (record { round = round; table = table; a = a; b = b; score = score })
+result_line (Some round) (Some table) (Some a) (Some b) (Some score) =
+    Some (record { round = round; table = table; a = a; b = b; score = score })
 result_line _ _ _ _ _ = None
 
 abbrev pub result_of : List (List ℕ) → Option ResultLine
-result_of (round ∷ table ∷ a ∷ b ∷ x ∷ y ∷ d ∷ []) = result_line (number_within 1 MAX_ROUNDS round) (number_within 0 MAX_PLAYERS table) (number_within 1 MAX_PLAYERS a) (number_within 0 MAX_PLAYERS b) (score_of x y d)
+result_of (round ∷ table ∷ a ∷ b ∷ x ∷ y ∷ d ∷ []) =
+    result_line (number_within 1 MAX_ROUNDS round) (number_within 0 MAX_PLAYERS table)
+    (number_within 1 MAX_PLAYERS a) (number_within 0 MAX_PLAYERS b) (score_of x y d)
 result_of _ = None
 
 abbrev pub results_of : List (List (List ℕ)) → Result (List ResultLine) CsvFault

@@ -11,7 +11,10 @@ use Rattle.er_event.specs.declared.slips.SlipRow.{SlipRow}
 -- ---- the slip, whose keys stand in the order of their names
 
 abbrev pub games_data : Games → Data
-games_data g = object (member (codes "a") (number (unsigned g.x)) (member (codes "b") (number (unsigned g.y)) (member (codes "d") (number (unsigned g.d)) no_members)))
+games_data g =
+    object
+    (member (codes "a") (number (unsigned g.x))
+    (member (codes "b") (number (unsigned g.y)) (member (codes "d") (number (unsigned g.d)) no_members)))
 
 abbrev pub score_data : Option Games → Data
 score_data None = null
@@ -55,7 +58,8 @@ games_with _ _ _ = None
 -- exactly the keys a, b and d: each once, in the order of their names
 abbrev pub games_in_members : Members → Option Games
 games_in_members (member a x (member b y (member d z no_members))) =
-    if bytes_eq a (codes "a") && (bytes_eq b (codes "b") && bytes_eq d (codes "d")) then games_with (entry_of x) (entry_of y) (entry_of z) else None
+    if bytes_eq a (codes "a") && (bytes_eq b (codes "b") && bytes_eq d (codes "d"))
+    then games_with (entry_of x) (entry_of y) (entry_of z) else None
 games_in_members _ = None
 
 abbrev pub games_of : Data → Option Games

@@ -1,5 +1,6 @@
 -- The printed texts of an event: a heading, and one line for each row, player or match.
-use Rattle.std.specs.Prelude.{◌≡◌, ℕ, ◌+◌, ◌-◌, ◌==◌, List, [], ◌∷◌, ◌++◌, flat_map, if◌then◌else◌, Option, None, Some, option_map, slice_get, codes}
+use Rattle.std.specs.Prelude.{◌≡◌, ℕ, ◌+◌, ◌-◌, ◌==◌, List, [], ◌∷◌, ◌++◌, flat_map, if◌then◌else◌, Option, None, Some, option_map}
+use Rattle.std.specs.Prelude.{slice_get, codes}
 use Rattle.std.specs.Fmt.{decimal}
 use Rattle.er_event.specs.declared.players.Player.{Player}
 use Rattle.er_event.specs.declared.matches.Match.{Match}
@@ -59,7 +60,9 @@ round_text event matches = codes " Tab    A    B Score Names" ++ (10 ∷ flat_ma
 
 -- none where the round isn't stored
 abbrev pub pairings_text : EventValue → ℕ → Option (List ℕ)
-pairings_text event round = if round == 0 then None else option_map (λ (r : Round). round_text event r.matches) (slice_get event.stored (round - 1))
+pairings_text event round =
+    if round == 0 then None
+    else option_map (λ (r : Round). round_text event r.matches) (slice_get event.stored (round - 1))
 
 -- the stage, and then as a table is printed
 abbrev pub slot_line : EventValue → ℕ → ℕ × Match → List ℕ
@@ -78,4 +81,6 @@ champion_line event (Some player) = codes "Champion " ++ (decimal player ++ (32 
 
 -- stage by stage, and then the champion, once there is one
 abbrev pub bracket_text : EventValue → List ℕ
-bracket_text event = codes " Stg Slot    A    B Score Names" ++ (10 ∷ (stages_lines event 1 event.bracket.stages ++ champion_line event (champion event)))
+bracket_text event =
+    codes " Stg Slot    A    B Score Names"
+    ++ (10 ∷ (stages_lines event 1 event.bracket.stages ++ champion_line event (champion event)))

@@ -1,5 +1,6 @@
 -- What tallies and meetings say of each player, and the limits that those of a sound event keep.
-use Rattle.std.specs.Prelude.{◌≡◌, ℕ, ◌-◌, ◌*◌, ◌≤◌, ◌==◌, List, [], ◌∷◌, length, map, filter, flat_map, count_by, slice_index_or, All, IsFalse}
+use Rattle.std.specs.Prelude.{◌≡◌, ℕ, ◌-◌, ◌*◌, ◌≤◌, ◌==◌, List, [], ◌∷◌, length, map, filter, flat_map, count_by, slice_index_or, All}
+use Rattle.std.specs.Prelude.{IsFalse}
 use Rattle.std.specs.List.{range_with_len}
 use Rattle.er_share.specs.declared.TheConstants.{MAX_ROUNDS}
 use Rattle.er_event.specs.declared.players.TheConstants.{MAX_PLAYERS}

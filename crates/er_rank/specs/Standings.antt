@@ -1,6 +1,7 @@
 -- The standings of the Magic Tournament Rules, appendix Tiebreaker Explanation: match points, then opponents'
 -- match-win, own game-win and opponents' game-win percentage.
-use Rattle.std.specs.Prelude.{◌≡◌, ℕ, ◌+◌, ◌*◌, nat_lt, Bool, not, ◌&&◌, ◌||◌, IsTrue, List, map, filter, take, count_by, All, AllPairs, IsPermutation, Contains}
+use Rattle.std.specs.Prelude.{◌≡◌, ℕ, ◌+◌, ◌*◌, nat_lt, Bool, not, ◌&&◌, ◌||◌, IsTrue, List, map, filter, take, count_by, All, AllPairs}
+use Rattle.std.specs.Prelude.{IsPermutation, Contains}
 use Rattle.std.specs.declared.cmp.Ordering.{Ordering}
 use Rattle.std.specs.Ordering.{nat_cmp, ordering_then, is_gt, is_eq}
 use Rattle.er_share.specs.Fraction.{Fraction, fraction_cmp, percentage, average}

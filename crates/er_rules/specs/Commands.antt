@@ -1,11 +1,15 @@
 -- The checks of each command, in order, and what it makes of an event that it is taken on.
-use Rattle.std.specs.Prelude.{ℕ, ◌+◌, ◌-◌, ◌==◌, nat_le, nat_lt, Bool, true, false, ◌&&◌, not, List, [], ◌∷◌, ◌++◌, length, filter, find, drop, option_map, Option, Some, None, is_none}
+use Rattle.std.specs.Prelude.{ℕ, ◌+◌, ◌-◌, ◌==◌, nat_le, nat_lt, Bool, true, false, ◌&&◌, not, List, [], ◌∷◌, ◌++◌, length, filter, find}
+use Rattle.std.specs.Prelude.{drop, option_map, Option, Some, None, is_none}
 use Rattle.std.specs.List.{list_any, list_all}
 use Rattle.er_event.specs.declared.scores.Games.{Games}
 use Rattle.er_event.specs.declared.events.Phase.{Phase}
 use Rattle.er_event.specs.declared.events.Phase.TheVariants.{Enrolling, Swiss, Playoff}
 use Rattle.er_event.specs.declared.refusals.Refusal.{Refusal}
-use Rattle.er_event.specs.declared.refusals.Refusal.TheVariants.{BadName, NameTaken, PlayersFull, NotEnrolling, TooFewPlayers, NotSwiss, WrongRound, RoundOpen, AllRoundsPaired, NoSuchMatch, BadScore, AlreadyReported, NotReported, IsBye, NoSuchPlayer, AlreadyDropped, RoundsNotDone, NoCut, TooFewForCut, NotPlayoff}
+use Rattle.er_event.specs.declared.refusals.Refusal.TheVariants.{BadName, NameTaken, PlayersFull, NotEnrolling, TooFewPlayers, NotSwiss}
+use Rattle.er_event.specs.declared.refusals.Refusal.TheVariants.{WrongRound, RoundOpen, AllRoundsPaired, NoSuchMatch, BadScore}
+use Rattle.er_event.specs.declared.refusals.Refusal.TheVariants.{AlreadyReported, NotReported, IsBye, NoSuchPlayer, AlreadyDropped}
+use Rattle.er_event.specs.declared.refusals.Refusal.TheVariants.{RoundsNotDone, NoCut, TooFewForCut, NotPlayoff}
 use Rattle.er_event.specs.declared.matches.Match.{Match}
 use Rattle.er_event.specs.declared.players.Player.{Player}
 use Rattle.er_event.specs.Event.{EventValue}
@@ -79,13 +83,15 @@ checks_at (Some m) more = more m
 
 -- while the Swiss rounds are played, a match of two players is asked for, and then more of it
 abbrev pub score_checks : EventValue → ℕ → ℕ → (Match → List Check) → List Check
-score_checks event round table more = (not (is_swiss event.phase), NotSwiss) ∷ checks_at (match_at event round table) (λ m. (is_bye m, IsBye) ∷ more m)
+score_checks event round table more =
+    (not (is_swiss event.phase), NotSwiss) ∷ checks_at (match_at event round table) (λ m. (is_bye m, IsBye) ∷ more m)
 
 abbrev pub result_checks : EventValue → ℕ → ℕ → Games → List Check
 result_checks event round table score = score_checks event round table (λ m. already m.score ++ (not (is_swiss_score score), BadScore) ∷ [])
 
 abbrev pub correct_checks : EventValue → ℕ → ℕ → Games → List Check
-correct_checks event round table score = score_checks event round table (λ m. (is_none m.score, NotReported) ∷ (not (is_swiss_score score), BadScore) ∷ [])
+correct_checks event round table score =
+    score_checks event round table (λ m. (is_none m.score, NotReported) ∷ (not (is_swiss_score score), BadScore) ∷ [])
 
 abbrev pub of_player : Option Player → List Check
 of_player None = (true, NoSuchPlayer) ∷ []

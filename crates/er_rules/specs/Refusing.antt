@@ -2,7 +2,8 @@
 use Rattle.er_event.specs.declared.commands.Command.{Command}
 use Rattle.er_event.specs.declared.commands.Command.TheVariants.{Enrol, Start, Result as Report, Correct, Drop}
 use Rattle.er_event.specs.declared.refusals.Refusal.{Refusal}
-use Rattle.er_event.specs.declared.refusals.Refusal.TheVariants.{SerialFull, Memory, Store, NeedsReopen, NoEvent, EventExists, Damaged, BadSetup}
+use Rattle.er_event.specs.declared.refusals.Refusal.TheVariants.{SerialFull, Memory, Store, NeedsReopen, NoEvent, EventExists, Damaged}
+use Rattle.er_event.specs.declared.refusals.Refusal.TheVariants.{BadSetup}
 
 -- a refusal of the rules: it speaks neither of memory, nor of an event's file, nor of how many commands an event takes
 abbrev pub IsOfRules : Refusal → Type 0

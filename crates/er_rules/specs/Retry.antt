@@ -2,9 +2,11 @@
 use Rattle.std.specs.Prelude.{◌≡◌, ◌⊎◌, ℕ, List, Result, Ok, Err}
 use Rattle.er_event.specs.declared.scores.Games.{Games}
 use Rattle.er_event.specs.declared.commands.Command.{Command}
-use Rattle.er_event.specs.declared.commands.Command.TheVariants.{Enrol, Start, Pair, Result as Report, Correct, Drop, Cut, Playoff as PlayOff}
+use Rattle.er_event.specs.declared.commands.Command.TheVariants.{Enrol, Start, Pair, Result as Report, Correct, Drop, Cut}
+use Rattle.er_event.specs.declared.commands.Command.TheVariants.{Playoff as PlayOff}
 use Rattle.er_event.specs.declared.refusals.Refusal.{Refusal}
-use Rattle.er_event.specs.declared.refusals.Refusal.TheVariants.{NameTaken, NotEnrolling, NotSwiss, WrongRound, AlreadyReported, AlreadyDropped, NotPlayoff}
+use Rattle.er_event.specs.declared.refusals.Refusal.TheVariants.{NameTaken, NotEnrolling, NotSwiss, WrongRound, AlreadyReported}
+use Rattle.er_event.specs.declared.refusals.Refusal.TheVariants.{AlreadyDropped, NotPlayoff}
 use Rattle.er_event.specs.Event.{EventValue}
 use Rattle.er_rules.specs.Step.{Steps}
 use Rattle.er_rules.specs.Fold.{Folds}
@@ -26,7 +28,9 @@ IsCorrection _ = ⊥
 
 -- at every later point of a run the step refuses a command that it took once, and no correction
 abbrev pub IsRefusedLater : Type 0
-IsRefusedLater = (event next later : EventValue) (command : Command) (more : List Command) → Steps event command (Ok next) → (IsCorrection command → ⊥) → Folds next more later
+IsRefusedLater =
+    (event next later : EventValue) (command : Command) (more : List Command) → Steps event command (Ok next)
+    → (IsCorrection command → ⊥) → Folds next more later
     → (result : Result EventValue Refusal) → Steps later command result → (why : Refusal) × (result ≡ Err why) × IsRetryRefusal command why
 
 -- a correction that is sent again at once is taken, and gives the same event

@@ -9,7 +9,9 @@ use Rattle.er_bracket.specs.Seeds.{first_stage}
 
 -- there is no playoff, or the first players of the standings meet in its first stage as their seeds say
 abbrev pub HasSeeds : EventValue → Type 0
-HasSeeds event = (first : List Match) → slice_get event.bracket.stages 0 ≡ Some first → (seeds : List ℕ) × IsTop event event.cut seeds × SameSlots first (first_stage seeds)
+HasSeeds event =
+    (first : List Match) → slice_get event.bracket.stages 0 ≡ Some first
+    → (seeds : List ℕ) × IsTop event event.cut seeds × SameSlots first (first_stage seeds)
 
 pub record IsSound (event : EventValue) : Type 0 where
   pub but_for_seeds : IsSoundButForSeeds event

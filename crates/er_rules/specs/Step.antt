@@ -2,7 +2,8 @@
 use Rattle.std.specs.Prelude.{◌≡◌, ◌⊎◌, ℕ, List, [], ◌∷◌, ◌++◌, None, MatchOption, Result, Ok, Err}
 use Rattle.er_event.specs.declared.scores.Games.{Games}
 use Rattle.er_event.specs.declared.commands.Command.{Command}
-use Rattle.er_event.specs.declared.commands.Command.TheVariants.{Enrol, Start, Pair, Result as Report, Correct, Drop, Cut, Playoff as PlayOff}
+use Rattle.er_event.specs.declared.commands.Command.TheVariants.{Enrol, Start, Pair, Result as Report, Correct, Drop, Cut}
+use Rattle.er_event.specs.declared.commands.Command.TheVariants.{Playoff as PlayOff}
 use Rattle.er_event.specs.declared.refusals.Refusal.{Refusal}
 use Rattle.er_event.specs.declared.refusals.Refusal.TheVariants.{NoPairing, Budget}
 use Rattle.er_event.specs.declared.events.Phase.TheVariants.{Swiss, Playoff}
@@ -18,7 +19,8 @@ use Rattle.er_pair.specs.Pairing.{IsLegal, IsEarliest, round_of}
 use Rattle.er_pair.specs.Pairing as pairing
 use Rattle.er_pair.specs.Steps.{NeedsMore}
 use Rattle.er_pair.specs.declared.pairings.TheConstants.{MAX_STEPS}
-use Rattle.er_rules.specs.Commands.{first_refusal, enrol_checks, start_checks, pair_checks, result_checks, correct_checks, drop_checks, cut_checks, playoff_checks, Check}
+use Rattle.er_rules.specs.Commands.{first_refusal, enrol_checks, start_checks, pair_checks, result_checks, correct_checks, drop_checks}
+use Rattle.er_rules.specs.Commands.{cut_checks, playoff_checks, Check}
 
 -- ---- the events after
 
@@ -28,13 +30,17 @@ scored_at event stage slot score = scored_slot (stage_of event.bracket.stages st
 
 -- The score is stored. A stage that ends with it is followed by that of its winners, or the playoff is over.
 abbrev pub with_stage_score : EventValue → ℕ → ℕ → Games → EventValue
-with_stage_score event stage slot score = with_bracket_score event stage slot score (following (scored_at event stage slot score)) (is_over (scored_at event stage slot score))
+with_stage_score event stage slot score =
+    with_bracket_score event stage slot score
+    (following (scored_at event stage slot score)) (is_over (scored_at event stage slot score))
 
 -- ---- the step
 
 -- the earliest legal pairing is stored, or there is none
 abbrev pub Pairs : EventValue → List ℕ → Result EventValue Refusal → Type 0
-Pairs event order (Ok next) = (pairs : List pairing.Pair) × IsEarliest (have_met event) order pairs × (next ≡ record event { stored = event.stored ++ record { matches = round_of order pairs } ∷ [] })
+Pairs event order (Ok next) =
+    (pairs : List pairing.Pair) × IsEarliest (have_met event) order pairs
+    × (next ≡ record event { stored = event.stored ++ record { matches = round_of order pairs } ∷ [] })
 Pairs event order (Err why) = (why ≡ NoPairing) × ((pairs : List pairing.Pair) → IsLegal (have_met event) order pairs → ⊥)
 
 -- what becomes of the event, where no check fails
@@ -45,7 +51,9 @@ Makes event (Pair round seed) result = (order : List ℕ) × IsOrder event (seed
 Makes event (Report round table score) result = result ≡ Ok (with_score event round table score)
 Makes event (Correct round table score) result = result ≡ Ok (with_score event round table score)
 Makes event (Drop player) result = result ≡ Ok (with_dropped event player)
-Makes event Cut result = (seeds : List ℕ) × IsTop event event.cut seeds × (result ≡ Ok (record event { phase = Playoff; bracket = record { stages = first_stage seeds ∷ [] } }))
+Makes event Cut result =
+    (seeds : List ℕ) × IsTop event event.cut seeds
+    × (result ≡ Ok (record event { phase = Playoff; bracket = record { stages = first_stage seeds ∷ [] } }))
 Makes event (PlayOff stage slot score) result = result ≡ Ok (with_stage_score event stage slot score)
 
 -- the checks of a command on an event, in their order
@@ -68,9 +76,13 @@ Steps event command result = MatchOption (first_refusal (checks event command)) 
 
 -- no check fails, and the search for the round's pairing needs more steps than it may make
 abbrev pub NeedsMoreSteps : EventValue → Command → Type 0
-NeedsMoreSteps event (Pair round seed) = (first_refusal (pair_checks event round) ≡ None) × (order : List ℕ) × IsOrder event (seed_words seed) order × NeedsMore (have_met event) order MAX_STEPS
+NeedsMoreSteps event (Pair round seed) =
+    (first_refusal (pair_checks event round) ≡ None) × (order : List ℕ) × IsOrder event (seed_words seed) order
+    × NeedsMore (have_met event) order MAX_STEPS
 NeedsMoreSteps event command = ⊥
 
 -- what a command is answered, where memory lasts: the step, unless the search that it asks for has too few steps
 abbrev pub Answers : EventValue → Command → Result EventValue Refusal → Type 0
-Answers event command result = (Steps event command result × (NeedsMoreSteps event command → ⊥)) ⊎ ((result ≡ Err (Budget MAX_STEPS)) × NeedsMoreSteps event command)
+Answers event command result =
+    (Steps event command result × (NeedsMoreSteps event command → ⊥))
+    ⊎ ((result ≡ Err (Budget MAX_STEPS)) × NeedsMoreSteps event command)

@@ -45,7 +45,9 @@ type_line is_text = if is_text then codes "Content-Type: text/plain; charset=utf
 
 abbrev pub head_of : ℕ → Option Bool → Bool → ℕ → List ℕ
 head_of status allow is_text size =
-    status_line status ++ (allow_line allow ++ (type_line is_text ++ (codes "Content-Length: " ++ (decimal size ++ codes "\r\nConnection: close\r\n\r\n"))))
+    status_line status
+    ++ (allow_line allow
+    ++ (type_line is_text ++ (codes "Content-Length: " ++ (decimal size ++ codes "\r\nConnection: close\r\n\r\n"))))
 
 abbrev pub answer_of : ℕ → Option Bool → Bool → List ℕ → AnswerValue
 answer_of status allow is_text body = record { status = status; bytes = head_of status allow is_text (length body) ++ body }
@@ -79,7 +81,9 @@ detail (AlreadyReported score) = codes ",\"score\":" ++ games_text score
 detail _ = []
 
 abbrev pub refusal_body : Refusal → List ℕ
-refusal_body why = codes "{\"name\":\"" ++ ((entry_of why).1 ++ (codes "\",\"refused\":" ++ (decimal (entry_of why).0 ++ (detail why ++ codes "}"))))
+refusal_body why =
+    codes "{\"name\":\""
+    ++ ((entry_of why).1 ++ (codes "\",\"refused\":" ++ (decimal (entry_of why).0 ++ (detail why ++ codes "}"))))
 
 abbrev pub refusal_answer : Refusal → AnswerValue
 refusal_answer why = json_answer (status_of why) (refusal_body why)

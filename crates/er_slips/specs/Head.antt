@@ -29,7 +29,9 @@ pub record ShowsHead (bytes : List ℕ) (headers : List HeaderSpan) (spans : Req
 -- what is known of each input that begins with these bytes
 abbrev pub TellsScan : List ℕ → List HeaderSpan → Scan → Type 0
 TellsScan bytes headers (Whole spans) = ShowsHead bytes headers spans
-TellsScan bytes headers Never = (more : List ℕ) (head : RequestHead) (rest : List ℕ) → ReadsRequest (bytes ++ more) head rest → MAX_FIELDS < length head.fields
+TellsScan bytes headers Never =
+    (more : List ℕ) (head : RequestHead) (rest : List ℕ) → ReadsRequest (bytes ++ more) head rest
+    → MAX_FIELDS < length head.fields
 TellsScan bytes headers NotYet = HasNoRequest bytes
 
 -- P of the spans, if a head was found

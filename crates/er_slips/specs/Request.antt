@@ -1,5 +1,6 @@
 -- What a request asks for, by the checks in their order.
-use Rattle.std.specs.Prelude.{◌≡◌, ◌≤◌, ℕ, ◌==◌, nat_lt, nat_le, Bool, true, false, ◌&&◌, if◌then◌else◌, List, [], ◌∷◌, length, take, drop, map, filter, Option, Some, None, option_map, option_and_then, Result, Ok, Err, codes}
+use Rattle.std.specs.Prelude.{◌≡◌, ◌≤◌, ℕ, ◌==◌, nat_lt, nat_le, Bool, true, false, ◌&&◌, if◌then◌else◌, List, [], ◌∷◌, length, take, drop}
+use Rattle.std.specs.Prelude.{map, filter, Option, Some, None, option_map, option_and_then, Result, Ok, Err, codes}
 use Rattle.std.specs.List.{list_all, list_any}
 use Rattle.std.specs.Char.{is_ascii_digit, to_ascii_lowercase}
 use Rattle.std.specs.Str.{bytes_eq}
@@ -31,7 +32,9 @@ path_of (b ∷ rest) = if b == 63 then [] else b ∷ path_of rest
 
 -- 1 to 3 digits
 abbrev pub number_of : List ℕ → Option ℕ
-number_of part = if nat_lt 0 (length part) && nat_le (length part) 3 && list_all is_ascii_digit part then Some (digits_value 10 part) else None
+number_of part =
+    if nat_lt 0 (length part) && nat_le (length part) 3 && list_all is_ascii_digit part then Some (digits_value 10 part)
+    else None
 
 -- at most 255
 abbrev pub round_of : List ℕ → Option ℕ
@@ -68,7 +71,8 @@ is_named name field = bytes_eq (map to_ascii_lowercase field.0) name
 
 abbrev pub length_of : List ℕ → Result ℕ Fault
 length_of value =
-    if nat_lt 0 (length value) && list_all is_ascii_digit value then (if nat_lt MAX_BODY (digits_value 10 value) then Err TooLarge else Ok (digits_value 10 value))
+    if nat_lt 0 (length value) && list_all is_ascii_digit value
+    then (if nat_lt MAX_BODY (digits_value 10 value) then Err TooLarge else Ok (digits_value 10 value))
     else Err BadRequest
 
 abbrev pub only_length : List HeadField → Result ℕ Fault
@@ -112,7 +116,8 @@ reported round table (Some games) = Ok (Report round table games)
 abbrev pub asked_with : Result Next Fault → List ℕ → Result Asked Fault
 asked_with (Err fault) rest = Err fault
 asked_with (Ok (Get asked)) rest = Ok asked
-asked_with (Ok (Body round table n)) rest = if nat_lt (length rest) n then Err BadRequest else reported round table (slip_games (take n rest))
+asked_with (Ok (Body round table n)) rest =
+    if nat_lt (length rest) n then Err BadRequest else reported round table (slip_games (take n rest))
 
 -- what is asked for, or the first check that fails
 abbrev pub asked_of : RequestHead → List ℕ → Result Asked Fault

@@ -34,21 +34,25 @@ abbrev pub IsRowsAnswer : EventValue → Result (Vec Row Global) Refusal → Ans
 IsRowsAnswer event (Ok rows) answer = (answer ≡ text_answer (rows_text event rows.items)) ⊎ (answer ≡ refusal_answer Memory)
 IsRowsAnswer event (Err why) answer = answer ≡ refusal_answer why
 
--- What is asked of the desk, its answer, and where it stands then. `Stood` is that its tables stood for its event, on a clean disk: on this rests what is read of them.
+-- What is asked of the desk, its answer, and where it stands then. `Stood` is that its tables stood for its event, on a
+-- clean disk: on this rests what is read of them.
 abbrev pub AnswersRequest : Type 0 → Standing → Result Asked Fault → AnswerValue → Standing → Type 0
 AnswersRequest Stood old (Err fault) answer new = (answer ≡ fault_answer fault) × (new ≡ old)
 AnswersRequest Stood old (Ok Standings) answer new =
-    (read : Result (Vec Row Global) Refusal) × ReadsRows old read new × (Stood → IfOk read (λ rows. AreTheStandings old.event rows.items)) × IsRowsAnswer old.event read answer
+    (read : Result (Vec Row Global) Refusal) × ReadsRows old read new
+    × (Stood → IfOk read (λ rows. AreTheStandings old.event rows.items)) × IsRowsAnswer old.event read answer
 AnswersRequest Stood old (Ok (Pairings round)) answer new = ShowsEvent refusal_answer old (ShowsPairings round) answer × (new ≡ old)
 AnswersRequest Stood old (Ok (Slip round table)) answer new =
     (read : Result SlipRow Refusal) × ReadsSlip old read new × (Stood → FindsSlip old.event round table read) × IsSlipAnswer read answer
-AnswersRequest Stood old (Ok (Report round table score)) answer new = (reply : Reply) × Turn old (Hand round table score) reply new × (answer ≡ reply_answer reply)
+AnswersRequest Stood old (Ok (Report round table score)) answer new =
+    (reply : Reply) × Turn old (Hand round table score) reply new × (answer ≡ reply_answer reply)
 
 -- ---- one request
 
 -- the desk was asked what the input asks for
 abbrev pub IsServed : Type 0 → Option (List ℕ) → Standing → AnswerValue → Standing → Type 0
-IsServed Stood input old answer new = (asked : Result Asked Fault) × IfSome input (λ xs. Asks xs asked) × AnswersRequest Stood old asked answer new
+IsServed Stood input old answer new =
+    (asked : Result Asked Fault) × IfSome input (λ xs. Asks xs asked) × AnswersRequest Stood old asked answer new
 
 -- or memory was wanting before it was asked, and it stays as it is
 abbrev pub IsUnserved : Standing → AnswerValue → Standing → Type 0
@@ -60,14 +64,24 @@ Writes before after (Answered status) answer = (status ≡ answer.status) × App
 Writes before after (WriteFault sent) answer = (sent ≤ length answer.bytes) × Appends before after (take sent answer.bytes)
 Writes before after ReadFault answer = ⊥
 
--- how serving an input ends: with an answer, of which all or the first bytes were written, or by a read that failed, with nothing submitted or written
+-- how serving an input ends: with an answer, of which all or the first bytes were written, or by a read that failed,
+-- with nothing submitted or written
 abbrev pub EndsServing : Type 0 → Option (List ℕ) → Standing → Standing → Option (List ℕ) → Option (List ℕ) → Served → Type 0
 EndsServing Stood input old new before after ReadFault = Keeps before after × (new ≡ old)
-EndsServing Stood input old new before after (Answered status) = (answer : AnswerValue) × Writes before after (Answered status) answer × (IsServed Stood input old answer new ⊎ IsUnserved old answer new)
-EndsServing Stood input old new before after (WriteFault sent) = (answer : AnswerValue) × Writes before after (WriteFault sent) answer × (IsServed Stood input old answer new ⊎ IsUnserved old answer new)
+EndsServing Stood input old new before after (Answered status) =
+    (answer : AnswerValue) × Writes before after (Answered status) answer
+    × (IsServed Stood input old answer new ⊎ IsUnserved old answer new)
+EndsServing Stood input old new before after (WriteFault sent) =
+    (answer : AnswerValue) × Writes before after (WriteFault sent) answer
+    × (IsServed Stood input old answer new ⊎ IsUnserved old answer new)
 
--- What was written where the desk runs and its tables stand for its event: the answer to the input on that event and serial, and nothing else but a 503.
+-- What was written where the desk runs and its tables stand for its event: the answer to the input on that event and
+-- serial, and nothing else but a 503.
 abbrev pub IsWritten : Standing → List ℕ → Option (List ℕ) → Option (List ℕ) → Served → Type 0
 IsWritten old input before after ReadFault = Keeps before after
-IsWritten old input before after (Answered status) = (answer : AnswerValue) × Writes before after (Answered status) answer × IsAnswerUnless503 old.event old.serial input answer
-IsWritten old input before after (WriteFault sent) = (answer : AnswerValue) × Writes before after (WriteFault sent) answer × IsAnswerUnless503 old.event old.serial input answer
+IsWritten old input before after (Answered status) =
+    (answer : AnswerValue) × Writes before after (Answered status) answer
+    × IsAnswerUnless503 old.event old.serial input answer
+IsWritten old input before after (WriteFault sent) =
+    (answer : AnswerValue) × Writes before after (WriteFault sent) answer
+    × IsAnswerUnless503 old.event old.serial input answer

@@ -41,7 +41,8 @@ IsAnswered event serial (Err fault) answer = answer ≡ fault_answer fault
 IsAnswered event serial (Ok Standings) answer = ShowsStandings event answer
 IsAnswered event serial (Ok (Pairings round)) answer = ShowsPairings round event answer
 IsAnswered event serial (Ok (Slip round table)) answer = answer ≡ row_answer (slip_of event round table)
-IsAnswered event serial (Ok (Report round table score)) answer = (reply : Reply) × IsDue event serial (Hand round table score) reply × (answer ≡ reply_answer reply)
+IsAnswered event serial (Ok (Report round table score)) answer =
+    (reply : Reply) × IsDue event serial (Hand round table score) reply × (answer ≡ reply_answer reply)
 
 -- a score that is handed in is submitted, and nothing else is
 abbrev pub submitted : Result Asked Fault → Option Command
@@ -60,4 +61,5 @@ pub record IsAnswer (event : EventValue) (serial : ℕ) (input : List ℕ) (answ
 
 -- the answer to the input on this event, and else a 503: memory was wanting, or the store has a fault
 abbrev pub IsAnswerUnless503 : EventValue → ℕ → List ℕ → AnswerValue → Type 0
-IsAnswerUnless503 event serial input answer = ((submits : Option Command) × IsAnswer event serial input answer submits) ⊎ (answer.status ≡ 503)
+IsAnswerUnless503 event serial input answer =
+    ((submits : Option Command) × IsAnswer event serial input answer submits) ⊎ (answer.status ≡ 503)

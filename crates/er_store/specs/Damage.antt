@@ -18,7 +18,8 @@ use Rattle.er_event.specs.Event.{EventValue}
 use Rattle.er_event.specs.Parts.{IsFirstFault, parts_of}
 use Rattle.er_event.specs.Rows.{tally_rows}
 use Rattle.er_event.specs.Sound.{IsSoundButForSeeds}
-use Rattle.er_store.specs.Shape.{Form, Shape, event_form, player_form, pairing_form, bracket_form, tally_form, event_table, player_table, pairing_table, bracket_table, tally_table}
+use Rattle.er_store.specs.Shape.{Form, Shape, event_form, player_form, pairing_form, bracket_form, tally_form, event_table, player_table}
+use Rattle.er_store.specs.Shape.{pairing_table, bracket_table, tally_table}
 use Rattle.er_store.specs.Reading.{first_columns}
 
 -- rows that the statement may answer
@@ -34,7 +35,8 @@ pub record Answered (db : Database) (sql : List ℕ) (rows : List Row) : Type 0 
 abbrev pub IsUnread : Database → List ℕ → Type 0
 IsUnread db sql =
     ((fault : CompileError) × (understood db.schema sql ≡ Err fault))
-    ⊎ ((compiled : Compiled) × (understood db.schema sql ≡ Ok compiled) × ((¬ (length sql ≤ compiled.tail)) ⊎ ((0 ≢ length compiled.names) ⊎ (compiled.formats ≢ []))))
+    ⊎ ((compiled : Compiled) × (understood db.schema sql ≡ Ok compiled)
+    × ((¬ (length sql ≤ compiled.tail)) ⊎ ((0 ≢ length compiled.names) ⊎ (compiled.formats ≢ []))))
 
 -- the statement is refused as it runs: a column has another type than the text supposes, or a sum does not fit
 pub record IsRefused (db : Database) (sql : List ℕ) : Type 0 where
@@ -48,7 +50,9 @@ pub record IsRefused (db : Database) (sql : List ℕ) : Type 0 where
 
 -- a value of another kind than its column's
 abbrev pub HasWrongKind : {R : Type 0} → Form R → Database → List ℕ → Type 0
-HasWrongKind {R} form db sql = (rows : List Row) × Answered db sql rows × ((typed : List R) → All form.is_text typed → rows ≢ map form.columns typed)
+HasWrongKind {R} form db sql =
+    (rows : List Row) × Answered db sql rows
+    × ((typed : List R) → All form.is_text typed → rows ≢ map form.columns typed)
 
 -- the reading of a table is at fault
 abbrev pub IsMisreadAs : {R : Type 0} → Form R → Shape R → Database → Type 0
@@ -63,7 +67,8 @@ IsMisread db TallyTable = IsMisreadAs tally_form tally_table db
 
 -- the statement that reads a table may answer these rows, which have so many columns
 abbrev pub MayRead : {R : Type 0} → Form R → Shape R → Database → List R → Type 0
-MayRead form table db typed = (rows : List Row) × Answered db table.read rows × (map form.columns typed ≡ map (first_columns form.width) rows)
+MayRead form table db typed =
+    (rows : List Row) × Answered db table.read rows × (map form.columns typed ≡ map (first_columns form.width) rows)
 
 -- and it may answer some
 abbrev pub IsRead : {R : Type 0} → Form R → Shape R → Database → Type 0
@@ -75,7 +80,9 @@ ReadsBefore db EventTable = ⊤
 ReadsBefore db PlayerTable = IsRead event_form event_table db
 ReadsBefore db PairingTable = IsRead event_form event_table db × IsRead player_form player_table db
 ReadsBefore db BracketTable = IsRead event_form event_table db × IsRead player_form player_table db × IsRead pairing_form pairing_table db
-ReadsBefore db TallyTable = IsRead event_form event_table db × IsRead player_form player_table db × IsRead pairing_form pairing_table db × IsRead bracket_form bracket_table db
+ReadsBefore db TallyTable =
+    IsRead event_form event_table db × IsRead player_form player_table db × IsRead pairing_form pairing_table db
+    × IsRead bracket_form bracket_table db
 
 pub record ReadsParts (db : Database) (parts : Parts) : Type 0 where
   pub event : MayRead event_form event_table db parts.event
@@ -93,14 +100,18 @@ IsFirstMisread db place = ReadsBefore db place × IsMisread db place
 -- the first four tables are those of a sound event, and the totals are of no such event
 pub record HasOtherTotals (parts : Parts) (rows : List TallyRow) : Type 0 where
   pub some : (event : EventValue) × (serial : ℕ) × (serial ≤ MAX_SERIAL) × (parts ≡ parts_of event serial) × IsSoundButForSeeds event
-  pub other : (event : EventValue) (serial : ℕ) → serial ≤ MAX_SERIAL → parts ≡ parts_of event serial → IsSoundButForSeeds event → rows ≢ tally_rows event
+  pub other : (event : EventValue) (serial : ℕ) → serial ≤ MAX_SERIAL → parts ≡ parts_of event serial
+      → IsSoundButForSeeds event → rows ≢ tally_rows event
 
 abbrev pub IsRowFault : Parts → List TallyRow → Place → Type 0
 IsRowFault parts rows place = IsFirstFault parts place ⊎ ((place ≡ TallyTable) × HasOtherTotals parts rows)
 
 -- The first fault: the tables are read in their order, and then their rows are checked in that order.
 abbrev pub IsAtFault : Database → Place → Type 0
-IsAtFault db place = IsFirstMisread db place ⊎ ((parts : Parts) × (rows : List TallyRow) × ReadsParts db parts × ReadsTallies db rows × IsRowFault parts rows place)
+IsAtFault db place =
+    IsFirstMisread db place
+    ⊎ ((parts : Parts) × (rows : List TallyRow) × ReadsParts db parts × ReadsTallies db rows
+    × IsRowFault parts rows place)
 
 -- if it is damage, this table is the first at fault
 abbrev pub IfDamaged : (Place → Type 0) → Refusal → Type 0

@@ -11,7 +11,8 @@ use Rattle.er_event.specs.Rows.{tally_rows}
 use Rattle.er_store.specs.Rows.{columns_at}
 use Rattle.er_store.specs.Standing.{rows_in, rows_with}
 use Rattle.er_store.specs.Reading.{Lists}
-use Rattle.er_store.specs.Shape.{Form, Shape, event_form, player_form, pairing_form, bracket_form, tally_form, event_table, player_table, pairing_table, bracket_table, tally_table}
+use Rattle.er_store.specs.Shape.{Form, Shape, event_form, player_form, pairing_form, bracket_form, tally_form, event_table, player_table}
+use Rattle.er_store.specs.Shape.{pairing_table, bracket_table, tally_table}
 
 -- the rows of a table, in the order of its key
 abbrev pub IsListed : {R : Type 0} → Form R → Shape R → Database → List R → Type 0

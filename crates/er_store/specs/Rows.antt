@@ -69,7 +69,9 @@ tally_places = 0 ∷ 2 ∷ 3 ∷ 4 ∷ 5 ∷ []
 
 -- the row of the event as it is stored, with NULL in the column that is the rowid
 abbrev pub stored_event : EventValue → ℕ → Row
-stored_event e serial = number 1 ∷ Null ∷ number 1 ∷ number serial ∷ Text e.name ∷ number e.rounds ∷ number e.cut ∷ number (phase_code e.phase) ∷ []
+stored_event e serial =
+    number 1 ∷ Null ∷ number 1 ∷ number serial ∷ Text e.name ∷ number e.rounds ∷ number e.cut
+    ∷ number (phase_code e.phase) ∷ []
 
 abbrev pub stored_player : ℕ → List ℕ → Bool → Row
 stored_player number name dropped = Int (pos number) ∷ Null ∷ Text name ∷ Int (flag dropped) ∷ []

@@ -12,7 +12,8 @@ use Rattle.er_event.specs.declared.rows.pairing.PairingRow.{PairingRow}
 use Rattle.er_event.specs.declared.rows.bracket.BracketRow.{BracketRow}
 use Rattle.er_event.specs.declared.rows.tally.TallyRow.{TallyRow}
 use Rattle.er_store.specs.Tables.{read_event, read_players, read_pairings, read_bracket, read_tallies}
-use Rattle.er_store.specs.Rows.{event_columns, player_columns, pairing_columns, bracket_columns, tally_columns, event_places, player_places, pairing_places, bracket_places, tally_places}
+use Rattle.er_store.specs.Rows.{event_columns, player_columns, pairing_columns, bracket_columns, tally_columns, event_places, player_places}
+use Rattle.er_store.specs.Rows.{pairing_places, bracket_places, tally_places}
 use Rattle.er_store.specs.Reading.{by_first, by_first_two}
 
 -- a typed row: how many columns it has, what they show, and when its texts are texts

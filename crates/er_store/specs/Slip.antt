@@ -1,5 +1,6 @@
 -- The slip of a match, as the tables show it.
-use Rattle.std.specs.Prelude.{◌≡◌, ℕ, ◌≤◌, nat_lt, Bool, if◌then◌else◌, IsTrue, List, map, Option, Some, None, option_map, option_to_list, unwrap_or, IfSome, Result, Ok, Err}
+use Rattle.std.specs.Prelude.{◌≡◌, ℕ, ◌≤◌, nat_lt, Bool, if◌then◌else◌, IsTrue, List, map, Option, Some, None, option_map, option_to_list}
+use Rattle.std.specs.Prelude.{unwrap_or, IfSome, Result, Ok, Err}
 use Rattle.er_event.specs.declared.players.TheConstants.{MAX_PLAYERS}
 use Rattle.er_event.specs.declared.refusals.Refusal.{Refusal}
 use Rattle.er_event.specs.declared.refusals.Refusal.TheVariants.{NoSuchMatch}

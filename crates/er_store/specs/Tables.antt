@@ -38,7 +38,9 @@ abbrev pub event : ℕ → Table
 event tree = record {
   name = codes "event";
   tree = tree;
-  columns = plain (codes "id") Integer false ∷ number (codes "version") ∷ number (codes "serial") ∷ plain (codes "name") Text true ∷ number (codes "rounds") ∷ number (codes "cut") ∷ number (codes "phase") ∷ [];
+  columns =
+      plain (codes "id") Integer false ∷ number (codes "version") ∷ number (codes "serial")
+      ∷ plain (codes "name") Text true ∷ number (codes "rounds") ∷ number (codes "cut") ∷ number (codes "phase") ∷ [];
   key = Some 0;
   primary = 0 ∷ [];
   uniques = [];
@@ -70,7 +72,10 @@ abbrev pub pairing : ℕ → Table
 pairing tree = record {
   name = codes "pairing";
   tree = tree;
-  columns = number (codes "round") ∷ number (codes "tab") ∷ number (codes "lo") ∷ number (codes "hi") ∷ number (codes "swapped") ∷ number (codes "done") ∷ number (codes "x") ∷ number (codes "y") ∷ number (codes "d") ∷ [];
+  columns =
+      number (codes "round") ∷ number (codes "tab") ∷ number (codes "lo") ∷ number (codes "hi")
+      ∷ number (codes "swapped") ∷ number (codes "done") ∷ number (codes "x") ∷ number (codes "y") ∷ number (codes "d")
+      ∷ [];
   key = None;
   primary = 1 ∷ 2 ∷ [];
   uniques = (1 ∷ 2 ∷ []) ∷ (3 ∷ 4 ∷ []) ∷ [];
@@ -86,7 +91,9 @@ abbrev pub bracket : ℕ → Table
 bracket tree = record {
   name = codes "bracket";
   tree = tree;
-  columns = number (codes "stage") ∷ number (codes "slot") ∷ number (codes "a") ∷ number (codes "b") ∷ number (codes "done") ∷ number (codes "x") ∷ number (codes "y") ∷ number (codes "d") ∷ [];
+  columns =
+      number (codes "stage") ∷ number (codes "slot") ∷ number (codes "a") ∷ number (codes "b") ∷ number (codes "done")
+      ∷ number (codes "x") ∷ number (codes "y") ∷ number (codes "d") ∷ [];
   key = None;
   primary = 1 ∷ 2 ∷ [];
   uniques = (1 ∷ 2 ∷ []) ∷ [];
@@ -102,7 +109,9 @@ abbrev pub tally : ℕ → Table
 tally tree = record {
   name = codes "tally";
   tree = tree;
-  columns = plain (codes "no") Integer false ∷ number (codes "points") ∷ number (codes "rounds") ∷ number (codes "gamepoints") ∷ number (codes "games") ∷ [];
+  columns =
+      plain (codes "no") Integer false ∷ number (codes "points") ∷ number (codes "rounds") ∷ number (codes "gamepoints")
+      ∷ number (codes "games") ∷ [];
   key = Some 0;
   primary = 0 ∷ [];
   uniques = [];
@@ -116,7 +125,14 @@ tally tree = record {
 
 -- the indexes that SQLite makes for the keys
 abbrev pub key : List ℕ → ℕ → ℕ → List ℕ → Index
-key name tree table columns = record { name = name; tree = tree; table = table; columns = columns; order = record { digits = 0 }; is_unique = true }
+key name tree table columns = record {
+  name = name;
+  tree = tree;
+  table = table;
+  columns = columns;
+  order = record { digits = 0 };
+  is_unique = true;
+}
 
 abbrev pub no_schema : Schema
 no_schema = record { tables = []; indexes = []; views = [] }
@@ -130,21 +146,29 @@ player_schema = record { tables = event 0 ∷ player 1 ∷ []; indexes = key (co
 abbrev pub pairing_schema : Schema
 pairing_schema = record {
   tables = event 0 ∷ player 1 ∷ pairing 3 ∷ [];
-  indexes = key (codes "sqlite_autoindex_player_1") 2 1 (2 ∷ []) ∷ key (codes "sqlite_autoindex_pairing_1") 4 3 (1 ∷ 2 ∷ []) ∷ key (codes "sqlite_autoindex_pairing_2") 5 3 (3 ∷ 4 ∷ []) ∷ [];
+  indexes =
+      key (codes "sqlite_autoindex_player_1") 2 1 (2 ∷ []) ∷ key (codes "sqlite_autoindex_pairing_1") 4 3 (1 ∷ 2 ∷ [])
+      ∷ key (codes "sqlite_autoindex_pairing_2") 5 3 (3 ∷ 4 ∷ []) ∷ [];
   views = [];
 }
 
 abbrev pub bracket_schema : Schema
 bracket_schema = record {
   tables = event 0 ∷ player 1 ∷ pairing 3 ∷ bracket 6 ∷ [];
-  indexes = key (codes "sqlite_autoindex_player_1") 2 1 (2 ∷ []) ∷ key (codes "sqlite_autoindex_pairing_1") 4 3 (1 ∷ 2 ∷ []) ∷ key (codes "sqlite_autoindex_pairing_2") 5 3 (3 ∷ 4 ∷ []) ∷ key (codes "sqlite_autoindex_bracket_1") 7 6 (1 ∷ 2 ∷ []) ∷ [];
+  indexes =
+      key (codes "sqlite_autoindex_player_1") 2 1 (2 ∷ []) ∷ key (codes "sqlite_autoindex_pairing_1") 4 3 (1 ∷ 2 ∷ [])
+      ∷ key (codes "sqlite_autoindex_pairing_2") 5 3 (3 ∷ 4 ∷ [])
+      ∷ key (codes "sqlite_autoindex_bracket_1") 7 6 (1 ∷ 2 ∷ []) ∷ [];
   views = [];
 }
 
 abbrev pub our_schema : Schema
 our_schema = record {
   tables = event 0 ∷ player 1 ∷ pairing 3 ∷ bracket 6 ∷ tally 8 ∷ [];
-  indexes = key (codes "sqlite_autoindex_player_1") 2 1 (2 ∷ []) ∷ key (codes "sqlite_autoindex_pairing_1") 4 3 (1 ∷ 2 ∷ []) ∷ key (codes "sqlite_autoindex_pairing_2") 5 3 (3 ∷ 4 ∷ []) ∷ key (codes "sqlite_autoindex_bracket_1") 7 6 (1 ∷ 2 ∷ []) ∷ [];
+  indexes =
+      key (codes "sqlite_autoindex_player_1") 2 1 (2 ∷ []) ∷ key (codes "sqlite_autoindex_pairing_1") 4 3 (1 ∷ 2 ∷ [])
+      ∷ key (codes "sqlite_autoindex_pairing_2") 5 3 (3 ∷ 4 ∷ [])
+      ∷ key (codes "sqlite_autoindex_bracket_1") 7 6 (1 ∷ 2 ∷ []) ∷ [];
   views = [];
 }
 

@@ -7,7 +7,8 @@ use Rattle.er_words.specs.declared.action.Task.TheVariants as task
 use Rattle.er_words.specs.declared.action.Request.TheVariants as request
 use Rattle.er_words.specs.declared.action.Request.{Request}
 use Rattle.er_words.specs.declared.line.Line.{Line}
-use Rattle.er_words.specs.declared.line.Line.TheVariants.{Init, Enrol, Import, Start, Pair, Result as Report, Correct, Drop, Cut, Playoff, Standings, Players, Slips, Bracket, Export, Serve}
+use Rattle.er_words.specs.declared.line.Line.TheVariants.{Init, Enrol, Import, Start, Pair, Result as Report, Correct, Drop, Cut, Playoff}
+use Rattle.er_words.specs.declared.line.Line.TheVariants.{Standings, Players, Slips, Bracket, Export, Serve}
 
 abbrev pub file_of : Line → List ℕ
 file_of (Init file name rounds cut) = file

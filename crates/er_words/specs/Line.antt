@@ -1,11 +1,13 @@
 -- The line that words name.
-use Rattle.std.specs.Prelude.{◌≡◌, ℕ, ◌==◌, Bool, false, if◌then◌else◌, List, [], ◌∷◌, slice_index, Option, Some, None, option_map, Ok, Err, Result, codes}
+use Rattle.std.specs.Prelude.{◌≡◌, ℕ, ◌==◌, Bool, false, if◌then◌else◌, List, [], ◌∷◌, slice_index, Option, Some, None, option_map, Ok, Err}
+use Rattle.std.specs.Prelude.{Result, codes}
 use Rattle.std.specs.List.{list_any}
 use Rattle.std.specs.Str.{bytes_eq}
 use Rattle.er_words.specs.declared.line.LineFault.{LineFault}
 use Rattle.er_words.specs.declared.line.LineFault.TheVariants.{Usage, Memory}
 use Rattle.er_words.specs.declared.line.Line.{Line}
-use Rattle.er_words.specs.declared.line.Line.TheVariants.{Init, Enrol, Import, Start, Pair, Result as Report, Correct, Drop, Cut, Playoff, Standings, Players, Slips, Bracket, Export, Serve}
+use Rattle.er_words.specs.declared.line.Line.TheVariants.{Init, Enrol, Import, Start, Pair, Result as Report, Correct, Drop, Cut, Playoff}
+use Rattle.er_words.specs.declared.line.Line.TheVariants.{Standings, Players, Slips, Bracket, Export, Serve}
 use Rattle.er_words.specs.Values.{number_below, count_of, kind_of, seed_of, both, report_of, slot_report_of}
 
 -- the FILE that a lone word is
@@ -15,7 +17,8 @@ lone_file _ = None
 
 -- `init FILE NAME ROUNDS CUT`
 abbrev pub init_of : List (List ℕ) → Option Line
-init_of (file ∷ name ∷ rounds ∷ cut ∷ []) = option_map (λ it. Init file name it.0 it.1) (both (number_below 256 rounds) (number_below 256 cut))
+init_of (file ∷ name ∷ rounds ∷ cut ∷ []) =
+    option_map (λ it. Init file name it.0 it.1) (both (number_below 256 rounds) (number_below 256 cut))
 init_of _ = None
 
 -- `enrol FILE NAME`

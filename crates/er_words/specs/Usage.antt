@@ -1,9 +1,11 @@
 -- What is at fault in words that are no line.
-use Rattle.std.specs.Prelude.{◌≡◌, ℕ, ◌+◌, ◌<◌, Bool, true, false, ◌&&◌, List, [], ◌∷◌, length, Option, Some, None, is_some, IsTrue, IsFalse, slice_get}
+use Rattle.std.specs.Prelude.{◌≡◌, ℕ, ◌+◌, ◌<◌, Bool, true, false, ◌&&◌, List, [], ◌∷◌, length, Option, Some, None, is_some, IsTrue}
+use Rattle.std.specs.Prelude.{IsFalse, slice_get}
 use Rattle.er_words.specs.declared.usage.Kind.{Kind}
 use Rattle.er_words.specs.declared.usage.Kind.TheVariants.{Text, SmallNumber, Number, Seed, Count, ListKind}
 use Rattle.er_words.specs.declared.usage.UsageFault.{UsageFault}
-use Rattle.er_words.specs.declared.usage.UsageFault.TheVariants.{UnknownSubcommand, LeadingDash, TooFew, TooMany, BadNumber, BadSeed, BadCount, BadKind}
+use Rattle.er_words.specs.declared.usage.UsageFault.TheVariants.{UnknownSubcommand, LeadingDash, TooFew, TooMany, BadNumber, BadSeed}
+use Rattle.er_words.specs.declared.usage.UsageFault.TheVariants.{BadCount, BadKind}
 use Rattle.er_words.specs.declared.line.Line.{Line}
 use Rattle.er_words.specs.Line.{is_option, names_one}
 use Rattle.er_words.specs.Values.{number_below, count_of, kind_of, seed_of}

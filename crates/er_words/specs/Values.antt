@@ -1,5 +1,6 @@
 -- The values that words are.
-use Rattle.std.specs.Prelude.{ℕ, ◌+◌, ◌*◌, ◌==◌, nat_lt, ◌&&◌, if◌then◌else◌, List, [], ◌∷◌, length, Option, Some, None, option_and_then, option_map, codes}
+use Rattle.std.specs.Prelude.{ℕ, ◌+◌, ◌*◌, ◌==◌, nat_lt, ◌&&◌, if◌then◌else◌, List, [], ◌∷◌, length, Option, Some, None, option_and_then}
+use Rattle.std.specs.Prelude.{option_map, codes}
 use Rattle.std.specs.List.{list_all}
 use Rattle.std.specs.Char.{is_ascii_digit, is_ascii_hexdigit, digit_value}
 use Rattle.std.specs.Str.{bytes_eq}
@@ -10,7 +11,9 @@ use Rattle.er_words.specs.declared.action.ExportKind.TheVariants.{Players, Resul
 
 -- the number below the limit that a word of digits is
 abbrev pub number_below : ℕ → List ℕ → Option ℕ
-number_below limit word = if nat_lt 0 (length word) && list_all is_ascii_digit word && nat_lt (digits_value 10 word) limit then Some (digits_value 10 word) else None
+number_below limit word =
+    if nat_lt 0 (length word) && list_all is_ascii_digit word && nat_lt (digits_value 10 word) limit
+    then Some (digits_value 10 word) else None
 
 -- the number of connections that a word is: from 1 to a million
 abbrev pub count_of : List ℕ → Option ℕ
@@ -44,7 +47,9 @@ all_three None b c = None
 
 -- `X Y D`: games won by the first-named player, won by the second, and drawn
 abbrev pub games_of : List (List ℕ) → Option Games
-games_of (x ∷ y ∷ d ∷ []) = option_map (λ it. record { x = it.0; y = it.1; d = it.2 }) (all_three (number_below 256 x) (number_below 256 y) (number_below 256 d))
+games_of (x ∷ y ∷ d ∷ []) =
+    option_map (λ it. record { x = it.0; y = it.1; d = it.2 })
+    (all_three (number_below 256 x) (number_below 256 y) (number_below 256 d))
 games_of _ = None
 
 -- `ROUND TABLE X Y D`

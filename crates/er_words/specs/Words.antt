@@ -24,7 +24,9 @@ abbrev pub leaf : Text → Shape
 leaf name = (with_rule (new_app name) words_rule).top
 
 abbrev pub bare : App
-bare = record (new_app (codes "event_reporter")) { top = record (new_app (codes "event_reporter")).top { no_binary_name = true; disable_help_flag = true; disable_help_subcommand = true } }
+bare = record (new_app (codes "event_reporter")) {
+  top = record (new_app (codes "event_reporter")).top { no_binary_name = true; disable_help_flag = true; disable_help_subcommand = true };
+}
 
 abbrev pub with_leaves : List Text → App
 with_leaves texts = fold (λ app name. with_subcommand app (leaf name)) bare texts

@@ -4,7 +4,15 @@ use Rattle.er_event.specs.Event.{EventValue}
 use Rattle.er_event.specs.Sound.{IsSoundButForSeeds}
 
 abbrev pub value_of : Inside → EventValue
-value_of e = record { name = e.name; rounds = e.rounds; cut = e.cut; phase = e.phase; players = e.players.items; stored = e.stored.items; bracket = e.bracket }
+value_of e = record {
+  name = e.name;
+  rounds = e.rounds;
+  cut = e.cut;
+  phase = e.phase;
+  players = e.players.items;
+  stored = e.stored.items;
+  bracket = e.bracket;
+}
 
 abbrev pub IsSoundInside : Inside → Type 0
 IsSoundInside e = IsSoundButForSeeds (value_of e)

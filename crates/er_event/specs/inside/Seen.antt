@@ -1,5 +1,6 @@
 -- The games of a match as one player saw them, the player's own first.
-use Rattle.std.specs.Prelude.{◌≡◌, ◌≢◌, ◌⊎◌, ℕ, ◌*◌, ◌≤◌, List, [], length, flat_map, slice_get, slice_set, slice_index_or, AllPairs, Option, Some, None}
+use Rattle.std.specs.Prelude.{◌≡◌, ◌≢◌, ◌⊎◌, ℕ, ◌*◌, ◌≤◌, List, [], length, flat_map, slice_get, slice_set, slice_index_or, AllPairs}
+use Rattle.std.specs.Prelude.{Option, Some, None}
 use Rattle.er_event.specs.declared.matches.Match.{Match}
 use Rattle.er_event.specs.declared.rounds.Round.{Round}
 use Rattle.er_event.specs.declared.scores.Games.{Games}
@@ -19,7 +20,9 @@ AreFew g = (g.x ≤ 3) × (g.y ≤ 3) × (g.d ≤ 3)
 -- none where the player isn't in the match, or it has no score
 abbrev pub AreSeen : Match → ℕ → Option Games → Type 0
 AreSeen m player None = (round : ℕ) → own player (lines_of_match round m) ≡ []
-AreSeen m player (Some g) = ((player ≡ m.a) ⊎ (player ≡ m.b)) × AreFew g × ((round : ℕ) → totals_of (own player (lines_of_match round m)) ≡ totals_of_games (Some g))
+AreSeen m player (Some g) =
+    ((player ≡ m.a) ⊎ (player ≡ m.b)) × AreFew g
+    × ((round : ℕ) → totals_of (own player (lines_of_match round m)) ≡ totals_of_games (Some g))
 
 -- what so many matches can come to at most
 pub record AreOver (rounds : ℕ) (t : Totals) : Type 0 where

@@ -1,5 +1,6 @@
 -- The search as a function of what is left to pair: laws in proofs/ tie it to the earliest legal pairing and to the steps needed.
-use Rattle.std.specs.Prelude.{◌≡◌, ℕ, zero, suc, ◌+◌, ◌<◌, Bool, if◌then◌else◌, List, [], ◌∷◌, ◌++◌, length, filter, All, Option, Some, None}
+use Rattle.std.specs.Prelude.{◌≡◌, ℕ, zero, suc, ◌+◌, ◌<◌, Bool, if◌then◌else◌, List, [], ◌∷◌, ◌++◌, length, filter, All, Option, Some}
+use Rattle.std.specs.Prelude.{None}
 use Rattle.std.specs.List.{range_with_len}
 use Rattle.er_pair.specs.declared.dead_ends.KnownDeadEnd.{KnownDeadEnd}
 use Rattle.er_pair.specs.declared.rows.Cursor.{Cursor}

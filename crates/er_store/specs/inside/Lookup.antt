@@ -53,7 +53,8 @@ pub record IsOurs {R : Type 0} (form : Form R) (table : Shape R) : Type 0 where
   pub texts : (e : EventValue) (s : ℕ) → IsSoundButForSeeds e → All form.is_text (table.rows e s)
 
 -- what is found is of the database before; whatever is answered, a crash leaves what it could before
-pub record LooksUp {A : Type 0} (Finds : Database → A → Type 0) (Misses : Database → Refusal → Type 0) (old new : State) (result : Result A Refusal)
+pub record LooksUp {A : Type 0} (Finds : Database → A → Type 0) (Misses : Database → Refusal → Type 0)
+    (old new : State) (result : Result A Refusal)
     : Type 0 where
   pub clean : HasCleanDisk new → HasCleanDisk old
   pub finds : HasCleanDisk new → IfOk result (Finds old.now)

@@ -1,5 +1,6 @@
 -- Who met whom, as the tables show it.
-use Rattle.std.specs.Prelude.{ℕ, ℤ, pos, ◌+◌, min, max, Bool, true, not, List, [], ◌∷◌, ◌++◌, map, filter, find, Option, Some, None, option_map, is_some}
+use Rattle.std.specs.Prelude.{ℕ, ℤ, pos, ◌+◌, min, max, Bool, true, not, List, [], ◌∷◌, ◌++◌, map, filter, find, Option, Some, None}
+use Rattle.std.specs.Prelude.{option_map, is_some}
 use Rattle.std.specs.Ordering.{int_eq}
 use Rattle.er_event.specs.declared.matches.Match.{Match}
 use Rattle.er_event.specs.declared.rounds.Round.{Round}
@@ -26,7 +27,8 @@ meeting_row come_to round numbered =
 
 -- a bye is no meeting
 abbrev pub round_meetings : (ℕ → Totals) → ℕ → List Match → List MeetingRow
-round_meetings come_to round matches = map (meeting_row come_to round) (filter (λ (n : ℕ × Match). not (is_bye n.1)) (numbered_from 1 matches))
+round_meetings come_to round matches =
+    map (meeting_row come_to round) (filter (λ (n : ℕ × Match). not (is_bye n.1)) (numbered_from 1 matches))
 
 abbrev pub meetings_from : (ℕ → Totals) → ℕ → List Round → List MeetingRow
 meetings_from come_to round [] = []

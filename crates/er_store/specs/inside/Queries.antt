@@ -14,11 +14,23 @@ use Rattle.sqlite_resolve.specs.declared.error.CompileError.{CompileError}
 use Rattle.sqlite.proofs.Callers.{IsPlain, command_of}
 
 abbrev pub plain_query : Join → List Term → List Term → Query
-plain_query from filter project = record { from = from; filter = filter; group = None; project = project; distinct = false; collations = []; order = []; limit = lit (Int (negsuc 0)); offset = lit (Int (pos 0)) }
+plain_query from filter project = record {
+  from = from;
+  filter = filter;
+  group = None;
+  project = project;
+  distinct = false;
+  collations = [];
+  order = [];
+  limit = lit (Int (negsuc 0));
+  offset = lit (Int (pos 0));
+}
 
 -- the columns at these places of each row of a table, by some of them
 abbrev pub table_query : ℕ → List ℕ → List ℕ → Query
-table_query tree places keys = record (plain_query (inner tree end) [] (map (col 1) places)) { order = map (λ place. (col 1 place, record { collation = Binary; descending = false })) keys }
+table_query tree places keys = record (plain_query (inner tree end) [] (map (col 1) places)) {
+  order = map (λ place. (col 1 place, record { collation = Binary; descending = false })) keys;
+}
 
 -- the text is one statement with so many parameters
 abbrev pub Takes : ℕ → List ℕ → Result Compiled CompileError → Type 0
