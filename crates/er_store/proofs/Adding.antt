@@ -1,4 +1,5 @@
 -- What one more match of a round or of a stage makes of the tables.
+use Rattle.er_store.proofs.Prelude.{pairing_tree, bracket_tree}
 use Rattle.er_store.proofs.Prelude.{pairing_rows_from, bracket_rows_from, common_steps, ◌≡◌, ◌<◌, ◌+◌, ℕ, zero, suc, ℤ, length, List, []}
 use Rattle.er_store.proofs.Prelude.{◌∷◌, ◌++◌, map, true, refl, sym, ap, ◌∙◌, arith, append-nil, not-suc-le-zero, get_or, take, ◌≤◌}
 use Rattle.er_store.proofs.Prelude.{IsPermutation, map-append, take_all, take_more, Row, Int, put_row, rowid, Database, State, is_int}
@@ -32,7 +33,7 @@ keyed_put id columns rows keyed = record {
 
 -- The round has one match more.
 pub pairing_added : (e : EventValue) (before : List Match) (m : Match) (id : ℤ) {old new : State} {s : ℕ} {kept : List TallyRow}
-    → StandsWith old.now (with_round e before) s kept → Puts 3 (stored_pairing id (next_row e before m)) old new
+    → StandsWith old.now (with_round e before) s kept → Puts pairing_tree (stored_pairing id (next_row e before m)) old new
     → BringsToWith old new (with_round e (before ++ m ∷ [])) s kept
 pairing_added e before m id {old} stands put =
     let row = next_row e before m in
@@ -40,7 +41,7 @@ pairing_added e before m id {old} stands put =
     (record { matches = before ++ m ∷ [] }) m refl in
     pairings_set stands (with_round e (before ++ m ∷ [])).stored put.goes (row_put stands PairingTable _ (pairing_columns row) _ put refl
     (ap (map pairing_columns) all ∙ map-append pairing_columns (pairing_rows (with_round e before)) (row ∷ [])))
-    (rw put.rows (keyed_put id _ (old.now.trees 3) stands.pairings_keyed))
+    (rw put.rows (keyed_put id _ (old.now.trees pairing_tree) stands.pairings_keyed))
 
 -- tables that show the same rows of another event stand for that one
 pub stands_as : {db : Database} {e f : EventValue} {s : ℕ} {kept : List TallyRow}
@@ -136,14 +137,14 @@ slots_none e = grind (arith, common_steps, append-nil, bracket_rows_are, rows_mo
 
 -- The stage has one match more.
 pub slot_added : (e : EventValue) (before : List Match) (m : Match) (id : ℤ) {old new : State} {s : ℕ} {kept : List TallyRow}
-    → StandsWith old.now (with_stage e before) s kept → Puts 6 (stored_slot id (next_slot e before m)) old new
+    → StandsWith old.now (with_stage e before) s kept → Puts bracket_tree (stored_slot id (next_slot e before m)) old new
     → BringsToWith old new (with_stage e (before ++ m ∷ [])) s kept
 slot_added e before m id {old} stands put =
     let all = newest_more bracket_row (λ ms. ms) bracket_rows_from bracket_rows_are e.bracket.stages before (before ++ m ∷ []) m refl in
     bracket_set stands (with_stage e (before ++ m ∷ [])).bracket.stages put.goes (row_put stands BracketTable _
     (bracket_columns (next_slot e before m)) _ put refl (ap (map bracket_columns) all
     ∙ map-append bracket_columns (bracket_rows (with_stage e before)) (next_slot e before m ∷ [])))
-    (rw put.rows (keyed_put id _ (old.now.trees 6) stands.bracket_keyed))
+    (rw put.rows (keyed_put id _ (old.now.trees bracket_tree) stands.bracket_keyed))
 
 -- a stage of no match has no row
 pub no_slot_added : (e : EventValue) {db : Database} {s : ℕ} {kept : List TallyRow}

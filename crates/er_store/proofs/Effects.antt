@@ -1,4 +1,5 @@
 -- What each statement does to the tables.
+use Rattle.er_store.proofs.Prelude.{event_tree, player_tree, pairing_tree, bracket_tree, tally_tree}
 use Rattle.er_store.proofs.Prelude.{has_rowid, ◌≡◌, ℕ, pos, List, [], ◌∷◌, map, slice_get, Bool, true, false, Ok, Err, Result, is_ok}
 use Rattle.er_store.proofs.Prelude.{true≢false, IsTrue, refl, sym, ap, subst, ◌∙◌, ◌≤◌, is_eq, IsPermutation-sym, Int, Text, Row, column}
 use Rattle.er_store.proofs.Prelude.{value_cmp-Int, Term, eval_all, Table, Schema, Update, next_rowid, rowid, without_rowid, put_row, State}
@@ -41,37 +42,42 @@ inside_ok false a e never = absurd (ok_is_no_err a e (never refl))
 -- ---- the rows that are put in
 
 pub puts_player : (num : ℕ) (name : List ℕ) (dropped : Bool) {old new : State} → HasTables old.now.schema
-    → Ran insert_player (number num ∷ Text name ∷ Int (flag dropped) ∷ []) old new → Puts 1 (stored_player num name dropped) old new
+    → Ran insert_player (number num ∷ Text name ∷ Int (flag dropped) ∷ []) old new
+    → Puts player_tree (stored_player num name dropped) old new
 puts_player num name dropped has =
-    puts_one (player 1) (stored_player num name dropped) (meant has).player (ap (λ ts. slice_get ts 1) has.are) refl
+    puts_one (player player_tree) (stored_player num name dropped) (meant has).player (ap (λ ts. slice_get ts 1) has.are) refl
     (simp (cast_int, cast_null))
 
 abbrev pub event_parameters : EventValue → ℕ → Row
 event_parameters e serial = number serial ∷ Text e.name ∷ number e.rounds ∷ number e.cut ∷ number (phase_code e.phase) ∷ []
 
 pub puts_event : (e : EventValue) (serial : ℕ) {old new : State} → HasTables old.now.schema
-    → Ran insert_event (event_parameters e serial) old new → Puts 0 (stored_event e serial) old new
+    → Ran insert_event (event_parameters e serial) old new → Puts event_tree (stored_event e serial) old new
 puts_event e serial has =
-    puts_one (event 0) (stored_event e serial) (meant has).event (ap (λ ts. slice_get ts 0) has.are) refl (simp (cast_int, cast_null))
+    puts_one (event event_tree) (stored_event e serial) (meant has).event (ap (λ ts. slice_get ts 0) has.are) refl
+    (simp (cast_int, cast_null))
 
 -- a pairing's row takes the next rowid
 pub puts_pairing : (r : PairingRow) {old new : State} → HasTables old.now.schema
-    → Ran insert_pairing (pairing_columns r) old new → Puts 3 (stored_pairing (next_rowid (old.now.trees 3)) r) old new
+    → Ran insert_pairing (pairing_columns r) old new
+    → Puts pairing_tree (stored_pairing (next_rowid (old.now.trees pairing_tree)) r) old new
 puts_pairing r {old} has =
-    puts_one (pairing 3) (stored_pairing (next_rowid (old.now.trees 3)) r) (meant has).pairing (ap (λ ts. slice_get ts 2) has.are) refl
+    puts_one (pairing pairing_tree) (stored_pairing (next_rowid (old.now.trees pairing_tree)) r) (meant has).pairing
+    (ap (λ ts. slice_get ts 2) has.are) refl
     (simp (cast_int, cast_null))
 
 -- and so does one of the bracket
 pub puts_slot : (r : BracketRow) {old new : State} → HasTables old.now.schema
-    → Ran insert_slot (bracket_columns r) old new → Puts 6 (stored_slot (next_rowid (old.now.trees 6)) r) old new
+    → Ran insert_slot (bracket_columns r) old new → Puts bracket_tree (stored_slot (next_rowid (old.now.trees bracket_tree)) r) old new
 puts_slot r {old} has =
-    puts_one (bracket 6) (stored_slot (next_rowid (old.now.trees 6)) r) (meant has).slot (ap (λ ts. slice_get ts 3) has.are) refl
+    puts_one (bracket bracket_tree) (stored_slot (next_rowid (old.now.trees bracket_tree)) r) (meant has).slot
+    (ap (λ ts. slice_get ts 3) has.are) refl
     (simp (cast_int, cast_null))
 
 pub puts_tally : (r : TallyRow) {old new : State} → HasTables old.now.schema
-    → Ran insert_tally (tally_columns r) old new → Puts 8 (stored_tally r) old new
+    → Ran insert_tally (tally_columns r) old new → Puts tally_tree (stored_tally r) old new
 puts_tally r has =
-    puts_one (tally 8) (stored_tally r) (meant has).tally (ap (λ ts. slice_get ts 4) has.are) refl (simp (cast_int, cast_null))
+    puts_one (tally tally_tree) (stored_tally r) (meant has).tally (ap (λ ts. slice_get ts 4) has.are) refl (simp (cast_int, cast_null))
 
 -- ---- the row of the event
 
@@ -96,9 +102,9 @@ sets_event : (terms : List Term) (v : Value) (phase : Phase) (t : ℕ) → t ≤
 sets_event terms v phase t low {old = old} {e = e} {s} stands means shows ran =
     let has = stands.tables in
     let f = with_phase e phase in
-    let it = one_of event_places (old.now.trees 0) (event_columns (event_row 1 e s))
+    let it = one_of event_places (old.now.trees event_tree) (event_columns (event_row 1 e s))
     (one_permutation _ _ (IsPermutation-sym _ _ (stands.rows EventTable))) in
-    let set = replaces (event 0) (pos 1) (stored_event f t) means has (ap (λ ts. slice_get ts 0) has.are) (λ x other. other.0)
+    let set = replaces (event event_tree) (pos 1) (stored_event f t) means has (ap (λ ts. slice_get ts 0) has.are) (λ x other. other.0)
     (λ rows answer. event_rows terms old.now.trees (v ∷ []) it.0 rows it.1 answer ∙ ap (λ x. x ∷ []) (shows it.0 it.2))
     (simp (cast_int, cast_null)) ran in
     let cols = it.2 in

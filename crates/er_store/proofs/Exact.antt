@@ -1,4 +1,5 @@
 -- What the reading statements show, and that it is the rows of an event in order.
+use Rattle.er_store.proofs.Prelude.{event_tree, player_tree, bracket_tree, tally_tree}
 use Rattle.er_store.proofs.Prelude.{Query, common_steps, ◌≡◌, ◌+◌, ◌<◌, ℕ, List, [], ◌∷◌, map, length, get_or, flat_map, refl, sym, ap, ap₂}
 use Rattle.er_store.proofs.Prelude.{subst, ◌∙◌, arith, Ordering, Bool, true, false, cond, None, ordering_then, AllByRecursion}
 use Rattle.er_store.proofs.Prelude.{IsPermutation, IsPermutation-map, All-from_recursion, recursion_from_All, Row, column, col, eval_all}
@@ -140,7 +141,7 @@ map-same columns inj (x ∷ xs) (y ∷ ys) h = ap₂ ◌∷◌ (inj x y (cc)) (m
 -- ---- the event's row
 
 pub event_exact : (db : Database) (e : EventValue) (s : ℕ) (listed : List Row) → StandsFor db e s
-    → Lists by_first (columns_at event_places (db.trees 0)) listed → listed ≡ map event_columns (event_row 1 e s ∷ [])
+    → Lists by_first (columns_at event_places (db.trees event_tree)) listed → listed ≡ map event_columns (event_row 1 e s ∷ [])
 event_exact db e s listed stands h = one_permutation (event_columns (event_row 1 e s)) listed
     (IsPermutation-trans _ _ _ (IsPermutation-sym _ _ (stands.rows EventTable)) h.same)
 
@@ -148,7 +149,7 @@ event_exact db e s listed stands h = one_permutation (event_columns (event_row 1
 
 pub players_exact : (db : Database) (e : EventValue) (s : ℕ) (listed : List Row) → StandsFor db e s
     → numbers e.players ≡ range_with_len 1 (length e.players)
-    → Lists by_first (columns_at player_places (db.trees 1)) listed → listed ≡ map player_columns (player_rows e)
+    → Lists by_first (columns_at player_places (db.trees player_tree)) listed → listed ≡ map player_columns (player_rows e)
 players_exact db e s listed stands numbered h =
     listed_by_one _ listed (map player_columns (player_rows e)) (rw (map-map player_columns player_row e.players)
     (numbered_rise (λ p. player_columns (player_row p)) (λ p. refl) 1 e.players numbered)) (stands.rows PlayerTable) h
@@ -157,7 +158,7 @@ players_exact db e s listed stands numbered h =
 
 pub tallies_exact : (db : Database) (e : EventValue) (s : ℕ) (listed : List Row) → StandsFor db e s
     → numbers e.players ≡ range_with_len 1 (length e.players)
-    → Lists by_first (columns_at tally_places (db.trees 8)) listed → listed ≡ map tally_columns (tally_rows e)
+    → Lists by_first (columns_at tally_places (db.trees tally_tree)) listed → listed ≡ map tally_columns (tally_rows e)
 tallies_exact db e s listed stands numbered h =
     listed_by_one _ listed (map tally_columns (tally_rows e))
     (rw (map-map tally_columns (λ (p : Player). tally_row p.no (totals e p.no)) e.players)
@@ -180,7 +181,7 @@ stages_rise [] = tt
 stages_rise (ms ∷ later) = (λ k. slots_rise k ms, stages_rise later)
 
 pub bracket_exact : (db : Database) (e : EventValue) (s : ℕ) (listed : List Row) → StandsFor db e s
-    → Lists by_first_two (columns_at bracket_places (db.trees 6)) listed → listed ≡ map bracket_columns (bracket_rows e)
+    → Lists by_first_two (columns_at bracket_places (db.trees bracket_tree)) listed → listed ≡ map bracket_columns (bracket_rows e)
 bracket_exact db e s listed stands h =
     let stages = e.bracket.stages in
     let rise = rises_from bracket_columns bracket_row (λ k n. refl) (numbered_from 1) 1 stages (stages_rise stages) in

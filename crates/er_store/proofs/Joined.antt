@@ -1,4 +1,5 @@
 -- What the join of a slip reads of tables that stand for an event.
+use Rattle.er_store.proofs.Prelude.{player_tree, pairing_tree}
 use Rattle.er_store.proofs.Prelude.{column, is_lawful_name, is_bye, is_at, number, ◌≡◌, Bool, true, false, ◌&&◌, cond, if◌then◌else◌, List}
 use Rattle.er_store.proofs.Prelude.{[], ◌∷◌, ◌++◌, map, filter, flat_map, refl, ap, ap₂, subst, ◌∙◌, arith, list_all, IsPermutation, Binary}
 use Rattle.er_store.proofs.Prelude.{Value, Row, is_true, Env, eval_all, holds, IsAnswer, or_nulls, overlay, Trees, Compare, Eq, binary}
@@ -143,14 +144,15 @@ module _ (e : EventValue) (sound : IsSoundButForSeeds e) where
 
   -- one row has the number, or that of NULLs
   sits : (db : Database) (s n : ℕ) → StandsFor db e s → Known e n
-      → (l : Row) × (numbered_as (number n) (db.trees 1) ≡ l ∷ []) × (column l 2 ≡ text_or_null (name_in (second_of e n)))
+      → (l : Row) × (numbered_as (number n) (db.trees player_tree) ≡ l ∷ []) × (column l 2 ≡ text_or_null (name_in (second_of e n)))
   sits db s n stands (inl none) =
       let out = picks_none e.players n (omega (arith, none)) sound.players.numbered in
-      let all = none_picked player_places (picks n) (db.trees 1) (rows_of e.players) (stands.rows PlayerTable) out in
+      let all = none_picked player_places (picks n) (db.trees player_tree) (rows_of e.players) (stands.rows PlayerTable) out in
       ([], ap or_nulls all, ap (λ k. text_or_null (name_in (second_of e k))) (sym none))
   sits db s n stands (inr known) =
       let one = picks_one e.players n sound.players.numbered known in
-      let it = one_picked player_places (picks n) (db.trees 1) (rows_of e.players) (row_of one.it) (stands.rows PlayerTable) one.alone in
+      let it = one_picked player_places (picks n) (db.trees player_tree) (rows_of e.players) (row_of one.it) (stands.rows PlayerTable)
+      one.alone in
       let name : column it.0 2 ≡ Text one.it.name = ap (λ (r : Row). column r 1) it.2 in
       let own = ap (λ (o : Option Player). Text (name_found o)) (sym one.first) in
       let named = ap (λ (o : Side). text_or_null (name_in o)) (sym (somebody n known)) in
@@ -267,15 +269,16 @@ module _ (e : EventValue) (sound : IsSoundButForSeeds e) (k t : ℕ) (n : ℕ ×
   slip_read : (db : Database) (s : ℕ) (rows : List Row) → StandsFor db e s → rows_at e k t ≡ pairing_columns (pairing_row k n) ∷ []
       → IsAnswer slip_query (overlay db.trees []) (number k ∷ number t ∷ []) rows → rows ≡ named_columns (named_pairing slip) ∷ []
   slip_read db s rows stands alone a =
-      let it = one_picked pairing_places (picks_table k t) (db.trees 3) (map pairing_columns (pairing_rows e))
+      let it = one_picked pairing_places (picks_table k t) (db.trees pairing_tree) (map pairing_columns (pairing_rows e))
       (pairing_columns (pairing_row k n)) (stands.rows PairingTable) alone in
       let p = it.0 in
       let low = sits e sound db s (min n.1.a n.1.b) stands known_low in
       let high = sits e sound db s (max n.1.a n.1.b) stands known_high in
       let lo : column p 3 ≡ number (min n.1.a n.1.b) = ap (λ (r : Row). column r 2) it.2 in
       let hi : column p 4 ≡ number (max n.1.a n.1.b) = ap (λ (r : Row). column r 3) it.2 in
-      let read = slip_one db.trees (number k ∷ number t ∷ []) p low.0 high.0 rows it.1 (ap (λ v. numbered_as v (db.trees 1)) lo ∙ low.1)
-      (ap (λ v. numbered_as v (db.trees 1)) hi ∙ high.1) a in
+      let read = slip_one db.trees (number k ∷ number t ∷ []) p low.0 high.0 rows it.1
+      (ap (λ v. numbered_as v (db.trees player_tree)) lo ∙ low.1)
+      (ap (λ v. numbered_as v (db.trees player_tree)) hi ∙ high.1) a in
       read ∙ ap (λ (r : Row). r ∷ []) (ap (λ (r : Row). r ++ column low.0 2 ∷ column high.0 2 ∷ []) it.2
       ∙ (ap₂ (λ x y. pairing_columns (pairing_row k n) ++ x ∷ y ∷ []) (low.2 ∙ ap text_or_null low_name)
       (high.2 ∙ ap text_or_null high_name)
@@ -295,7 +298,7 @@ slip_exact db e s k t rows stands sound a =
         → match_at e k t ≡ option_map (λ (n : ℕ × Match). n.1) o → IfSome o (Finds (IsMatch (numbers e.players)) (is_at t))
         → rows ≡ map named_columns (named_pairings e k t)
     by_case None alone is found = rw is (slip_none db.trees (number k ∷ number t ∷ []) rows (none_picked pairing_places (picks_table k t)
-        (db.trees 3) (map pairing_columns (pairing_rows e)) (stands.rows PairingTable) alone) a)
+        (db.trees pairing_tree) (map pairing_columns (pairing_rows e)) (stands.rows PairingTable) alone) a)
     by_case (Some n) alone is found = rw is (slip_read e sound k t n found db s rows stands alone a)
 
 pub slips_lawful : (e : EventValue) (k t : ℕ) → IsSoundButForSeeds e → IfSome (slip_of e k t) IsLawful

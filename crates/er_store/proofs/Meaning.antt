@@ -1,4 +1,5 @@
 -- What the texts mean, whatever other tables there are.
+use Rattle.er_store.proofs.Prelude.{event_tree, player_tree, pairing_tree, bracket_tree, tally_tree}
 use Rattle.er_store.proofs.Prelude.{set_serial, set_phase, set_dropped, set_score, set_slot_score, set_tally, map, ◌≡◌, ℕ, refl, [], ◌∷◌}
 use Rattle.er_store.proofs.Prelude.{List, pos, false, is_ok, sym, ◌∙◌, true≢false, Table, Schema, Term, col, Query, Command, Insert, Update}
 use Rattle.er_store.proofs.Prelude.{Values, Null, Int, Binary, Index, View, Compare, Eq, Gt, ToNumeric, IsPlain, command_of, with_ours}
@@ -27,7 +28,7 @@ tally_terms = col 0 0 ∷ lit Null ∷ col 0 1 ∷ col 0 2 ∷ col 0 3 ∷ col 0
 
 -- every row of the event's table, by these terms
 abbrev pub event_query : List Term → Query
-event_query = plain_query (inner 0 end) []
+event_query = plain_query (inner event_tree end) []
 
 -- the old rowid, and then the row with another serial
 abbrev pub serial_terms : List Term
@@ -69,7 +70,7 @@ equals x y = op2 (Compare Eq Binary) x y
 
 -- the pairings, each with the player `lo`, if there is one, and the player `hi`
 abbrev pub slip_from : Join
-slip_from = inner 3 (left 1 (equals (col 2 0) (col 1 3) ∷ []) (left 1 (equals (col 3 0) (col 1 4) ∷ []) end))
+slip_from = inner pairing_tree (left player_tree (equals (col 2 0) (col 1 3) ∷ []) (left player_tree (equals (col 3 0) (col 1 4) ∷ []) end))
 
 abbrev pub slip_terms : List Term
 slip_terms = col 1 1 ∷ col 1 2 ∷ col 1 3 ∷ col 1 4 ∷ col 1 5 ∷ col 1 6 ∷ col 1 7 ∷ col 1 8 ∷ col 1 9 ∷ col 2 2 ∷ col 3 2 ∷ []
@@ -80,7 +81,8 @@ slip_query = plain_query slip_from score_tests slip_terms
 
 -- the pairings, each with the totals of `lo`, if there are any, and of `hi`
 abbrev pub meeting_from : Join
-meeting_from = inner 3 (left 8 (equals (col 2 0) (col 1 3) ∷ []) (left 8 (equals (col 3 0) (col 1 4) ∷ []) end))
+meeting_from =
+    inner pairing_tree (left tally_tree (equals (col 2 0) (col 1 3) ∷ []) (left tally_tree (equals (col 3 0) (col 1 4) ∷ []) end))
 
 abbrev pub meeting_terms : List Term
 meeting_terms =
@@ -110,10 +112,11 @@ pub record WritesMean (schema : Schema) : Type 0 where
   pub tally : Means insert_tally (Insert 4 (Values tally_terms 6)) schema
   pub serial : Means set_serial (Update 0 (record { lets = []; body = event_query serial_terms })) schema
   pub phase : Means set_phase (Update 0 (record { lets = []; body = event_query phase_terms })) schema
-  pub dropped : Means set_dropped (Update 1 (record { lets = []; body = rows_query 1 dropped_tests dropped_terms })) schema
-  pub score : Means set_score (Update 2 (record { lets = []; body = rows_query 3 score_tests score_terms })) schema
-  pub slot_score : Means set_slot_score (Update 3 (record { lets = []; body = rows_query 6 score_tests slot_score_terms })) schema
-  pub totals : Means set_tally (Update 4 (record { lets = []; body = rows_query 8 dropped_tests totals_terms })) schema
+  pub dropped : Means set_dropped (Update 1 (record { lets = []; body = rows_query player_tree dropped_tests dropped_terms })) schema
+  pub score : Means set_score (Update 2 (record { lets = []; body = rows_query pairing_tree score_tests score_terms })) schema
+  pub slot_score : Means set_slot_score
+      (Update 3 (record { lets = []; body = rows_query bracket_tree score_tests slot_score_terms })) schema
+  pub totals : Means set_tally (Update 4 (record { lets = []; body = rows_query tally_tree dropped_tests totals_terms })) schema
 
 module _ (others : List Table) (indexes : List Index) (views : List View) where
   abbrev pub full : Schema

@@ -1,4 +1,5 @@
 -- The meetings that are read of an event's tables, and those that count.
+use Rattle.er_store.proofs.Prelude.{pairing_tree, tally_tree}
 use Rattle.er_store.proofs.Prelude.{table_of, common_steps, ◌≡◌, ◌≢◌, ℕ, ℤ, pos, suc, ◌+◌, ◌-◌, ◌≤◌, min, max, Bool, true, false, not, cond}
 use Rattle.er_store.proofs.Prelude.{List, [], ◌∷◌, ◌++◌, map, filter, find, take, length, Option, Some, None, option_map, All, IsTrue, refl}
 use Rattle.er_store.proofs.Prelude.{sym, ap, ap₂, subst, ◌∙◌, arith, append-nil, true≢false, AllByRecursion, nat_tests, map-append}
@@ -267,7 +268,7 @@ module _ (db : Trees) where
 
 pub meetings-listed : {sql : List ℕ} (old new : State) {rows : List Row} → Selects sql meeting_query old.now.schema
     → Shown sql [] old new rows
-    → Lists by_first_two (flat_map (mates old.now.trees) (filter is_no_bye (columns_at pairing_places (old.now.trees 3)))) rows
+    → Lists by_first_two (flat_map (mates old.now.trees) (filter is_no_bye (columns_at pairing_places (old.now.trees pairing_tree)))) rows
 meetings-listed old new {rows} it h = answer-lists old.now.trees rows (answers old new it h)
 
 -- ---- the rows of an event
@@ -292,12 +293,12 @@ module _ (db : Database) (e : EventValue) (s : ℕ) (stands : StandsFor db e s) 
   row_by p = tally_columns (tally_row p.no (totals e p.no))
 
   -- one row has the totals of a player
-  totals-sit : (n : ℕ) → Contains (numbers e.players) n → (l : Row) × (numbered_as (number n) (db.trees 8) ≡ l ∷ [])
+  totals-sit : (n : ℕ) → Contains (numbers e.players) n → (l : Row) × (numbered_as (number n) (db.trees tally_tree) ≡ l ∷ [])
       × (map (column l) tally_places ≡ tally_columns (tally_row n (totals e n)))
   totals-sit n known =
       let picked = picks_row row_by row_by n (record { numbered = λ p. refl; others = λ p apart. refl }) e.players sound.players.numbered
       known (map-map tally_columns (λ (p : Player). tally_row p.no (totals e p.no)) e.players) refl in
-      let it = one_picked tally_places (picks n) (db.trees 8) (map tally_columns (tally_rows e)) (row_by picked.it)
+      let it = one_picked tally_places (picks n) (db.trees tally_tree) (map tally_columns (tally_rows e)) (row_by picked.it)
       (stands.rows TallyTable) picked.alone in
       (it.0, ap or_nulls it.1, it.2 ∙ ap (λ (k : ℕ). tally_columns (tally_row k (totals e k))) picked.is)
 
@@ -358,10 +359,10 @@ rounds-rise come_to (r ∷ later) = (
 -- ---- what is read
 
 pub meetings-exact : (db : Database) (e : EventValue) (s : ℕ) (rows : List Row) → StandsFor db e s → IsSoundButForSeeds e
-    → Lists by_first_two (flat_map (mates db.trees) (filter is_no_bye (columns_at pairing_places (db.trees 3)))) rows
+    → Lists by_first_two (flat_map (mates db.trees) (filter is_no_bye (columns_at pairing_places (db.trees pairing_tree)))) rows
     → rows ≡ map meeting_columns (meeting_rows e)
 meetings-exact db e s rows stands sound h =
-    let stored = columns_at pairing_places (db.trees 3) in
+    let stored = columns_at pairing_places (db.trees pairing_tree) in
     let kept = IsPermutation-flat_map (mates db.trees) (filter is_no_bye stored) (filter is_no_bye (map pairing_columns (pairing_rows e)))
     (IsPermutation-filter is_no_bye stored (map pairing_columns (pairing_rows e)) (stands.rows PairingTable)) in
     let are = rounds-mates db e s stands sound 1 e.stored (all_matches e sound) in
@@ -374,7 +375,8 @@ meetings-exact db e s rows stands sound h =
 
 -- typed rows with the columns of the rows that are read
 pub meetings-read : (db : Database) (e : EventValue) (s : ℕ) (rows : List Row) (typed : List MeetingRow) → StandsFor db e s
-    → IsSoundButForSeeds e → Lists by_first_two (flat_map (mates db.trees) (filter is_no_bye (columns_at pairing_places (db.trees 3)))) rows
+    → IsSoundButForSeeds e → Lists by_first_two (flat_map (mates db.trees)
+    (filter is_no_bye (columns_at pairing_places (db.trees pairing_tree)))) rows
     → map meeting_columns typed ≡ map (first_columns 13) rows → typed ≡ meeting_rows e
 meetings-read db e s rows typed stands sound h columns =
     map-same meeting_columns (λ r s h. grind arith) typed (meeting_rows e) (columns

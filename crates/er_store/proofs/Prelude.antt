@@ -103,6 +103,7 @@ pub use Rattle.er_store.specs.Shape.{Form, Shape}
 pub use Rattle.er_store.specs.Slip.{match_of, is_swapped, Side, number_in, name_in, named_pairing, IsPlayer, IsLawful, named_pairings}
 pub use Rattle.er_store.specs.Standing.{StandsFor, HasTables, StandsWith, IsOther, CanRead, IsKeyed, Shows, with_ours, IsStored, rows_in}
 pub use Rattle.er_store.specs.Standing.{rows_with, KeepsOthers}
+pub use Rattle.er_store.specs.Tables.{event_tree, player_tree, pairing_tree, bracket_tree, tally_tree}
 pub use Rattle.er_store.specs.Tables.{no_schema, pairing, bracket, read_event, player, tally, set_serial, set_phase, set_dropped, set_score}
 pub use Rattle.er_store.specs.Tables.{set_slot_score, set_tally, insert_event, insert_player, insert_pairing, insert_slot, insert_tally}
 pub use Rattle.er_store.specs.Tables.{read_players, read_pairings, read_bracket, read_tallies, read_meetings, read_slip, event, our_schema}

@@ -1,4 +1,5 @@
 -- What an UPDATE does to the one row that its WHERE picks.
+use Rattle.er_store.proofs.Prelude.{player_tree, pairing_tree, bracket_tree, tally_tree}
 use Rattle.er_store.proofs.Prelude.{has_rowid, numbers, tally_columns, rowid, value_cmp, nat_tests, arith, ◌≡◌, ℕ, List, [], ◌∷◌, ◌++◌, map}
 use Rattle.er_store.proofs.Prelude.{filter, flat_map, Bool, false, if◌then◌else◌, refl, sym, ap, subst, ◌∙◌, ℤ, pos, slice_get, Some, not}
 use Rattle.er_store.proofs.Prelude.{◌≢◌, list_all, IsPermutation, IsPermutation-sym, Row, column, Term, eval_all, holds, IsAnswer, overlay}
@@ -100,7 +101,8 @@ player_dropped n {old} {new} {e} stands numbered known ran =
     let one = picks_one e.players n numbered known in
     let it = one.it in
     let row = stored_player n it.name true in
-    let set = sets_number (player 1) (2 ∷ 3 ∷ []) n row (meant has).dropped has (ap (λ ts. slice_get ts 1) has.are) (λ x other. other.1)
+    let set = sets_number (player player_tree) (2 ∷ 3 ∷ []) n row (meant has).dropped has (ap (λ ts. slice_get ts 1) has.are)
+    (λ x other. other.1)
     (λ db. refl) (λ r h. let is = one.is in cc) (simp (cast_int, cast_null)) (stands.rows PlayerTable) one.alone ran in
     players_set stands (map (dropped_at n) e.players) set.0
     (IsPermutation-trans _ _ _ set.1 (rw (same_number it.no n one.is, one.is) at one.replaced))
@@ -132,7 +134,7 @@ totals_set n t come_to {e = e} stands numbered known ran =
     let next = set_for n t come_to in
     let one = picks_row (row_by come_to) (row_by next) n (are_rows n t come_to) e.players numbered known (shown come_to) (shown next) in
     let it = one.it in
-    let set = sets_number (tally 8) (2 ∷ 3 ∷ 4 ∷ 5 ∷ []) n (stored_tally (tally_row n t)) (meant has).totals has
+    let set = sets_number (tally tally_tree) (2 ∷ 3 ∷ 4 ∷ 5 ∷ []) n (stored_tally (tally_row n t)) (meant has).totals has
     (ap (λ ts. slice_get ts 4) has.are) (λ x other. other.4) (λ db. refl) (λ r h. let is = one.is in cc)
     (simp (cast_int, cast_null)) (stands.rows TallyTable) one.alone ran in
     tallies_set stands (rows next) set.0 (IsPermutation-trans _ _ _ set.1 (rw (same_number it.no n one.is, one.is) at one.replaced))
@@ -245,7 +247,7 @@ pairing_scored k t score {m} {e = e} stands found seat ran =
     let has = stands.tables in
     let one = picks_one_table e k t score m found seat in
     let row = pairing_row k (one.it.0, scored score one.it.1) in
-    let set = sets_row (pairing 3) (3 ∷ 4 ∷ 5 ∷ 6 ∷ 7 ∷ 8 ∷ 9 ∷ []) k t (pairing_columns row) (meant has).score
+    let set = sets_row (pairing pairing_tree) (3 ∷ 4 ∷ 5 ∷ 6 ∷ 7 ∷ 8 ∷ 9 ∷ []) k t (pairing_columns row) (meant has).score
     (λ db. refl) (ap (λ ts. slice_get ts 2) has.are) (λ x other. other.2) (λ r id own h. cc) (λ id. simp cast_int) (λ id. refl)
     has (stands.rows PairingTable) stands.pairings_keyed one.alone ran in
     pairings_set stands (with_score e k t score).stored set.goes (IsPermutation-trans _ _ _ set.rows one.replaced) set.keyed
@@ -259,7 +261,7 @@ slot_scored k t score {m} {e = e} stands found ran =
     let has = stands.tables in
     let one = picks_one_slot e k t score m found in
     let row = bracket_row k (one.it.0, scored score one.it.1) in
-    let set = sets_row (bracket 6) (3 ∷ 4 ∷ 5 ∷ 6 ∷ 7 ∷ 8 ∷ []) k t (bracket_columns row) (meant has).slot_score (λ db. refl)
+    let set = sets_row (bracket bracket_tree) (3 ∷ 4 ∷ 5 ∷ 6 ∷ 7 ∷ 8 ∷ []) k t (bracket_columns row) (meant has).slot_score (λ db. refl)
     (ap (λ ts. slice_get ts 3) has.are) (λ x other. other.3) (λ r id own h. cc) (λ id. simp cast_int) (λ id. refl)
     has (stands.rows BracketTable) stands.bracket_keyed one.alone ran in
     bracket_set stands (with_slot_score e k t score).bracket.stages set.goes (IsPermutation-trans _ _ _ set.rows one.replaced) set.keyed

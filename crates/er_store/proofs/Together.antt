@@ -1,4 +1,5 @@
 -- The steps of a change, put together.
+use Rattle.er_store.proofs.Prelude.{event_tree, player_tree, pairing_tree, bracket_tree, tally_tree}
 use Rattle.er_store.proofs.Prelude.{column, columns_at, ◌≡◌, ◌≢◌, ◌≤◌, ◌+◌, ◌||◌, ℕ, length, List, [], ◌∷◌, ◌++◌, map, Bool, false, refl}
 use Rattle.er_store.proofs.Prelude.{sym, ap, subst, ◌∙◌, arith, Ordering, Less, Equal, Greater, is_eq, AllByRecursion, IsPermutation}
 use Rattle.er_store.proofs.Prelude.{IsPermutation-refl, IsPermutation-sym, IsPermutation-trans, IsPermutation-map, map-append, Row, Table}
@@ -112,8 +113,8 @@ Follows tree db before after =
 table_set : (tree : ℕ) {old new : State} {e f : EventValue} {s t : ℕ} {before after : List TallyRow}
     → ((x : ℕ) → IsOther x → x ≢ tree) → StandsWith old.now e s before → Goes tree old new → t ≤ 999999
     → Follows tree new.now (rows_with e s before) (rows_with f t after)
-    → ((3 ≢ tree → IsKeyed (new.now.trees 3)) → IsKeyed (new.now.trees 3))
-    → ((6 ≢ tree → IsKeyed (new.now.trees 6)) → IsKeyed (new.now.trees 6)) → BringsToWith old new f t after
+    → ((pairing_tree ≢ tree → IsKeyed (new.now.trees pairing_tree)) → IsKeyed (new.now.trees pairing_tree))
+    → ((bracket_tree ≢ tree → IsKeyed (new.now.trees bracket_tree)) → IsKeyed (new.now.trees bracket_tree)) → BringsToWith old new f t after
 table_set tree {old} {new} {e} {s = s} apart stands goes low follows pairings bracket = record {
   moves = goes_moves tree old new apart goes;
   stands = record {
@@ -127,34 +128,37 @@ table_set tree {old} {new} {e} {s = s} apart stands goes low follows pairings br
 
 module _ {old new : State} {e : EventValue} {s : ℕ} {kept : List TallyRow} (stands : StandsWith old.now e s kept) where
   -- the players' rows alone are others
-  pub players_set : (players : List Player) → Goes 1 old new
+  pub players_set : (players : List Player) → Goes player_tree old new
       → IsPermutation (rows_in new.now PlayerTable) (map player_columns (map player_row players))
       → BringsToWith old new (record e { players = players }) s kept
   players_set players goes set = table_set 1 (λ t other. other.1) stands goes stands.low
       (elim [ PlayerTable ↦ λ same. set | _ ↦ λ same. same (λ e. cc) ]) (λ keyed. keyed (λ e. cc)) (λ keyed. keyed (λ e. cc))
 
   -- the pairings' rows alone are others
-  pub pairings_set : (stored : List Round) → Goes 3 old new
-      → IsPermutation (rows_in new.now PairingTable) (map pairing_columns (pairing_rows_from 1 stored)) → IsKeyed (new.now.trees 3)
+  pub pairings_set : (stored : List Round) → Goes pairing_tree old new
+      → IsPermutation (rows_in new.now PairingTable) (map pairing_columns (pairing_rows_from 1 stored))
+      → IsKeyed (new.now.trees pairing_tree)
       → BringsToWith old new (record e { stored = stored }) s kept
   pairings_set stored goes set keyed = table_set 3 (λ t other. other.2) stands goes stands.low
       (elim [ PairingTable ↦ λ same. set | _ ↦ λ same. same (λ e. cc) ]) (λ _. keyed) (λ keyed. keyed (λ e. cc))
 
   -- the bracket's rows alone are others
-  pub bracket_set : (stages : List (List Match)) → Goes 6 old new
-      → IsPermutation (rows_in new.now BracketTable) (map bracket_columns (bracket_rows_from 1 stages)) → IsKeyed (new.now.trees 6)
+  pub bracket_set : (stages : List (List Match)) → Goes bracket_tree old new
+      → IsPermutation (rows_in new.now BracketTable) (map bracket_columns (bracket_rows_from 1 stages))
+      → IsKeyed (new.now.trees bracket_tree)
       → BringsToWith old new (record e { bracket = record { stages = stages } }) s kept
   bracket_set stages goes set keyed = table_set 6 (λ t other. other.3) stands goes stands.low
       (elim [ BracketTable ↦ λ same. set | _ ↦ λ same. same (λ e. cc) ]) (λ keyed. keyed (λ e. cc)) (λ _. keyed)
 
   -- the rows of totals alone are others
-  pub tallies_set : (after : List TallyRow) → Goes 8 old new
+  pub tallies_set : (after : List TallyRow) → Goes tally_tree old new
       → IsPermutation (rows_in new.now TallyTable) (map tally_columns after) → BringsToWith old new e s after
   tallies_set after goes set = table_set 8 (λ t other. other.4) stands goes stands.low
       (elim [ TallyTable ↦ λ same. set | _ ↦ λ same. same (λ e. cc) ]) (λ keyed. keyed (λ e. cc)) (λ keyed. keyed (λ e. cc))
 
   -- the event's row alone is another
-  pub row_set : (phase : Phase) (t : ℕ) → t ≤ 999999 → Goes 0 old new → new.now.trees 0 ≡ stored_event (with_phase e phase) t ∷ []
+  pub row_set : (phase : Phase) (t : ℕ) → t ≤ 999999 → Goes event_tree old new
+      → new.now.trees event_tree ≡ stored_event (with_phase e phase) t ∷ []
       → BringsToWith old new (with_phase e phase) t kept
   row_set phase t low goes set = table_set 0 (λ t other. other.0) stands goes low (elim [
     | EventTable ↦ λ same. rw set (IsPermutation-refl _)
@@ -166,14 +170,14 @@ module _ {old new : State} {e : EventValue} {s : ℕ} {kept : List TallyRow} (st
       → all ≡ rows_with e s kept at ++ shows ∷ [] → IsPermutation (rows_in new.now at) all
   row_put at row shows all put is more = rw (put.rows, more) (shows_more _ row _ shows _ put.free is (stands.rows at))
 
-  pub player_added : (name : List ℕ) → Puts 1 (stored_player (length e.players + 1) name false) old new
+  pub player_added : (name : List ℕ) → Puts player_tree (stored_player (length e.players + 1) name false) old new
       → BringsToWith old new (with_player e name) s kept
   player_added name put =
       let p = new_player e.players name in
       let shows : Player → Row = λ q. player_columns (player_row q) in
       players_set (e.players ++ p ∷ []) put.goes (row_put PlayerTable _ (shows p) _ put refl (simp map-append))
 
-  pub tally_added : (row : TallyRow) → Puts 8 (stored_tally row) old new → BringsToWith old new e s (kept ++ row ∷ [])
+  pub tally_added : (row : TallyRow) → Puts tally_tree (stored_tally row) old new → BringsToWith old new e s (kept ++ row ∷ [])
   tally_added row put = tallies_set (kept ++ row ∷ []) put.goes
       (row_put TallyTable _ (tally_columns row) _ put refl (map-append tally_columns kept (row ∷ [])))
 
@@ -182,11 +186,11 @@ module _ {old new : State} {e : EventValue} {s : ℕ} {kept : List TallyRow} (st
 pub ours_has : (schema : Schema) → schema ≡ our_schema → HasTables schema
 ours_has schema is = record { others = []; are = ap (λ s. s.tables) is; apart = tt }
 
-pub event_put : {old mid new : State} {e : EventValue} → IsNew e → CreatesAll old mid → Puts 0 (stored_event e 0) mid new
+pub event_put : {old mid new : State} {e : EventValue} → IsNew e → CreatesAll old mid → Puts event_tree (stored_event e 0) mid new
     → StandsFor new.now e 0
 event_put {mid = mid} {new} fresh all put =
     let has = ours_has mid.now.schema all.schema in
-    let at = kept 0 mid new has put.goes in
+    let at = kept event_tree mid new has put.goes in
     record {
       low = omega arith;
       tables = subst HasTables (sym put.goes.schema) has;

@@ -11,7 +11,8 @@ use Rattle.er_event.specs.declared.rows.player.PlayerRow.{PlayerRow}
 use Rattle.er_event.specs.declared.rows.pairing.PairingRow.{PairingRow}
 use Rattle.er_event.specs.declared.rows.bracket.BracketRow.{BracketRow}
 use Rattle.er_event.specs.declared.rows.tally.TallyRow.{TallyRow}
-use Rattle.er_store.specs.Tables.{read_event, read_players, read_pairings, read_bracket, read_tallies}
+use Rattle.er_store.specs.Tables.{event_tree, player_tree, pairing_tree, bracket_tree, tally_tree, read_event, read_players, read_pairings}
+use Rattle.er_store.specs.Tables.{read_bracket, read_tallies}
 use Rattle.er_store.specs.Rows.{event_columns, player_columns, pairing_columns, bracket_columns, tally_columns, event_places, player_places}
 use Rattle.er_store.specs.Rows.{pairing_places, bracket_places, tally_places}
 use Rattle.er_store.specs.Reading.{by_first, by_first_two}
@@ -51,7 +52,7 @@ abbrev pub event_table : Shape EventRow
 event_table = record {
   place = EventTable;
   read = read_event;
-  tree = 0;
+  tree = event_tree;
   places = event_places;
   order = by_first;
   rows = λ e s. event_row 1 e s ∷ [];
@@ -61,7 +62,7 @@ abbrev pub player_table : Shape PlayerRow
 player_table = record {
   place = PlayerTable;
   read = read_players;
-  tree = 1;
+  tree = player_tree;
   places = player_places;
   order = by_first;
   rows = λ e s. player_rows e;
@@ -71,7 +72,7 @@ abbrev pub pairing_table : Shape PairingRow
 pairing_table = record {
   place = PairingTable;
   read = read_pairings;
-  tree = 3;
+  tree = pairing_tree;
   places = pairing_places;
   order = by_first_two;
   rows = λ e s. keyed_pairing_rows e;
@@ -81,7 +82,7 @@ abbrev pub bracket_table : Shape BracketRow
 bracket_table = record {
   place = BracketTable;
   read = read_bracket;
-  tree = 6;
+  tree = bracket_tree;
   places = bracket_places;
   order = by_first_two;
   rows = λ e s. bracket_rows e;
@@ -91,7 +92,7 @@ abbrev pub tally_table : Shape TallyRow
 tally_table = record {
   place = TallyTable;
   read = read_tallies;
-  tree = 8;
+  tree = tally_tree;
   places = tally_places;
   order = by_first;
   rows = λ e s. tally_rows e;

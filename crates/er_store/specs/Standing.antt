@@ -19,16 +19,17 @@ use Rattle.er_event.specs.declared.refusals.Place.{Place}
 use Rattle.er_event.specs.declared.refusals.Place.TheVariants.{EventTable, PlayerTable, PairingTable, BracketTable, TallyTable}
 use Rattle.er_event.specs.declared.rows.tally.TallyRow.{TallyRow}
 use Rattle.er_event.specs.Rows.{event_row, player_rows, pairing_rows, bracket_rows, tally_rows}
-use Rattle.er_store.specs.Tables.{event, player, pairing, bracket, tally, find_event, read_event}
+use Rattle.er_store.specs.Tables.{event_tree, player_tree, pairing_tree, bracket_tree, tally_tree, event, player, pairing, bracket, tally}
+use Rattle.er_store.specs.Tables.{find_event, read_event}
 use Rattle.er_store.specs.Rows.{event_columns, player_columns, pairing_columns, bracket_columns, tally_columns, columns_at}
 use Rattle.er_store.specs.Shape.{event_table, player_table, pairing_table, bracket_table, tally_table}
 
 abbrev pub with_ours : List Table → List Table
-with_ours others = event 0 ∷ player 1 ∷ pairing 3 ∷ bracket 6 ∷ tally 8 ∷ others
+with_ours others = event event_tree ∷ player player_tree ∷ pairing pairing_tree ∷ bracket bracket_tree ∷ tally tally_tree ∷ others
 
 -- the tree is of none of the five tables
 abbrev pub IsOther : ℕ → Type 0
-IsOther tree = (tree ≢ 0) × (tree ≢ 1) × (tree ≢ 3) × (tree ≢ 6) × (tree ≢ 8)
+IsOther tree = (tree ≢ event_tree) × (tree ≢ player_tree) × (tree ≢ pairing_tree) × (tree ≢ bracket_tree) × (tree ≢ tally_tree)
 
 -- a foreign key of another table that does not lead to one of the five
 abbrev pub LeadsElsewhere : List Table → Reference → Type 0
@@ -47,8 +48,8 @@ pub record IsKeyed (rows : List Row) : Type 0 where
 
 -- the rowids that no column shows
 pub record AreKeyed (db : Database) : Type 0 where
-  pub pairings : IsKeyed (db.trees 3)
-  pub bracket : IsKeyed (db.trees 6)
+  pub pairings : IsKeyed (db.trees pairing_tree)
+  pub bracket : IsKeyed (db.trees bracket_tree)
 
 -- where a table is stored
 abbrev pub tree_of : Place → ℕ
@@ -84,8 +85,8 @@ pub record StandsWith (db : Database) (e : EventValue) (serial : ℕ) (totals : 
   pub tables : HasTables db.schema
   pub rows : (table : Place) → IsPermutation (rows_in db table) (rows_with e serial totals table)
   -- the rowids of these two are shown by no column
-  pub pairings_keyed : IsKeyed (db.trees 3)
-  pub bracket_keyed : IsKeyed (db.trees 6)
+  pub pairings_keyed : IsKeyed (db.trees pairing_tree)
+  pub bracket_keyed : IsKeyed (db.trees bracket_tree)
 
 -- and the rows of totals are the event's too
 abbrev pub StandsFor : Database → EventValue → ℕ → Type 0

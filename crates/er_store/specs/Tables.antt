@@ -123,6 +123,22 @@ tally tree = record {
   is_counted = false;
 }
 
+-- where the rows of each table are stored; the trees between these are those of the indexes
+abbrev pub event_tree : ℕ
+event_tree = 0
+
+abbrev pub player_tree : ℕ
+player_tree = 1
+
+abbrev pub pairing_tree : ℕ
+pairing_tree = 3
+
+abbrev pub bracket_tree : ℕ
+bracket_tree = 6
+
+abbrev pub tally_tree : ℕ
+tally_tree = 8
+
 -- the indexes that SQLite makes for the keys
 abbrev pub key : List ℕ → ℕ → ℕ → List ℕ → Index
 key name tree table columns = record {
@@ -138,37 +154,44 @@ abbrev pub no_schema : Schema
 no_schema = record { tables = []; indexes = []; views = [] }
 
 abbrev pub event_schema : Schema
-event_schema = record { tables = event 0 ∷ []; indexes = []; views = [] }
+event_schema = record { tables = event event_tree ∷ []; indexes = []; views = [] }
 
 abbrev pub player_schema : Schema
-player_schema = record { tables = event 0 ∷ player 1 ∷ []; indexes = key (codes "sqlite_autoindex_player_1") 2 1 (2 ∷ []) ∷ []; views = [] }
+player_schema = record {
+  tables = event event_tree ∷ player player_tree ∷ [];
+  indexes = key (codes "sqlite_autoindex_player_1") 2 player_tree (2 ∷ []) ∷ [];
+  views = [];
+}
 
 abbrev pub pairing_schema : Schema
 pairing_schema = record {
-  tables = event 0 ∷ player 1 ∷ pairing 3 ∷ [];
+  tables = event event_tree ∷ player player_tree ∷ pairing pairing_tree ∷ [];
   indexes =
-      key (codes "sqlite_autoindex_player_1") 2 1 (2 ∷ []) ∷ key (codes "sqlite_autoindex_pairing_1") 4 3 (1 ∷ 2 ∷ [])
-      ∷ key (codes "sqlite_autoindex_pairing_2") 5 3 (3 ∷ 4 ∷ []) ∷ [];
+      key (codes "sqlite_autoindex_player_1") 2 player_tree (2 ∷ [])
+      ∷ key (codes "sqlite_autoindex_pairing_1") 4 pairing_tree (1 ∷ 2 ∷ [])
+      ∷ key (codes "sqlite_autoindex_pairing_2") 5 pairing_tree (3 ∷ 4 ∷ []) ∷ [];
   views = [];
 }
 
 abbrev pub bracket_schema : Schema
 bracket_schema = record {
-  tables = event 0 ∷ player 1 ∷ pairing 3 ∷ bracket 6 ∷ [];
+  tables = event event_tree ∷ player player_tree ∷ pairing pairing_tree ∷ bracket bracket_tree ∷ [];
   indexes =
-      key (codes "sqlite_autoindex_player_1") 2 1 (2 ∷ []) ∷ key (codes "sqlite_autoindex_pairing_1") 4 3 (1 ∷ 2 ∷ [])
-      ∷ key (codes "sqlite_autoindex_pairing_2") 5 3 (3 ∷ 4 ∷ [])
-      ∷ key (codes "sqlite_autoindex_bracket_1") 7 6 (1 ∷ 2 ∷ []) ∷ [];
+      key (codes "sqlite_autoindex_player_1") 2 player_tree (2 ∷ [])
+      ∷ key (codes "sqlite_autoindex_pairing_1") 4 pairing_tree (1 ∷ 2 ∷ [])
+      ∷ key (codes "sqlite_autoindex_pairing_2") 5 pairing_tree (3 ∷ 4 ∷ [])
+      ∷ key (codes "sqlite_autoindex_bracket_1") 7 bracket_tree (1 ∷ 2 ∷ []) ∷ [];
   views = [];
 }
 
 abbrev pub our_schema : Schema
 our_schema = record {
-  tables = event 0 ∷ player 1 ∷ pairing 3 ∷ bracket 6 ∷ tally 8 ∷ [];
+  tables = event event_tree ∷ player player_tree ∷ pairing pairing_tree ∷ bracket bracket_tree ∷ tally tally_tree ∷ [];
   indexes =
-      key (codes "sqlite_autoindex_player_1") 2 1 (2 ∷ []) ∷ key (codes "sqlite_autoindex_pairing_1") 4 3 (1 ∷ 2 ∷ [])
-      ∷ key (codes "sqlite_autoindex_pairing_2") 5 3 (3 ∷ 4 ∷ [])
-      ∷ key (codes "sqlite_autoindex_bracket_1") 7 6 (1 ∷ 2 ∷ []) ∷ [];
+      key (codes "sqlite_autoindex_player_1") 2 player_tree (2 ∷ [])
+      ∷ key (codes "sqlite_autoindex_pairing_1") 4 pairing_tree (1 ∷ 2 ∷ [])
+      ∷ key (codes "sqlite_autoindex_pairing_2") 5 pairing_tree (3 ∷ 4 ∷ [])
+      ∷ key (codes "sqlite_autoindex_bracket_1") 7 bracket_tree (1 ∷ 2 ∷ []) ∷ [];
   views = [];
 }
 

@@ -15,6 +15,7 @@ ghost use Rattle.er_event.specs.Rows.{phase_code, pairing_row, bracket_row, tall
 ghost use Rattle.er_store.specs.inside.Totals.{set_for};
 ghost use Rattle.er_event.specs.declared.totals.Totals.{Totals};
 ghost use Rattle.er_event.specs.declared.matches.Match.{Match};
+ghost use Rattle.er_store.specs.Tables.{event_tree, player_tree};
 ghost use Rattle.er_store.specs.Standing.{HasTables, StandsWith};
 ghost use Rattle.er_store.specs.inside.Steps.{Ran, Stays, Puts, BringsToWith};
 
@@ -50,7 +51,7 @@ pub fn insert_player<S: Alter>(
     ensures same_reference { tx.new.conn.ghost_name ≡ tx.old.conn.ghost_name }
     ensures puts { HasCleanDisk (state S.Store tx.new.conn.now)
         → HasTables (state S.Store tx.old.conn.now).now.schema
-        → OnOk result (Puts 1 (stored_player number name.now dropped)
+        → OnOk result (Puts player_tree (stored_player number name.now dropped)
         (state S.Store tx.old.conn.now) (state S.Store tx.new.conn.now)) }
     ensures stays { Stays (state S.Store tx.old.conn.now) (state S.Store tx.new.conn.now) }
 {
@@ -69,7 +70,7 @@ pub fn insert_event<S: Alter>(
     ensures same_reference { tx.new.conn.ghost_name ≡ tx.old.conn.ghost_name }
     ensures puts { HasCleanDisk (state S.Store tx.new.conn.now)
         → HasTables (state S.Store tx.old.conn.now).now.schema
-        → OnOk result (Puts 0 (stored_event event.now serial) (state S.Store tx.old.conn.now)
+        → OnOk result (Puts event_tree (stored_event event.now serial) (state S.Store tx.old.conn.now)
         (state S.Store tx.new.conn.now)) }
     ensures inside { HasCleanDisk (state S.Store tx.new.conn.now)
         → OnOk result (IsTrue (state S.Store tx.new.conn.now).in_transaction) }

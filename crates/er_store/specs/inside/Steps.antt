@@ -12,7 +12,7 @@ use Rattle.er_event.specs.declared.matches.Match.{Match}
 use Rattle.er_event.specs.declared.rows.tally.TallyRow.{TallyRow}
 use Rattle.er_event.specs.Event.{EventValue}
 use Rattle.er_event.specs.Rows.{tally_rows}
-use Rattle.er_store.specs.Tables.{our_schema}
+use Rattle.er_store.specs.Tables.{event_tree, player_tree, pairing_tree, bracket_tree, tally_tree, our_schema}
 use Rattle.er_store.specs.Standing.{StandsWith, StandsFor, KeepsOthers}
 
 -- the statement went well, within a transaction
@@ -80,8 +80,8 @@ pub record CreatesAll (old new : State) : Type 0 where
   pub shows : Shows old new new.now old.committed true
   pub sound : IsDatabase new.now
   pub schema : new.now.schema ≡ our_schema
-  pub event : new.now.trees 0 ≡ []
-  pub player : new.now.trees 1 ≡ []
-  pub pairing : new.now.trees 3 ≡ []
-  pub bracket : new.now.trees 6 ≡ []
-  pub tally : new.now.trees 8 ≡ []
+  pub event : new.now.trees event_tree ≡ []
+  pub player : new.now.trees player_tree ≡ []
+  pub pairing : new.now.trees pairing_tree ≡ []
+  pub bracket : new.now.trees bracket_tree ≡ []
+  pub tally : new.now.trees tally_tree ≡ []
