@@ -28,7 +28,8 @@ Outcome-same h1 h2 to from h3 none = grind (arith, common_steps)
 earlier_on : (pair : Pair) (one other : List Pair) → IsEarlier one other → IsEarlier (pair ∷ one) (pair ∷ other)
 earlier_on pair one other e = record {
   at = suc e.at;
-  pairs = e.pairs;
+  of_one = e.of_one;
+  of_other = e.of_other;
   same_before = ap (λ (l : List Pair). pair ∷ l) e.same_before;
   here = e.here;
   smaller = e.smaller;
@@ -37,7 +38,8 @@ earlier_on pair one other e = record {
 here_first : (first a b : ℕ) (one other : List Pair) → a < b → IsEarlier ((first, a) ∷ one) ((first, b) ∷ other)
 here_first first a b one other less = record {
   at = 0;
-  pairs = ((first, a), (first, b));
+  of_one = (first, a);
+  of_other = (first, b);
   same_before = refl;
   here = (refl, refl);
   smaller = less;
@@ -136,7 +138,7 @@ module _ (met : ℕ → ℕ → Bool) (order : List ℕ) where
   nothing_else : IsFirst (IsLegalOf met order []) []
   nothing_else = record {
     is = legal_none met order;
-    none_earlier = λ other legal e. let f : ◌≡◌ {A = Option Pair} None (Some e.pairs.1) = e.here.1 in absurd (cc);
+    none_earlier = λ other legal e. let f : ◌≡◌ {A = Option Pair} None (Some e.of_other) = e.here.1 in absurd (cc);
     or_later = λ other legal. inl (sym (none_legal met order other legal));
   }
 

@@ -3,7 +3,7 @@ use Rattle.std.specs.Prelude.{◌≡◌, ◌≢◌, ℕ, ◌<◌, Bool, IsFalse,
 use Rattle.er_event.specs.Event.{EventValue}
 use Rattle.er_event.specs.Sound.{IsSoundButForSeeds}
 use Rattle.er_pair.specs.Order.{IsOrder}
-use Rattle.er_pair.specs.Pairing.{Pair, positions, entries, IsLegal, IsEarliest}
+use Rattle.er_pair.specs.Pairing.{Pair, first, second, positions, entries, IsLegal, IsEarliest}
 
 -- under given keys an event has at most one order
 abbrev pub OneOrder : Type 0
@@ -23,8 +23,8 @@ OneEarliest = (met : ℕ → ℕ → Bool) (order : List ℕ) (pairs other : Lis
 -- each entry sits once, no pair has met before, and the first of a pair stands before the second
 pub record SeatsEach (met : ℕ → ℕ → Bool) (order : List ℕ) (pairs : List Pair) : Type 0 where
   pub each_once : IsPermutation order (positions (entries order pairs))
-  pub new_opponents : All (λ (pair : Pair). IsFalse (met pair.0 pair.1)) (entries order pairs)
-  pub in_order : All (λ (pair : Pair). pair.0 < pair.1) pairs
+  pub new_opponents : All (λ (pair : Pair). IsFalse (met (first pair) (second pair))) (entries order pairs)
+  pub in_order : All (λ (pair : Pair). first pair < second pair) pairs
 
 abbrev pub LegalSeats : Type 0
 LegalSeats = (met : ℕ → ℕ → Bool) (order : List ℕ) (pairs : List Pair)

@@ -9,19 +9,26 @@ use Rattle.er_event.specs.Round.{tables_of}
 abbrev pub Pair : Type 0
 Pair = ℕ × ℕ
 
+abbrev pub first : Pair → ℕ
+first pair = pair.0
+
+abbrev pub second : Pair → ℕ
+second pair = pair.1
+
 abbrev pub positions : List Pair → List ℕ
-positions pairs = flat_map (λ p. p.0 ∷ p.1 ∷ []) pairs
+positions pairs = flat_map (λ pair. first pair ∷ second pair ∷ []) pairs
 
 -- the first of the pair is the least free position that no pair before uses
 abbrev pub OpensWithLeast : List ℕ → List Pair → Pair → Type 0
 OpensWithLeast free before pair =
-    (other : ℕ) → Contains free other → other < pair.0 → IsTrue (list_any (λ used. used == other) (positions before))
+    (other : ℕ) → Contains free other → other < first pair
+    → IsTrue (list_any (λ used. used == other) (positions before))
 
 -- a legal pairing of those positions of the order that are free
 pub record IsLegalOf (met : ℕ → ℕ → Bool) (order free : List ℕ) (pairs : List Pair) : Type 0 where
   pub each_once : IsPermutation free (positions pairs)
   pub in_turn : (at : ℕ) (pair : Pair) → slice_get pairs at ≡ Some pair → OpensWithLeast free (take at pairs) pair
-  pub new_opponents : All (λ (pair : Pair). IsFalse (met (slice_index order pair.0) (slice_index order pair.1))) pairs
+  pub new_opponents : All (λ (pair : Pair). IsFalse (met (slice_index order (first pair)) (slice_index order (second pair)))) pairs
 
 -- each position of the order
 abbrev pub all_positions : List ℕ → List ℕ
@@ -34,10 +41,11 @@ IsLegal met order pairs = IsLegalOf met order (all_positions order) pairs
 -- the smaller partner in the first pair in which they differ
 pub record IsEarlier (one other : List Pair) : Type 0 where
   pub at : ℕ
-  pub pairs : Pair × Pair
+  pub of_one : Pair
+  pub of_other : Pair
   pub same_before : take at one ≡ take at other
-  pub here : (slice_get one at ≡ Some pairs.0) × (slice_get other at ≡ Some pairs.1)
-  pub smaller : pairs.0.1 < pairs.1.1
+  pub here : (slice_get one at ≡ Some of_one) × (slice_get other at ≡ Some of_other)
+  pub smaller : second of_one < second of_other
 
 -- the legal pairing of the free positions that no other is earlier than
 pub record IsEarliestOf (met : ℕ → ℕ → Bool) (order free : List ℕ) (pairs : List Pair) : Type 0 where
@@ -49,7 +57,7 @@ IsEarliest met order pairs = IsEarliestOf met order (all_positions order) pairs
 
 -- the entries of the order that stand at a pairing's positions
 abbrev pub entries : List ℕ → List Pair → List Pair
-entries order pairs = map (λ (p : Pair). (slice_index order p.0, slice_index order p.1)) pairs
+entries order pairs = map (λ (pair : Pair). (slice_index order (first pair), slice_index order (second pair))) pairs
 
 -- the round that a pairing of the order makes
 abbrev pub round_of : List ℕ → List Pair → List Match
