@@ -59,7 +59,7 @@ impl<S: Alter> Desk<S> {
     ghost use Rattle.er_store.specs.Fault.{IsFault, IsLoadFault};
     ghost use Rattle.er_store.specs.Store as tables;
     ghost use Rattle.er_store.specs.Standing.{HasTables, AreKeyed, StandsFor, CanRead, IsStored, Leaves, Either, KeepsOthers};
-    ghost use Rattle.er_store.specs.Loading.{ShowsEvent};
+    ghost use Rattle.er_store.specs.Loading.{HoldsEvent};
     ghost use Rattle.er_store.specs.Slip.{FindsSlip};
     ghost use Rattle.er_store.specs.Reading.{KeepsTables};
     ghost use Rattle.er_desk.specs.Desk.{Point, Turn, Stops, ReadsRows, ReadsSlip, ShowsOwn, point_of, state, standing};
@@ -152,7 +152,7 @@ impl<S: Alter> Desk<S> {
         // Whatever the tables hold, what is found is what they show. Where they have the schema, they stand for it.
         ensures shows { IfOk result (λ it. HasCleanDisk (state S.Store it)
             → HasTables (sqlite.state S.Store conn).now.schema
-            → ShowsEvent (sqlite.state S.Store conn).now it.event it.serial) }
+            → HoldsEvent (sqlite.state S.Store conn).now it.event it.serial) }
         ensures stands { IfOk result (λ it. HasCleanDisk (state S.Store it)
             → HasTables (sqlite.state S.Store conn).now.schema
             → AreKeyed (sqlite.state S.Store conn).now → ShowsOwn S.Store it) }

@@ -45,15 +45,15 @@ abbrev pub player_rows : EventValue → List PlayerRow
 player_rows e = map player_row e.players
 
 -- all 0 where the match is not reported
-abbrev pub games_of : Option Games → Games
-games_of None = record { x = 0; y = 0; d = 0 }
-games_of (Some games) = games
+abbrev pub reported_games : Option Games → Games
+reported_games None = record { x = 0; y = 0; d = 0 }
+reported_games (Some games) = games
 
 -- the two players by number, and whether the first-named is the one with the higher; x is always the first-named player's
 abbrev pub pairing_row : ℕ → ℕ × Match → PairingRow
 pairing_row round numbered =
     let m = numbered.1 in
-    let games = games_of m.score in
+    let games = reported_games m.score in
     record {
       round = pos round;
       tab = pos (table_of numbered);
@@ -93,7 +93,7 @@ keyed_pairing_rows e = keyed_rows_from 1 e.stored
 abbrev pub bracket_row : ℕ → ℕ × Match → BracketRow
 bracket_row stage numbered =
     let m = numbered.1 in
-    let games = games_of m.score in
+    let games = reported_games m.score in
     record {
       stage = pos stage;
       slot = pos numbered.0;

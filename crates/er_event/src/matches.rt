@@ -3,7 +3,7 @@ ghost use Rattle.std.specs.List.{list_all, list_any, range_with_len};
 ghost use Rattle.er_event.specs.Bracket.{winner};
 ghost use Rattle.er_event.specs.Score.{bye_score};
 ghost use Rattle.er_event.specs.Round.{is_bye, is_counted, match_in, seats};
-ghost use Rattle.er_event.specs.Rows.{games_of};
+ghost use Rattle.er_event.specs.Rows.{reported_games};
 ghost use Rattle.er_event.specs.Match.{is_known, is_lawful_match, MayStand, shares_seat};
 
 use crate::players::MAX_PLAYERS;
@@ -26,7 +26,7 @@ pub const BYE: Games = Games { x: 2, y: 0, d: 0 };
 impl Match {
     /// The games of the score, all 0 where there is none.
     pub fn games(&self) -> Games
-        ensures { result ≡ games_of self.now.score }
+        ensures { result ≡ reported_games self.now.score }
     {
         match self.score {
             Some(score) => score.games(),

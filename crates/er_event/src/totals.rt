@@ -91,7 +91,7 @@ fn games_seen(played: &Match, player: u16) -> Option<Games>
 }
 
 /// The games of a round as the player saw them.
-fn games_of(matches: &[Match], player: u16) -> Option<Games>
+fn own_games(matches: &[Match], player: u16) -> Option<Games>
     requires seated { IsSeatedOnce matches.now }
     requires player { 0 < player }
     ensures value { (round : ℕ)
@@ -108,7 +108,7 @@ fn games_of(matches: &[Match], player: u16) -> Option<Games>
 }
 
 /// The games of a round as the player saw them, once it is complete.
-fn games_in(matches: &[Match], player: u16) -> Option<Games>
+fn counted_games(matches: &[Match], player: u16) -> Option<Games>
     requires seated { IsSeatedOnce matches.now }
     requires player { 0 < player }
     ensures value { (number : ℕ)
@@ -117,7 +117,7 @@ fn games_in(matches: &[Match], player: u16) -> Option<Games>
     ensures few { IfSome result AreFew }
 {
     if is_complete(matches) {
-        games_of(matches, player)
+        own_games(matches, player)
     } else {
         None
     }
@@ -133,7 +133,7 @@ fn totals_in(rounds: &[Round], player: u16) -> Totals
 {
     let mut totals = Totals::none();
     for round in rounds {
-        if let Some(games) = games_in(round.matches.as_slice(), player) {
+        if let Some(games) = counted_games(round.matches.as_slice(), player) {
             totals = totals.with(games);
         }
     }
@@ -187,7 +187,7 @@ fn games_with(matches: &[Match], table: usize, score: Score, player: u16) -> Opt
 }
 
 /// The games of a round as the player saw them, once it is complete with this score of a table.
-fn games_in_with(matches: &[Match], table: usize, score: Score, player: u16) -> Option<Games>
+fn counted_games_with(matches: &[Match], table: usize, score: Score, player: u16) -> Option<Games>
     requires table { (1 ≤ table) × (table ≤ length matches.now) }
     requires seated { IsSeatedOnce (scored_slot matches.now table score) }
     requires player { 0 < player }
@@ -226,9 +226,9 @@ fn games_at(rounds: &[Round], at: usize, new: &NewScore, player: u16) -> Option<
 {
     let matches = rounds[at].matches.as_slice();
     if at == new.place {
-        games_in_with(matches, new.table, new.score, player)
+        counted_games_with(matches, new.table, new.score, player)
     } else {
-        games_in(matches, player)
+        counted_games(matches, player)
     }
 }
 
@@ -261,7 +261,7 @@ fn totals_with_round(rounds: &[Round], matches: &[Match], player: u16) -> Totals
         ++ record { matches = matches.now } ∷ []))) }
 {
     let totals = totals_in(rounds, player);
-    match games_in(matches, player) {
+    match counted_games(matches, player) {
         Some(games) => totals.with(games),
         None => totals,
     }

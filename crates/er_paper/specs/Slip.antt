@@ -62,9 +62,9 @@ games_in_members (member a x (member b y (member d z no_members))) =
     then games_with (entry_of x) (entry_of y) (entry_of z) else None
 games_in_members _ = None
 
-abbrev pub games_of : Data → Option Games
-games_of d = option_and_then games_in_members (as_object d)
+abbrev pub games_in : Data → Option Games
+games_in d = option_and_then games_in_members (as_object d)
 
 -- The games of a text. Of a repeated key the last value stands.
 unfoldable pub slip_games : List ℕ → Option Games
-slip_games text = if is_utf8 text then option_and_then games_of (read text) else None
+slip_games text = if is_utf8 text then option_and_then games_in (read text) else None

@@ -2,7 +2,7 @@ ghost use Rattle.std.specs.Prelude.{◌≡◌, Err, IfOk, Some, None};
 ghost use Rattle.std.specs.String.{string_bytes};
 ghost use Rattle.serde_json.specs.Written.{compact_text};
 ghost use Rattle.serde_json.specs.View.{view};
-ghost use Rattle.er_paper.specs.Slip.{games_data, score_data, side_data, second_data, slip_with, slip_data, slip_text, entry_of, games_of, slip_games};
+ghost use Rattle.er_paper.specs.Slip.{games_data, score_data, side_data, second_data, slip_with, slip_data, slip_text, entry_of, games_in, slip_games};
 
 use er_event::{Games, Name, PlayerNo, Score, SlipRow};
 use serde_json::{Value, json};
@@ -89,7 +89,7 @@ fn byte_of(value: &Value) -> Option<u8>
 }
 
 fn games_in(value: &Value) -> Option<Games>
-    ensures { result ≡ games_of (view value.now) }
+    ensures { result ≡ games_in (view value.now) }
 {
     let map = value.as_object()?;
     let mut members = map.iter();

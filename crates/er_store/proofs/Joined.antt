@@ -10,7 +10,7 @@ use Rattle.er_store.proofs.Prelude.{All-cons, All-from_recursion, All-weaker, re
 use Rattle.er_store.proofs.Prelude.{IsPermutation-filter, PairingTable, PlayerTable, Match, Round, Games, SlipRow, EventValue, seats}
 use Rattle.er_store.proofs.Prelude.{match_at, pairing_row, pairing_rows, bye_score, slip_of, numbers, names, IsRound, IsSoundButForSeeds}
 use Rattle.er_store.proofs.Prelude.{IsUtf8, NamedPairing, pairing_columns, named_columns, columns_at, player_places, pairing_places}
-use Rattle.er_store.proofs.Prelude.{StandsFor, Side, number_in, name_in, match_of, is_swapped, named_pairing, named_pairings, IsPlayer}
+use Rattle.er_store.proofs.Prelude.{StandsFor, Side, number_in, name_in, match_of_slip, is_swapped, named_pairing, named_pairings, IsPlayer}
 use Rattle.er_store.proofs.Prelude.{IsLawful, Refusal, Memory, Store, IsFault}
 use Rattle.std.proofs.{lemmas.List.Sorted.length_permutation, Common.AllPairs, lemmas.List.Elements.All-from_get_or}
 use Rattle.std.specs.Option.{ok_or}
@@ -226,7 +226,7 @@ bye_at_none t n at low = grind (arith, nat_tests)
 number_second : (e : EventValue) (n : ℕ) → number_in (second_of e n) ≡ n
 number_second e n = cond_of number_in (n == 0) None (Some (n, name_of e n)) ∙ grind (arith, nat_tests)
 
-same_match : (e : EventValue) (k t : ℕ) (m : Match) → match_of (slip_row e k t m) ≡ m
+same_match : (e : EventValue) (k t : ℕ) (m : Match) → match_of_slip (slip_row e k t m) ≡ m
 same_match e k t m = ap (λ b. (let it : Match = record { a = m.a; b = b; score = m.score } in it)) (number_second e m.b)
 
 module _ (e : EventValue) (sound : IsSoundButForSeeds e) (k t : ℕ) (n : ℕ × Match)

@@ -6,7 +6,7 @@ use Rattle.er_store.proofs.Prelude.{TallyRow, tally_rows, IsSoundButForSeeds, Is
 use Rattle.std.specs.List.{AllZip}
 use Rattle.sqlite_catalog.specs.Listing.{IsSound, IsTableRow}
 use Rattle.er_event.specs.Parts.{parts_of, HasRoundRows, IsFirstFault}
-use Rattle.er_store.specs.Loading.{ShowsEvent, ListsParts, ListsTallies}
+use Rattle.er_store.specs.Loading.{HoldsEvent, ListsParts, ListsTallies}
 use Rattle.er_store.proofs.Keyed.{keyed_permutes}
 
 -- ---- what a crash leaves stands for the event again where it is opened
@@ -63,7 +63,7 @@ no_row_fault parts e s low sound are rows counted place (inr totals) = totals.1.
 
 -- in any order, they are the rows that the tables show
 pub shows_event : (db : Database) (parts : Parts) (e : EventValue) (s : ℕ) → s ≤ 999999 → IsSoundButForSeeds e → parts ≡ parts_of e s
-    → ListsParts db parts → (rows : List TallyRow) → rows ≡ tally_rows e → ListsTallies db rows → ShowsEvent db e s
+    → ListsParts db parts → (rows : List TallyRow) → rows ≡ tally_rows e → ListsTallies db rows → HoldsEvent db e s
 shows_event db parts e s low sound are lists rows counted totals =
     let whole = subst (ListsParts db) are lists in
     record {

@@ -5,7 +5,7 @@ use Rattle.er_store.proofs.Prelude.{List, [], ◌∷◌, ◌++◌, map, filter, 
 use Rattle.er_store.proofs.Prelude.{sym, ap, ap₂, subst, ◌∙◌, arith, append-nil, true≢false, AllByRecursion, nat_tests, map-append}
 use Rattle.er_store.proofs.Prelude.{filter-append, All-from_recursion, all-append, all-map, Match, Round, TallyRow, Totals, EventValue}
 use Rattle.er_store.proofs.Prelude.{is_bye, numbered_from, bye_score, numbers, IsSoundButForSeeds, meetings, totals, MeetingRow}
-use Rattle.er_store.proofs.Prelude.{meeting_rows, is_over, counted_rows, sides_in, sides_of, filter_all, ◌&&◌, flat_map, Contains, Greater}
+use Rattle.er_store.proofs.Prelude.{meeting_rows, is_outside, counted_rows, sides_in, sides_of, filter_all, ◌&&◌, flat_map, Contains, Greater}
 use Rattle.er_store.proofs.Prelude.{list_all, Int, Binary, Database, is_true, Row, column, overlay, or_nulls, IsAnswer, Output, output}
 use Rattle.er_store.proofs.Prelude.{State, Env, holds, Trees, IsAscending, Compare, Gt, value_cmp-Int, filter-map, IsPermutation-filter}
 use Rattle.er_store.proofs.Prelude.{PairingTable, TallyTable, Player, pairing_row, round_rows, pairing_rows_from, pairing_rows, tally_row}
@@ -78,17 +78,17 @@ module _ (come_to : ℕ → Totals) where
       grind (arith, nat_tests, own, more)
 
   -- the rows of another round than the open one stay, and its own go
-  others-stay : (k o j : ℕ) (ms : List Match) → k ≢ o → filter (is_over (Some (pos o))) (rows_of k j ms) ≡ rows_of k j ms
+  others-stay : (k o j : ℕ) (ms : List Match) → k ≢ o → filter (is_outside (Some (pos o))) (rows_of k j ms) ≡ rows_of k j ms
   others-stay k o j ms apart =
-      filter_all (is_over (Some (pos o))) (rows_of k j ms)
-      (all-map (λ r. is_over (Some (pos o)) r ≡ true) (meeting_row come_to k) (λ n. ap not (int-apart k o apart)) (pairs_from j ms))
+      filter_all (is_outside (Some (pos o))) (rows_of k j ms)
+      (all-map (λ r. is_outside (Some (pos o)) r ≡ true) (meeting_row come_to k) (λ n. ap not (int-apart k o apart)) (pairs_from j ms))
 
-  own-go : (k j : ℕ) (ms : List Match) → filter (is_over (Some (pos k))) (rows_of k j ms) ≡ []
+  own-go : (k j : ℕ) (ms : List Match) → filter (is_outside (Some (pos k))) (rows_of k j ms) ≡ []
   own-go k j ms =
-      filter_none (is_over (Some (pos k))) (rows_of k j ms)
-      (all-map (λ r. is_over (Some (pos k)) r ≡ false) (meeting_row come_to k) (λ n. ap not (int-same (pos k))) (pairs_from j ms))
+      filter_none (is_outside (Some (pos k))) (rows_of k j ms)
+      (all-map (λ r. is_outside (Some (pos k)) r ≡ false) (meeting_row come_to k) (λ n. ap not (int-same (pos k))) (pairs_from j ms))
 
-  all-stay : (rows : List MeetingRow) → filter (is_over None) rows ≡ rows
+  all-stay : (rows : List MeetingRow) → filter (is_outside None) rows ≡ rows
   all-stay [] = refl
   all-stay (r ∷ rows) = ap (λ (rest : List MeetingRow). r ∷ rest) (all-stay rows)
 
@@ -110,9 +110,9 @@ module _ (come_to : ℕ → Totals) where
   later-from k None from = tt
   later-from k (Some z) from = (from.0, from.1, let high = from.2 in omega arith)
 
-  stays : (k j : ℕ) (ms : List Match) (o : Option ℤ) → IsFrom (k + 1) o → filter (is_over o) (rows_of k j ms) ≡ rows_of k j ms
+  stays : (k j : ℕ) (ms : List Match) (o : Option ℤ) → IsFrom (k + 1) o → filter (is_outside o) (rows_of k j ms) ≡ rows_of k j ms
   stays k j ms None from = all-stay (rows_of k j ms)
-  stays k j ms (Some z) from = grind (arith, common_steps, is_over, others-stay)
+  stays k j ms (Some z) from = grind (arith, common_steps, is_outside, others-stay)
 
   -- a complete round before those that are counted
   one-more : (k : ℕ) (r : Round) (later : List Round) → is_counted r.matches ≡ true → AreCounted (k + 1) later → AreCounted k (r ∷ later)
@@ -126,7 +126,7 @@ module _ (come_to : ℕ → Totals) where
         from = rw opens (later-from k (open_round back) rest.from);
         same = rw (
           opens,
-          filter-append (is_over (open_round back)) front back,
+          filter-append (is_outside (open_round back)) front back,
           stays k 1 r.matches (open_round back) rest.from,
           map-append sides_in front (counted_rows back),
           same-sides k 1 r.matches,

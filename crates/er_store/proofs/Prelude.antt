@@ -100,7 +100,7 @@ pub use Rattle.er_store.specs.Rows.{number, columns_at, pairing_columns, bracket
 pub use Rattle.er_store.specs.Rows.{player_places, tally_places, meeting_columns, stored_player, stored_pairing, stored_slot, stored_tally}
 pub use Rattle.er_store.specs.Rows.{player_columns, bracket_places, event_columns, stored_event, named_columns}
 pub use Rattle.er_store.specs.Shape.{Form, Shape}
-pub use Rattle.er_store.specs.Slip.{match_of, is_swapped, Side, number_in, name_in, named_pairing, IsPlayer, IsLawful, named_pairings}
+pub use Rattle.er_store.specs.Slip.{match_of_slip, is_swapped, Side, number_in, name_in, named_pairing, IsPlayer, IsLawful, named_pairings}
 pub use Rattle.er_store.specs.Standing.{StandsFor, HasTables, StandsWith, IsOther, CanRead, IsKeyed, Shows, with_ours, IsStored, rows_in}
 pub use Rattle.er_store.specs.Standing.{rows_with, KeepsOthers}
 pub use Rattle.er_store.specs.Tables.{event_tree, player_tree, pairing_tree, bracket_tree, tally_tree}
@@ -110,7 +110,7 @@ pub use Rattle.er_store.specs.Tables.{read_players, read_pairings, read_bracket,
 pub use Rattle.er_store.specs.declared.rows.MeetingRow.{MeetingRow}
 pub use Rattle.er_store.specs.declared.rows.NamedPairing.{NamedPairing}
 pub use Rattle.er_store.specs.inside.Lookup.{begins_select}
-pub use Rattle.er_store.specs.inside.Meetings.{is_over, sides_in, meeting_rows, counted_rows, sides_of}
+pub use Rattle.er_store.specs.inside.Meetings.{is_outside, sides_in, meeting_rows, counted_rows, sides_of}
 pub use Rattle.er_store.specs.inside.Queries.{Selects, table_query, SelectsWith, Takes}
 pub use Rattle.er_store.specs.inside.Steps.{Puts, BringsToWith, Ran, Moves, Stays, Goes, IsReady, IsStage, CreatesAll}
 pub use Rattle.er_store.specs.inside.Totals.{set_for_all, set_for}

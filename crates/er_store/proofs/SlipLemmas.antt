@@ -1,7 +1,7 @@
 -- A slip and the row that it is read of.
 use Rattle.er_store.proofs.Prelude.{nat_lt, cond, max, min, false, Bool, arith, sym, refl, ℕ, subst, true, ◌≡◌, nat_tests, common_steps}
 use Rattle.er_store.proofs.Prelude.{List, Option, Some, IfSome, ◌∙◌, same_Some, Match, SlipRow, pairing_row, NamedPairing, Side, number_in}
-use Rattle.er_store.proofs.Prelude.{name_in, match_of, is_swapped, named_pairing, IsPlayer, IsLawful}
+use Rattle.er_store.proofs.Prelude.{name_in, match_of_slip, is_swapped, named_pairing, IsPlayer, IsLawful}
 use Rattle.er_event.specs.Match.{MayStand}
 
 -- ---- what a test chooses of two, as the lesser or the greater of two numbers
@@ -31,7 +31,7 @@ of_max P a b p q = subst P (sym (max_is a b)) (either_of P (nat_lt b a) a b p q)
 
 -- the match of the slip stands there
 pub match_row : (slip : SlipRow) (round table : ℕ) (row : NamedPairing) → IsLawful slip → slip.round ≡ round → slip.table ≡ table
-    → row ≡ named_pairing slip → MayStand table (match_of slip) × (row.pairing ≡ pairing_row round (table, match_of slip))
+    → row ≡ named_pairing slip → MayStand table (match_of_slip slip) × (row.pairing ≡ pairing_row round (table, match_of_slip slip))
 match_row slip round table row lawful r t is = grind (arith, common_steps)
 
 -- who has the lower number, and who the higher
@@ -46,17 +46,17 @@ pub record IsSide (who : Side) (number : ℕ) (name : Option (List ℕ)) : Type 
   pub number_is : number ≡ number_in who
   pub name_is : name ≡ name_in who
 
-pub low_side : (slip : SlipRow) (row : NamedPairing) (m : Match) → IsLawful slip → row ≡ named_pairing slip → m ≡ match_of slip
+pub low_side : (slip : SlipRow) (row : NamedPairing) (m : Match) → IsLawful slip → row ≡ named_pairing slip → m ≡ match_of_slip slip
     → IsSide (low_of slip) (min m.a m.b) row.lo_name
 low_side slip row m lawful is same = grind (arith, common_steps)
 
-pub high_side : (slip : SlipRow) (row : NamedPairing) (m : Match) → IsLawful slip → row ≡ named_pairing slip → m ≡ match_of slip
+pub high_side : (slip : SlipRow) (row : NamedPairing) (m : Match) → IsLawful slip → row ≡ named_pairing slip → m ≡ match_of_slip slip
     → IsSide (high_of slip) (max m.a m.b) row.hi_name
 high_side slip row m lawful is same = grind (arith, common_steps)
 
 -- what is read of the row of a slip
 pub record ReadsSlip (slip : SlipRow) (row : NamedPairing) (played : Match) : Type 0 where
-  pub is : played ≡ match_of slip
+  pub is : played ≡ match_of_slip slip
   pub low : IsSide (low_of slip) (min played.a played.b) row.lo_name
   pub high : IsSide (high_of slip) (max played.a played.b) row.hi_name
 
@@ -65,7 +65,7 @@ pub reads_slip : {slip : SlipRow} {round table : ℕ} {row : NamedPairing} {read
     → ((m : Match) → MayStand table m → row.pairing ≡ pairing_row round (table, m) → read ≡ Some m) → ReadsSlip slip row played
 reads_slip {slip} {round} {table} {row} {read} {played} lawful r t is found exact =
     let it = match_row slip round table row lawful r t is in
-    let m = same_Some played (match_of slip) (sym found ∙ exact (match_of slip) it.0 it.1) in
+    let m = same_Some played (match_of_slip slip) (sym found ∙ exact (match_of_slip slip) it.0 it.1) in
     record { is = m; low = low_side slip row played lawful is m; high = high_side slip row played lawful is m }
 
 -- the first-named player and the second
@@ -75,6 +75,6 @@ named_first slip true low high pair swapped l h is = grind (arith, common_steps)
 named_first slip false low high pair swapped l h is = grind (arith, common_steps)
 
 pub same_slip : (slip : SlipRow) (round table : ℕ) (pair : Side × Side) (first : ℕ × List ℕ) (m : Match) → slip.round ≡ round
-    → slip.table ≡ table → m ≡ match_of slip → pair.0 ≡ Some first → (pair.0 ≡ Some slip.first) × (pair.1 ≡ slip.second)
+    → slip.table ≡ table → m ≡ match_of_slip slip → pair.0 ≡ Some first → (pair.0 ≡ Some slip.first) × (pair.1 ≡ slip.second)
     → ◌≡◌ {A = SlipRow} (record { round = round; table = table; first = first; second = pair.1; score = m.score }) slip
 same_slip slip round table pair first m r t same got is = grind (arith, common_steps)

@@ -29,7 +29,7 @@ abbrev pub ListsTallies : Database → List TallyRow → Type 0
 ListsTallies = IsListed tally_form tally_table
 
 -- the rows of the five tables are those of a sound event, in any order
-pub record ShowsEvent (db : Database) (e : EventValue) (serial : ℕ) : Type 0 where
+pub record HoldsEvent (db : Database) (e : EventValue) (serial : ℕ) : Type 0 where
   pub low : serial ≤ MAX_SERIAL
   pub sound : IsSoundButForSeeds e
   pub rows : (table : Place) → IsPermutation (rows_in db table) (rows_with e serial (tally_rows e) table)

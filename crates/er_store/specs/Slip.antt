@@ -25,8 +25,8 @@ abbrev pub name_in : Side → Option (List ℕ)
 name_in who = option_map (λ (s : ℕ × List ℕ). s.1) who
 
 -- the match that the slip is of
-abbrev pub match_of : SlipRow → Match
-match_of slip = record { a = slip.first.0; b = number_in slip.second; score = slip.score }
+abbrev pub match_of_slip : SlipRow → Match
+match_of_slip slip = record { a = slip.first.0; b = number_in slip.second; score = slip.score }
 
 -- the first-named player is the one with the higher number
 abbrev pub is_swapped : SlipRow → Bool
@@ -35,7 +35,7 @@ is_swapped slip = nat_lt (number_in slip.second) slip.first.0
 -- the pairing of this slip, with the names of its players
 abbrev pub named_pairing : SlipRow → NamedPairing
 named_pairing slip = record {
-  pairing = pairing_row slip.round (slip.table, match_of slip);
+  pairing = pairing_row slip.round (slip.table, match_of_slip slip);
   lo_name = if is_swapped slip then name_in slip.second else Some slip.first.1;
   hi_name = if is_swapped slip then Some slip.first.1 else name_in slip.second;
 }
@@ -49,7 +49,7 @@ IsPlayer s = (1 ≤ s.0) × (s.0 ≤ MAX_PLAYERS) × IsTrue (is_lawful_name s.1)
 
 -- a slip that the formats allow
 pub record IsLawful (slip : SlipRow) : Type 0 where
-  pub played : MayStand slip.table (match_of slip)
+  pub played : MayStand slip.table (match_of_slip slip)
   pub first : IsPlayer slip.first
   pub second : IfSome slip.second IsPlayer
 

@@ -52,7 +52,7 @@ impl<S: Alter> Store<S> {
     ghost use Rattle.er_store.specs.Store as store;
     ghost use Rattle.er_store.specs.Store.{connection, is_stopped};
     ghost use Rattle.er_store.specs.Fault.{IsFault, IsReadFault, IsLoadFault, FaultOrDamage};
-    ghost use Rattle.er_store.specs.Loading.{ShowsEvent};
+    ghost use Rattle.er_store.specs.Loading.{HoldsEvent};
     ghost use Rattle.er_store.specs.Reading.{KeepsTables};
     ghost use Rattle.er_store.specs.Slip.{IsLawful, FindsSlip};
     ghost use Rattle.er_store.specs.Damage.{ReadsParts, ReadsTallies, IsAtFault, IfDamaged};
@@ -135,7 +135,7 @@ impl<S: Alter> Store<S> {
         // Whatever the tables hold, what is found is what they show.
         ensures shows { IfOk result (λ it. HasCleanDisk (store.state S.Store it.0)
             → HasTables (state S.Store conn).now.schema
-            → ShowsEvent (state S.Store conn).now it.1 it.2) }
+            → HoldsEvent (state S.Store conn).now it.1 it.2) }
         ensures reads { IfOk result (λ it. HasCleanDisk (store.state S.Store it.0)
             → ReadsParts (state S.Store conn).now (parts_of it.1 it.2)
             × ReadsTallies (state S.Store conn).now (tally_rows it.1)) }
@@ -251,7 +251,7 @@ impl<S: Alter> Store<S> {
         // Whatever the tables hold, what is found is what they show.
         ensures shows { HasCleanDisk (store.state S.Store self.new)
             → HasTables (store.state S.Store self.old).now.schema
-            → IfOk result (λ it. ShowsEvent (store.state S.Store self.old).now it.0 it.1) }
+            → IfOk result (λ it. HoldsEvent (store.state S.Store self.old).now it.0 it.1) }
         ensures reads { HasCleanDisk (store.state S.Store self.new)
             → IfOk result (λ it. ReadsParts (store.state S.Store self.old).now (parts_of it.0 it.1)
             × ReadsTallies (store.state S.Store self.old).now (tally_rows it.0)) }

@@ -8,7 +8,7 @@ ghost use Rattle.er_event.specs.Sound.{IsSoundButForSeeds};
 ghost use Rattle.er_event.specs.Rows.{event_row, tally_rows};
 ghost use Rattle.er_event.specs.Parts.{IsFirstFault, parts_of};
 ghost use Rattle.er_store.specs.Standing.{HasTables, StandsFor};
-ghost use Rattle.er_store.specs.Loading.{ShowsEvent};
+ghost use Rattle.er_store.specs.Loading.{HoldsEvent};
 ghost use Rattle.er_store.specs.Damage.{ReadsParts, ReadsTallies, IsRowFault, IsAtFault, IfDamaged};
 ghost use Rattle.er_store.specs.Fault.{IsFault, IsLoadFault};
 ghost use Rattle.er_store.specs.inside.Lookup.{IsOurs, LooksUp, FindsRows, MissesRows, FindsParts, FindsTables, MissesTables};
@@ -136,7 +136,7 @@ pub fn load_tables<S: Alter>(
     ensures sound { IfOk result (λ it. IsSoundButForSeeds it.0) }
     ensures shows { HasCleanDisk (state S.Store conn.new)
         → HasTables (state S.Store conn.old).now.schema
-        → IfOk result (λ it. ShowsEvent (state S.Store conn.old).now it.0 it.1) }
+        → IfOk result (λ it. HoldsEvent (state S.Store conn.old).now it.0 it.1) }
     ensures found { HasCleanDisk (state S.Store conn.new) → (e : EventValue) (s : ℕ)
         → StandsFor (state S.Store conn.old).now e s → IsSoundButForSeeds e
         → MatchResult result (λ it. (it.0 ≡ e) × (it.1 ≡ s)) IsFault }

@@ -11,7 +11,7 @@ ghost use Rattle.er_event.specs.Sound.{IsSoundButForSeeds};
 ghost use Rattle.er_event.specs.Tallies.{tally_by, tallies, meeting_by, meetings};
 ghost use Rattle.er_event.specs.Totals.{totals};
 ghost use Rattle.er_store.specs.Fault.{IsFault, IsReadFault, IsListFault};
-ghost use Rattle.er_store.specs.inside.Meetings.{meeting_rows, open_round, is_over, counted_rows, sides_in, sides_of};
+ghost use Rattle.er_store.specs.inside.Meetings.{meeting_rows, open_round, is_outside, counted_rows, sides_in, sides_of};
 ghost use Rattle.er_store.specs.Reading.{KeepsTables};
 ghost use Rattle.er_store.specs.Standing.{StandsFor};
 
@@ -105,8 +105,8 @@ fn open_round(rows: &[MeetingRow]) -> Option<i64>
 }
 
 /// Whether a match isn't of the open round.
-fn is_over(row: &MeetingRow, unfinished: Option<i64>) -> bool
-    ensures { result ≡ is_over unfinished row.now }
+fn is_outside(row: &MeetingRow, unfinished: Option<i64>) -> bool
+    ensures { result ≡ is_outside unfinished row.now }
 {
     match unfinished {
         Some(round) => row.round != round,
@@ -125,7 +125,7 @@ fn meetings_of(alloc: Global, rows: &[MeetingRow]) -> Result<Vec<Meeting>, Refus
     let unfinished = open_round(rows);
     let mut meetings = Vec::new(alloc);
     for row in rows {
-        if is_over(row, unfinished) {
+        if is_outside(row, unfinished) {
             let Some(meeting) = meeting_of(row) else {
                 return Err(BAD_ROW);
             };

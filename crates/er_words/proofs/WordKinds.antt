@@ -7,7 +7,7 @@ use Rattle.std.specs.List.{list_any}
 use Rattle.er_event.specs.declared.scores.Games.{Games}
 use Rattle.er_words.specs.{declared.line.Line.Line, declared.usage.Kind.Kind, declared.usage.Kind.TheVariants.{Text, SmallNumber, Number}}
 use Rattle.er_words.specs.{declared.usage.UsageFault.UsageFault, Line.{is_option, result_of, correct_of, playoff_of}, Usage.HasFault}
-use Rattle.er_words.specs.{Usage.{IsOf, Takes, are_of_kinds, is_of_kind}, Values.{all_three, games_of, report_of}}
+use Rattle.er_words.specs.{Usage.{IsOf, Takes, are_of_kinds, is_of_kind}, Values.{all_three, games_in, report_of}}
 use Rattle.er_words.proofs.WordLemmas.{list_any-map}
 
 and_false : (b : Bool) → (b && false) ≡ false
@@ -28,7 +28,7 @@ some_three h1 h2 h3 = grind (arith, common_steps)
 -- a place of two numbers, and a score
 placed : {A B : Type 0} (a : Option A) (b : Option B) (games : List (List ℕ)) (f : A × B × Games → Line)
     → (is_some a && (is_some b && are_of_kinds (SmallNumber ∷ SmallNumber ∷ SmallNumber ∷ []) games)) ≡ is_some
-    (option_map f (all_three a b (games_of games)))
+    (option_map f (all_three a b (games_in games)))
 placed a b games f = grind (arith, common_steps)
 
 reported : (f : ℕ × ℕ × Games → Line) (words : List (List ℕ))

@@ -46,18 +46,18 @@ all_three (Some a) None c = None
 all_three None b c = None
 
 -- `X Y D`: games won by the first-named player, won by the second, and drawn
-abbrev pub games_of : List (List ℕ) → Option Games
-games_of (x ∷ y ∷ d ∷ []) =
+abbrev pub games_in : List (List ℕ) → Option Games
+games_in (x ∷ y ∷ d ∷ []) =
     option_map (λ it. record { x = it.0; y = it.1; d = it.2 })
     (all_three (number_below 256 x) (number_below 256 y) (number_below 256 d))
-games_of _ = None
+games_in _ = None
 
 -- `ROUND TABLE X Y D`
 abbrev pub report_of : List (List ℕ) → Option (ℕ × ℕ × Games)
-report_of (round ∷ table ∷ games) = all_three (number_below 256 round) (number_below 65536 table) (games_of games)
+report_of (round ∷ table ∷ games) = all_three (number_below 256 round) (number_below 65536 table) (games_in games)
 report_of _ = None
 
 -- `STAGE SLOT X Y D`
 abbrev pub slot_report_of : List (List ℕ) → Option (ℕ × ℕ × Games)
-slot_report_of (stage ∷ slot ∷ games) = all_three (number_below 256 stage) (number_below 256 slot) (games_of games)
+slot_report_of (stage ∷ slot ∷ games) = all_three (number_below 256 stage) (number_below 256 slot) (games_in games)
 slot_report_of _ = None

@@ -1,7 +1,7 @@
 ghost use Rattle.std.specs.Prelude.{◌≡◌, IfOk, map};
 ghost use Rattle.std.specs.List.{list_all};
 ghost use Rattle.std.specs.Char.{is_ascii_digit};
-ghost use Rattle.er_words.specs.Values.{number_below, count_of, kind_of, seed_of, games_of, report_of, slot_report_of};
+ghost use Rattle.er_words.specs.Values.{number_below, count_of, kind_of, seed_of, games_in, report_of, slot_report_of};
 
 use crate::action::ExportKind;
 use er_event::{Games, Items};
@@ -80,8 +80,8 @@ pub fn seed_of(word: &str) -> Option<[u8; 32]>
 }
 
 /// The games that three words are: won by the first-named player, won by the second, drawn.
-fn games_of(words: &[&str]) -> Option<Games>
-    ensures { result ≡ games_of (map (λ word. word.now) words.now) }
+fn games_in(words: &[&str]) -> Option<Games>
+    ensures { result ≡ games_in (map (λ word. word.now) words.now) }
 {
     let [x, y, d] = *words else {
         return None;
@@ -100,7 +100,7 @@ pub fn report_of(words: &[&str]) -> Option<(u8, u16, Games)>
     let [round, table, games @ ..] = words else {
         return None;
     };
-    Some((small_number_of(round)?, number_of(table)?, games_of(games)?))
+    Some((small_number_of(round)?, number_of(table)?, games_in(games)?))
 }
 
 /// The stage, the slot and the games that the words of a playoff's report are.
@@ -113,7 +113,7 @@ pub fn slot_report_of(words: &[&str]) -> Option<(u8, u8, Games)>
     Some((
         small_number_of(stage)?,
         small_number_of(slot)?,
-        games_of(games)?,
+        games_in(games)?,
     ))
 }
 

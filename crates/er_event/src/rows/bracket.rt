@@ -72,7 +72,7 @@ fn score_of(row: &BracketRow) -> Option<Option<Score>>
 }
 
 /// The match that a row can be of, if it is one.
-fn match_of(row: &BracketRow) -> Option<Match>
+fn possible_match(row: &BracketRow) -> Option<Match>
     ensures { (stage : ℕ) (n : ℕ × Match) → FitsSlotRow n.1 → row.now ≡ bracket_row stage n
         → result ≡ Some n.1 }
 {
@@ -89,7 +89,7 @@ fn read_match(stage: u8, slot: usize, row: &BracketRow) -> Option<Match>
     ensures exact { (m : Match) → FitsSlotRow m → row.now ≡ bracket_row stage (slot, m)
         → result ≡ Some m }
 {
-    let Some(played) = match_of(row) else {
+    let Some(played) = possible_match(row) else {
         return None;
     };
     if BracketRow::of(stage, slot, &played) == *row {

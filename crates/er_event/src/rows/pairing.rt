@@ -90,7 +90,7 @@ fn players_of(row: &PairingRow) -> Option<(u16, u16)>
 }
 
 /// The match that a row can be of, if it is one.
-fn match_of(row: &PairingRow) -> Option<Match>
+fn possible_match(row: &PairingRow) -> Option<Match>
     ensures { (round : ℕ) (n : ℕ × Match) → FitsRow n.1 → row.now ≡ pairing_row round n
         → result ≡ Some n.1 }
 {
@@ -117,7 +117,7 @@ fn read_match(round: u8, table: usize, row: &PairingRow) -> Option<Match>
     ensures exact { (m : Match) → FitsRow m → row.now ≡ pairing_row round (table, m)
         → result ≡ Some m }
 {
-    let Some(played) = match_of(row) else {
+    let Some(played) = possible_match(row) else {
         return None;
     };
     if PairingRow::of(round, table, &played) == *row {

@@ -42,13 +42,13 @@ meeting_rows e = meetings_from (totals e) 1 e.stored
 abbrev pub open_round : List MeetingRow → Option ℤ
 open_round rows = option_map (λ (r : MeetingRow). r.round) (find (λ (r : MeetingRow). int_eq r.done (pos 0)) rows)
 
-abbrev pub is_over : Option ℤ → MeetingRow → Bool
-is_over None row = true
-is_over (Some round) row = not (int_eq row.round round)
+abbrev pub is_outside : Option ℤ → MeetingRow → Bool
+is_outside None row = true
+is_outside (Some round) row = not (int_eq row.round round)
 
 -- a round counts once each match of it has a score, and all rounds but the newest do
 abbrev pub counted_rows : List MeetingRow → List MeetingRow
-counted_rows rows = filter (is_over (open_round rows)) rows
+counted_rows rows = filter (is_outside (open_round rows)) rows
 
 -- the rows of the two players' totals
 abbrev pub sides_in : MeetingRow → TallyRow × TallyRow

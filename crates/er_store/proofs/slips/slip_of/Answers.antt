@@ -1,5 +1,5 @@
 use Rattle.er_store.proofs.Prelude.{nat_lt, is_swapped, ◌≡◌, ◌∙◌, sym, ap, Some, true, false, arith, nat_tests, none-some, same_Some, Match}
-use Rattle.er_store.proofs.Prelude.{match_of}
+use Rattle.er_store.proofs.Prelude.{match_of_slip}
 use Rattle.er_store.proofs.{SlipLemmas.{match_row, low_of, high_of, named_first, same_slip, reads_slip}, slips.slip_of.Goals.then-played}
 use Rattle.er_store.proofs.slips.slip_of.Goals.{else-played}
 use Rattle.er_store.proofs.slips.slip_of.Goals as goal
@@ -7,7 +7,7 @@ use Rattle.er_store.proofs.slips.slip_of.Goals as goal
 pub returns-in_err-played-clause-exact : goal.returns-in_err-played-clause-exact
 returns-in_err-played-clause-exact c slip lawful round table is =
     let it = match_row slip c.args.round c.args.table c.args.row.now lawful round table is in
-    absurd (none-some (match_of slip) (sym c.in_err-played.was ∙ c.match_at_table.ensures.exact (match_of slip) it.0 it.1))
+    absurd (none-some (match_of_slip slip) (sym c.in_err-played.was ∙ c.match_at_table.ensures.exact (match_of_slip slip) it.0 it.1))
 
 pub returns-in_err-low-clause-exact : goal.returns-in_err-low-clause-exact
 returns-in_err-low-clause-exact c slip lawful round table is =

@@ -1,5 +1,5 @@
 use Rattle.er_event.proofs.Prelude.{arith}
-use Rattle.er_event.proofs.rows.pairing.match_of.Goals as goal
+use Rattle.er_event.proofs.rows.pairing.possible_match.Goals as goal
 
 pub returns-in_default : goal.returns-in_default
 returns-in_default c round n shown is = grind (arith, c.players_of.ensures round n shown is)

@@ -1,5 +1,5 @@
 use Rattle.er_event.proofs.Prelude.{arith, rules, ◌≡◌}
-use Rattle.er_event.proofs.rows.bracket.match_of.Goals as goal
+use Rattle.er_event.proofs.rows.bracket.possible_match.Goals as goal
 
 pub returns-in_err-score : goal.returns-in_err-score
 returns-in_err-score c stage n shown is = grind (arith, c.score_of.ensures stage n shown is)

@@ -1,6 +1,6 @@
 use Rattle.er_event.proofs.Prelude.{totals, totals_of, arith, common_steps}
 use Rattle.er_event.proofs.TotalLemmas.{apart_at, one_match}
-use Rattle.er_event.proofs.totals.games_of.Goals as goal
+use Rattle.er_event.proofs.totals.own_games.Goals as goal
 
 pub games_seen-requires-clause-apart : goal.games_seen-requires-clause-apart
 games_seen-requires-clause-apart c = grind (arith, common_steps, apart_at)
