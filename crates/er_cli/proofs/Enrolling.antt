@@ -9,7 +9,7 @@ use Rattle.er_event.specs.{declared.commands.Receipt.Receipt, declared.refusals.
 use Rattle.er_store.specs.Fault.{IsFault}
 use Rattle.er_desk.specs.{Desk.{Standing, Turn}, Reply.Reply, Run.Runs}
 use Rattle.er_paper.specs.declared.imports.PlayerLine.{PlayerLine}
-use Rattle.er_cli.specs.{declared.importing.Tally.Tally, Importing.{Enrols, is_already, is_stop, is_taken, names_of, tally_of}}
+use Rattle.er_cli.specs.{declared.importing.Additions.Additions, Importing.{Enrols, is_already, is_stop, is_taken, names_of, additions_of}}
 
 -- one command more of a run
 pub runs_more : (commands : List Command) (replies : List Reply) (old mid new : Standing) (command : Command) (reply : Reply)
@@ -40,9 +40,9 @@ counts : (p : Reply → Bool) (replies : List Reply) (reply : Reply)
     → length (filter p (replies ++ reply ∷ [])) ≡ length (filter p replies) + length (filter p (reply ∷ []))
 counts p replies reply = ap length (filter-append p replies (reply ∷ [])) ∙ length-append (filter p replies) (filter p (reply ∷ []))
 
-same_tally : (added already a b : ℕ) → added ≡ a → already ≡ b
-    → ◌≡◌ {A = Tally} (record { added = added; already = already }) (record { added = a; already = b })
-same_tally added already a b one other = rw (one, other) refl
+same_additions : (added already a b : ℕ) → added ≡ a → already ≡ b
+    → ◌≡◌ {A = Additions} (record { added = added; already = already }) (record { added = a; already = b })
+same_additions added already a b one other = rw (one, other) refl
 
 none_more : (replies : List Reply) (reply : Reply) → list_any is_stop replies ≡ false → is_stop reply ≡ false
     → list_any is_stop (replies ++ reply ∷ []) ≡ false
@@ -51,7 +51,8 @@ none_more replies reply none on = rw (list_any-append is_stop replies (reply ∷
 one_longer : (replies : List Reply) (reply : Reply) → length (replies ++ reply ∷ []) ≡ length replies + 1
 one_longer replies reply = length-append replies (reply ∷ [])
 
-module _ (names : List (List ℕ)) (old mid new : Standing) (tally : Tally) (so_far : Enrols names old tally None mid) (name : List ℕ)
+module _ (names : List (List ℕ)) (old mid new : Standing) (additions : Additions)
+    (so_far : Enrols names old additions None mid) (name : List ℕ)
     (reply : Reply) (turn : Turn mid (Enrol name) reply new) where
   as_many : length so_far.replies ≡ length names
   as_many = so_far.all refl
@@ -71,7 +72,7 @@ module _ (names : List (List ℕ)) (old mid new : Standing) (tally : Tally) (so_
   fits = one_longer so_far.replies reply ∙ ap (λ n. n + 1) as_many ∙ sym (length-append names (name ∷ []))
 
   -- the whole list, where this one doesn't stop it
-  pub enrols_more : is_stop reply ≡ false → (next : Tally) → next ≡ tally_of (so_far.replies ++ reply ∷ [])
+  pub enrols_more : is_stop reply ≡ false → (next : Additions) → next ≡ additions_of (so_far.replies ++ reply ∷ [])
       → Enrols (names ++ name ∷ []) old next None new
   enrols_more on next is = record {
     replies = so_far.replies ++ reply ∷ [];
@@ -87,7 +88,7 @@ module _ (names : List (List ℕ)) (old mid new : Standing) (tally : Tally) (so_
 
   -- and where it does
   pub enrols_stop : (why : Refusal) → reply ≡ Err why → is_stop reply ≡ true → (all : List (List ℕ))
-      → take (length (names ++ name ∷ [])) all ≡ names ++ name ∷ [] → Enrols all old tally (Some why) new
+      → take (length (names ++ name ∷ [])) all ≡ names ++ name ∷ [] → Enrols all old additions (Some why) new
   enrols_stop why is stops all begins = record {
     replies = so_far.replies;
     ran =
@@ -122,29 +123,29 @@ first_names lines i d within is =
 
 -- a name of a list, in its turn
 module _ (lines : List PlayerLine) (i : ℕ) (line : PlayerLine) (within : i < length lines) (is : line ≡ get_or lines i line)
-    (old mid new : Standing) (tally : Tally) (so_far : Enrols (names_of (take i lines)) old tally None mid) (reply : Reply)
+    (old mid new : Standing) (additions : Additions) (so_far : Enrols (names_of (take i lines)) old additions None mid) (reply : Reply)
     (turn : Turn mid (Enrol line.name) reply new) where
-  pub next_enrolled : is_stop reply ≡ false → (next : Tally) → next ≡ tally_of (so_far.replies ++ reply ∷ [])
+  pub next_enrolled : is_stop reply ≡ false → (next : Additions) → next ≡ additions_of (so_far.replies ++ reply ∷ [])
       → Enrols (names_of (take (i + 1) lines)) old next None new
   next_enrolled on next counted = subst (λ (ns : List (List ℕ)). Enrols ns old next None new) (sym (names_next lines i line within is))
-      (enrols_more (names_of (take i lines)) old mid new tally so_far line.name reply turn on next counted)
+      (enrols_more (names_of (take i lines)) old mid new additions so_far line.name reply turn on next counted)
 
   -- the player was added
   pub added : (receipt : Receipt) → reply ≡ Ok receipt
-      → Enrols (names_of (take (i + 1) lines)) old (record { added = tally.added + 1; already = tally.already }) None new
+      → Enrols (names_of (take (i + 1) lines)) old (record { added = additions.added + 1; already = additions.already }) None new
   added receipt ok =
       let replies = so_far.replies in
       let one : length (filter is_ok (replies ++ reply ∷ [])) ≡ length (filter is_ok replies) + 1 =
       rw ok (counts is_ok replies (Ok receipt)) in
       let none : length (filter is_already (replies ++ reply ∷ [])) ≡ length (filter is_already replies) + 0 =
       rw ok (counts is_already replies (Ok receipt)) in
-      let were = ap (λ (t : Tally). t.added) so_far.counted in
-      let had = ap (λ (t : Tally). t.already) so_far.counted in
-      next_enrolled (ap is_stop ok) _ (same_tally _ _ _ _ (omega (arith, one, were)) (omega (arith, none, had)))
+      let were = ap (λ (t : Additions). t.added) so_far.counted in
+      let had = ap (λ (t : Additions). t.already) so_far.counted in
+      next_enrolled (ap is_stop ok) _ (same_additions _ _ _ _ (omega (arith, one, were)) (omega (arith, none, had)))
 
   -- or was there already
   pub found : (why : Refusal) → reply ≡ Err why → is_taken why ≡ true
-      → Enrols (names_of (take (i + 1) lines)) old (record { added = tally.added; already = tally.already + 1 }) None new
+      → Enrols (names_of (take (i + 1) lines)) old (record { added = additions.added; already = additions.already + 1 }) None new
   found why err taken =
       let replies = so_far.replies in
       let none : length (filter is_ok (replies ++ reply ∷ [])) ≡ length (filter is_ok replies) + 0 =
@@ -152,11 +153,11 @@ module _ (lines : List PlayerLine) (i : ℕ) (line : PlayerLine) (within : i < l
       let that : length (filter is_already (Err why ∷ [])) ≡ 1 = rw taken refl in
       let one : length (filter is_already (replies ++ reply ∷ [])) ≡ length (filter is_already replies) + 1 =
       rw err (counts is_already replies (Err why) ∙ ap (λ n. length (filter is_already replies) + n) that) in
-      let were = ap (λ (t : Tally). t.added) so_far.counted in
-      let had = ap (λ (t : Tally). t.already) so_far.counted in
-      next_enrolled (ap is_stop err ∙ ap not taken) _ (same_tally _ _ _ _ (omega (arith, none, were)) (omega (arith, one, had)))
+      let were = ap (λ (t : Additions). t.added) so_far.counted in
+      let had = ap (λ (t : Additions). t.already) so_far.counted in
+      next_enrolled (ap is_stop err ∙ ap not taken) _ (same_additions _ _ _ _ (omega (arith, none, were)) (omega (arith, one, had)))
 
   -- or the import ends
-  pub ended : (why : Refusal) → reply ≡ Err why → is_taken why ≡ false → Enrols (names_of lines) old tally (Some why) new
-  ended why err other = enrols_stop (names_of (take i lines)) old mid new tally so_far line.name reply turn why err
+  pub ended : (why : Refusal) → reply ≡ Err why → is_taken why ≡ false → Enrols (names_of lines) old additions (Some why) new
+  ended why err other = enrols_stop (names_of (take i lines)) old mid new additions so_far line.name reply turn why err
       (ap is_stop err ∙ ap not other) (names_of lines) (first_names lines i line within is)

@@ -46,8 +46,8 @@ InitAnswers name rounds cut answer =
 
 module _ (out out_then err err_then : Option (List ℕ)) (status : ℕ) where
   -- clients were served, or the port can't be had
-  abbrev pub Serves : ℕ → Type 0
-  Serves count =
+  abbrev pub ServesClients : ℕ → Type 0
+  ServesClients count =
       (PrintsServed count out out_then status × (err_then ≡ err))
       ⊎ Says CANNOT_LISTEN.now DEVICE (record { meant = err; other = out }) (record { meant = err_then; other = out_then }) status
 
@@ -67,7 +67,7 @@ Does {S} g desk (Ask request) out out_then err err_then status =
     × Tells answer out out_then err err_then status
 Does g desk (Import list) out out_then err err_then status =
     (last : Standing) × Imports (standing desk) last out out_then err err_then status
-Does g desk (Serve port count) out out_then err err_then status = Serves out out_then err err_then status count
+Does g desk (Serve port count) out out_then err err_then status = ServesClients out out_then err err_then status count
 
 -- What a command line does to the output and the errors, and its status. An event is opened by a desk over such a store.
 abbrev pub EndsLine : {S : Type 0} → Ghosts S → Action → (out out_then err err_then : Option (List ℕ)) → ℕ → Type 0

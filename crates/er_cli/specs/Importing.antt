@@ -16,7 +16,7 @@ use Rattle.er_paper.specs.declared.imports.CsvFault.TheVariants as csv
 use Rattle.er_paper.specs.declared.imports.PlayerLine.{PlayerLine}
 use Rattle.er_paper.specs.Reading.{ReadsPlayers}
 use Rattle.er_cli.specs.declared.TheConstants.{DONE, REFUSED, DEVICE}
-use Rattle.er_cli.specs.declared.importing.Tally.{Tally}
+use Rattle.er_cli.specs.declared.importing.Additions.{Additions}
 use Rattle.er_cli.specs.declared.importing.TheConstants.{MAX_LIST_BYTES}
 use Rattle.er_cli.specs.declared.texts.Answer.TheVariants.{Refused}
 use Rattle.er_cli.specs.Help.{Says, Tells}
@@ -36,18 +36,18 @@ abbrev pub is_stop : Reply → Bool
 is_stop (Ok receipt) = false
 is_stop (Err why) = not (is_taken why)
 
-abbrev pub tally_of : List Reply → Tally
-tally_of replies = record { added = length (filter is_ok replies); already = length (filter is_already replies) }
+abbrev pub additions_of : List Reply → Additions
+additions_of replies = record { added = length (filter is_ok replies); already = length (filter is_already replies) }
 
 abbrev pub stopping : Option Refusal → List Reply
 stopping None = []
 stopping (Some why) = Err why ∷ []
 
 -- Each name is one command, in order, until there is none or one is refused otherwise than as taken.
-pub record Enrols (names : List (List ℕ)) (old : Standing) (tally : Tally) (stop : Option Refusal) (new : Standing) : Type 0 where
+pub record Enrols (names : List (List ℕ)) (old : Standing) (additions : Additions) (stop : Option Refusal) (new : Standing) : Type 0 where
   pub replies : List Reply
   pub ran : Runs old (map Enrol (take (length (replies ++ stopping stop)) names)) (replies ++ stopping stop) new
-  pub counted : tally ≡ tally_of replies
+  pub counted : additions ≡ additions_of replies
   pub goes_on : IsFalse (list_any is_stop replies)
   pub all : stop ≡ None → length replies ≡ length names
   pub ends : IfSome stop (λ why. IsTrue (is_stop (Err why)))
@@ -57,15 +57,15 @@ names_of = map (λ line. line.name)
 
 -- ---- what is printed
 
-abbrev pub tally_text : Tally → List ℕ
-tally_text tally = codes "added " ++ (decimal tally.added ++ (codes " already " ++ (decimal tally.already ++ (10 ∷ []))))
+abbrev pub additions_text : Additions → List ℕ
+additions_text additions = codes "added " ++ (decimal additions.added ++ (codes " already " ++ (decimal additions.already ++ (10 ∷ []))))
 
--- the tally goes to the output, and then the refusal that ended the import to the errors
-abbrev pub PrintsTally : Tally → Option Refusal → (out out_then err err_then : Option (List ℕ)) → ℕ → Type 0
-PrintsTally tally stop out out_then err err_then status =
-    (Appends out out_then (tally_text tally)
+-- the additions goes to the output, and then the refusal that ended the import to the errors
+abbrev pub PrintsAdditions : Additions → Option Refusal → (out out_then err err_then : Option (List ℕ)) → ℕ → Type 0
+PrintsAdditions additions stop out out_then err err_then status =
+    (Appends out out_then (additions_text additions)
     × MatchOption stop ((status ≡ DONE) × (err_then ≡ err)) (λ why. Tells (Refused why) out_then out_then err err_then status))
-    ⊎ ((status ≡ DEVICE) × AppendsPart out out_then (tally_text tally) × (err_then ≡ err))
+    ⊎ ((status ≡ DEVICE) × AppendsPart out out_then (additions_text additions) × (err_then ≡ err))
 
 -- what is said of a list that has a fault
 abbrev pub fault_text : CsvFault → List ℕ
@@ -74,12 +74,12 @@ fault_text (BadRow row) = codes "bad csv row " ++ (decimal row ++ (10 ∷ []))
 fault_text csv.Memory = []
 
 module _ (old new : Standing) (out out_then err err_then : Option (List ℕ)) (status : ℕ) where
-  -- the names are handed to the desk, and the tally is printed
+  -- the names are handed to the desk, and the additions is printed
   pub record Hands (names : List (List ℕ)) : Type 0 where
-    pub tally : Tally
+    pub additions : Additions
     pub stop : Option Refusal
-    pub enrols : Enrols names old tally stop new
-    pub prints : PrintsTally tally stop out out_then err err_then status
+    pub enrols : Enrols names old additions stop new
+    pub prints : PrintsAdditions additions stop out out_then err err_then status
 
   -- the fault of a list is named; a list without one is enrolled
   abbrev pub TakesList : List ℕ → Type 0

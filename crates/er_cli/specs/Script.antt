@@ -73,5 +73,5 @@ pub record PrintsPart (lines : List (List ℕ)) (before after : Option (List ℕ
   pub printed : AppendsPart before after (flat_map answer_text answers)
 
 -- the tables in memory stand for the event, where no fault of the store is behind
-abbrev pub IsWritten : Option (Desk MemStore over_memory) → Type 0
-IsWritten desk = IfSome desk (λ d. IsFalse (standing d).stopped → ShowsOwn over_memory d)
+abbrev pub HasOwnTables : Option (Desk MemStore over_memory) → Type 0
+HasOwnTables desk = IfSome desk (λ d. IsFalse (standing d).stopped → ShowsOwn over_memory d)

@@ -8,7 +8,7 @@ ghost use Rattle.er_words.specs.declared.action.Action.TheVariants.{Open};
 ghost use Rattle.er_words.specs.Action.{action_of};
 ghost use Rattle.er_cli.specs.Answers.{reply_answer};
 ghost use Rattle.er_store.specs.Fault.{IsLoadFault};
-ghost use Rattle.er_cli.specs.Files.{Does, EndsLine, InitAnswers, IsMade, Serves};
+ghost use Rattle.er_cli.specs.Files.{Does, EndsLine, InitAnswers, IsMade, ServesClients};
 ghost use Rattle.er_cli.specs.Help.{Tells};
 
 use crate::answers::{answer, reply_answer};
@@ -87,7 +87,7 @@ fn listen<S: Alter, O: Write, E: Write>(
     out: &mut O,
     err: &mut E,
 ) -> u8
-    ensures { Serves (O.contents out.old) (O.contents out.new) (E.contents err.old)
+    ensures { ServesClients (O.contents out.old) (O.contents out.new) (E.contents err.old)
         (E.contents err.new) result count }
 {
     match TcpListener::bind(rt, (Ipv4Addr::LOCALHOST, port)) {

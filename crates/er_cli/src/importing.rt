@@ -4,7 +4,7 @@ ghost use Rattle.sqlite.specs.State.{HasCleanDisk};
 ghost use Rattle.er_event.specs.declared.commands.Command.TheVariants.{Enrol};
 ghost use Rattle.er_desk.specs.Desk.{ShowsOwn, Turn, point_of, standing, state};
 ghost use Rattle.er_desk.specs.Headline.{LeavesJust};
-ghost use Rattle.er_cli.specs.Importing.{Enrols, Imports, PrintsTally, TakesList, fault_text, is_taken, names_of, tally_text};
+ghost use Rattle.er_cli.specs.Importing.{Enrols, Imports, PrintsAdditions, TakesList, fault_text, is_taken, names_of, additions_text};
 ghost use Rattle.er_cli.specs.Help.{Tells};
 ghost use Rattle.er_cli.specs.Texts.{AppendsPart};
 
@@ -24,7 +24,7 @@ pub const MAX_LIST_BYTES: usize = 131_072;
 
 /// How many names an import has added, and how many were there already.
 #[derive(Clone, Copy, Debug, PartialEq, Eq)]
-pub struct Tally {
+pub struct Additions {
     pub added: usize,
     pub already: usize,
 }
@@ -32,18 +32,18 @@ pub struct Tally {
 /// How an import has ended: with all names, or at the first that is refused otherwise than as taken.
 #[derive(Debug, Drop)]
 pub struct Enrolled {
-    pub tally: Tally,
+    pub additions: Additions,
     pub stop: Option<Refusal>,
 }
 
-fn tally_line(tally: Tally) -> ShortText
-    ensures { result ≡ tally_text tally }
+fn additions_line(additions: Additions) -> ShortText
+    ensures { result ≡ additions_text additions }
 {
     let mut line = ShortText::new();
     line.push(b"added ");
-    line.push_number(tally.added as u64);
+    line.push_number(additions.added as u64);
     line.push(b" already ");
-    line.push_number(tally.already as u64);
+    line.push_number(additions.already as u64);
     line.push(b"\n");
     line
 }
@@ -116,7 +116,7 @@ fn enrol<S: Alter>(alloc: Global, desk: &mut Desk<S>, name: &Name) -> Reply
 /// Hands the names to the desk in order, until one is refused otherwise than as taken.
 fn enrol_all<S: Alter>(alloc: Global, desk: &mut Desk<S>, lines: &[PlayerLine]) -> Enrolled
     requires { IsFalse (standing desk.old).stopped }
-    ensures enrols { Enrols (names_of lines.now) (standing desk.old) result.tally result.stop
+    ensures enrols { Enrols (names_of lines.now) (standing desk.old) result.additions result.stop
         (standing desk.new) }
     ensures clean { HasCleanDisk (state S.Store desk.new) → HasCleanDisk (state S.Store desk.old) }
     ensures stands { HasCleanDisk (state S.Store desk.new) → ShowsOwn S.Store desk.old
@@ -128,31 +128,34 @@ fn enrol_all<S: Alter>(alloc: Global, desk: &mut Desk<S>, lines: &[PlayerLine]) 
         → IsFalse (standing desk.new).stopped
         → LeavesJust (state S.Store desk.new) (point_of (standing desk.new)) }
 {
-    let mut tally = Tally {
+    let mut additions = Additions {
         added: 0,
         already: 0,
     };
     for line in lines {
         match enrol(alloc, desk, &line.name) {
-            Ok(_receipt) => tally.added += 1,
-            Err(why) if is_taken(&why) => tally.already += 1,
+            Ok(_receipt) => additions.added += 1,
+            Err(why) if is_taken(&why) => additions.already += 1,
             Err(why) => {
                 return Enrolled {
-                    tally,
+                    additions,
                     stop: Some(why),
                 };
             }
         }
     }
-    Enrolled { tally, stop: None }
+    Enrolled {
+        additions,
+        stop: None,
+    }
 }
 
 /// Prints how many were enrolled, and the refusal that ended it, where there is one.
-fn print_tally<O: Write, E: Write>(out: &mut O, err: &mut E, enrolled: Enrolled) -> u8
-    ensures { PrintsTally enrolled.tally enrolled.stop (O.contents out.old) (O.contents out.new)
-        (E.contents err.old) (E.contents err.new) result }
+fn print_additions<O: Write, E: Write>(out: &mut O, err: &mut E, enrolled: Enrolled) -> u8
+    ensures { PrintsAdditions enrolled.additions enrolled.stop (O.contents out.old)
+        (O.contents out.new) (E.contents err.old) (E.contents err.new) result }
 {
-    let Ok(()) = print_line(out, &tally_line(enrolled.tally)) else {
+    let Ok(()) = print_line(out, &additions_line(enrolled.additions)) else {
         return DEVICE;
     };
     match enrolled.stop {
@@ -186,7 +189,7 @@ fn import_list<S: Alter, O: Write, E: Write>(
     match read_players_csv(alloc, list) {
         Ok(lines) => {
             let enrolled = enrol_all(alloc, desk, &lines);
-            print_tally(out, err, enrolled)
+            print_additions(out, err, enrolled)
         }
         Err(CsvFault::Memory) => tell(out, err, &Answer::Refused(Refusal::Memory)),
         Err(fault) => say_fault(err, fault),

@@ -8,7 +8,7 @@ ghost use Rattle.er_words.specs.Fields.{script_action};
 ghost use Rattle.er_words.specs.declared.action.Action.TheVariants.{Init, Open};
 ghost use Rattle.er_words.specs.declared.action.Task.TheVariants.{Ask};
 ghost use Rattle.er_cli.specs.Answers.{reply_answer};
-ghost use Rattle.er_cli.specs.Script.{Acts, LineAnswers, IsWritten, Prints, PrintsPart, standing_of};
+ghost use Rattle.er_cli.specs.Script.{Acts, LineAnswers, HasOwnTables, Prints, PrintsPart, standing_of};
 
 use crate::answers::{answer, reply_answer};
 use crate::setup::set_up;
@@ -47,7 +47,7 @@ impl Runner {
     fn init(&mut self, name: &[u8], rounds: u8, cut: u8) -> Reply
         ensures acts { Acts (standing_of self.old.desk) (Init name.now rounds cut)
             (reply_answer result) (standing_of self.new.desk) }
-        ensures written { IsWritten self.old.desk → IsWritten self.new.desk }
+        ensures written { HasOwnTables self.old.desk → HasOwnTables self.new.desk }
     {
         let name = set_up(self.alloc, name, rounds, cut)?;
         if self.desk.is_some() {
@@ -59,10 +59,10 @@ impl Runner {
     }
 
     fn ask(&mut self, request: Request) -> Answer
-        requires { IsWritten self.old.desk }
+        requires { HasOwnTables self.old.desk }
         ensures acts { Acts (standing_of self.old.desk) (Open (Ask request)) result
             (standing_of self.new.desk) }
-        ensures written { IsWritten self.new.desk }
+        ensures written { HasOwnTables self.new.desk }
     {
         match &mut self.desk {
             None => Answer::Refused(Refusal::NoEvent),
@@ -71,10 +71,10 @@ impl Runner {
     }
 
     fn open(&mut self, task: Task) -> Answer
-        requires { IsWritten self.old.desk }
+        requires { HasOwnTables self.old.desk }
         ensures acts { Acts (standing_of self.old.desk) (Open task) result
             (standing_of self.new.desk) }
-        ensures written { IsWritten self.new.desk }
+        ensures written { HasOwnTables self.new.desk }
     {
         match task {
             Task::Ask { request } => self.ask(request),
@@ -84,9 +84,9 @@ impl Runner {
     }
 
     fn act(&mut self, action: Action) -> Answer
-        requires { IsWritten self.old.desk }
+        requires { HasOwnTables self.old.desk }
         ensures acts { Acts (standing_of self.old.desk) action result (standing_of self.new.desk) }
-        ensures written { IsWritten self.new.desk }
+        ensures written { HasOwnTables self.new.desk }
     {
         match action {
             Action::Init { name, rounds, cut } => {
@@ -98,10 +98,10 @@ impl Runner {
 
     /// The answer to a line.
     fn answer(&mut self, line: &[u8]) -> Answer
-        requires { IsWritten self.old.desk }
+        requires { HasOwnTables self.old.desk }
         ensures answers { LineAnswers (standing_of self.old.desk) (script_action line.now) result
             (standing_of self.new.desk) }
-        ensures written { IsWritten self.new.desk }
+        ensures written { HasOwnTables self.new.desk }
     {
         match read_line(self.alloc, line) {
             Ok(line) => {

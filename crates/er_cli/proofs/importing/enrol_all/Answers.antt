@@ -1,12 +1,12 @@
 use Rattle.std.proofs.Common.{◌≡◌, ◌+◌, ◌≤◌, IsFalse, None, false, arith, sym, ◌∙◌, ap, subst, not, take}
 use Rattle.er_desk.specs.Desk.{standing}
-use Rattle.er_cli.specs.{declared.importing.Tally.Tally, Importing.{Enrols, is_stop, names_of}}
+use Rattle.er_cli.specs.{declared.importing.Additions.Additions, Importing.{Enrols, is_stop, names_of}}
 use Rattle.er_cli.proofs.{Enrolling.{added, ended, found, runs_on}, importing.enrol_all.Goals.{in-Ok, in-Err}}
 use Rattle.er_cli.proofs.importing.enrol_all.Goals as goal
 
 pub returns-in-Err-2-clause-enrols : goal.returns-in-Err-2-clause-enrols
 returns-in-Err-2-clause-enrols g c =
-    ended c.args.lines.now c.loop-line.line-index c.line-item.result c.loop-line-test.true c.line-item.is _ _ _ c.loop-line.tally
+    ended c.args.lines.now c.loop-line.line-index c.line-item.result c.loop-line-test.true c.line-item.is _ _ _ c.loop-line.additions
     c.loop-line.invariant.enrols c.enrol.result c.enrol.ensures.turn
     c.in-Err.why c.in-Err.is (sym c.if-is_taken.ensures)
 
@@ -26,16 +26,16 @@ loop-line-preserved g c =
       | in-Ok w ↦ ap is_stop w.in-Ok.is
       | in-Err w ↦ ap is_stop w.in-Err.is ∙ ap not (sym w.if-is_taken.ensures)
     ] in
-    let few : c.match-enrol.tally.added + c.match-enrol.tally.already ≤ c.loop-line.line-index + 1 = elim c.match-enrol.branch [
-      | in-Ok w ↦ omega (arith, inv.few, ap (λ (t : Tally). t.added) w.tally-is, ap (λ (t : Tally). t.already) w.tally-is)
-      | in-Err w ↦ omega (arith, inv.few, ap (λ (t : Tally). t.added) w.tally-is, ap (λ (t : Tally). t.already) w.tally-is)
+    let few : c.match-enrol.additions.added + c.match-enrol.additions.already ≤ c.loop-line.line-index + 1 = elim c.match-enrol.branch [
+      | in-Ok w ↦ omega (arith, inv.few, ap (λ (t : Additions). t.added) w.additions-is, ap (λ (t : Additions). t.already) w.additions-is)
+      | in-Err w ↦ omega (arith, inv.few, ap (λ (t : Additions). t.added) w.additions-is, ap (λ (t : Additions). t.already) w.additions-is)
     ] in
-    let enrols : Enrols names old c.match-enrol.tally None new = elim c.match-enrol.branch [
-      | in-Ok w ↦ subst (λ (t : Tally). Enrols names old t None new) (sym w.tally-is)
-          (added c.args.lines.now c.loop-line.line-index c.line-item.result c.loop-line-test.true c.line-item.is _ _ _ c.loop-line.tally
+    let enrols : Enrols names old c.match-enrol.additions None new = elim c.match-enrol.branch [
+      | in-Ok w ↦ subst (λ (t : Additions). Enrols names old t None new) (sym w.additions-is)
+          (added c.args.lines.now c.loop-line.line-index c.line-item.result c.loop-line-test.true c.line-item.is _ _ _ c.loop-line.additions
           inv.enrols c.enrol.result one.turn w.in-Ok._receipt w.in-Ok.is)
-      | in-Err w ↦ subst (λ (t : Tally). Enrols names old t None new) (sym w.tally-is)
-          (found c.args.lines.now c.loop-line.line-index c.line-item.result c.loop-line-test.true c.line-item.is _ _ _ c.loop-line.tally
+      | in-Err w ↦ subst (λ (t : Additions). Enrols names old t None new) (sym w.additions-is)
+          (found c.args.lines.now c.loop-line.line-index c.line-item.result c.loop-line-test.true c.line-item.is _ _ _ c.loop-line.additions
           inv.enrols c.enrol.result one.turn w.in-Err.why w.in-Err.is (sym w.if-is_taken.ensures))
     ] in
     let runs : IsFalse new.stopped = runs_on _ _ _ _ one.turn goes_on in

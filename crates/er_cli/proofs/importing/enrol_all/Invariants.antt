@@ -6,8 +6,8 @@ use Rattle.er_cli.proofs.importing.enrol_all.Given as goal
 
 abbrev pub invariant-loop-line : goal.invariant-loop-line
 invariant-loop-line g l = record {
-  few : l.tally.added + l.tally.already ≤ l.line-index;
-  enrols : Enrols (names_of (take l.line-index l.lines)) (standing l.fn.desk) l.tally None (standing l.desk);
+  few : l.additions.added + l.additions.already ≤ l.line-index;
+  enrols : Enrols (names_of (take l.line-index l.lines)) (standing l.fn.desk) l.additions None (standing l.desk);
   runs : IsFalse (standing l.desk).stopped;
   clean : HasCleanDisk (state g.S.Store l.desk) → HasCleanDisk (state g.S.Store l.fn.desk);
   stands : HasCleanDisk (state g.S.Store l.desk) → ShowsOwn g.S.Store l.fn.desk → ShowsOwn g.S.Store l.desk;
