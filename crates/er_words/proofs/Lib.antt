@@ -1,5 +1,4 @@
 mod WordKinds
-mod Leaves
 mod Refusals
 mod Seeds
 mod Walks

@@ -1,16 +1,16 @@
 -- When the parser refuses words of which none begins with a hyphen: never, where the first names a subcommand.
 use Rattle.std.proofs.{lemmas.Grind.common_steps, Common.{◌≡◌, ◌<◌, ◌≤◌, Bool, true, false, List, [], ◌∷◌, ◌++◌, length, Option, Some}}
-use Rattle.std.proofs.Common.{None, is_some, option_map, refl, ap, ap₂, ◌∙◌, cond, arith, ◌⊎◌, inl, inr, ◌^◌}
-use Rattle.clap.specs.{declared.error.ErrorKind.TheVariants.{UnknownArgument, InvalidSubcommand, OutOfMemory}, Words.{App, Row, Shape}}
-use Rattle.clap.specs.{Words.{Text, built}, Lexer.usize_max, Simple.{entered, subcommand_of}, Walk.{Held, Step, Waiting, Walk, idle, value}}
-use Rattle.clap.specs.{Walk.{walk_from, nothing_held, word_met, settled, finished}, Values.kind_of, declared.Error.Error, Kinds.HasKind}
+use Rattle.std.proofs.{Common.{None, is_some, option_map, refl, sym, subst, map, slice_get, ap, ap₂, ◌∙◌, cond, arith, ◌^◌}, lemmas.Option.same_Some}
+use Rattle.clap.specs.{declared.error.ErrorKind.TheVariants.{OutOfMemory}, Words.{App, Row, Shape}}
+use Rattle.clap.specs.{Words.{Text, built}, Lexer.usize_max, Simple.{entered, subcommand_of}, Walk.{Held, Step, Waiting, Walk, value}}
+use Rattle.clap.specs.{Walk.{walk_from, nothing_held, settled, finished}, Values.kind_of, declared.Error.Error, Kinds.HasKind}
 use Rattle.clap.specs.{Kinds.{Kinds, or_else}, Faults.{fault_of, walk_fault, turn_fault, other_fault, step_fault, level_fault}}
 use Rattle.clap.specs.Faults.{entered_fault, defaults_fault, settle_fault, values_fault, check_fault}
 use Rattle.clap.proofs.FaultLemmas.{stopped_fault}
-use Rattle.er_words.specs.{Line.is_option, Words.{bare, program, split_of, words_in}}
-use Rattle.er_words.proofs.Walks.{AllPlain, no_dashes, no_long, no_short, plain_met, leaf_rule, leaf_rules, leaf_built, labels}
-use Rattle.er_words.proofs.Walks.{reading_words, first_word, next_word, leaf_walk, is_name, met_none, name_walked, whole_walk, entered_is}
-use Rattle.er_words.proofs.Walks.{find_named, subcommand_is, leaf_words}
+use Rattle.er_words.specs.{Line.is_option, Words.{bare, is_subcommand, program, split_of, words_in}}
+use Rattle.er_words.proofs.Walks.{AllPlain, plain_met, leaf_rule, leaf_rules, leaf_built, labels}
+use Rattle.er_words.proofs.Walks.{reading_words, first_word, next_word, leaf_walk, same_name, name_walked, whole_walk, entered_is}
+use Rattle.er_words.proofs.Walks.{subcommand_is, leaf_words}
 
 -- a word with no hyphen in front is no flag
 turn_by : (n : Text) (w : Text) (h : Held) (waiting : Waiting) (met : Held × Step) → is_option w ≡ false → met ≡ (h, value)
@@ -64,75 +64,59 @@ leaf_takes n (w ∷ rest) plain fits =
 abbrev top_built : Shape
 top_built = record bare.top { is_leaf = false; is_built = true }
 
-own_words : (w : Text) (rest : List Text) → is_name w ≡ true → walk_fault top_built labels (walk_from nothing_held) (w ∷ rest) ≡ []
+own_words : (name : Text) (rest : List Text) → walk_fault top_built (labels name) (walk_from nothing_held) (name ∷ rest) ≡ []
 unfolding walk_fault
-own_words w rest named = grind (arith, common_steps, is_name, labels, name_walked, stopped_fault)
+own_words name rest = grind (arith, common_steps, same_name, labels, name_walked, stopped_fault)
 
-below : (w : Text) (rest : List Text) → is_name w ≡ true → AllPlain rest → length rest ≤ usize_max
-    → entered_fault (built program) (Some (w, rest)) ≡ []
-below w rest named plain fits = grind (arith, common_steps, find_named, leaf_built, leaf_takes)
+below : (name : Text) (rest : List Text) → AllPlain rest → length rest ≤ usize_max
+    → entered_fault (built (program name)) (Some (name, rest)) ≡ []
+below name rest plain fits = grind (arith, common_steps, same_name, leaf_built, leaf_takes)
 
 ending : (k1 k2 : Kinds) (x : Bool) → k1 ≡ [] → k2 ≡ [] → x ≡ true
     → or_else k1 (or_else k2 (or_else [] (or_else (defaults_fault [] []) (check_fault top_built [] x)))) ≡ []
 unfolding defaults_fault
 ending k1 k2 x a b c = rw (a, b, c) refl
 
-pub named_taken : (w : Text) (rest : List Text) → is_name w ≡ true → AllPlain rest → length rest ≤ usize_max
-    → fault_of program (w ∷ rest) ≡ []
-named_taken w rest named plain fits =
-    ap (λ (s : Walk). or_else (walk_fault top_built labels (walk_from nothing_held) (w ∷ rest))
-    (or_else (entered_fault (built program) s.stopped) (or_else (settle_fault [] false s.held)
+-- words that begin with the name are taken
+taken : (name : Text) (rest : List Text) → AllPlain rest → length rest ≤ usize_max → fault_of (program name) (name ∷ rest) ≡ []
+taken name rest plain fits =
+    ap (λ (s : Walk). or_else (walk_fault top_built (labels name) (walk_from nothing_held) (name ∷ rest))
+    (or_else (entered_fault (built (program name)) s.stopped) (or_else (settle_fault [] false s.held)
     (or_else (defaults_fault (settled [] s.held).rows [])
-    (check_fault top_built (finished [] s.held) (is_some (entered (built program) s.stopped)))))))
-    (whole_walk w rest named)
-    ∙ ending _ _ _ (own_words w rest named) (below w rest named plain fits) (ap is_some (entered_is w rest named))
+    (check_fault top_built (finished [] s.held) (is_some (entered (built (program name)) s.stopped)))))))
+    (whole_walk name rest)
+    ∙ ending _ _ _ (own_words name rest) (below name rest plain fits) (ap is_some (entered_is name rest))
 
-stray_word : (w : Text) → is_name w ≡ false → is_option w ≡ false → word_met [] labels false idle 1 w nothing_held ≡ (nothing_held, value)
-stray_word w stray plain = plain_met [] labels idle 1 w nothing_held plain (met_none w stray) refl
+-- ---- texts that begin with a name, and the parser that knows it
 
-stray_turn : (w : Text) → is_name w ≡ false → is_option w ≡ false
-    → turn_fault top_built labels (walk_from nothing_held) w ≡ UnknownArgument ∷ InvalidSubcommand ∷ []
-stray_turn w stray plain = grind (arith, common_steps, met_none, no_dashes, no_long, no_short, stray_word)
+-- the text of the first item, and the others
+pub begins : {S : Type 0} (text : S → Text) (items : List S) (first : S) → Some first ≡ slice_get items 0
+    → (rest : List Text) × (map text items ≡ text first ∷ rest)
+begins text [] first is = let bad : Some first ≡ None = is in cc
+begins text (item ∷ items) first is = (map text items, ap (λ x. text x ∷ map text items) (sym (same_Some first item is)))
 
-pub stray_refused : (w : Text) (rest : List Text) → is_name w ≡ false → is_option w ≡ false → fault_of program (w ∷ rest) ≡ [] → ⊥
-unfolding walk_fault
-stray_refused w rest stray plain h = grind (arith, common_steps, labels, stray_turn)
+pub split_is : (name : Text) (texts rest : List Text) → texts ≡ name ∷ rest → is_subcommand name ≡ true → split_of texts ≡ Some (name, rest)
+split_is name texts rest are named = rw are (ap (λ b. cond b (Some (name, rest)) None) named)
 
-is_named_or_not : (b : Bool) (w : Text) (rest : List Text) → is_name w ≡ b → AllPlain (w ∷ rest) → length (w ∷ rest) < 2 ^ 64
-    → (split_of (w ∷ rest) ≡ None) ⊎ (fault_of program (w ∷ rest) ≡ [])
-is_named_or_not true w rest named plain fits = inr (named_taken w rest named plain.1 (omega arith))
-is_named_or_not false w rest stray plain fits = inl (ap (λ b. cond b (Some (w, rest)) None) stray)
+module _ (app : App) (name : Text) (texts rest : List Text) (is : app ≡ program name) (are : texts ≡ name ∷ rest) where
+  pub none_refused : AllPlain texts → length texts < 2 ^ 64 → fault_of app texts ≡ []
+  none_refused plain fits =
+      let short : length (name ∷ rest) < 2 ^ 64 = subst (λ ts. length ts < 2 ^ 64) are fits in
+      rw (is, are) (taken name rest (subst AllPlain are plain).1 (omega arith))
 
--- either the words read as nothing, or the parser takes them
-pub unsplit_or_taken : (ws : List Text) → AllPlain ws → length ws < 2 ^ 64 → (split_of ws ≡ None) ⊎ (fault_of program ws ≡ [])
-unsplit_or_taken h1 plain fits = grind (arith, common_steps, is_name, is_named_or_not)
+  pub found_words : AllPlain texts → (p : Text × List Row) → subcommand_of app texts ≡ Some p → words_in p.1 ≡ rest
+  found_words plain p found =
+      let here = rw (is, are) at found in
+      let others = leaf_words rest (subst AllPlain are plain).1 in
+      grind (arith, common_steps, leaf_rules, subcommand_is, others)
 
--- what a parse that succeeds found
-taken_by : (b : Bool) (w : Text) (rest : List Text) → is_name w ≡ b → AllPlain (w ∷ rest) → fault_of program (w ∷ rest) ≡ []
-    → (p : Text × List Row) → subcommand_of program (w ∷ rest) ≡ Some p → split_of (w ∷ rest) ≡ Some (p.0, words_in p.1)
-taken_by false w rest stray plain none p found = absurd (stray_refused w rest stray plain.0 none)
-taken_by true w rest named plain none p found = grind (arith, common_steps, leaf_rules, leaf_words, subcommand_is)
-
-pub taken_split : (ws : List Text) → AllPlain ws → fault_of program ws ≡ []
-    → (p : Text × List Row) → subcommand_of program ws ≡ Some p → split_of ws ≡ Some (p.0, words_in p.1)
-taken_split [] plain none p found = let bad : None ≡ Some p = found in cc
-taken_split (w ∷ rest) plain none p found = taken_by (is_name w) w rest refl plain none p found
-
-not_named : (b : Bool) (w : Text) (rest : List Text) → is_name w ≡ b → subcommand_of program (w ∷ rest) ≡ None → split_of (w ∷ rest) ≡ None
-not_named true w rest named none = grind (arith, common_steps, subcommand_is)
-not_named false w rest stray none = ap (λ b. cond b (Some (w, rest)) None) stray
-
-pub unsplit : (ws : List Text) → subcommand_of program ws ≡ None → split_of ws ≡ None
-unsplit [] none = refl
-unsplit (w ∷ rest) none = not_named (is_name w) w rest refl none
+  pub one_found : subcommand_of app texts ≡ None → ⊥
+  one_found none = let here = rw (is, are) at none in grind (arith, common_steps, subcommand_is)
 
 -- ---- what the calls of the parser give
 
 pub only_memory : (ks : Kinds) (e : Error) → ks ≡ [] → HasKind ks e → kind_of e ≡ OutOfMemory
 only_memory h1 e none h2 = grind (arith, common_steps)
-
-pub fault_as : (a : App) (ws : List Text) → a ≡ program → fault_of program ws ≡ [] → fault_of a ws ≡ []
-fault_as a ws is none = ap (λ (x : App). fault_of x ws) is ∙ none
 
 pub both_halves : {B X Y : Type 0} (f : B → X) (g : B → Y) (o : Option B) (x : X) (y : Y) → Some x ≡ option_map f o
     → Some y ≡ option_map (λ (p : X × Y). p.1) (option_map {U = X × Y} (λ b. (f b, g b)) o)

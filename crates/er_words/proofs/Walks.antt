@@ -1,12 +1,12 @@
 -- What the parser makes of words of which none begins with a hyphen.
-use Rattle.std.proofs.Common.{arith, ◌≡◌, ℕ, Bool, true, false, List, [], ◌∷◌, ◌++◌, map, codes, Option, Some, None, refl, sym, ap, ◌∙◌}
-use Rattle.std.proofs.{Common.{append_assoc, append-nil, option_map, find}, lemmas.Grind.common_steps, lemmas.Slice.Eq.bytes_eq-Decides}
+use Rattle.std.proofs.Common.{arith, ◌≡◌, ℕ, true, false, List, [], ◌∷◌, ◌++◌, codes, Option, Some, None, refl, sym, ap, ◌∙◌}
+use Rattle.std.proofs.{Common.{append_assoc, append-nil}, lemmas.Grind.common_steps, lemmas.Slice.Eq.bytes_eq-Decides}
 use Rattle.std.specs.{List.{fold, list_any}, Str.bytes_eq}
-use Rattle.clap.specs.{Words.{Rule, Shape, Text, built}, Lexer.{strip_byte, long_of, short_of}, Simple.{filled, with_index, label_of}}
-use Rattle.clap.specs.{Simple.{subcommand_of, entered, rows_at}, Walk.{Held, Names, Step, Waiting, Walk, idle, positional, value}}
+use Rattle.clap.specs.{Words.{Rule, Shape, Text, built}, Lexer.{strip_byte, long_of, short_of}, Simple.{filled, with_index}}
+use Rattle.clap.specs.{Simple.{subcommand_of, entered}, Walk.{Held, Names, Step, Waiting, Walk, idle, positional, value}}
 use Rattle.clap.specs.Walk.{subcommand, walked, walk_from, nothing_held, word_met, subcommand_met, plain_word, after_step, finished}
-use Rattle.clap.specs.{Walk.{rows_after, subcommand_or_other, answers_to}, Faults.is_simple_and_free}
-use Rattle.er_words.specs.{Line.is_option, Words.{names, leaf, program, words_rule, words_in}}
+use Rattle.clap.specs.{Walk.{rows_after, subcommand_or_other}, Faults.is_simple_and_free}
+use Rattle.er_words.specs.{Line.is_option, Words.{leaf, program, words_rule, words_in}}
 
 -- ---- a word with no hyphen in front
 
@@ -74,18 +74,6 @@ leaf_words (w ∷ rest) plain = ap (λ (s : Walk). words_in (finished leaf_rules
 
 -- ---- the subcommand
 
--- the item of a name, in a list with one for each name
-module _ {S : Type 0} (f : Text → S) (label : S → Text × List Text) (is : (n : Text) → label (f n) ≡ (n, [])) where
-  pub find_named : (ns : List Text) (w : Text) → list_any (λ n. bytes_eq n w) ns ≡ true
-      → find (λ s. answers_to w (label s)) (map f ns) ≡ Some (f w)
-  find_named [] w h = cc
-  find_named (n ∷ ns) w h = grind (arith, common_steps, find_named ns w, bytes_eq-Decides)
-
-  pub find_none : (ns : List Text) (w : Text) → list_any (λ n. bytes_eq n w) ns ≡ false
-      → find (λ s. answers_to w (label s)) (map f ns) ≡ None
-  find_none [] w h = refl
-  find_none (n ∷ ns) w h = grind (arith, common_steps, find_none ns w)
-
 -- what the parser is told, once it is built
 abbrev pub leaf_built : Text → Shape
 leaf_built n = record (leaf n) {
@@ -99,46 +87,41 @@ leaf_built n = record (leaf n) {
 abbrev pub label_built : Text → Text × List Text
 label_built n = (n, [])
 
-pub simple_and_free : is_simple_and_free program ≡ true
-simple_and_free = refl
+pub simple_and_free : (name : Text) → is_simple_and_free (program name) ≡ true
+simple_and_free name = refl
 
 -- ---- the walk of the program's own words
 
-abbrev pub is_name : Text → Bool
-is_name w = list_any (λ n. bytes_eq n w) names
+pub same_name : (name : Text) → bytes_eq name name ≡ true
+same_name name = grind (arith, common_steps, bytes_eq-Decides)
 
-abbrev pub labels : Names
-labels = map label_built names
+module _ (name : Text) where
+  abbrev pub labels : Names
+  labels = label_built name ∷ []
 
-abbrev pub stopped_at : Text → List Text → Walk
-stopped_at w rest = record (walk_from nothing_held) { stopped = Some (w, rest) }
+  abbrev pub stopped_at : List Text → Walk
+  stopped_at rest = record (walk_from nothing_held) { stopped = Some (name, rest) }
 
-pub met_name : (w : Text) → is_name w ≡ true → subcommand_met labels idle w ≡ Some w
-met_name w named = ap (option_map (λ s. s.0)) (find_named label_built (λ s. s) (λ n. refl) names w named)
+  pub met_name : subcommand_met labels idle name ≡ Some name
+  met_name = grind (arith, common_steps, same_name)
 
-pub met_none : (w : Text) → is_name w ≡ false → subcommand_met labels idle w ≡ None
-met_none w stray = ap (option_map (λ s. s.0)) (find_none label_built (λ s. s) (λ n. refl) names w stray)
+  pub name_word : word_met [] labels false idle 1 name nothing_held ≡ (nothing_held, subcommand name)
+  name_word = ap (λ (o : Option Text). subcommand_or_other [] o idle 1 name nothing_held) met_name
 
-pub name_word : (w : Text) → is_name w ≡ true → word_met [] labels false idle 1 w nothing_held ≡ (nothing_held, subcommand w)
-name_word w named = ap (λ (o : Option Text). subcommand_or_other [] o idle 1 w nothing_held) (met_name w named)
+  pub name_walked : walked [] labels (walk_from nothing_held) name ≡ stopped_at []
+  unfolding walked
+  name_walked = ap (λ (m : Held × Step). after_step [] name (walk_from nothing_held) m.0 m.1) name_word
 
-pub name_walked : (w : Text) → is_name w ≡ true → walked [] labels (walk_from nothing_held) w ≡ stopped_at w []
-unfolding walked
-name_walked w named = ap (λ (m : Held × Step). after_step [] w (walk_from nothing_held) m.0 m.1) (name_word w named)
+  rest_walked : (acc rest : List Text) → fold (walked [] labels) (stopped_at acc) rest ≡ stopped_at (acc ++ rest)
+  unfolding walked
+  rest_walked acc [] = ap stopped_at (sym (append-nil acc))
+  rest_walked acc (x ∷ rest) = rest_walked (acc ++ x ∷ []) rest ∙ ap stopped_at (append_assoc acc (x ∷ []) rest)
 
-rest_walked : (w : Text) (acc rest : List Text) → fold (walked [] labels) (stopped_at w acc) rest ≡ stopped_at w (acc ++ rest)
-unfolding walked
-rest_walked w acc [] = ap (stopped_at w) (sym (append-nil acc))
-rest_walked w acc (x ∷ rest) = rest_walked w (acc ++ x ∷ []) rest ∙ ap (stopped_at w) (append_assoc acc (x ∷ []) rest)
+  pub whole_walk : (rest : List Text) → fold (walked [] labels) (walk_from nothing_held) (name ∷ rest) ≡ stopped_at rest
+  whole_walk rest = ap (λ (s : Walk). fold (walked [] labels) s rest) name_walked ∙ rest_walked [] rest
 
-pub whole_walk : (w : Text) (rest : List Text) → is_name w ≡ true
-    → fold (walked [] labels) (walk_from nothing_held) (w ∷ rest) ≡ stopped_at w rest
-whole_walk w rest named = ap (λ (s : Walk). fold (walked [] labels) s rest) (name_walked w named) ∙ rest_walked w [] rest
+  pub entered_is : (rest : List Text) → entered (built (program name)) (Some (name, rest)) ≡ Some (name, rows_after leaf_rules [] rest)
+  entered_is rest = grind (arith, common_steps, same_name)
 
-pub entered_is : (w : Text) (rest : List Text) → is_name w ≡ true
-    → entered (built program) (Some (w, rest)) ≡ Some (w, rows_after leaf_rules [] rest)
-entered_is w rest named = ap (option_map (λ s. rows_at s rest)) (find_named leaf_built label_of (λ n. refl) names w named)
-
-pub subcommand_is : (w : Text) (rest : List Text) → is_name w ≡ true
-    → subcommand_of program (w ∷ rest) ≡ Some (w, rows_after leaf_rules [] rest)
-subcommand_is w rest named = ap (λ (s : Walk). entered (built program) s.stopped) (whole_walk w rest named) ∙ entered_is w rest named
+  pub subcommand_is : (rest : List Text) → subcommand_of (program name) (name ∷ rest) ≡ Some (name, rows_after leaf_rules [] rest)
+  subcommand_is rest = ap (λ (s : Walk). entered (built (program name)) s.stopped) (whole_walk rest) ∙ entered_is rest

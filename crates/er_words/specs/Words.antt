@@ -1,6 +1,6 @@
 -- How the parser of words splits them.
-use Rattle.std.specs.Prelude.{true, if◌then◌else◌, List, [], ◌∷◌, map, Option, Some, None, unwrap_or, codes}
-use Rattle.std.specs.List.{fold, list_any}
+use Rattle.std.specs.Prelude.{Bool, true, if◌then◌else◌, List, [], ◌∷◌, map, Option, Some, None, unwrap_or, codes}
+use Rattle.std.specs.List.{list_any}
 use Rattle.std.specs.Str.{bytes_eq}
 use Rattle.clap.specs.Walk.{all_of}
 use Rattle.clap.specs.Words.{App, Row, Rule, Shape, Text, new_app, new_rule, with_rule, with_subcommand}
@@ -10,10 +10,14 @@ use Rattle.er_words.specs.Line.{subcommands}
 abbrev pub names : List Text
 names = map (λ it. it.0) subcommands
 
+-- the word names a subcommand
+abbrev pub is_subcommand : Text → Bool
+is_subcommand word = list_any (λ name. bytes_eq name word) names
+
 -- the subcommand's name and the words after it, where there is one of this name
 abbrev pub split_of : List Text → Option (Text × List Text)
 split_of [] = None
-split_of (name ∷ words) = if list_any (λ known. bytes_eq known name) names then Some (name, words) else None
+split_of (name ∷ words) = if is_subcommand name then Some (name, words) else None
 
 -- any number of words
 abbrev pub words_rule : Rule
@@ -28,12 +32,9 @@ bare = record (new_app (codes "event_reporter")) {
   top = record (new_app (codes "event_reporter")).top { no_binary_name = true; disable_help_flag = true; disable_help_subcommand = true };
 }
 
-abbrev pub with_leaves : List Text → App
-with_leaves texts = fold (λ app name. with_subcommand app (leaf name)) bare texts
-
--- the program with its subcommands
-abbrev pub program : App
-program = with_leaves names
+-- the program, as the parser is told of it, with this one subcommand
+abbrev pub program : Text → App
+program name = with_subcommand bare (leaf name)
 
 -- the words that the parser found behind a subcommand's name
 abbrev pub words_in : List Row → List Text

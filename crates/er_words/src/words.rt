@@ -1,8 +1,8 @@
 ghost use Rattle.std.specs.Prelude.{◌≡◌, ◌≢◌, Err, IsFalse, IfOk, None, Some, map, string_bytes};
 ghost use Rattle.std.specs.List.{list_any};
-ghost use Rattle.clap.specs.Words.{app_of, found_of, kind_of, rows_of, with_subcommand};
+ghost use Rattle.clap.specs.Words.{app_of, found_of, kind_of, rows_of};
 ghost use Rattle.er_words.specs.Line.{is_option};
-ghost use Rattle.er_words.specs.Words.{leaf, split_of, with_leaves, words_in};
+ghost use Rattle.er_words.specs.Words.{is_subcommand, program, split_of, words_in};
 
 use crate::line::LineFault;
 use clap::error::ErrorKind;
@@ -43,32 +43,25 @@ pub fn has_option(words: &[String]) -> bool
     words.iter().any(|word| is_option(word.as_str()))
 }
 
-/// Has a subcommand take any number of words, which are counted and read elsewhere.
-fn with_leaf<'a>(
-    alloc: Global,
-    command: Command<'a>,
-    name: &'a str,
-) -> Result<Command<'a>, AllocError>
-    ensures { IfOk result (λ made. app_of made
-        ≡ with_subcommand (app_of command.entry) (leaf name.entry.now)) }
+/// Whether a word names a subcommand.
+fn is_subcommand(word: &str) -> bool
+    ensures { result ≡ is_subcommand word.now }
+{
+    SUBCOMMANDS.contains(&word)
+}
+
+/// A parser that knows this subcommand alone, since one of all sixteen takes most of a line's time. It takes any number of words, which are
+/// counted and read elsewhere.
+fn command<'a>(alloc: Global, name: &'a str) -> Result<Command<'a>, AllocError>
+    ensures { IfOk result (λ made. app_of made ≡ program name.entry.now) }
 {
     let words = Arg::new(alloc, "words").num_args(0..);
     let leaf = Command::new(alloc, name).arg(words)?;
-    command.subcommand(leaf)
-}
-
-fn command<'a>(alloc: Global, names: &[&'a str]) -> Result<Command<'a>, AllocError>
-    ensures { IfOk result (λ made. app_of made
-        ≡ with_leaves (map (λ name. name.now) names.entry.now)) }
-{
-    let mut command = Command::new(alloc, "event_reporter")
+    Command::new(alloc, "event_reporter")
         .no_binary_name(true)
         .disable_help_flag(true)
-        .disable_help_subcommand(true);
-    for name in names {
-        command = with_leaf(alloc, command, name)?;
-    }
-    Ok(command)
+        .disable_help_subcommand(true)
+        .subcommand(leaf)
 }
 
 fn fault_of(error: Error) -> LineFault
@@ -102,15 +95,19 @@ pub fn split_words<'a>(
     ensures usage { result ≡ Err LineFault.Usage
         → split_of (map string_bytes words.entry.now) ≡ None }
 {
-    let matches = match command(alloc, &SUBCOMMANDS)?.try_get_matches_from(words) {
+    let Some(first) = words.first() else {
+        return Err(LineFault::Usage);
+    };
+    let name = first.as_str();
+    if !is_subcommand(name) {
+        return Err(LineFault::Usage);
+    }
+    let matches = match command(alloc, name)?.try_get_matches_from(words) {
         Ok(matches) => matches,
         Err(error) => return Err(fault_of(error)),
     };
     match matches.subcommand() {
-        Some((name, inner)) => {
-            let rest = words_of(alloc, inner)?;
-            Ok((name, rest))
-        }
+        Some((_name, inner)) => Ok((name, words_of(alloc, inner)?)),
         None => Err(LineFault::Usage),
     }
 }
