@@ -5,7 +5,8 @@ use Rattle.er_store.proofs.Prelude.{List, [], ◌∷◌, ◌++◌, map, filter, 
 use Rattle.er_store.proofs.Prelude.{sym, ap, ap₂, subst, ◌∙◌, arith, append-nil, true≢false, AllByRecursion, nat_tests, map-append}
 use Rattle.er_store.proofs.Prelude.{filter-append, All-from_recursion, all-append, all-map, Match, Round, TallyRow, Totals, EventValue}
 use Rattle.er_store.proofs.Prelude.{is_bye, numbered_from, bye_score, numbers, IsSoundButForSeeds, meetings, totals, MeetingRow}
-use Rattle.er_store.proofs.Prelude.{meeting_rows, is_outside, counted_rows, sides_in, sides_of, filter_all, ◌&&◌, flat_map, Contains, Greater}
+use Rattle.er_store.proofs.Prelude.{meeting_rows, is_outside, counted_rows, sides_in, sides_of, filter_all, ◌&&◌, flat_map, Contains}
+use Rattle.er_store.proofs.Prelude.{Greater}
 use Rattle.er_store.proofs.Prelude.{list_all, Int, Binary, Database, is_true, Row, column, overlay, or_nulls, IsAnswer, Output, output}
 use Rattle.er_store.proofs.Prelude.{State, Env, holds, Trees, IsAscending, Compare, Gt, value_cmp-Int, filter-map, IsPermutation-filter}
 use Rattle.er_store.proofs.Prelude.{PairingTable, TallyTable, Player, pairing_row, round_rows, pairing_rows_from, pairing_rows, tally_row}

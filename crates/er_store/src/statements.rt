@@ -70,8 +70,8 @@ pub fn insert_event<S: Alter>(
     ensures same_reference { tx.new.conn.ghost_name ≡ tx.old.conn.ghost_name }
     ensures puts { HasCleanDisk (state S.Store tx.new.conn.now)
         → HasTables (state S.Store tx.old.conn.now).now.schema
-        → OnOk result (Puts event_tree (stored_event event.now serial) (state S.Store tx.old.conn.now)
-        (state S.Store tx.new.conn.now)) }
+        → OnOk result (Puts event_tree (stored_event event.now serial)
+        (state S.Store tx.old.conn.now) (state S.Store tx.new.conn.now)) }
     ensures inside { HasCleanDisk (state S.Store tx.new.conn.now)
         → OnOk result (IsTrue (state S.Store tx.new.conn.now).in_transaction) }
     ensures stays { Stays (state S.Store tx.old.conn.now) (state S.Store tx.new.conn.now) }

@@ -1,7 +1,8 @@
 -- When the parser refuses words of which none begins with a hyphen: never, where the first names a subcommand.
 use Rattle.std.proofs.{lemmas.Grind.common_steps, Common.{◌≡◌, ◌<◌, ◌≤◌, Bool, true, false, List, [], ◌∷◌, ◌++◌, length, Option, Some}}
-use Rattle.std.proofs.{Common.{None, is_some, option_map, refl, sym, subst, map, slice_get, ap, ap₂, ◌∙◌, cond, arith, ◌^◌}, lemmas.Option.same_Some}
-use Rattle.clap.specs.{declared.error.ErrorKind.TheVariants.{OutOfMemory}, Words.{App, Row, Shape}}
+use Rattle.std.proofs.Common.{None, is_some, option_map, refl, sym, subst, map, slice_get, ap, ap₂, ◌∙◌, cond, arith, ◌^◌}
+use Rattle.std.proofs.lemmas.Option.{same_Some}
+use Rattle.clap.specs.{declared.error.ErrorKind.TheVariants.OutOfMemory, Words.{App, Row, Shape}}
 use Rattle.clap.specs.{Words.{Text, built}, Lexer.usize_max, Simple.{entered, subcommand_of}, Walk.{Held, Step, Waiting, Walk, value}}
 use Rattle.clap.specs.{Walk.{walk_from, nothing_held, settled, finished}, Values.kind_of, declared.Error.Error, Kinds.HasKind}
 use Rattle.clap.specs.{Kinds.{Kinds, or_else}, Faults.{fault_of, walk_fault, turn_fault, other_fault, step_fault, level_fault}}
