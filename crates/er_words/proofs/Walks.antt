@@ -2,7 +2,7 @@
 use Rattle.std.proofs.Common.{arith, ◌≡◌, ℕ, true, false, List, [], ◌∷◌, ◌++◌, codes, Option, Some, None, refl, sym, ap, ◌∙◌}
 use Rattle.std.proofs.{Common.{append_assoc, append-nil}, lemmas.Grind.common_steps, lemmas.Slice.Eq.bytes_eq-Decides}
 use Rattle.std.specs.{List.{fold, list_any}, Str.bytes_eq}
-use Rattle.clap.specs.{Words.{Rule, Shape, Text, built}, Lexer.{strip_byte, long_of, short_of}, Simple.{filled, with_index}}
+use Rattle.clap.specs.{Words.{Rule, Shape, Text, built}, Simple.{filled, with_index}}
 use Rattle.clap.specs.{Simple.{subcommand_of, entered}, Walk.{Held, Names, Step, Waiting, Walk, idle, positional, value}}
 use Rattle.clap.specs.Walk.{subcommand, walked, walk_from, nothing_held, word_met, subcommand_met, plain_word, after_step, finished}
 use Rattle.clap.specs.{Walk.{rows_after, subcommand_or_other}, Faults.is_simple_and_free}
@@ -17,18 +17,6 @@ AllPlain (w ∷ rest) = (is_option w ≡ false) × AllPlain rest
 pub AllPlain-none : (ws : List Text) → list_any is_option ws ≡ false → AllPlain ws
 AllPlain-none [] none = tt
 AllPlain-none (w ∷ rest) none = grind (arith, common_steps, AllPlain-none rest)
-
-pub no_hyphen : (w : Text) → is_option w ≡ false → strip_byte 45 w ≡ None
-no_hyphen h1 plain = grind (arith, common_steps)
-
-pub no_long : (w : Text) → is_option w ≡ false → long_of w ≡ None
-no_long w plain = rw (no_hyphen w plain)
-
-pub no_short : (w : Text) → is_option w ≡ false → short_of w ≡ None
-no_short w plain = rw (no_hyphen w plain)
-
-pub no_dashes : (w : Text) → is_option w ≡ false → bytes_eq w (45 ∷ 45 ∷ []) ≡ false
-no_dashes h1 plain = grind (arith, common_steps)
 
 -- the word goes to a positional
 pub plain_met : (c : List Rule) (ns : Names) (waiting : Waiting) (position : ℕ) (w : Text) (h : Held) → is_option w ≡ false

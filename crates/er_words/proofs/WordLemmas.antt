@@ -7,7 +7,7 @@ use Rattle.std.proofs.lemmas.Str.Parse.{parse_digits}
 use Rattle.std.specs.{Char.is_ascii_digit, List.{list_all, list_any}, Str.{IsUtf8, is_utf8, bytes_eq}, Str.Parse.digits_value}
 use Rattle.std.specs.{Str.Parse.ParsesUnsigned, Result.{IsErrAnd, result_ok}}
 use Rattle.er_words.specs.{declared.line.Line.Line, declared.line.LineFault.LineFault, declared.line.LineFault.TheVariants.{Usage, Memory}}
-use Rattle.er_words.specs.{Values.number_below, Line.{Subcommand, subcommands, line_by, named_line, names_one, is_option, line_of, Reads}}
+use Rattle.er_words.specs.{Values.number_below, Line.{Subcommand, subcommands, line_by, named_line, is_option, line_of, Reads}}
 use Rattle.er_words.specs.{Words.{names, split_of}, Fields.{fields_of, with_file, script_line}}
 
 pub list_any-map : {X Y : Type 0} (p : Y → Bool) (f : X → Y) (xs : List X) → list_any p (map f xs) ≡ list_any (λ x. p (f x)) xs
@@ -72,7 +72,3 @@ pub Reads-unsplit : (words : List (List ℕ)) (r : Result Line LineFault) (why :
 Reads-unsplit words (Ok line) why plain unsplit failed = absurd failed
 Reads-unsplit words (Err Usage) why plain unsplit failed = grind (arith, common_steps, unsplit_by)
 Reads-unsplit words (Err Memory) why plain unsplit failed = tt
-
-pub names_one-first : {S : Type 0} (text : S → List ℕ) (words : List S) (item : S) (name : List ℕ) → item ≡ get_or words 0 item
-    → name ≡ text item → names_one (name ∷ []) ≡ false → names_one (map text words) ≡ false
-names_one-first text h1 item name is named none = grind (arith, common_steps)
