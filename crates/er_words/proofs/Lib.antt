@@ -1,6 +1,4 @@
 mod WordKinds
 mod Refusals
-mod Seeds
 mod Walks
 mod WordLemmas
-mod Examples

@@ -7,7 +7,8 @@ use Rattle.std.specs.List.{list_any}
 use Rattle.er_event.specs.declared.scores.Games.{Games}
 use Rattle.er_words.specs.{declared.line.Line.Line, declared.usage.Kind.Kind, declared.usage.Kind.TheVariants.{Text, SmallNumber, Number}}
 use Rattle.er_words.specs.{declared.usage.UsageFault.UsageFault, Line.{is_option, result_of, correct_of, playoff_of}, Usage.HasFault}
-use Rattle.er_words.specs.{Usage.{IsOf, Takes, are_of_kinds, is_of_kind}, Values.{all_three, games_in, report_of}}
+use Rattle.er_values.specs.Values.{all_three, games_in, report_of}
+use Rattle.er_words.specs.Usage.{IsOf, Takes, are_of_kinds, is_of_kind}
 use Rattle.er_words.proofs.WordLemmas.{list_any-map}
 
 and_false : (b : Bool) → (b && false) ≡ false

@@ -1,27 +1,15 @@
 -- Lemmas on words, and on the lines that they are.
-use Rattle.std.proofs.{lemmas.Grind.common_steps, Common.{◌≡◌, ℕ, ◌-◌, ◌^◌, ◌≤◌, Bool, true, false, ◌||◌, cond, List, [], ◌∷◌, length, map}}
+use Rattle.std.proofs.{lemmas.Grind.common_steps, Common.{◌≡◌, ℕ, ◌-◌, ◌≤◌, Bool, true, false, ◌||◌, cond, List, [], ◌∷◌, length, map}}
 use Rattle.std.proofs.Common.{take, drop, get_or, codes, Bor, Option, Some, None, Result, Ok, Err, refl, ap, arith}
-use Rattle.std.proofs.{lemmas.Bool.false_from_ne_true, lemmas.Bool.Decides.nat_tests, lemmas.Slice.Eq.bytes_eq-Decides}
-use Rattle.std.proofs.{lemmas.Str.{is_utf8-from_IsUtf8, IsUtf8-from_is_utf8}, lemmas.Str.Parse.{IsNumeralModel, numerals_by_value}}
-use Rattle.std.proofs.lemmas.Str.Parse.{parse_digits}
-use Rattle.std.specs.{Char.is_ascii_digit, List.{list_all, list_any}, Str.{IsUtf8, is_utf8, bytes_eq}, Str.Parse.digits_value}
-use Rattle.std.specs.{Str.Parse.ParsesUnsigned, Result.{IsErrAnd, result_ok}}
+use Rattle.std.proofs.lemmas.{Bool.false_from_ne_true, Slice.Eq.bytes_eq-Decides, Str.{is_utf8-from_IsUtf8, IsUtf8-from_is_utf8}}
+use Rattle.std.specs.{List.list_any, Str.{IsUtf8, is_utf8, bytes_eq}, Result.IsErrAnd}
 use Rattle.er_words.specs.{declared.line.Line.Line, declared.line.LineFault.LineFault, declared.line.LineFault.TheVariants.{Usage, Memory}}
-use Rattle.er_words.specs.{Values.number_below, Line.{Subcommand, subcommands, line_by, named_line, is_option, line_of, Reads}}
-use Rattle.er_words.specs.{Words.{names, split_of}, Fields.{fields_of, with_file, script_line}}
+use Rattle.er_words.specs.{Line.{Subcommand, subcommands, line_by, named_line, is_option, line_of, Reads}, Words.{names, split_of}}
+use Rattle.er_words.specs.Fields.{fields_of, with_file, script_line}
 
 pub list_any-map : {X Y : Type 0} (p : Y → Bool) (f : X → Y) (xs : List X) → list_any p (map f xs) ≡ list_any (λ x. p (f x)) xs
 list_any-map p f [] = refl
 list_any-map p f (x ∷ xs) = ap (λ rest. p (f x) || rest) (list_any-map p f xs)
-
-numerals : IsNumeralModel (λ word. list_all is_ascii_digit word ≡ true) (digits_value 10)
-numerals = grind (arith, common_steps, numerals_by_value)
-
-module _ (bits limit : ℕ) (is_limit : 2 ^ bits ≡ limit) (word : List ℕ) (all : list_all is_ascii_digit word ≡ true) where
-  -- what `parse` gives of digits
-  pub number_of-parsed : {E : Type 0} (r : Result ℕ E) → ParsesUnsigned bits 10 word r → result_ok r ≡ number_below limit word
-  number_of-parsed {E} (Ok n) parsed = grind (arith, common_steps)
-  number_of-parsed {E} (Err e) parsed = grind (arith, common_steps, nat_tests, numerals, parse_digits)
 
 -- ---- a line of a script
 

@@ -8,7 +8,8 @@ use Rattle.er_words.specs.declared.line.LineFault.TheVariants.{Usage, Memory}
 use Rattle.er_words.specs.declared.line.Line.{Line}
 use Rattle.er_words.specs.declared.line.Line.TheVariants.{Init, Enrol, Import, Start, Pair, Result as Report, Correct, Drop, Cut, Playoff}
 use Rattle.er_words.specs.declared.line.Line.TheVariants.{Standings, Players, Slips, Bracket, Export, Serve}
-use Rattle.er_words.specs.Values.{number_below, count_of, kind_of, seed_of, both, report_of, slot_report_of}
+use Rattle.er_values.specs.Values.{number_below, count_of, seed_of, both, report_of, slot_report_of}
+use Rattle.er_words.specs.Action.{kind_of}
 
 -- the FILE that a lone word is
 abbrev pub lone_file : List (List ℕ) → Option (List ℕ)

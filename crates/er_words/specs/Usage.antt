@@ -8,7 +8,8 @@ use Rattle.er_words.specs.declared.usage.UsageFault.TheVariants.{UnknownSubcomma
 use Rattle.er_words.specs.declared.usage.UsageFault.TheVariants.{BadCount, BadKind}
 use Rattle.er_words.specs.declared.line.Line.{Line}
 use Rattle.er_words.specs.Line.{is_option, names_one}
-use Rattle.er_words.specs.Values.{number_below, count_of, kind_of, seed_of}
+use Rattle.er_values.specs.Values.{number_below, count_of, seed_of}
+use Rattle.er_words.specs.Action.{kind_of}
 
 -- the fault lies in this word, at this place
 abbrev pub IsOf : List ℕ → ℕ → UsageFault → Type 0

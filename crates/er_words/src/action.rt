@@ -1,3 +1,6 @@
+ghost use Rattle.std.specs.Prelude.{◌≡◌};
+ghost use Rattle.er_words.specs.Action.{kind_of};
+
 use crate::paths::FilePath;
 use er_event::{Command, Items};
 
@@ -51,6 +54,17 @@ pub enum ExportKind {
     Players,
     /// The Swiss matches with their scores.
     Results,
+}
+
+/// The kind of list that a word names.
+pub fn kind_of(word: &str) -> Option<ExportKind>
+    ensures { result ≡ kind_of word.now }
+{
+    match word {
+        "players" => Some(ExportKind::Players),
+        "results" => Some(ExportKind::Results),
+        _ => None,
+    }
 }
 
 impl From<Task> for Action {

@@ -6,7 +6,6 @@ mod fields;
 mod line;
 mod paths;
 mod usage;
-mod values;
 mod words;
 
 pub use action::{Action, ExportKind, Request, Task};

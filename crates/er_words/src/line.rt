@@ -1,13 +1,13 @@
 ghost use Rattle.std.specs.Prelude.{◌≡◌, map, string_bytes};
 ghost use Rattle.er_words.specs.Line.{Reads, lone_file, init_of, enrol_of, import_of, start_of, pair_of, result_of, correct_of, drop_of, cut_of, playoff_of, standings_of, players_of, slips_of, bracket_of, export_of, serve_of, subcommands, line_by, line_of};
 
-use crate::action::{Action, ExportKind, Request, Task};
+use crate::action::{Action, ExportKind, Request, Task, kind_of};
 use crate::paths::FilePath;
-use crate::values::{
-    count_of, kind_of, name_of, number_of, report_of, seed_of, slot_report_of, small_number_of,
-};
 use crate::words::{has_option, split_words};
 use er_event::{Command, Games, Items};
+use er_values::{
+    count_of, name_of, number_of, report_of, seed_of, slot_report_of, small_number_of,
+};
 use std::alloc::{AllocError, Global};
 
 /// What a command line asks for. Each has the file of its event; a name may be unlawful, and a number one that the event has not.

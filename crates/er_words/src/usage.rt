@@ -3,8 +3,9 @@ ghost use Rattle.std.specs.List.{list_any};
 ghost use Rattle.er_words.specs.Line.{is_option, line_by, line_of, names_one, subcommands};
 ghost use Rattle.er_words.specs.Usage.{HasFault, IsOf, Takes, are_of_kinds, is_of_kind};
 
-use crate::values::{count_of, kind_of, number_of, seed_of, small_number_of};
+use crate::action::kind_of;
 use crate::words::is_option;
+use er_values::{count_of, number_of, seed_of, small_number_of};
 
 /// Which word keeps words from being a line. Places count from 0, the place of the subcommand's name.
 #[derive(Clone, Copy, Debug, PartialEq, Eq)]

@@ -1,6 +1,6 @@
 use Rattle.std.proofs.Common.{◌∙◌, sym, refl}
-use Rattle.er_words.proofs.WordLemmas.{number_of-parsed}
-use Rattle.er_words.proofs.values.large_number_of.Goals as goal
+use Rattle.er_values.proofs.Numbers.{number_of-parsed}
+use Rattle.er_values.proofs.values.large_number_of.Goals as goal
 
 pub returns-then-is_number : goal.returns-then-is_number
 returns-then-is_number c = c.ok.ensures.value ∙ number_of-parsed 32 4294967296 refl c.args.word.now

@@ -1,6 +1,6 @@
 use Rattle.std.proofs.Common.{◌∙◌, sym, refl}
-use Rattle.er_words.proofs.WordLemmas.{number_of-parsed}
-use Rattle.er_words.proofs.values.number_of.Goals as goal
+use Rattle.er_values.proofs.Numbers.{number_of-parsed}
+use Rattle.er_values.proofs.values.number_of.Goals as goal
 
 pub returns-then-is_number : goal.returns-then-is_number
 returns-then-is_number c = c.ok.ensures.value ∙ number_of-parsed 16 65536 refl c.args.word.now

@@ -5,7 +5,7 @@ use Rattle.std.proofs.lemmas.Bool.Decides.{nat_tests}
 use Rattle.std.specs.{Char.{is_ascii_hexdigit, digit_value}, List.list_all, Result.result_ok}
 use Rattle.hex.specs.{Hex.{decode_pairs, decode_sized, hex_digit_value, digit_or_error, ◌>>=◌}, declared.error.FromHexError.FromHexError}
 use Rattle.hex.proofs.{Pairs.decode_sized-pairs, HexLemmas.{decode_sized-odd, decode_sized-other}}
-use Rattle.er_words.specs.Values.{hex_bytes, seed_of}
+use Rattle.er_values.specs.Values.{hex_bytes, seed_of}
 
 -- a digit has its value in either reading
 hex_digit_value-is : (c : ℕ) → hex_digit_value c ≡ cond (is_ascii_hexdigit c) (Some (digit_value c)) None

@@ -1,9 +1,8 @@
 ghost use Rattle.std.specs.Prelude.{◌≡◌, IfOk, map};
 ghost use Rattle.std.specs.List.{list_all};
 ghost use Rattle.std.specs.Char.{is_ascii_digit};
-ghost use Rattle.er_words.specs.Values.{number_below, count_of, kind_of, seed_of, games_in, report_of, slot_report_of};
+ghost use Rattle.er_values.specs.Values.{number_below, count_of, seed_of, games_in, report_of, slot_report_of};
 
-use crate::action::ExportKind;
 use er_event::{Games, Items};
 use hex::FromHex;
 use std::alloc::{AllocError, Global};
@@ -58,17 +57,6 @@ pub fn count_of(word: &str) -> Option<u32>
         Some(count)
     } else {
         None
-    }
-}
-
-/// The kind of list that a word names.
-pub fn kind_of(word: &str) -> Option<ExportKind>
-    ensures { result ≡ kind_of word.now }
-{
-    match word {
-        "players" => Some(ExportKind::Players),
-        "results" => Some(ExportKind::Results),
-        _ => None,
     }
 }
 

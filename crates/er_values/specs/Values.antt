@@ -1,13 +1,10 @@
 -- The values that words are.
-use Rattle.std.specs.Prelude.{ℕ, ◌+◌, ◌*◌, ◌==◌, nat_lt, ◌&&◌, if◌then◌else◌, List, [], ◌∷◌, length, Option, Some, None, option_and_then}
-use Rattle.std.specs.Prelude.{option_map, codes}
+use Rattle.std.specs.Prelude.{ℕ, ◌+◌, ◌*◌, ◌==◌, nat_lt, ◌&&◌, if◌then◌else◌, List, [], ◌∷◌, length, Option, Some, None, option_map}
+use Rattle.std.specs.Prelude.{option_and_then}
 use Rattle.std.specs.List.{list_all}
 use Rattle.std.specs.Char.{is_ascii_digit, is_ascii_hexdigit, digit_value}
-use Rattle.std.specs.Str.{bytes_eq}
 use Rattle.std.specs.Str.Parse.{digits_value}
 use Rattle.er_event.specs.declared.scores.Games.{Games}
-use Rattle.er_words.specs.declared.action.ExportKind.{ExportKind}
-use Rattle.er_words.specs.declared.action.ExportKind.TheVariants.{Players, Results}
 
 -- the number below the limit that a word of digits is
 abbrev pub number_below : ℕ → List ℕ → Option ℕ
@@ -18,10 +15,6 @@ number_below limit word =
 -- the number of connections that a word is: from 1 to a million
 abbrev pub count_of : List ℕ → Option ℕ
 count_of word = option_and_then (λ count. if nat_lt 0 count then Some count else None) (number_below 1000001 word)
-
--- the kind of list that a word names
-abbrev pub kind_of : List ℕ → Option ExportKind
-kind_of word = if bytes_eq word (codes "players") then Some Players else (if bytes_eq word (codes "results") then Some Results else None)
 
 -- the bytes of hexadecimal digits, two for each. The first of the two counts sixteen.
 abbrev pub hex_bytes : List ℕ → List ℕ
