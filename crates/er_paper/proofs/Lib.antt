@@ -2,7 +2,6 @@ mod ColumnLemmas
 mod PairingLemmas
 mod StageLemmas
 mod Numerals
-mod SlipLemmas
 mod Rows
 mod Fields
 mod Lines

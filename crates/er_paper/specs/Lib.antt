@@ -1,11 +1,10 @@
 -- What er_paper promises: each text of an event, to the byte, and that what is exported reads back.
 --
--- Texts has the printed texts, whose columns are in Column. Slip is a slip as JSON, and the games of one that is handed
--- in. Tables are the players and the results as fields, Csv the records of a text, Reading what such a text is read as,
--- or its first bad row, and ReadBack that an export is read as what was written.
+-- Texts has the printed texts, whose columns are in Column. Tables are the players and the results as fields, Csv the
+-- records of a text, Reading what such a text is read as, or its first bad row, and ReadBack that an export is read as
+-- what was written. A slip as JSON stands in er_json.
 pub mod Column
 pub mod Texts
-pub mod Slip
 pub mod Csv
 pub mod Tables
 pub mod Reading

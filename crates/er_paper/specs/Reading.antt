@@ -17,7 +17,7 @@ use Rattle.er_paper.specs.declared.imports.Heading.{Heading}
 use Rattle.er_paper.specs.declared.imports.Heading.TheVariants.{Full, Names}
 use Rattle.er_paper.specs.declared.imports.ResultLine.{ResultLine}
 use Rattle.er_paper.specs.Csv.{HasRecords}
-use Rattle.er_paper.specs.Slip.{games_with}
+use Rattle.er_json.specs.Slip.{games_with}
 use Rattle.er_paper.specs.Tables.{players_heading, results_heading}
 
 -- ---- fields

@@ -7,7 +7,8 @@ use Rattle.sqlite.specs.{Table.Table, Effect.Database}
 use Rattle.er_event.specs.{declared.refusals.Refusal.Refusal, declared.refusals.Refusal.TheVariants.{Memory, NeedsReopen}}
 use Rattle.er_event.specs.{declared.commands.TheConstants.MAX_SERIAL, declared.scores.Games.Games, declared.slips.SlipRow.SlipRow}
 use Rattle.er_event.specs.Event.{EventValue}
-use Rattle.er_paper.specs.{Slip.slip_text, Texts.rows_text}
+use Rattle.er_json.specs.Slip.{slip_text}
+use Rattle.er_paper.specs.Texts.{rows_text}
 use Rattle.er_rank.specs.declared.rows.Row.{Row}
 use Rattle.er_store.specs.Standing.{IsOther, KeepsOthers}
 use Rattle.sqlite_trees.specs.declared.store.Store.{Ghosts}

@@ -6,7 +6,7 @@ use Rattle.er_event.specs.declared.refusals.Refusal.TheVariants.{NoSuchMatch}
 use Rattle.er_event.specs.declared.slips.SlipRow.{SlipRow}
 use Rattle.er_event.specs.Event.{EventValue}
 use Rattle.er_event.specs.Slip.{slip_of}
-use Rattle.er_paper.specs.Slip.{slip_text}
+use Rattle.er_json.specs.Slip.{slip_text}
 use Rattle.er_paper.specs.Texts.{IsStandingsText, pairings_text}
 use Rattle.er_desk.specs.Reply.{Reply, IsDue}
 use Rattle.er_slips.specs.declared.request.asked.Asked.{Asked}

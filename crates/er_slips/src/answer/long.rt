@@ -1,5 +1,5 @@
 ghost use Rattle.std.specs.Prelude.{◌≡◌, None, IfOk};
-ghost use Rattle.er_paper.specs.Slip.{slip_text};
+ghost use Rattle.er_json.specs.Slip.{slip_text};
 ghost use Rattle.er_paper.specs.Texts.{pairings_text, rows_text};
 ghost use Rattle.er_slips.specs.Answer.{answer_value, answer_of, slip_answer, text_answer};
 ghost use Rattle.er_slips.specs.Whole.{pairings_answer};

@@ -1,11 +1,11 @@
-ghost use Rattle.std.specs.Prelude.{◌≡◌, Err, IfOk, Some, None};
+ghost use Rattle.std.specs.Prelude.{◌≡◌, Err, IfOk, Some, None, option_map};
 ghost use Rattle.std.specs.String.{string_bytes};
 ghost use Rattle.serde_json.specs.Written.{compact_text};
-ghost use Rattle.serde_json.specs.View.{view};
-ghost use Rattle.er_paper.specs.Slip.{games_data, score_data, side_data, second_data, slip_with, slip_data, slip_text, entry_of, games_in, slip_games};
+ghost use Rattle.serde_json.specs.View.{view, members_view};
+ghost use Rattle.er_json.specs.Slip.{games_data, score_data, side_data, second_data, slip_with, slip_data, slip_text, entry_of, three_values, games_in, slip_games};
 
 use er_event::{Games, Name, PlayerNo, Score, SlipRow};
-use serde_json::{Value, json};
+use serde_json::{Map, Value, json};
 use std::alloc::{AllocError, Global};
 
 /// Why bytes are no slip.
@@ -88,10 +88,11 @@ fn byte_of(value: &Value) -> Option<u8>
     u8::try_from(value.as_u64()?).ok()
 }
 
-fn games_in(value: &Value) -> Option<Games>
-    ensures { result ≡ games_in (view value.now) }
+/// The values of a map that has just the keys `a`, `b` and `d`.
+fn three_values(map: &Map<String, Value>) -> Option<(&Value, &Value, &Value)>
+    ensures { option_map (λ it. (view it.0.now, view it.1.now, view it.2.now)) result
+        ≡ three_values (members_view map.now.entries) }
 {
-    let map = value.as_object()?;
     let mut members = map.iter();
     let (a, x) = members.next()?;
     let (b, y) = members.next()?;
@@ -99,10 +100,18 @@ fn games_in(value: &Value) -> Option<Games>
     if members.next().is_some() || a.as_str() != "a" || b.as_str() != "b" || d.as_str() != "d" {
         return None;
     }
-    let x = byte_of(x)?;
-    let y = byte_of(y)?;
-    let d = byte_of(z)?;
-    Some(Games { x, y, d })
+    Some((x, y, z))
+}
+
+fn games_in(value: &Value) -> Option<Games>
+    ensures { result ≡ games_in (view value.now) }
+{
+    let (x, y, d) = three_values(value.as_object()?)?;
+    Some(Games {
+        x: byte_of(x)?,
+        y: byte_of(y)?,
+        d: byte_of(d)?,
+    })
 }
 
 /// The games of a slip that is handed in: an object with exactly the keys `a`, `b` and `d`, each a whole number from 0 to 255.

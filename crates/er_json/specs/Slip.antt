@@ -55,15 +55,17 @@ abbrev pub games_with : Option ℕ → Option ℕ → Option ℕ → Option Game
 games_with (Some x) (Some y) (Some d) = Some (record { x = x; y = y; d = d })
 games_with _ _ _ = None
 
--- exactly the keys a, b and d: each once, in the order of their names
-abbrev pub games_in_members : Members → Option Games
-games_in_members (member a x (member b y (member d z no_members))) =
-    if bytes_eq a (codes "a") && (bytes_eq b (codes "b") && bytes_eq d (codes "d"))
-    then games_with (entry_of x) (entry_of y) (entry_of z) else None
-games_in_members _ = None
+-- the values of exactly the keys a, b and d: each once, in the order of their names
+abbrev pub three_values : Members → Option (Data × Data × Data)
+three_values (member a x (member b y (member d z no_members))) =
+    if bytes_eq a (codes "a") && (bytes_eq b (codes "b") && bytes_eq d (codes "d")) then Some (x, y, z) else None
+three_values _ = None
+
+abbrev pub games_in_values : Data × Data × Data → Option Games
+games_in_values it = games_with (entry_of it.0) (entry_of it.1) (entry_of it.2)
 
 abbrev pub games_in : Data → Option Games
-games_in d = option_and_then games_in_members (as_object d)
+games_in d = option_and_then games_in_values (option_and_then three_values (as_object d))
 
 -- The games of a text. Of a repeated key the last value stands.
 unfoldable pub slip_games : List ℕ → Option Games

@@ -1,6 +1,6 @@
 use Rattle.std.proofs.{Common.arith, lemmas.Grind.common_steps}
-use Rattle.er_paper.proofs.SlipLemmas.{games-read, games-unread, games-ok, games-bad}
-use Rattle.er_paper.proofs.slips.read_slip.Goals as goal
+use Rattle.er_json.proofs.SlipLemmas.{games-read, games-unread, games-ok, games-bad}
+use Rattle.er_json.proofs.slips.read_slip.Goals as goal
 
 pub returns-in-Ok-clause-ok : goal.returns-in-Ok-clause-ok
 returns-in-Ok-clause-ok c = grind (arith, common_steps, games-ok, games-read)

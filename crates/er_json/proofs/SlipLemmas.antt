@@ -4,7 +4,7 @@ use Rattle.std.proofs.lemmas.Str.{is_utf8-from_IsUtf8, IsUtf8-from_is_utf8}
 use Rattle.std.specs.{Option.ok_or, Str.{IsUtf8, is_utf8}}
 use Rattle.er_event.specs.declared.scores.Games.{Games}
 use Rattle.serde_json.specs.{Data.Data, Read.read}
-use Rattle.er_paper.specs.{declared.slips.SlipFault.SlipFault, declared.slips.SlipFault.TheVariants.Bad, Slip.{games_in, slip_games}}
+use Rattle.er_json.specs.{declared.slips.SlipFault.SlipFault, declared.slips.SlipFault.TheVariants.Bad, Slip.{games_in, slip_games}}
 
 pub games-read : (text : List ℕ) (d : Data) → IsUtf8 text → read text ≡ Some d → slip_games text ≡ games_in d
 unfolding slip_games

@@ -1,0 +1,2 @@
+mod SlipLemmas
+mod Examples
