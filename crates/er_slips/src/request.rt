@@ -24,7 +24,7 @@ use std::alloc::Global;
 use std::io::Read;
 
 /// What is left to do once the head is there.
-#[derive(Clone, Copy, Debug, PartialEq, Eq)]
+#[derive(Clone, Copy)]
 pub enum Next {
     Get(Asked),
     /// A body of so many bytes follows.

@@ -1,7 +1,7 @@
 use er_event::Games;
 
 /// What a request asks the desk for.
-#[derive(Clone, Copy, Debug, PartialEq, Eq)]
+#[derive(Clone, Copy)]
 pub enum Asked {
     Standings,
     Pairings { round: u8 },
@@ -11,7 +11,7 @@ pub enum Asked {
 }
 
 /// Why a request is answered before the desk is asked.
-#[derive(Clone, Copy, Debug, PartialEq, Eq)]
+#[derive(Clone, Copy)]
 pub enum Fault {
     BadRequest,
     NotFound,
@@ -21,7 +21,7 @@ pub enum Fault {
 }
 
 /// Why the desk is not asked.
-#[derive(Clone, Copy, Debug, PartialEq, Eq)]
+#[derive(Clone, Copy)]
 pub enum Unasked {
     Refused(Fault),
     Memory,

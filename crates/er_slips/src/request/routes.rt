@@ -7,7 +7,7 @@ use matchit::{InsertError, Router};
 use std::alloc::Global;
 
 /// What a path names.
-#[derive(Clone, Copy, Debug, PartialEq, Eq)]
+#[derive(Clone, Copy)]
 pub enum Route {
     Standings,
     Round { round: u8 },
