@@ -7,9 +7,10 @@ function are put into one copy of the crate, and one check says of each function
 judge, as a function that calls another one that is refused, is tried again without these beside it, and at last alone.
 
 Beside the gate, which leaves processors idle while crates wait for those below them, a crate's wrong bodies are tried as soon as the gate
-has proved it, over copies of the libraries that it made. There those with a line `tried: always` and those of constants are tried each time,
-and one of each public function, which changes by the day of the commit. Those of private functions come in turns, by that day too. With no
-turn given, all are tried. Where time is short, on a machine that others use, what is left is named, and not tried.
+has proved it, over copies of the libraries that it made. There those with a line `tried: always` are tried each time, and of each other public
+function one. The rest comes in turns; so do those of constants, since the facts that refuse them are proved by the gate each time. The turns go
+on every three hours, by the time of the commit, so that a landing tries others than the last one did. With no turn given, all are tried. Where
+time is short, on a machine that others use, what is left is named, and not tried.
 """
 import argparse
 import concurrent.futures
@@ -33,7 +34,7 @@ printing = threading.Lock()
 MANY = 60
 # the free memory, in bytes, below which no check is begun beside others
 ROOM = 8_000_000_000
-# those of private functions are tried in so many turns
+# those of private functions and of constants are tried in so many turns
 TURNS = 5
 # What was not begun before the time was over.
 NOT_TRIED = "not tried"
@@ -147,30 +148,43 @@ def read(path, crate):
     return WrongBody(os.path.basename(path).removesuffix(".edit"), pairs, functions, is_always)
 
 
+def handed_out(root):
+    """The names that a crate's root hands out: those that are public there, and the last ones of the paths that it uses publicly."""
+    uses = [re.sub(r"\w+::", "", it) for it in re.findall(r"^pub use ([^;]*);", root, re.M)]
+    return {*re.findall(r"\w+", " ".join(uses)), *re.findall(r"^pub (?:mod|fn|struct|enum) (\w+)", root, re.M)}
+
+
 def is_public(crate, function):
     """Whether other crates may call the function: a trait's, or one that is public in a module or of a type which the crate hands out."""
     if function == EXAMPLES or "\\" in function:
         return True
     *path, name = function.split("::")
     sources = dict(sources_of(crate))
-    root = sources["src/lib.rt"]
-    handed_out = {*re.findall(r"\w+", " ".join(re.findall(r"pub use ([^;]*);", root))), *re.findall(r"^pub (?:mod|fn|struct|enum) (\w+)", root, re.M)}
     owner = path[-1] if path and path[-1][0].isupper() else name
     is_declared = any(re.search(rf"^ *pub (?:const )?fn {name}\b", text, re.M) for text in sources.values())
-    return is_declared and bool(handed_out & {owner, *path[:1]})
+    return is_declared and bool(handed_out(sources["src/lib.rt"]) & {owner, *path[:1]})
 
 
 def of_turn(crate, bodies, turn):
-    """The wrong bodies that are tried in this turn: those that are tried each time, one of each public function, and a part of the others."""
-    always = [it for it in bodies if it.is_always or EXAMPLES in it.functions]
-    public, private = {}, []
-    for body in (it for it in bodies if it not in always):
+    """The wrong bodies that are tried in this turn: those that are tried each time, one of each public function that none of these changes, and
+    a part of the others. Those of constants take a check of their own, and so do those beside one that is tried each time, in its function: they
+    come together, in one turn."""
+    always = [it for it in bodies if it.is_always]
+    changed = {function for body in always for function in body.functions}
+    constants, beside, private, public = [], [], [], {}
+    for body in (it for it in bodies if not it.is_always):
         called = sorted(function for function in body.functions if is_public(crate, function))
-        if called:
+        if EXAMPLES in body.functions:
+            constants.append(body)
+        elif body.functions & changed:
+            beside.append(body)
+        elif called:
             public.setdefault(called[0], []).append(body)
         else:
             private.append(body)
-    return always + [its[turn % len(its)] for its in public.values()] + private[turn % TURNS :: TURNS]
+    private.sort(key=lambda it: min(it.functions))
+    part = [*([it] for it in private), constants, beside][turn % TURNS :: TURNS]
+    return always + [its[turn % len(its)] for its in public.values()] + [it for its in part for it in its]
 
 
 def said_of(crate, function, output, constants):
@@ -413,7 +427,7 @@ def main():
     words = argparse.ArgumentParser(description="Tries the wrong bodies of each crate, or of those that are named.")
     words.add_argument("names", nargs="*", metavar="NAME")
     words.add_argument("--beside-gate", metavar="LOG", help="begin with each crate once rt ci, whose output goes to LOG, has proved it")
-    words.add_argument("--turn", metavar="NUMBER", type=int, help=f"leave out those of private functions, but for one of {TURNS} parts")
+    words.add_argument("--turn", metavar="NUMBER", type=int, help="try what is tried each time, and of the others those whose turn this is")
     words.add_argument("--minutes", metavar="NUMBER", type=int, help="begin no check after so many; what is left is named, and is no fault")
     words.add_argument("--only", metavar="EDIT", action="append", help="try this one, and no other that is not named so too")
     words.add_argument("--show", action="store_true", help="print what each check said")
