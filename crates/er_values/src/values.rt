@@ -16,23 +16,23 @@ fn is_number(word: &str) -> bool
     word.bytes().all(|byte| byte.is_ascii_digit())
 }
 
-/// The small number that a word is. A sign is no digit.
+/// The number from 0 to 255 that a word of digits is. A sign is no digit.
 pub fn small_number_of(word: &str) -> Option<u8>
     ensures { result ≡ number_below 256 word.now }
 {
     if is_number(word) {
-        word.parse().ok()
+        word.parse::<u8>().ok()
     } else {
         None
     }
 }
 
-/// The number that a word is, of a player or a table, whether there is one or not.
+/// The number from 0 to 65,535 that a word of digits is: of a player, a table or a port, whether there is one or not.
 pub fn number_of(word: &str) -> Option<u16>
     ensures { result ≡ number_below 65536 word.now }
 {
     if is_number(word) {
-        word.parse().ok()
+        word.parse::<u16>().ok()
     } else {
         None
     }
@@ -42,13 +42,13 @@ fn large_number_of(word: &str) -> Option<u32>
     ensures { result ≡ number_below 4294967296 word.now }
 {
     if is_number(word) {
-        word.parse().ok()
+        word.parse::<u32>().ok()
     } else {
         None
     }
 }
 
-/// The number of connections that a word is, from 1 on.
+/// The number of connections that a word is, from 1 to 1,000,000.
 pub fn count_of(word: &str) -> Option<u32>
     ensures { result ≡ count_of word.now }
 {
