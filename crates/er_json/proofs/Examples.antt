@@ -10,7 +10,8 @@ games x y d = record { x = x; y = y; d = d }
 abbrev open_slip : SlipRow
 open_slip = record { round = 1; table = 1; first = (4, codes "Di"); second = Some (2, codes "Bo"); score = None }
 
-pub slip_of_an_open_match : slip_text open_slip ≡ codes "{\"first\":{\"name\":\"Di\",\"no\":4},\"round\":1,\"score\":null,\"second\":{\"name\":\"Bo\",\"no\":2},\"table\":1}"
+pub slip_of_an_open_match : slip_text open_slip
+    ≡ codes "{\"first\":{\"name\":\"Di\",\"no\":4},\"round\":1,\"score\":null,\"second\":{\"name\":\"Bo\",\"no\":2},\"table\":1}"
 unfolding serde_json_on_literals digits
 slip_of_an_open_match = refl
 

@@ -61,6 +61,7 @@ three_values (member a x (member b y (member d z no_members))) =
     if bytes_eq a (codes "a") && (bytes_eq b (codes "b") && bytes_eq d (codes "d")) then Some (x, y, z) else None
 three_values _ = None
 
+-- the games that three values are, each a number from 0 to 255
 abbrev pub games_in_values : Data × Data × Data → Option Games
 games_in_values it = games_with (entry_of it.0) (entry_of it.1) (entry_of it.2)
 

@@ -2,7 +2,8 @@ ghost use Rattle.std.specs.Prelude.{◌≡◌, Err, IfOk, Some, None, option_map
 ghost use Rattle.std.specs.String.{string_bytes};
 ghost use Rattle.serde_json.specs.Written.{compact_text};
 ghost use Rattle.serde_json.specs.View.{view, members_view};
-ghost use Rattle.er_json.specs.Slip.{games_data, score_data, side_data, second_data, slip_with, slip_data, slip_text, entry_of, three_values, games_in, slip_games};
+ghost use Rattle.er_json.specs.Slip.{games_data, score_data, side_data, second_data, slip_with, slip_data, slip_text};
+ghost use Rattle.er_json.specs.Slip.{entry_of, three_values, games_in, slip_games};
 
 use er_event::{Games, Name, PlayerNo, Score, SlipRow};
 use serde_json::{Map, Value, json};

@@ -1,4 +1,4 @@
--- What a line has done, and to which file.
+-- What a line has done, and to which file; and which list a word names.
 use Rattle.std.specs.Prelude.{ℕ, if◌then◌else◌, List, Option, Some, None, codes}
 use Rattle.std.specs.Str.{bytes_eq}
 use Rattle.er_event.specs.declared.commands.Command.TheVariants as command
