@@ -9,8 +9,8 @@ judge, as a function that calls another one that is refused, is tried again with
 Beside the gate, which leaves processors idle while crates wait for those below them, a crate's wrong bodies are tried as soon as the gate
 has proved it, over copies of the libraries that it made. There those with a line `tried: always` are tried each time, and of each other public
 function one. The rest comes in turns; so do those of constants, since the facts that refuse them are proved by the gate each time. The turns go
-on every three hours, by the time of the commit, so that a landing tries others than the last one did. With no turn given, all are tried. Where
-time is short, on a machine that others use, what is left is named, and not tried.
+on every three hours, by the time of the commit, so that the landings of a day do not all try the same ones. With no turn given, all are tried.
+Where time is short, on a machine that others use, what is left is named, and not tried.
 """
 import argparse
 import concurrent.futures
