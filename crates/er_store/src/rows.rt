@@ -1,7 +1,10 @@
-ghost use Rattle.std.specs.Prelude.{◌≡◌, ◌≢◌, ◌<◌, ◌++◌, ◌∷◌, [], ℕ, List, All, IfOk, IfErr, OnOk, IfSome, Option, map, length, ⊤, IsUtf8};
+ghost use Rattle.std.specs.List.{range_with_len};
+ghost use Rattle.std.specs.Prelude.{◌≡◌, ◌≢◌, ◌+◌, ◌<◌, ◌≤◌, ◌++◌, ◌∷◌, [], ℕ, List, All, IfOk, IfErr, OnOk, IfSome, Option, map, length, ⊤, IsUtf8};
 ghost use Rattle.sqlite.specs.declared.types.Value.TheVariants.{Text};
 ghost use Rattle.sqlite.specs.Order.{Row, column};
-ghost use Rattle.er_store.specs.Rows.{meeting_columns, named_columns, text_or_null};
+ghost use Rattle.er_event.specs.declared.rows.pairing.PairingRow.{PairingRow};
+ghost use Rattle.er_event.specs.declared.rows.tally.TallyRow.{TallyRow};
+ghost use Rattle.er_store.specs.Rows.{meeting_columns, named_columns, pairing_columns, tally_columns, text_or_null};
 ghost use Rattle.er_store.specs.Shape.{Form, event_form, player_form, pairing_form, bracket_form, tally_form};
 ghost use Rattle.er_store.specs.Reading.{first_columns, out_of_memory};
 
@@ -70,17 +73,7 @@ impl FromRow for PairingRow {
     ghost form = { pairing_form };
 
     fn from_row(row: &SqlRow) -> Result<PairingRow, Error> {
-        Ok(PairingRow {
-            round: row.get(0)?,
-            tab: row.get(1)?,
-            lo: row.get(2)?,
-            hi: row.get(3)?,
-            swapped: row.get(4)?,
-            done: row.get(5)?,
-            x: row.get(6)?,
-            y: row.get(7)?,
-            d: row.get(8)?,
-        })
+        first_pairing(row)
     }
 }
 
@@ -105,13 +98,7 @@ impl FromRow for TallyRow {
     ghost form = { tally_form };
 
     fn from_row(row: &SqlRow) -> Result<TallyRow, Error> {
-        Ok(TallyRow {
-            no: row.get(0)?,
-            points: row.get(1)?,
-            rounds: row.get(2)?,
-            gamepoints: row.get(3)?,
-            games: row.get(4)?,
-        })
+        tally_at(row, 0)
     }
 }
 
@@ -123,20 +110,8 @@ impl FromRow for MeetingRow {
             round: row.get(0)?,
             tab: row.get(1)?,
             done: row.get(2)?,
-            lo: TallyRow {
-                no: row.get(3)?,
-                points: row.get(4)?,
-                rounds: row.get(5)?,
-                gamepoints: row.get(6)?,
-                games: row.get(7)?,
-            },
-            hi: TallyRow {
-                no: row.get(8)?,
-                points: row.get(9)?,
-                rounds: row.get(10)?,
-                gamepoints: row.get(11)?,
-                games: row.get(12)?,
-            },
+            lo: tally_at(row, 3)?,
+            hi: tally_at(row, 8)?,
         })
     }
 }
@@ -146,21 +121,47 @@ impl FromRow for NamedPairing {
 
     fn from_row(row: &SqlRow) -> Result<NamedPairing, Error> {
         Ok(NamedPairing {
-            pairing: PairingRow {
-                round: row.get(0)?,
-                tab: row.get(1)?,
-                lo: row.get(2)?,
-                hi: row.get(3)?,
-                swapped: row.get(4)?,
-                done: row.get(5)?,
-                x: row.get(6)?,
-                y: row.get(7)?,
-                d: row.get(8)?,
-            },
+            pairing: first_pairing(row)?,
             lo_name: text_or_null(row, 9)?,
             hi_name: text_or_null(row, 10)?,
         })
     }
+}
+
+/// The match in the first nine columns.
+fn first_pairing(row: &SqlRow) -> Result<PairingRow, Error>
+    ensures value { IfOk result (λ r. pairing_columns r ≡ first_columns 9 row.now) }
+    ensures refused { IfErr result (λ e. e ≢ out_of_memory → (r : PairingRow) (more : Row)
+        → row.now ≢ pairing_columns r ++ more) }
+{
+    Ok(PairingRow {
+        round: row.get(0)?,
+        tab: row.get(1)?,
+        lo: row.get(2)?,
+        hi: row.get(3)?,
+        swapped: row.get(4)?,
+        done: row.get(5)?,
+        x: row.get(6)?,
+        y: row.get(7)?,
+        d: row.get(8)?,
+    })
+}
+
+/// The totals in five columns, of which this is the first.
+fn tally_at(row: &SqlRow, at: usize) -> Result<TallyRow, Error>
+    requires { at ≤ 8 }
+    ensures value { IfOk result (λ r. tally_columns r
+        ≡ map (column row.now) (range_with_len at 5)) }
+    ensures refused { IfErr result (λ e. e ≢ out_of_memory → at + 5 ≤ length row.now
+        → (r : TallyRow) → map (column row.now) (range_with_len at 5) ≢ tally_columns r) }
+{
+    Ok(TallyRow {
+        no: row.get(at)?,
+        points: row.get(at + 1)?,
+        rounds: row.get(at + 2)?,
+        gamepoints: row.get(at + 3)?,
+        games: row.get(at + 4)?,
+    })
 }
 
 /// The bytes of the text in this column, if there is one.
