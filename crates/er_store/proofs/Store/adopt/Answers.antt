@@ -1,9 +1,10 @@
 use Rattle.er_store.proofs.Prelude.{ℕ, List, Result, Ok, Err, IsOk, refl, sym, subst, ◌∙◌, true≢false, read_event, state}
 use Rattle.er_store.proofs.Prelude.{Schema, Database, IsUnchanged, Compiled, CompileError, EventValue, HasCleanDisk, HasTables, StandsFor}
-use Rattle.er_store.proofs.Prelude.{Shows, Takes}
+use Rattle.er_store.proofs.Prelude.{Shows, Takes, unchanged_then}
 use Rattle.sqlite.specs.Effect.{IsDatabase}
 use Rattle.er_store.specs.Standing.{ReadsEvent}
-use Rattle.er_store.proofs.{Meaning.event_selected, Effects.at_ours, Crash.shows_leaves, LoadLemmas.{kept_tables, kept_stands}}
+use Rattle.er_store.proofs.{Meaning.event_selected, Effects.at_ours, LoadLemmas.{kept_tables, kept_stands, then_keeps}}
+use Rattle.er_store.proofs.Crash.{shows_leaves, survives_both, only}
 use Rattle.er_store.proofs.Store.adopt.Given as given
 use Rattle.er_store.proofs.Store.adopt.Goals as goal
 
@@ -78,3 +79,25 @@ returns-in-Err-load_tables-clause-readable g c clean place is =
 
 pub returns-in-Ok-clause-reads : goal.returns-in-Ok-clause-reads
 returns-in-Ok-clause-reads g c clean = rw (same g c clean).0.now_is at (c.in-Ok.ensures.reads clean)
+
+pub returns-in-Ok-clause-shows : goal.returns-in-Ok-clause-shows
+returns-in-Ok-clause-shows g c clean has =
+    let first = same g c clean in
+    rw first.0.now_is at (c.in-Ok.ensures.shows clean (kept_tables _ _ first has))
+
+pub returns-in-Ok-clause-same : goal.returns-in-Ok-clause-same
+returns-in-Ok-clause-same g c clean = unchanged_then _ _ _ (same g c clean) (c.in-Ok.ensures.same clean)
+
+pub returns-in-Ok-clause-crash_ok : goal.returns-in-Ok-clause-crash_ok
+returns-in-Ok-clause-crash_ok g c clean trees may =
+    only ((survives_both c.reads_event.ensures.survives c.load_tables.ensures.survives).crash clean trees may)
+
+pub returns-in-Err-load_tables-clause-kept : goal.returns-in-Err-load_tables-clause-kept
+returns-in-Err-load_tables-clause-kept g c clean =
+    let same = (c.in-Ok-true.ensures.found (c.load_tables.ensures.clean clean)).1 in
+    then_keeps (state g.S.Store c.args.conn) (state g.S.Store c.reads_event.new.conn) (state g.S.Store c.load_tables.new.conn) same
+    (c.in-Err-load_tables.ensures.kept clean)
+
+pub returns-in-Err-load_tables-clause-crash : goal.returns-in-Err-load_tables-clause-crash
+returns-in-Err-load_tables-clause-crash g c clean trees may =
+    only ((survives_both c.reads_event.ensures.survives c.load_tables.ensures.survives).crash clean trees may)

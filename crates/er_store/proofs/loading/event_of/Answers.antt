@@ -1,4 +1,5 @@
-use Rattle.er_store.proofs.Prelude.{inr, Err, ap, ◌∙◌, Damaged}
+use Rattle.er_store.proofs.Prelude.{inr, Err, ap, sym, subst, ℕ, ◌≡◌, ◌≤◌, ◌∙◌, same_Some, EventValue, Parts, Damaged}
+use Rattle.er_event.specs.{declared.commands.TheConstants.{MAX_SERIAL}, Parts.parts_of}
 use Rattle.er_store.proofs.loading.event_of.Goals as goal
 
 pub returns-in-Err-Damaged-clause-refused : goal.returns-in-Err-Damaged-clause-refused
@@ -8,3 +9,22 @@ returns-in-Err-Damaged-clause-refused c =
       ap Damaged c.in-Err-Damaged.table-is,
       c.from_parts.ensures.damaged c.in-Err-Damaged.table (c.in-Err-Damaged.is ∙ ap Err c.in-Err-Damaged.field-0-is),
     )
+
+pub returns : goal.returns
+returns c =
+    let found = c.in-Ok.ensures.value in
+    let told : (e : EventValue) (s : ℕ) → s ≤ MAX_SERIAL → c.args.parts ≡ parts_of e s → c.in-Some.serial ≡ s = λ e s low is.
+    same_Some _ _ (sym c.in-Some.is ∙ c.serial_of-serial.ensures e s low (c.as_slice.ensures ∙ ap (λ (p : Parts). p.event) is)) in
+    let serial = sym (told c.in-Ok.event found.serial found.low found.are) in
+    record {
+      value = (
+        found.are ∙ ap (parts_of c.in-Ok.event) serial,
+        subst (λ (n : ℕ). n ≤ MAX_SERIAL) serial found.low,
+        c.in-Ok.ensures.sound,
+      );
+      only = λ e s low is sound. (
+        sym (c.in-Ok.ensures.only e (record { serial = s; low = low; are = is }) sound),
+        told e s low is,
+      );
+      refused = tt;
+    }

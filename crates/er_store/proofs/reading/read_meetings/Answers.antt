@@ -1,21 +1,19 @@
-use Rattle.er_store.proofs.Prelude.{state, out_of_memory, rules, ◌≡◌, ◌⊎◌, inl, inr, [], ◌∷◌, ◌++◌, map, List, Result, IfErr, refl, sym, ap}
-use Rattle.er_store.proofs.Prelude.{subst, ◌∙◌, arith, map-append, Error, Row, State, HasCleanDisk, IsUnchanged, unchanged_then}
+use Rattle.er_store.proofs.Prelude.{state, out_of_memory, rules, ◌≡◌, ◌⊎◌, inl, inr, [], ◌∷◌, ◌++◌, map, List, refl, sym, ap, length}
+use Rattle.er_store.proofs.Prelude.{◌∙◌, arith, map-append, length-map, Row, HasCleanDisk, IsUnchanged, unchanged_then}
 use Rattle.er_store.proofs.Prelude.{survives_then, meeting_rows, IsReadRefused, first_columns, meeting_columns, FailsToQuery, Shown}
-use Rattle.er_store.proofs.{Meaning.{meeting_query, meetings_selected}, Refusals.meetings_refused, LoadLemmas.{all_err, kept_stands, told}}
+use Rattle.std.proofs.Common.{length-append}
+use Rattle.er_store.proofs.{Meaning.{meeting_query, meetings_selected}, Refusals.meetings_refused, Crash.{survives_both, was_clean}}
+use Rattle.er_store.proofs.LoadLemmas.{all_err, kept_stands, told, then_keeps, unchanged_keeps}
 use Rattle.er_store.proofs.Selecting.{commits_nothing, fails_keeping, selects, begun-select, given-shown, row-among, refused-after}
 use Rattle.er_store.proofs.{Selecting.unchanged-refl, Exact.is_memory, Meetings.{meetings-listed, meetings-exact, meetings-read}}
 use Rattle.er_store.proofs.Effects.{selected}
 use Rattle.er_store.specs.Tables as sql
+use Rattle.er_store.proofs.reading.read_meetings.Given as given
 use Rattle.er_store.proofs.reading.read_meetings.Goals as goal
-
--- the connection is given back as it is
-ends : {A : Type 0} (r : Result A Error) (old new then : State) → new ≡ then → IfErr r (λ w. (w ≡ out_of_memory) ⊎ IsReadRefused old then w)
-    → IfErr r (λ w. (w ≡ out_of_memory) ⊎ IsReadRefused old new w)
-ends r old new then same = subst (λ (s : State). IfErr r (λ w. (w ≡ out_of_memory) ⊎ IsReadRefused old s w)) (sym same)
 
 pub returns-in_err-rows-clause-refused : goal.returns-in_err-rows-clause-refused
 returns-in_err-rows-clause-refused g c clean e s stands sound =
-    told c.from_residual.result c.in_err-rows.field-0.0 _ (search rules) (inr (meetings_refused _ _ _
+    told c.from_residual.result c.in_err-rows.field-0.0 _ c.from_residual.ensures.1 (inr (meetings_refused _ _ _
     (selected stands.tables meetings_selected) ((rw c.in_err-rows.was at c.query.follows.holds-at-none).err clean)))
 
 pub returns-in_err-rows-clause-kept : goal.returns-in_err-rows-clause-kept
@@ -39,12 +37,24 @@ loop-rows-init g c =
           ([], begun.0, ap (map meeting_columns) c.new-meetings.ensures.items, begun.1),
     )
 
+-- the connection is given back as it is
+back : (g : given.Over) (c : goal.After-conn-2-1 g) → c.conn-2-1.given.0 ≡ c.next.follows.lender-at-none.conn.now
+back g c = search rules
+
+back_unread : (g : given.Over) (c : goal.After-drop-meetings-in_err-row g)
+    → c.conn-in_err-row-1.given.0 ≡ c.next.follows.lender-at-none.conn.now
+back_unread g c = search rules
+
+back_unpushed : (g : given.Over) (c : goal.After-drop-meetings-in_err-push_row g)
+    → c.conn-in_err-push_row-1.given.0 ≡ c.next.follows.lender-at-none.conn.now
+back_unpushed g c = search rules
+
 pub returns-clause-exact : goal.returns-clause-exact
 returns-clause-exact g c clean e s stands sound =
     let moved = c.next.follows.holds-at-none in
     let then = c.next.follows.lender-at-none.conn.now in
-    let late : HasCleanDisk (state g.S.Store then) = search rules in
-    let was = c.loop-rows.invariant.3 (omega (arith, moved.survives.clean)) in
+    let late : HasCleanDisk (state g.S.Store then) = rw (back g c) at clean in
+    let was = c.loop-rows.invariant.3 (was_clean moved.survives late) in
     let now = state g.S.Store c.loop-rows.rows.conn.now in
     let shown : Shown sql.read_meetings [] now (state g.S.Store then) was.0 =
     (rw (c.in_ok-row.was, c.in_default.is) at (moved.ok late)) sql.read_meetings [] was.0 was.1 in
@@ -56,16 +66,16 @@ pub returns-in_err-row-clause-refused : goal.returns-in_err-row-clause-refused
 returns-in_err-row-clause-refused g c clean e s stands sound =
     let moved = c.next.follows.holds-at-none in
     let then = state g.S.Store c.next.follows.lender-at-none.conn.now in
-    let late : HasCleanDisk then = search rules in
-    let was = c.loop-rows.invariant.3 (omega (arith, moved.survives.clean)) in
+    let late : HasCleanDisk then = rw (back_unread g c) at clean in
+    let was = c.loop-rows.invariant.3 (was_clean moved.survives late) in
     let old = state g.S.Store c.args.conn.now in
     let now = state g.S.Store c.loop-rows.rows.conn.now in
     let here = kept_stands old now e s was.3 stands in
     let failed : FailsToQuery sql.read_meetings [] now then c.in_err-row.field-0.0 =
     (rw c.in_err-row.was at (moved.err late)) sql.read_meetings [] was.0 was.1 in
     let refused = meetings_refused _ _ _ (selected here.tables meetings_selected) failed in
-    ends c.from_residual-in_err-row.result old _ then (search rules) (told c.from_residual-in_err-row.result c.in_err-row.field-0.0 _
-    (search rules) (inr (refused-after old now then (λ _. ⊥) c.in_err-row.field-0.0 was.3 c.loop-rows.invariant.1 refused)))
+    rw (back_unread g c) (told c.from_residual-in_err-row.result c.in_err-row.field-0.0 _ c.from_residual-in_err-row.ensures.1
+    (inr (refused-after old now then (λ _. ⊥) c.in_err-row.field-0.0 was.3 c.loop-rows.invariant.1 refused)))
 
 pub loop-rows-preserved : goal.loop-rows-preserved
 loop-rows-preserved g c =
@@ -81,7 +91,7 @@ loop-rows-preserved g c =
       survives_then old now then (λ _. ⊥) (λ _. ⊥) (λ _. ⊥) (λ clean db none. none) (λ clean db none. none) inv.1 moved.survives,
       (λ outside. moved.mode (inv.2 outside)),
       λ late.
-          let was = inv.3 (omega (arith, moved.survives.clean)) in
+          let was = inv.3 (was_clean moved.survives late) in
           let given = (rw (c.in_ok-row.was, c.in-Some.is) at (moved.ok late)) sql.read_meetings [] was.0 was.1 in
           let same : IsUnchanged now then = rw c.in_ok-row.was at (moved.same late) in (
             was.0 ++ row ∷ [],
@@ -96,8 +106,8 @@ returns-in_err-push_row-clause-refused g c clean e s stands sound =
     let moved = c.next.follows.holds-at-none in
     let held = c.next.follows.lender-at-none.conn.now in
     let then = state g.S.Store held in
-    let late : HasCleanDisk then = search rules in
-    let was = c.loop-rows.invariant.3 (omega (arith, moved.survives.clean)) in
+    let late : HasCleanDisk then = rw (back_unpushed g c) at clean in
+    let was = c.loop-rows.invariant.3 (was_clean moved.survives late) in
     let old = state g.S.Store c.args.conn.now in
     let now = state g.S.Store c.loop-rows.rows.conn.now in
     let row = c.in-Some.row.now in
@@ -111,4 +121,56 @@ returns-in_err-push_row-clause-refused g c clean e s stands sound =
     let memory : c.in_err-push_row.field-0.0 ≡ out_of_memory =
     is_memory c.in_err-push_row.field-0.0 (λ unless. c.in_err-push_row.ensures.refused unless among.0 tt among.1) in
     let why : (c.in_err-push_row.field-0.0 ≡ out_of_memory) ⊎ IsReadRefused old then c.in_err-push_row.field-0.0 = inl memory in
-    search (rules, why)
+    rw (back_unpushed g c) (told c.from_residual-in_err-push_row.result c.in_err-push_row.field-0.0 _
+    c.from_residual-in_err-push_row.ensures.1 why)
+
+pub returns-in_err-row-clause-survives : goal.returns-in_err-row-clause-survives
+returns-in_err-row-clause-survives g c =
+    rw (back_unread g c) (survives_both c.loop-rows.invariant.1 c.next.follows.holds-at-none.survives)
+
+pub returns-in_err-push_row-clause-survives : goal.returns-in_err-push_row-clause-survives
+returns-in_err-push_row-clause-survives g c =
+    rw (back_unpushed g c) (survives_both c.loop-rows.invariant.1 c.next.follows.holds-at-none.survives)
+
+pub returns-in_err-row-clause-kept : goal.returns-in_err-row-clause-kept
+returns-in_err-row-clause-kept g c clean =
+    let moved = c.next.follows.holds-at-none in
+    let then = state g.S.Store c.next.follows.lender-at-none.conn.now in
+    let late : HasCleanDisk then = rw (back_unread g c) at clean in
+    let now = state g.S.Store c.loop-rows.rows.conn.now in
+    let was = c.loop-rows.invariant.3 (was_clean moved.survives late) in
+    let failed : FailsToQuery sql.read_meetings [] now then c.in_err-row.field-0.0 =
+    (rw c.in_err-row.was at (moved.err late)) sql.read_meetings [] was.0 was.1 in
+    rw (back_unread g c) (all_err c.from_residual-in_err-row.result
+    (then_keeps (state g.S.Store c.args.conn.now) now then was.3 (fails_keeping _ _ _ _ _ selects.meetings failed)))
+
+pub returns-in_err-push_row-clause-kept : goal.returns-in_err-push_row-clause-kept
+returns-in_err-push_row-clause-kept g c clean =
+    let moved = c.next.follows.holds-at-none in
+    let then = state g.S.Store c.next.follows.lender-at-none.conn.now in
+    let late : HasCleanDisk then = rw (back_unpushed g c) at clean in
+    let old = state g.S.Store c.args.conn.now in
+    let now = state g.S.Store c.loop-rows.rows.conn.now in
+    let was = c.loop-rows.invariant.3 (was_clean moved.survives late) in
+    let same : IsUnchanged old then = unchanged_then old now then was.3 (rw c.in_ok-row.was at (moved.same late)) in
+    rw (back_unpushed g c) (all_err c.from_residual-in_err-push_row.result (unchanged_keeps old then same))
+
+pub loop-rows-smaller : goal.loop-rows-smaller
+loop-rows-smaller g c =
+    let old = c.loop-rows.meetings.items in
+    let new = c.push_row.new.typed.items in
+    let more : length (map meeting_columns new) ≡ length (map meeting_columns old ++ first_columns 13 c.in-Some.row.now ∷ []) =
+    ap length c.in_ok-push_row.ensures.value in
+    let here = length-map old meeting_columns in
+    let there = length-map new meeting_columns in
+    omega (
+      arith,
+      more,
+      here,
+      there,
+      length-append (map meeting_columns old) (first_columns 13 c.in-Some.row.now ∷ []),
+      c.push_row.new.typed.small,
+    )
+
+pub returns-clause-survives : goal.returns-clause-survives
+returns-clause-survives g c = rw (back g c) (survives_both c.loop-rows.invariant.1 c.next.follows.holds-at-none.survives)

@@ -1,5 +1,5 @@
 use Rattle.er_store.proofs.Prelude.{tally_by, totals, rules, ◌≡◌, ◌∙◌, ◌++◌, ◌∷◌, [], map, List, sym, ap, ap₂, arith, none-some, same_Some}
-use Rattle.er_store.proofs.Prelude.{tally_row, Tally}
+use Rattle.er_store.proofs.Prelude.{tally_row, Tally, tallies, player_row, take_all, length, length-map}
 use Rattle.er_store.proofs.Tallying.{player-at, rows-more}
 use Rattle.er_store.proofs.tallies.tallies_of.Goals as goal
 
@@ -25,4 +25,17 @@ loop-at-preserved c =
           let found = c.tally_of.ensures.event e it.it sound it.low it.high (c.index-players-at.is ∙ it.player_is) it.row_is in
           let same : c.in-Some.tally ≡ tally_by (totals e) it.it = same_Some _ _ (sym c.in-Some.is ∙ found) in
           pushed ∙ (ap₂ (λ (xs : List Tally) (x : Tally). xs ++ x ∷ []) (inv.event e sound players rows) same ∙ sym it.more);
+    }
+
+pub returns : goal.returns
+returns c =
+    let inv = c.loop-at.invariant in
+    let last = c.loop-at-test.false in
+    record {
+      rows = inv.rows ∙ take_all c.loop-at.at c.args.rows.now (omega (arith, inv.many, last));
+      event = λ e sound players rows.
+          let many = ap length players in
+          inv.event e sound players rows ∙ take_all c.loop-at.at (tallies e)
+          (omega (arith, many, length-map e.players player_row, length-map e.players (tally_by (totals e)), last));
+      fault = tt;
     }
