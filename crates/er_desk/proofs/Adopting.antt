@@ -1,13 +1,14 @@
 -- What an opening makes of the tables that it finds.
-use Rattle.std.proofs.{Common.{arith, Option, IfSome, ◌≡◌, ℕ, is_ok, IsTrue, sym, ap, ap₂, subst, ◌∙◌}, lemmas.Grind.common_steps}
+use Rattle.std.proofs.Common.{Option, Some, None, IfSome, ◌≡◌, ℕ, is_ok, IsTrue, sym, ap, ap₂, subst, ◌∙◌}
 use Rattle.sqlite_trees.specs.declared.store.Store.{Ghosts}
 use Rattle.sqlite.specs.{Tree.Trees, Effect.{Database, IsDatabase}, State.{State, Opens, IsLive, HasCleanDisk, IsUnchanged}, Start.FindsIn}
 use Rattle.sqlite.specs.{Files.HoldsDatabase, Held.{Held, state}}
 use Rattle.sqlite_wal.specs.Recovery.{Image}
-use Rattle.er_event.specs.{Event.EventValue, declared.events.parts.Parts.Parts}
+use Rattle.er_event.specs.{Event.EventValue, declared.events.parts.Parts.Parts, declared.refusals.Place.Place}
+use Rattle.er_event.specs.declared.refusals.Refusal.TheVariants.{Memory, NoEvent, Damaged}
 use Rattle.er_store.specs.{Damage.ReadsParts, Reading.KeepsTables, Standing.{StandsFor, IsStored, Shows, Leaves, ReadsEvent}}
 use Rattle.er_store.specs.declared.Store.{Store}
-use Rattle.er_desk.specs.{Desk.Point, Headline.WasLeft}
+use Rattle.er_desk.specs.{Desk.Point, Headline.WasLeft, Opening.NamesFirstFault}
 use Rattle.er_desk.proofs.Turns.{unchanged_keeps}
 use Rattle.er_store.specs.Store as tables
 
@@ -16,11 +17,26 @@ pub point_is : (point : Point) (e : EventValue) (n : ℕ) → e ≡ point.event 
 point_is point e n event serial = ap₂ (λ (x : EventValue) (k : ℕ). (let p : Point = record { event = x; serial = k } in p)) event serial
 
 pub shows_as : (s : State) (e f : EventValue) (m n : ℕ) → f ≡ e → n ≡ m → Shows s e m → Shows s f n
-shows_as s e f m n event serial shows = grind (arith, common_steps)
+shows_as s e f m n event serial shows = rw (event, serial) shows
 
 -- the event's rows are read where the tables are
 pub read_whole : (db : Database) (parts : Parts) → ReadsParts db parts → ReadsEvent db.schema
 read_whole db parts reads = ap is_ok reads.event.1.is
+
+-- want of memory names no fault of the tables
+pub memory_names : (db : Database) → NamesFirstFault db Memory
+memory_names db = record {
+  no_event = λ is. absurd (cc);
+  readable = λ place is. absurd (cc);
+  first = λ place is. absurd (cc);
+}
+
+-- a damaged table is one, and not no event
+pub damage_tells : (place : Place) → Damaged place ≡ NoEvent → ⊥
+damage_tells place is = cc
+
+pub same_place : (place other : Place) → Damaged place ≡ Damaged other → place ≡ other
+same_place place other is = cc
 
 -- a connection that a store gives back
 module _ {S : Type 0} (g : Ghosts S) (old : State) (back : Held S) (store : Store S g) (is : back ≡ tables.connection store) where
@@ -60,4 +76,5 @@ module _ (s : State) (image : Image) (opened : Opens s × IsLive s) (found : Fin
 
 -- less is told of what is left
 pub if_left : {A : Type 0} (o : Option A) (P Q : A → Type 0) → ((a : A) → P a → Q a) → IfSome o P → IfSome o Q
-if_left h1 h2 h3 more h = grind (arith, common_steps)
+if_left (Some a) P Q more h = more a h
+if_left None P Q more h = tt

@@ -1,9 +1,11 @@
 -- What reading the tables leaves of the tables of others.
-use Rattle.std.proofs.Common.{arith, ◌≡◌, Bool, Result, Ok, Err, IfOk, IfErr, OnErr, MatchResult, IsTrue, IsFalse, sym, subst}
-use Rattle.std.proofs.lemmas.Grind.{common_steps}
-use Rattle.sqlite.specs.{Effect.Database, State.{State, IsUnchanged}}
+use Rattle.std.proofs.Common.{◌≡◌, ◌⊎◌, inl, inr, ℕ, Bool, Result, Ok, Err, IfOk, IfErr, OnErr, MatchResult, IsTrue, IsFalse}
+use Rattle.std.proofs.Common.{refl, sym, ap, subst, ◌∙◌}
+use Rattle.sqlite.specs.{Effect.{Database, IsDatabase}, State.{State, IsUnchanged}}
 use Rattle.er_event.specs.declared.refusals.Refusal.{Refusal}
-use Rattle.er_store.specs.{Reading.KeepsTables, Standing.KeepsOthers}
+use Rattle.er_event.specs.Event.{EventValue}
+use Rattle.er_store.specs.{Fault.IsReadFault, Reading.KeepsTables, Standing.{KeepsOthers, StandsFor, Shows}}
+use Rattle.er_desk.specs.Desk.{Standing, Reads}
 use Rattle.er_desk.proofs.Turns.{keeps_self}
 
 keeps_same : (old new : Database) → new ≡ old → KeepsOthers old new
@@ -16,10 +18,31 @@ pub read_others : {A : Type 0} (Fails : Refusal → Type 0) (read : Result A Ref
 read_others Fails (Ok row) stopped old new settled is_open still same kept = keeps_same old.now new.now (same still).0.now_is
 read_others Fails (Err why) stopped old new settled is_open stops same kept = keeps_same old.now new.now (kept settled is_open).0
 
+-- what is read leaves the desk as it is, or stops it
+pub reads : {A : Type 0} (passing : Refusal) (old : Standing) (is : Bool) (read : Result A Refusal) → IsFalse old.stopped
+    → MatchResult read (λ _. IsFalse is) (λ why. ((why ≡ passing) × IsFalse is) ⊎ (IsReadFault why × IsTrue is))
+    → Reads passing old read (record old { stopped = is })
+reads passing old is (Ok row) runs still = inl (runs, ap (λ (b : Bool). record old { stopped = b }) (still ∙ sym runs), inl refl)
+reads passing old is (Err why) runs (inl (passes, still)) =
+    inl (runs, ap (λ (b : Bool). record old { stopped = b }) (still ∙ sym runs), inr (ap (λ (w : Refusal). Err w) passes))
+reads passing old is (Err why) runs (inr (fault, stopped)) =
+    inr (inl (runs, ap (λ (b : Bool). record old { stopped = b }) stopped, why, fault, refl))
+
+-- and the tables stand for its event
+pub still_shows : (old new : State) (e : EventValue) (n : ℕ) → Shows old e n → IsUnchanged old new → Shows new e n
+still_shows old new e n shows same = record {
+  is_open = same.0.is_open;
+  sound = subst IsDatabase (sym same.0.now_is) shows.sound;
+  settled = same.0.now_is ∙ shows.settled ∙ sym same.0.committed_is;
+  stands = subst (λ (db : Database). StandsFor db e n) (sym same.0.now_is) shows.stands;
+}
+
 -- what is known of either outcome, of one of them
 module _ {A E : Type 0} (P : A → Type 0) (Q : E → Type 0) where
   pub if_ok : (read : Result A E) → MatchResult read P Q → IfOk read P
-  if_ok h1 either = grind (arith, common_steps)
+  if_ok (Ok a) either = either
+  if_ok (Err e) either = tt
 
   pub if_err : (read : Result A E) → MatchResult read P Q → IfErr read Q
-  if_err h1 either = grind (arith, common_steps)
+  if_err (Ok a) either = tt
+  if_err (Err e) either = either

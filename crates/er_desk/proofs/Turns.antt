@@ -37,7 +37,8 @@ module _ (old : Standing) (runs : IsFalse old.stopped) (command : Command) where
       due (inr refuses) = inr (Err why, refuses, refl)
 
       own : (why ≡ Memory) ⊎ IsOfRules why → IsOwn why
-      own h1 = grind (arith, common_steps)
+      own (inl memory) = inl memory
+      own (inr rules) = inr (inr rules)
 
   -- all serials are given
   pub full : (next : EventValue) → Answers old.event command (Ok next) → old.serial ≡ 999999 → Turn old command (Err SerialFull) old
@@ -49,58 +50,132 @@ module _ (old : Standing) (runs : IsFalse old.stopped) (command : Command) where
       → IfOk result (λ r. (new ≡ record { event = next; serial = old.serial + 1; stopped = false }) × (r.serial ≡ old.serial + 1))
       → IfErr result (λ why. (Same × (why ≡ Memory)) ⊎ ((new ≡ record old { stopped = true }) × IsFault why))
       → Turn old command result new
-  written new (Ok r) next Same same taken room (is, numbered) refused = grind (arith, common_steps)
-  written new (Err e) next Same same taken room done (inl own) = grind (arith, common_steps)
-  written new (Err e) next Same same taken room done (inr stops) = grind (arith, common_steps)
+  written new (Ok r) next Same same taken room (is, numbered) refused =
+      let serial = ap (λ (s : Standing). s.serial) is in inl (record {
+        was_running = runs;
+        taken = subst (λ (e : EventValue). Answers old.event command (Ok e)) (sym (ap (λ (s : Standing). s.event) is)) taken;
+        room = room;
+        serial_is = serial;
+        runs = ap (λ (s : Standing). s.stopped) is;
+        answered = ap (λ (n : ℕ). Ok (receipt n)) (numbered ∙ sym serial);
+      })
+  written new (Err e) next Same same taken room done (inl own) =
+      inr (inl (record { was_running = runs; same = same own.0; why = e; answered = refl; cause = inl own.1; own = inl own.1 }))
+  written new (Err e) next Same same taken room done (inr stops) = inr (inr (inl (record {
+    was_running = runs;
+    next = next;
+    taken = taken;
+    room = room;
+    stopped = stops.0;
+    why = e;
+    fault = stops.1;
+    answered = refl;
+  })))
+
+pub standing_same : (a b : EventValue) (n : ℕ) (s t : Bool) → a ≡ b → s ≡ t
+    → (let it : Standing = record { event = a; serial = n; stopped = s } in it) ≡ record { event = b; serial = n; stopped = t }
+standing_same a b n s t events stops = cc
 
 -- ---- what a turn tells
 
-same_refusal : (why w : Refusal) → ◌≡◌ {A = Reply} (Err why) (Err w) → why ≡ w
+same_refusal : {A : Type 0} (why w : Refusal) → ◌≡◌ {A = Result A Refusal} (Err why) (Err w) → why ≡ w
 same_refusal why w is = cc
 
 no_receipt : (it : Receipt) (why : Refusal) → ◌≡◌ {A = Reply} (Ok it) (Err why) → ⊥
 no_receipt it why is = cc
 
 -- what the desk refuses by itself speaks neither of the store nor of reopening
+own_store : (cause : Cause) → IsOwn (Store cause) → ⊥
+own_store cause (inl memory) = cc
+own_store cause (inr (inl full)) = cc
+own_store cause (inr (inr rules)) = rules
+
+own_reopen : IsOwn NeedsReopen → ⊥
+own_reopen (inl memory) = cc
+own_reopen (inr (inl full)) = cc
+own_reopen (inr (inr rules)) = rules
+
+-- nor does a fault of the store speak of reopening
+fault_reopen : IsFault NeedsReopen → ⊥
+fault_reopen (inl memory) = cc
+fault_reopen (inr refused) = cc
+
 module _ (old new : Standing) (command : Command) (result : Reply) where
   -- a fault of the store stops the desk
   pub turn_fault : Turn old command result new → (cause : Cause) → result ≡ Err (Store cause) → IsTrue new.stopped
-  turn_fault h1 cause is = grind (arith, common_steps)
+  turn_fault (inl it) cause is = absurd (no_receipt _ _ (sym it.answered ∙ is))
+  turn_fault (inr (inl it)) cause is = absurd (own_store cause (subst IsOwn (same_refusal _ _ (sym it.answered ∙ is)) it.own))
+  turn_fault (inr (inr (inl it))) cause is = ap (λ (s : Standing). s.stopped) it.stopped
+  turn_fault (inr (inr (inr it))) cause is = ap (λ (s : Standing). s.stopped) it.same ∙ it.was_stopped
 
   -- and only a stopped desk asks for reopening
   pub turn_asks : Turn old command result new → result ≡ Err NeedsReopen → IsTrue old.stopped
-  turn_asks h1 is = grind (arith, common_steps)
+  turn_asks (inl it) is = absurd (no_receipt _ _ (sym it.answered ∙ is))
+  turn_asks (inr (inl it)) is = absurd (own_reopen (subst IsOwn (same_refusal _ _ (sym it.answered ∙ is)) it.own))
+  turn_asks (inr (inr (inl it))) is = absurd (fault_reopen (subst IsFault (same_refusal _ _ (sym it.answered ∙ is)) it.fault))
+  turn_asks (inr (inr (inr it))) is = it.was_stopped
 
   pub waits_of : Turn old command result new → IsTrue old.stopped → result ≡ Err NeedsReopen
-  waits_of h1 stopped = grind (arith, common_steps)
+  waits_of (inl it) stopped = absurd (true≢false (sym stopped ∙ it.was_running))
+  waits_of (inr (inl it)) stopped = absurd (true≢false (sym stopped ∙ it.was_running))
+  waits_of (inr (inr (inl it))) stopped = absurd (true≢false (sym stopped ∙ it.was_running))
+  waits_of (inr (inr (inr it))) stopped = it.answered
 
   pub stops_of : Turn old command result new → IsTrue new.stopped → IsTrue old.stopped ⊎ Stops old command result new
-  stops_of h1 stopped = grind (arith, common_steps)
+  stops_of (inl it) stopped = absurd (true≢false (sym stopped ∙ it.runs))
+  stops_of (inr (inl it)) stopped = inl (sym (ap (λ (s : Standing). s.stopped) it.same) ∙ stopped)
+  stops_of (inr (inr (inl it))) stopped = inr it
+  stops_of (inr (inr (inr it))) stopped = inl it.was_stopped
 
   pub stopped_of : Turn old command result new → IsTrue old.stopped ⊎ Stops old command result new → IsTrue new.stopped
-  stopped_of turn h1 = grind (arith, common_steps)
+  stopped_of turn (inr stops) = ap (λ (s : Standing). s.stopped) stops.stopped
+  stopped_of (inl it) (inl was) = absurd (true≢false (sym was ∙ it.was_running))
+  stopped_of (inr (inl it)) (inl was) = ap (λ (s : Standing). s.stopped) it.same ∙ was
+  stopped_of (inr (inr (inl it))) (inl was) = ap (λ (s : Standing). s.stopped) it.stopped
+  stopped_of (inr (inr (inr it))) (inl was) = ap (λ (s : Standing). s.stopped) it.same ∙ was
 
 -- ---- the budget
 
 full_or_taken : (b : Bool) (why : Refusal) (it : Receipt) → ◌≡◌ {A = Reply} (Err why) (cond b (Err SerialFull) (Ok it)) → why ≡ SerialFull
-full_or_taken h1 why it is = grind (arith, common_steps)
+full_or_taken true why it is = same_refusal _ _ is
+full_or_taken false why it is = absurd (no_receipt _ _ (sym is))
 
 module _ (old new : Standing) (command : Command) where
   -- where the search has too few steps, the step said so
   pub turn_budget : (result : Reply) → Turn old command result new → (steps : ℕ) → result ≡ Err (Budget steps)
       → Answers old.event command (Err (Budget steps))
   turn_budget result (inl it) steps is = absurd (no_receipt _ _ (sym it.answered ∙ is))
-  turn_budget result (inr (inl it)) steps is = grind (arith, common_steps)
-  turn_budget result (inr (inr (inl it))) steps is = grind (arith, common_steps)
-  turn_budget result (inr (inr (inr it))) steps is = grind (arith, common_steps)
+  turn_budget result (inr (inl it)) steps is = by_cause it.why it.cause (same_refusal _ _ (sym it.answered ∙ is))
+    where
+      by_cause : (why : Refusal) → (why ≡ Memory) ⊎ IsDue old.event old.serial command (Err why) → why ≡ Budget steps
+          → Answers old.event command (Err (Budget steps))
+      by_cause why (inl memory) is = absurd (cc)
+      by_cause why (inr (Ok next, taken, due)) is = absurd (let full = full_or_taken _ _ _ due in cc)
+      by_cause why (inr (Err w, refuses, due)) is =
+          subst (λ (r : Refusal). Answers old.event command (Err r)) (sym (same_refusal _ _ due) ∙ is) refuses
+  turn_budget result (inr (inr (inl it))) steps is = absurd (of_store it.why it.fault (same_refusal _ _ (sym it.answered ∙ is)))
+    where
+      of_store : (why : Refusal) → IsFault why → why ≡ Budget steps → ⊥
+      of_store why (inl memory) is = cc
+      of_store why (inr refused) is = cc
+  turn_budget result (inr (inr (inr it))) steps is = absurd (let same = same_refusal _ _ (sym it.answered ∙ is) in cc)
 
   not_taken : (next : EventValue) → NeedsMoreSteps old.event command → Answers old.event command (Ok next) → ⊥
-  not_taken next needs h1 = grind (arith, common_steps)
+  not_taken next needs (inl (steps, enough)) = enough needs
+  not_taken next needs (inr (is, more)) = cc
 
   -- and it always says so, where memory lasts
   pub turn_searched : (result : Reply) → Turn old command result new → IsFalse old.stopped → NeedsMoreSteps old.event command
       → (result ≡ Err Memory) ⊎ ((steps : ℕ) × (result ≡ Err (Budget steps)))
-  turn_searched result h1 runs needs = grind (arith, common_steps)
+  turn_searched result (inl it) runs needs = absurd (not_taken _ needs it.taken)
+  turn_searched result (inr (inl it)) runs needs = elim it.cause [
+    | inl memory ↦ inl (it.answered ∙ ap (λ (w : Refusal). Err w) memory)
+    | inr (Ok next, taken, due) ↦ absurd (not_taken next needs taken)
+    | inr (Err w, inl (steps, enough), due) ↦ absurd (enough needs)
+    | inr (Err w, inr (is, more), due) ↦ inr (_, it.answered ∙ (due ∙ ap (λ (w : Refusal). Err w) (same_refusal _ _ is)))
+  ]
+  turn_searched result (inr (inr (inl it))) runs needs = absurd (not_taken _ needs it.taken)
+  turn_searched result (inr (inr (inr it))) runs needs = absurd (true≢false (sym it.was_stopped ∙ runs))
 
 -- ---- tables
 
@@ -128,22 +203,38 @@ pub same_keeps : (s : State) → KeepsTables s s
 same_keeps s settled is_open = (refl, sym settled)
 
 pub on_error : {A E : Type 0} (r : Result A E) (P : Type 0) → P → IfErr r (λ _. P)
-on_error h1 h2 p = grind (arith, common_steps)
+on_error (Ok a) P p = tt
+on_error (Err e) P p = p
+
+if_error : {A E : Type 0} (P Q : E → Type 0) (r : Result A E) → ((e : E) → P e → Q e) → IfErr r P → IfErr r Q
+if_error P Q (Ok a) more h = tt
+if_error P Q (Err e) more h = more e h
 
 module _ {S : Type 0} (g : Ghosts S) (old new : Desk S g) (result : Reply) where
+  abbrev pub Unwritten : Refusal → Type 0
+  Unwritten why = ((new ≡ old) × (why ≡ Memory)) ⊎ ((standing new ≡ record (standing old) { stopped = true }) × IsFault why)
+
   abbrev pub IsUnwritten : Type 0
-  IsUnwritten = IfErr result (λ why. ((new ≡ old) × (why ≡ Memory))
-      ⊎ ((standing new ≡ record (standing old) { stopped = true }) × IsFault why))
+  IsUnwritten = IfErr result Unwritten
 
   stops : standing new ≡ record (standing old) { stopped = true } → IsFalse (standing new).stopped → ⊥
   stops is runs = true≢false (sym (ap (λ (s : Standing). s.stopped) is) ∙ runs)
 
   pub same_unless : IsUnwritten → IfErr result (λ _. IsFalse (standing new).stopped → new ≡ old)
-  same_unless refused = grind (arith, common_steps)
+  same_unless refused = if_error _ _ result same refused
+    where
+      same : (why : Refusal) → Unwritten why → IsFalse (standing new).stopped → new ≡ old
+      same why (inl own) runs = own.0
+      same why (inr is) runs = absurd (stops is.0 runs)
 
   pub stands_after : ShowsOwn g old → OnOk result (ShowsOwn g new) → IsUnwritten → IsFalse (standing new).stopped → ShowsOwn g new
   stands_after shows done refused runs = grind (arith, common_steps)
 
   pub leaves_refused : LeavesJust (state g old) (point_of (standing old)) → IsUnwritten
       → IfErr result (λ _. IsFalse (standing new).stopped → LeavesJust (state g new) (point_of (standing old)))
-  leaves_refused leaves refused = grind (arith, common_steps)
+  leaves_refused leaves refused = if_error _ _ result left refused
+    where
+      left : (why : Refusal) → Unwritten why → IsFalse (standing new).stopped → LeavesJust (state g new) (point_of (standing old))
+      left why (inl own) runs =
+          subst (λ (d : Desk S g). LeavesJust (state g d) (point_of (standing old))) (sym own.0) leaves
+      left why (inr is) runs = absurd (stops is.0 runs)

@@ -1,4 +1,4 @@
-use Rattle.std.proofs.Common.{sym, subst, ◌∙◌}
+use Rattle.std.proofs.Common.{inl, inr, sym, subst, ◌∙◌}
 use Rattle.sqlite.specs.{Effect.Database, Files.{over_files, file_state}}
 use Rattle.er_store.specs.Standing.{HasTables, AreKeyed}
 use Rattle.er_desk.specs.{Desk.state, Opening.NamesFirstFault}
@@ -53,3 +53,28 @@ returns-in-Err-adopt-clause-first g c clean is_open =
 pub returns-in-Err-clause-spared : goal.returns-in-Err-clause-spared
 returns-in-Err-clause-spared g c = if_left c.in-Err.left _ _
     (λ left told. (told.0, told.1, told.2, λ clean. (told.3 clean).1)) c.in-Err.ensures.cause
+
+-- ---- what `adopt` says
+
+pub returns-in-Ok-adopt-clause-ready : goal.returns-in-Ok-adopt-clause-ready
+returns-in-Ok-adopt-clause-ready g c = c.in-Ok-adopt.ensures.ready
+
+pub returns-in-Ok-adopt-clause-sound : goal.returns-in-Ok-adopt-clause-sound
+returns-in-Ok-adopt-clause-sound g c = c.in-Ok-adopt.ensures.sound
+
+pub returns-in-Ok-adopt-clause-repeats : goal.returns-in-Ok-adopt-clause-repeats
+returns-in-Ok-adopt-clause-repeats g c = c.in-Ok-adopt.ensures.repeats
+
+pub returns-in-Err-adopt-clause-why : goal.returns-in-Err-adopt-clause-why
+returns-in-Err-adopt-clause-why g c = c.in-Err-adopt.ensures.why
+
+-- ---- the files were not opened
+
+pub returns-in-Err-clause-why : goal.returns-in-Err-clause-why
+returns-in-Err-clause-why g c = inr (inl c.opening_refusal.ensures.fault)
+
+pub returns-in-Err-clause-unopened : goal.returns-in-Err-clause-unopened
+returns-in-Err-clause-unopened g c = c.opening_refusal.ensures.fault
+
+pub returns-in-Err-clause-found : goal.returns-in-Err-clause-found
+returns-in-Err-clause-found g c point was sound clean = c.opening_refusal.ensures.fault

@@ -23,3 +23,10 @@ returns-in-Ok-clause-lawful g c new first ends was clean =
 pub returns-in-Err-clause-next : goal.returns-in-Err-clause-next
 returns-in-Err-clause-next g c new first ends was =
     refused_begins c.histories.ensures (image_at g.S.Start) new first ends was c.in-Err.fault c.in-Err.ensures.left
+
+pub returns-in-Err-clause-why : goal.returns-in-Err-clause-why
+returns-in-Err-clause-why g c new first ends was =
+    c.in-Err.ensures.found first was.left (first_sound c.histories.ensures (image_at g.S.Start) new first ends was)
+
+pub returns-in-Err-clause-spared : goal.returns-in-Err-clause-spared
+returns-in-Err-clause-spared g c = c.in-Err.ensures.spared

@@ -1,16 +1,18 @@
-use Rattle.std.proofs.{Common.{arith, ◌≡◌, inl, inr, sym, subst, ◌∙◌, refl, true≢false}, lemmas.Grind.common_steps}
+use Rattle.std.proofs.Common.{inl, inr, sym, subst, ◌∙◌, refl, true≢false}
 use Rattle.std.proofs.lemmas.Result.{err_from_is_err_and}
 use Rattle.sqlite.specs.Held.{state}
-use Rattle.er_event.specs.declared.refusals.Place.TheVariants.{BracketTable}
 use Rattle.er_rules.specs.Sound.{HasSeeds}
-use Rattle.er_desk.proofs.Adopting.{point_is, shows_as, read_whole, back_clean, back_keeps, back_leaves}
+use Rattle.er_desk.proofs.Adopting.{point_is, shows_as, read_whole, memory_names, damage_tells, same_place}
+use Rattle.er_desk.proofs.Adopting.{back_clean, back_keeps, back_leaves}
 use Rattle.er_store.specs.Store as tables
 use Rattle.er_desk.proofs.desk.Desk.adopt.Goals as goal
 
 -- ---- the tables are refused
 
 pub returns-in_err-store-clause-clean : goal.returns-in_err-store-clause-clean
-returns-in_err-store-clause-clean g c = grind (arith, common_steps)
+returns-in_err-store-clause-clean g c =
+    let p = err_from_is_err_and c.from_residual.result c.from_residual.ensures.1 in
+    rw (p.1, p.2) c.in_err-store.ensures.clean
 
 pub returns-in_err-store-clause-found : goal.returns-in_err-store-clause-found
 returns-in_err-store-clause-found g c point stands sound =
@@ -46,7 +48,35 @@ returns-in_err-store-clause-left g c is_open =
     let p = err_from_is_err_and c.from_residual.result c.from_residual.ensures.1 in
     rw (p.1, p.2) (λ clean db may. g.met.S.Store.settled c.args.conn.store db is_open (c.in_err-store.ensures.crash clean db may))
 
+pub returns-in_err-store-clause-why : goal.returns-in_err-store-clause-why
+returns-in_err-store-clause-why g c =
+    let p = err_from_is_err_and c.from_residual.result c.from_residual.ensures.1 in
+    rw (p.1, p.2) c.in_err-store.ensures.why
+
+pub returns-in_err-store-clause-mode : goal.returns-in_err-store-clause-mode
+returns-in_err-store-clause-mode g c =
+    let p = err_from_is_err_and c.from_residual.result c.from_residual.ensures.1 in
+    rw (p.1, p.2) c.in_err-store.ensures.mode
+
 -- ---- the seeds agree
+
+pub returns-in-Ok-true-clause-ready : goal.returns-in-Ok-true-clause-ready
+returns-in-Ok-true-clause-ready g c = c.in_ok-store.ensures.ready
+
+pub returns-in-Ok-true-clause-clean : goal.returns-in-Ok-true-clause-clean
+returns-in-Ok-true-clause-clean g c = c.in_ok-store.ensures.clean
+
+pub returns-in-Ok-true-clause-shows : goal.returns-in-Ok-true-clause-shows
+returns-in-Ok-true-clause-shows g c = c.in_ok-store.ensures.shows
+
+pub returns-in-Ok-true-clause-stands : goal.returns-in-Ok-true-clause-stands
+returns-in-Ok-true-clause-stands g c = c.in_ok-store.ensures.stands
+
+pub returns-in-Ok-true-clause-same : goal.returns-in-Ok-true-clause-same
+returns-in-Ok-true-clause-same g c = c.in_ok-store.ensures.same
+
+pub returns-in-Ok-true-clause-crash : goal.returns-in-Ok-true-clause-crash
+returns-in-Ok-true-clause-crash g c = c.in_ok-store.ensures.crash_ok
 
 pub invariant_of-result-clause-sound : goal.invariant_of-result-clause-sound
 invariant_of-result-clause-sound g c = ∣ record {
@@ -95,15 +125,21 @@ returns-in-Ok-false-clause-found g c point stands sound clean =
     let has : HasSeeds c.in_ok-store.event = subst HasSeeds (sym found.0) sound.seeds in
     absurd (true≢false (sym (c.in-Ok-false.ensures.1 has) ∙ c.in-Ok-false.field-0-test))
 
+pub returns-in-Ok-false-clause-why : goal.returns-in-Ok-false-clause-why
+returns-in-Ok-false-clause-why g c = inr (inr (_, refl))
+
+pub returns-in-Ok-false-clause-mode : goal.returns-in-Ok-false-clause-mode
+returns-in-Ok-false-clause-mode g c = c.into_connection.ensures.mode
+
 pub returns-in-Ok-false-clause-first : goal.returns-in-Ok-false-clause-first
 returns-in-Ok-false-clause-first g c clean =
     let reads = c.in_ok-store.ensures.reads (back_clean g.S.Store (state g.S.Store c.args.conn) c.into_connection.result c.in_ok-store.store
     c.into_connection.ensures.same clean) in
     record {
-      no_event = λ is. absurd (cc);
+      no_event = λ is. absurd (damage_tells _ is);
       readable = λ place is. read_whole (state g.S.Store c.args.conn).now _ reads.0;
       first = λ place is. inr (
-        let same : place ≡ BracketTable = cc in same,
+        same_place _ _ (sym is),
         (
           c.in_ok-store.event,
           c.in_ok-store.serial,
@@ -119,7 +155,9 @@ pub returns-in-Ok-false-clause-other_seeds : goal.returns-in-Ok-false-clause-oth
 returns-in-Ok-false-clause-other_seeds g c point stands sound none clean = inr refl
 
 pub returns-in-Ok-false-clause-clean : goal.returns-in-Ok-false-clause-clean
-returns-in-Ok-false-clause-clean g c clean = grind (arith, common_steps)
+returns-in-Ok-false-clause-clean g c clean =
+    c.in_ok-store.ensures.clean (back_clean g.S.Store (state g.S.Store c.args.conn) c.into_connection.result c.in_ok-store.store
+    c.into_connection.ensures.same clean)
 
 pub returns-in-Ok-false-clause-kept : goal.returns-in-Ok-false-clause-kept
 returns-in-Ok-false-clause-kept g c clean = back_keeps g.S.Store (state g.S.Store c.args.conn) c.into_connection.result c.in_ok-store.store
@@ -137,17 +175,32 @@ returns-in-Ok-false-clause-left g c is_open =
 
 -- ---- memory is wanting
 
+pub returns-in-Err-clause-found : goal.returns-in-Err-clause-found
+returns-in-Err-clause-found g c point stands sound clean = inl refl
+
+pub returns-in-Err-clause-why : goal.returns-in-Err-clause-why
+returns-in-Err-clause-why g c = inr (inl (inl refl))
+
+pub returns-in-Err-clause-mode : goal.returns-in-Err-clause-mode
+returns-in-Err-clause-mode g c = c.into_connection-in-Err.ensures.mode
+
 pub returns-in-Err-clause-first : goal.returns-in-Err-clause-first
-returns-in-Err-clause-first g c clean = grind (arith, common_steps)
+returns-in-Err-clause-first g c clean = memory_names (state g.S.Store c.args.conn).now
 
 pub returns-in-Err-clause-other_seeds : goal.returns-in-Err-clause-other_seeds
 returns-in-Err-clause-other_seeds g c point stands sound none clean = inl (inl refl)
 
 pub returns-in-Err-clause-clean : goal.returns-in-Err-clause-clean
-returns-in-Err-clause-clean g c clean = grind (arith, common_steps)
+returns-in-Err-clause-clean g c clean =
+    c.in_ok-store.ensures.clean (back_clean g.S.Store (state g.S.Store c.args.conn) c.into_connection-in-Err.result c.in_ok-store.store
+    c.into_connection-in-Err.ensures.same clean)
 
 pub returns-in-Err-clause-kept : goal.returns-in-Err-clause-kept
-returns-in-Err-clause-kept g c clean = grind (arith, common_steps)
+returns-in-Err-clause-kept g c clean =
+    back_keeps g.S.Store (state g.S.Store c.args.conn) c.into_connection-in-Err.result c.in_ok-store.store
+    c.into_connection-in-Err.ensures.same (c.in_ok-store.ensures.same
+    (back_clean g.S.Store (state g.S.Store c.args.conn) c.into_connection-in-Err.result c.in_ok-store.store
+    c.into_connection-in-Err.ensures.same clean))
 
 pub returns-in-Err-clause-crash : goal.returns-in-Err-clause-crash
 returns-in-Err-clause-crash g c = back_leaves g.S.Store (state g.S.Store c.args.conn) c.into_connection-in-Err.result c.in_ok-store.store

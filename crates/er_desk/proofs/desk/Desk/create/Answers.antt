@@ -1,9 +1,40 @@
-use Rattle.std.proofs.{Common.subst, lemmas.Result.err_from_is_err_and}
+use Rattle.std.proofs.Common.{◌≡◌, ◌⊎◌, inl, inr, ℕ, List, refl, sym, subst, ◌∙◌, true≢false}
+use Rattle.std.proofs.lemmas.{Option.none-some, Result.err_from_is_err_and}
 use Rattle.sqlite.specs.Held.{state}
-use Rattle.er_event.specs.Event.{EventValue}
-use Rattle.er_store.specs.Standing.{IsStored, Leaves, Either}
-use Rattle.er_desk.proofs.Turns.{same_keeps}
+use Rattle.er_event.specs.declared.refusals.Refusal.{Refusal, TheVariants.{BadSetup, EventExists}}
+use Rattle.er_event.specs.{Event.EventValue, Change.created, Sound.IsSoundButForSeeds}
+use Rattle.er_rules.specs.Sound.{IsSound, HasSeeds}
+use Rattle.er_store.specs.{Fault.IsFault, Standing.{IsStored, Leaves, Either}}
+use Rattle.er_desk.proofs.Turns.{same_keeps, standing_same}
 use Rattle.er_desk.proofs.desk.Desk.create.Goals as goal
+
+setup_exists : BadSetup ≡ EventExists → ⊥
+setup_exists is = cc
+
+not_setup : (why : Refusal) → (why ≡ EventExists) ⊎ IsFault why → why ≡ BadSetup → ⊥
+not_setup why (inl there) is = cc
+not_setup why (inr (inl memory)) is = cc
+not_setup why (inr (inr refused)) is = cc
+
+-- a new event has no playoff
+new_sound : (name : List ℕ) (rounds cut : ℕ) (event : EventValue) → event ≡ created name rounds cut → IsSoundButForSeeds event
+    → IsSound event
+new_sound name rounds cut event is sound = record {
+  but_for_seeds = sound;
+  seeds = subst HasSeeds (sym is) (λ first at. absurd (none-some first at));
+}
+
+pub returns-in-Err-clause-beyond : goal.returns-in-Err-clause-beyond
+returns-in-Err-clause-beyond g c is = (refl, λ limits. true≢false (sym (c.in-Err.ensures.within.1 limits)))
+
+pub returns-in-Err-clause-why : goal.returns-in-Err-clause-why
+returns-in-Err-clause-why g c = inl c.in-Err.ensures.refused
+
+pub returns-in-Err-clause-exists : goal.returns-in-Err-clause-exists
+returns-in-Err-clause-exists g c is = absurd (setup_exists (sym c.in-Err.ensures.refused ∙ is))
+
+pub returns-in-Err-clause-crash : goal.returns-in-Err-clause-crash
+returns-in-Err-clause-crash g c none clean trees may = inl may
 
 pub returns-in-Err-clause-kept : goal.returns-in-Err-clause-kept
 returns-in-Err-clause-kept g c clean = same_keeps (state g.S.Store c.args.conn)
@@ -23,3 +54,55 @@ pub returns-in_err-store-clause-kept : goal.returns-in_err-store-clause-kept
 returns-in_err-store-clause-kept g c =
     let p = err_from_is_err_and c.from_residual.result c.from_residual.ensures.1 in
     rw (p.1, p.2) c.in_err-store.ensures.kept
+
+pub returns-in_err-store-clause-exists : goal.returns-in_err-store-clause-exists
+returns-in_err-store-clause-exists g c =
+    let p = err_from_is_err_and c.from_residual.result c.from_residual.ensures.1 in
+    rw (p.1, p.2) c.in_err-store.ensures.exists
+
+pub returns-in_err-store-clause-beyond : goal.returns-in_err-store-clause-beyond
+returns-in_err-store-clause-beyond g c =
+    let p = err_from_is_err_and c.from_residual.result c.from_residual.ensures.1 in
+    rw (p.1, p.2) (λ is. absurd (not_setup _ c.in_err-store.ensures.why is))
+
+pub returns-in_err-store-clause-checked : goal.returns-in_err-store-clause-checked
+returns-in_err-store-clause-checked g c none = absurd (none (c.in-Ok.ensures.within.0 refl))
+
+pub returns-in_err-store-clause-why : goal.returns-in_err-store-clause-why
+returns-in_err-store-clause-why g c =
+    let p = err_from_is_err_and c.from_residual.result c.from_residual.ensures.1 in
+    rw (p.1, p.2) (inr c.in_err-store.ensures.why)
+
+pub returns-in_err-store-clause-mode : goal.returns-in_err-store-clause-mode
+returns-in_err-store-clause-mode g c =
+    let p = err_from_is_err_and c.from_residual.result c.from_residual.ensures.1 in
+    rw (p.1, p.2) c.in_err-store.ensures.mode
+
+pub invariant_of-result-clause-told : goal.invariant_of-result-clause-told
+invariant_of-result-clause-told g c = sym c.in_ok-store.ensures.ready
+
+pub invariant_of-result-clause-sound : goal.invariant_of-result-clause-sound
+invariant_of-result-clause-sound g c = ∣ new_sound _ _ _ _ c.in-Ok.ensures.value c.in-Ok.ensures.sound ∣₁
+
+pub returns-clause-sound : goal.returns-clause-sound
+returns-clause-sound g c = new_sound _ _ _ _ c.in-Ok.ensures.value c.in-Ok.ensures.sound
+
+pub returns-clause-made : goal.returns-clause-made
+returns-clause-made g c = standing_same _ _ _ _ _ c.in-Ok.ensures.value c.in_ok-store.ensures.ready
+
+pub returns-clause-within : goal.returns-clause-within
+returns-clause-within g c = c.in-Ok.ensures.within.0 refl
+
+pub returns-clause-checked : goal.returns-clause-checked
+returns-clause-checked g c none = absurd (none (c.in-Ok.ensures.within.0 refl))
+
+pub returns-clause-absent : goal.returns-clause-absent
+returns-clause-absent g c clean = (c.in_ok-store.ensures.absent clean).0
+
+pub returns-clause-created : goal.returns-clause-created
+returns-clause-created g c = c.in_ok-store.ensures.created
+
+pub returns-clause-acknowledged : goal.returns-clause-acknowledged
+returns-clause-acknowledged g c none clean trees may =
+    subst (λ (e : EventValue). IsStored e 0 trees) c.in-Ok.ensures.value
+    (c.in_ok-store.ensures.acknowledged clean none trees may)

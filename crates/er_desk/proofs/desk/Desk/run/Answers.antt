@@ -49,6 +49,9 @@ loop-command-preserved g c =
           took.clean inv.stands inv.crash);
     }
 
+pub returns-in_err-replies-clause-others : goal.returns-in_err-replies-clause-others
+returns-in_err-replies-clause-others g c clean shows is_open = keeps_self (state g.S.Store c.args.self.now).now
+
 pub returns : goal.returns
 returns g c =
     let first = c.args.self.now in

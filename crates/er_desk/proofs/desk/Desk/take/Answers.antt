@@ -1,7 +1,7 @@
-use Rattle.std.proofs.{lemmas.Grind.common_steps, Common.{◌≡◌, ◌<◌, ◌∙◌, inl, inr, refl, sym, ap, arith}}
+use Rattle.std.proofs.{Common.{◌≡◌, ◌<◌, ◌∙◌, inl, inr, refl, sym, ap, arith, true≢false}, lemmas.Result.err_from_is_err_and}
 use Rattle.er_desk.specs.Desk.{state, standing}
-use Rattle.er_desk.proofs.Turns.{declined, full, written, turn_fault, turn_asks, waits_of, stops_of, stopped_of, keeps_self, on_error}
-use Rattle.er_desk.proofs.Turns.{same_unless, leaves_refused}
+use Rattle.er_desk.proofs.Turns.{declined, full, written, turn_fault, turn_asks, waits_of, stops_of, stopped_of, keeps_self, same_keeps}
+use Rattle.er_desk.proofs.Turns.{on_error, same_unless, stands_after, leaves_refused}
 use Rattle.er_desk.proofs.desk.Desk.take.Goals as goal
 
 -- ---- the step refuses the command
@@ -13,13 +13,15 @@ returns-in_err-change-clause-turn g c =
     c.in_err-change.ensures.refused c.in_err-change.ensures.named
 
 pub returns-in_err-change-clause-stops : goal.returns-in_err-change-clause-stops
-returns-in_err-change-clause-stops g c = grind (arith, common_steps)
+returns-in_err-change-clause-stops g c =
+    let turn = returns-in_err-change-clause-turn g c in (stops_of _ _ _ _ turn, stopped_of _ _ _ _ turn)
 
 pub returns-in_err-change-clause-fault : goal.returns-in_err-change-clause-fault
 returns-in_err-change-clause-fault g c = turn_fault _ _ _ _ (returns-in_err-change-clause-turn g c)
 
 pub returns-in_err-change-clause-asks : goal.returns-in_err-change-clause-asks
-returns-in_err-change-clause-asks g c = grind (arith, common_steps)
+returns-in_err-change-clause-asks g c =
+    let turn = returns-in_err-change-clause-turn g c in (turn_asks _ _ _ _ turn, waits_of _ _ _ _ turn)
 
 pub returns-in_err-change-clause-others : goal.returns-in_err-change-clause-others
 returns-in_err-change-clause-others g c clean shows is_open = keeps_self (state g.S.Store c.args.self.now).now
@@ -39,13 +41,15 @@ returns-then-self-eq-MAX_SERIAL-clause-turn g c =
     (omega (arith, c.if-self-eq-MAX_SERIAL.true))
 
 pub returns-then-self-eq-MAX_SERIAL-clause-stops : goal.returns-then-self-eq-MAX_SERIAL-clause-stops
-returns-then-self-eq-MAX_SERIAL-clause-stops g c = grind (arith, common_steps)
+returns-then-self-eq-MAX_SERIAL-clause-stops g c =
+    let turn = returns-then-self-eq-MAX_SERIAL-clause-turn g c in (stops_of _ _ _ _ turn, stopped_of _ _ _ _ turn)
 
 pub returns-then-self-eq-MAX_SERIAL-clause-fault : goal.returns-then-self-eq-MAX_SERIAL-clause-fault
 returns-then-self-eq-MAX_SERIAL-clause-fault g c = turn_fault _ _ _ _ (returns-then-self-eq-MAX_SERIAL-clause-turn g c)
 
 pub returns-then-self-eq-MAX_SERIAL-clause-asks : goal.returns-then-self-eq-MAX_SERIAL-clause-asks
-returns-then-self-eq-MAX_SERIAL-clause-asks g c = grind (arith, common_steps)
+returns-then-self-eq-MAX_SERIAL-clause-asks g c =
+    let turn = returns-then-self-eq-MAX_SERIAL-clause-turn g c in (turn_asks _ _ _ _ turn, waits_of _ _ _ _ turn)
 
 pub returns-then-self-eq-MAX_SERIAL-clause-others : goal.returns-then-self-eq-MAX_SERIAL-clause-others
 returns-then-self-eq-MAX_SERIAL-clause-others g c clean shows is_open = keeps_self (state g.S.Store c.args.self.now).now
@@ -58,6 +62,9 @@ returns-then-self-eq-MAX_SERIAL-clause-refused g c shows runs = c.shown_is_store
 
 -- ---- the change is written, or not
 
+pub write-requires-clause-runs : goal.write-requires-clause-runs
+write-requires-clause-runs g c = sym c.args.self.now.told ∙ c.if-self.false
+
 pub returns-clause-turn : goal.returns-clause-turn
 returns-clause-turn g c =
     let desk = c.args.self.now in
@@ -67,19 +74,24 @@ returns-clause-turn g c =
     c.in_ok-change.ensures.taken.1 room c.write.ensures.taken c.write.ensures.refused
 
 pub returns-clause-stops : goal.returns-clause-stops
-returns-clause-stops g c = (stops_of _ _ _ _ (returns-clause-turn g c), stopped_of _ _ _ _ (returns-clause-turn g c))
+returns-clause-stops g c = let turn = returns-clause-turn g c in (stops_of _ _ _ _ turn, stopped_of _ _ _ _ turn)
 
 pub returns-clause-fault : goal.returns-clause-fault
 returns-clause-fault g c = turn_fault _ _ _ _ (returns-clause-turn g c)
 
 pub returns-clause-asks : goal.returns-clause-asks
-returns-clause-asks g c = (turn_asks _ _ _ _ (returns-clause-turn g c), waits_of _ _ _ _ (returns-clause-turn g c))
+returns-clause-asks g c = let turn = returns-clause-turn g c in (turn_asks _ _ _ _ turn, waits_of _ _ _ _ turn)
+
+pub returns-clause-waits : goal.returns-clause-waits
+returns-clause-waits g c stopped = absurd (true≢false (sym stopped ∙ (sym c.args.self.now.told ∙ c.if-self.false)))
 
 pub returns-clause-same : goal.returns-clause-same
 returns-clause-same g c = same_unless g.S.Store c.args.self.now c.write.new.self c.write.result c.write.ensures.refused
 
 pub returns-clause-stands : goal.returns-clause-stands
-returns-clause-stands g c clean shows runs = grind (arith, common_steps)
+returns-clause-stands g c clean shows =
+    stands_after g.S.Store c.args.self.now c.write.new.self c.write.result shows (c.write.ensures.written clean shows)
+    c.write.ensures.refused
 
 pub returns-clause-undecided : goal.returns-clause-undecided
 returns-clause-undecided g c runs shows clean trees may =
@@ -102,6 +114,27 @@ returns-clause-others g c = c.write.ensures.others
 
 pub returns-clause-acknowledged : goal.returns-clause-acknowledged
 returns-clause-acknowledged g c = c.write.ensures.acknowledged
+
+-- ---- the desk was stopped
+
+pub returns-then-self-clause-turn : goal.returns-then-self-clause-turn
+returns-then-self-clause-turn g c =
+    inr (inr (inr (record { was_stopped = sym c.args.self.now.told ∙ c.if-self.true; same = refl; answered = refl })))
+
+pub returns-then-self-clause-stops : goal.returns-then-self-clause-stops
+returns-then-self-clause-stops g c = let turn = returns-then-self-clause-turn g c in (stops_of _ _ _ _ turn, stopped_of _ _ _ _ turn)
+
+pub returns-then-self-clause-fault : goal.returns-then-self-clause-fault
+returns-then-self-clause-fault g c = turn_fault _ _ _ _ (returns-then-self-clause-turn g c)
+
+pub returns-then-self-clause-asks : goal.returns-then-self-clause-asks
+returns-then-self-clause-asks g c = let turn = returns-then-self-clause-turn g c in (turn_asks _ _ _ _ turn, waits_of _ _ _ _ turn)
+
+pub returns-then-self-clause-undecided : goal.returns-then-self-clause-undecided
+returns-then-self-clause-undecided g c runs = absurd (true≢false (sym c.if-self.true ∙ (c.args.self.now.told ∙ runs)))
+
+pub returns-then-self-clause-refused : goal.returns-then-self-clause-refused
+returns-then-self-clause-refused g c shows runs = absurd (true≢false (sym c.if-self.true ∙ (c.args.self.now.told ∙ runs)))
 
 -- ---- nothing has changed
 
@@ -131,3 +164,29 @@ returns-then-self-eq-MAX_SERIAL-clause-stands g c = λ clean shows runs. shows
 
 pub returns-then-self-eq-MAX_SERIAL-clause-waits : goal.returns-then-self-eq-MAX_SERIAL-clause-waits
 returns-then-self-eq-MAX_SERIAL-clause-waits g c = λ stopped. refl
+
+pub returns-then-self-clause-same : goal.returns-then-self-clause-same
+returns-then-self-clause-same g c = λ runs. refl
+
+pub returns-then-self-clause-kept : goal.returns-then-self-clause-kept
+returns-then-self-clause-kept g c clean = same_keeps (state g.S.Store c.args.self.now)
+
+pub returns-then-self-clause-others : goal.returns-then-self-clause-others
+returns-then-self-clause-others g c clean shows is_open = keeps_self (state g.S.Store c.args.self.now).now
+
+pub returns-in_err-change-clause-same : goal.returns-in_err-change-clause-same
+returns-in_err-change-clause-same g c = on_error c.from_residual.result _ (λ runs. refl)
+
+pub returns-in_err-change-clause-kept : goal.returns-in_err-change-clause-kept
+returns-in_err-change-clause-kept g c clean = on_error c.from_residual.result _ (same_keeps (state g.S.Store c.args.self.now))
+
+pub returns-in_err-change-clause-acknowledged : goal.returns-in_err-change-clause-acknowledged
+returns-in_err-change-clause-acknowledged g c shows =
+    let p = err_from_is_err_and c.from_residual.result c.from_residual.ensures.1 in
+    rw p.1 tt
+
+pub returns-then-self-eq-MAX_SERIAL-clause-same : goal.returns-then-self-eq-MAX_SERIAL-clause-same
+returns-then-self-eq-MAX_SERIAL-clause-same g c = λ runs. refl
+
+pub returns-then-self-eq-MAX_SERIAL-clause-kept : goal.returns-then-self-eq-MAX_SERIAL-clause-kept
+returns-then-self-eq-MAX_SERIAL-clause-kept g c clean = same_keeps (state g.S.Store c.args.self.now)

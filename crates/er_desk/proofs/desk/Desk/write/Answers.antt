@@ -1,14 +1,10 @@
-use Rattle.std.proofs.{Common.{◌≡◌, ◌+◌, ℕ, Bool, inl, inr, refl, sym, subst}, Math.Logic.∥∥₁_map}
+use Rattle.std.proofs.{Common.{◌+◌, inl, inr, refl, sym, subst, ◌∙◌}, Math.Logic.∥∥₁_map}
 use Rattle.er_event.specs.Event.{EventValue}
 use Rattle.er_rules.specs.Sound.{IsSound}
 use Rattle.er_store.specs.Standing.{IsStored}
-use Rattle.er_desk.specs.Desk.{Standing, state}
-use Rattle.er_desk.proofs.Turns.{keeps_self}
+use Rattle.er_desk.specs.Desk.{state}
+use Rattle.er_desk.proofs.Turns.{keeps_self, standing_same}
 use Rattle.er_desk.proofs.desk.Desk.write.Goals as goal
-
-standing_same : (a b : EventValue) (n : ℕ) (s t : Bool) → a ≡ b → s ≡ t
-    → (let it : Standing = record { event = a; serial = n; stopped = s } in it) ≡ record { event = b; serial = n; stopped = t }
-standing_same a b n s t events stops = cc
 
 pub returns-in_err-next-clause-crash : goal.returns-in_err-next-clause-crash
 returns-in_err-next-clause-crash g c shows clean trees may = inl (c.shown_is_stored.ensures _ _ shows clean trees may)
@@ -19,6 +15,13 @@ returns-in_err-next-clause-others g c clean shows is_open = keeps_self (state g.
 pub invariant_of-self-clause-sound : goal.invariant_of-self-clause-sound
 invariant_of-self-clause-sound g c = subst (λ (e : EventValue). ∥ IsSound e ∥₁) (sym c.in_ok-next.ensures.ok)
     (∥∥₁_map c.args.self.now.sound c.requires.sound)
+
+pub invariant_of-self-clause-told : goal.invariant_of-self-clause-told
+invariant_of-self-clause-told g c =
+    (c.args.self.now.told ∙ c.requires.runs) ∙ sym (c.in-Ok.ensures.stops c.requires.runs)
+
+pub invariant_of-self-in-Err-clause-told : goal.invariant_of-self-in-Err-clause-told
+invariant_of-self-in-Err-clause-told g c = sym (c.in-Err.ensures.stops c.requires.runs).1
 
 -- ---- what the store says. The goal on what is written has no answer, so that a body that doesn't write is refused there.
 
