@@ -2,11 +2,15 @@
 use Rattle.er_event.proofs.Prelude.{FollowOn, is_known, seats, is_playoff_score, IsBracket, Match, All, AllPairs, Bool, Contains, IfSome}
 use Rattle.er_event.proofs.Prelude.{IsTrue, List, Some, [], arith, flat_map, length, refl, subst, sym, true, ℕ, ◌&&◌, ◌/◌, ◌<◌, ◌∙◌, ◌∷◌}
 use Rattle.er_event.proofs.Prelude.{◌≡◌, ◌≢◌, common_steps, All-from_recursion, All-weaker, recursion_from_All, same_Some, AllByRecursion}
-use Rattle.er_event.proofs.Prelude.{list_all, range_with_len, slice_get}
+use Rattle.er_event.proofs.Prelude.{false, list_all, range_with_len, slice_get, true≢false}
 use Rattle.er_event.proofs.RoundLemmas.{contains_known, known_contains, of-All}
 use Rattle.er_event.specs.Match.{is_lawful_slot_score}
 
 -- ---- who is known
+
+both : (a b : Bool) → (a && b) ≡ true → (a ≡ true) × (b ≡ true)
+both true b is = (refl, is)
+both false b is = absurd (true≢false (sym is))
 
 module _ (count : ℕ) where
   abbrev Known : ℕ → Type 0
@@ -17,7 +21,10 @@ module _ (count : ℕ) where
 
   seats-known : (ms : List Match) → list_all are_known ms ≡ true → AllByRecursion Known (flat_map seats ms)
   seats-known [] h = tt
-  seats-known (m ∷ ms) h = grind (arith, common_steps, known_contains count m.a, known_contains count m.b, seats-known ms)
+  seats-known (m ∷ ms) h =
+      let all = both (are_known m) (list_all are_known ms) h in
+      let two = both (is_known count m.a) (is_known count m.b) all.0 in
+      (known_contains count m.a two.0, (known_contains count m.b two.1, seats-known ms all.1))
 
   known-seats : (ms : List Match) → AllByRecursion Known (flat_map seats ms) → list_all are_known ms ≡ true
   known-seats [] h = refl

@@ -4,7 +4,7 @@ use Rattle.er_event.proofs.Prelude.{SetDropped, Enrolling, Swiss, Player, All, B
 use Rattle.er_event.proofs.Prelude.{Some, [], ap, arith, cond, drop, false, find, get_or, length, map, not, not-suc-le-zero, option_map}
 use Rattle.er_event.proofs.Prelude.{refl, suc, sym, true, zero, ℕ, ◌+◌, ◌-◌, ◌<◌, ◌==◌, ◌∷◌, ◌≡◌, ◌≢◌, ◌≤◌, length-map, set, common_steps}
 use Rattle.er_event.proofs.Prelude.{get_or-range_with_len, length-range_with_len, AllPass-from_list_all, list_all-from_AllPass, none-some}
-use Rattle.er_event.proofs.Prelude.{slice_get_past, slice_get_read, list_all, range_with_len, slice_get}
+use Rattle.er_event.proofs.Prelude.{ap₂, slice_get_past, slice_get_read, list_all, ◌∙◌, range_with_len, slice_get}
 use Rattle.std.proofs.Common.{unwrap_or}
 use Rattle.std.specs.Slice.{IsItemAt}
 
@@ -56,12 +56,24 @@ later_kept [] a k low numbered = refl
 later_kept (p ∷ ps) a k low numbered =
     grind (arith, common_steps, first_number p ps a numbered, later_kept ps (a + 1) k (omega arith) (first_number p ps a numbered).1)
 
+dropped-here : (k : ℕ) (p : Player) → p.no ≡ k → dropped_at k p ≡ record p { dropped = true }
+dropped-here k p same = grind (arith, common_steps)
+
+kept-here : (k : ℕ) (p : Player) → p.no ≢ k → dropped_at k p ≡ p
+kept-here k p other = grind (arith, common_steps)
+
 pub set-dropped : (ps : List Player) (a i : ℕ) (d : Player) → i < length ps → numbers ps ≡ range_with_len a (length ps)
     → set ps i (record (get_or ps i d) { dropped = true }) ≡ map (dropped_at (a + i)) ps
 set-dropped [] a i d below numbered = absurd (not-suc-le-zero below)
-set-dropped (p ∷ ps) a i d below numbered =
+set-dropped (p ∷ ps) a zero d below numbered =
     let both = first_number p ps a numbered in
-    grind (arith, common_steps, both, later_kept ps (a + 1) a (omega arith) both.1, set-dropped ps (a + 1) (i - 1) d)
+    let at : a ≡ a + 0 = omega arith in
+    sym (ap₂ ◌∷◌ (dropped-here (a + 0) p (both.0 ∙ at)) (later_kept ps (a + 1) (a + 0) (omega arith) both.1))
+set-dropped (p ∷ ps) a (suc i) d below numbered =
+    let both = first_number p ps a numbered in
+    let at : a + 1 + i ≡ a + suc i = omega arith in
+    ap₂ ◌∷◌ (sym (kept-here (a + suc i) p (λ same. omega (arith, both.0))))
+    (set-dropped ps (a + 1) i d (omega arith) both.1 ∙ ap (λ k. map (dropped_at k) ps) at)
 
 -- ---- nobody is dropped, by the test
 

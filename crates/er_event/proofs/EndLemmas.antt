@@ -1,8 +1,8 @@
 -- A stage that is read with a new score, and when it may be the last.
 use Rattle.er_event.proofs.Prelude.{FollowOn, is_over, slot_at, slot_in, IsEnd, one_more, scored, scored_slot, stage_of, with_bracket_score}
 use Rattle.er_event.proofs.Prelude.{EventValue, IsSoundButForSeeds, Phase, Finished, Match, Games, All, Bool, Bor, List, None, Option, Some}
-use Rattle.er_event.proofs.Prelude.{[], ap, arith, cond, drop, false, get_or, is_some, length, option_map, suc, take, true, ℕ, ◌++◌, ◌-◌}
-use Rattle.er_event.proofs.Prelude.{◌<◌, ◌↔◌, ◌∙◌, ◌∷◌, ◌≡◌, ◌≤◌, set, common_steps, All-from_recursion, recursion_from_All, drop_all}
+use Rattle.er_event.proofs.Prelude.{[], ap, arith, cond, drop, false, get_or, is_some, length, option_map, suc, take, true, zero, ℕ, ◌++◌}
+use Rattle.er_event.proofs.Prelude.{◌-◌, ◌<◌, ◌↔◌, ◌∙◌, ◌∷◌, ◌≡◌, ◌≤◌, set, common_steps, All-from_recursion, recursion_from_All, drop_all}
 use Rattle.er_event.proofs.Prelude.{get_or_from_slice_get, gets, none-some, same_Some, slice_get_read, slice_get_within, AllByRecursion}
 use Rattle.er_event.proofs.Prelude.{slice_get}
 use Rattle.std.proofs.{Math.Bool.beq, lemmas.List.set-append_left}
@@ -43,7 +43,9 @@ module _ (stage : List Match) (over : Bool) where
 -- ---- the slot as it is read
 
 drop-some : {X : Type 0} (i : ℕ) (xs : List X) (x : X) → slice_get xs i ≡ Some x → drop i xs ≡ x ∷ drop (suc i) xs
-drop-some i xs x at = grind (arith, common_steps, gets)
+drop-some i [] x at = absurd (none-some x at)
+drop-some zero (y ∷ xs) x at = ap (λ z. z ∷ xs) (same_Some y x at)
+drop-some (suc i) (y ∷ xs) x at = drop-some i xs x at
 
 next-place : (stage : ℕ) → 1 ≤ stage → suc (stage - 1) ≡ stage
 next-place stage low = omega arith
@@ -69,6 +71,9 @@ module _ (e : EventValue) (stage slot : ℕ) (m : Match) (is : slot_at e stage s
   behind-some l at = rw (next-place stage low-stage) (drop-some stage e.bracket.stages l at)
 
   module _ (stages : List (List Match)) (list : stages ≡ e.bracket.stages) (i j : ℕ) (same : i ≡ stage) (place : j ≡ slot) where
+    pub stage-within : i - 1 < length stages
+    stage-within = rw (list, same) (slice_get_within e.bracket.stages (stage - 1) old f.at)
+
     module _ (x : List Match) (there : x ≡ get_or stages (i - 1) x) where
       pub stage-is : x ≡ old
       stage-is = there ∙ (rw (list, same) (get_or_from_slice_get e.bracket.stages (stage - 1) old x f.at))

@@ -3,7 +3,7 @@ use Rattle.er_event.proofs.Prelude.{FollowOn, IsDecided, SameSlots, last_match, 
 use Rattle.er_event.proofs.Prelude.{IsPlayoff, IsSoundButForSeeds, is_lawful_cut, numbers, AddBracket, Phase, Enrolling, Finished, Match}
 use Rattle.er_event.proofs.Prelude.{Bool, List, None, Some, [], ap, arith, drop, inl, inr, length, not, refl, subst, suc, sym, true, zero}
 use Rattle.er_event.proofs.Prelude.{ℕ, ◌++◌, ◌<◌, ◌==◌, ◌∙◌, ◌∷◌, ◌≡◌, ◌≤◌, set, nat_tests, common_steps, All-weaker, recursion_from_All}
-use Rattle.er_event.proofs.Prelude.{gets, none-some, same_Some, AllByRecursion, slice_get, nil_from_length}
+use Rattle.er_event.proofs.Prelude.{none-some, same_Some, AllByRecursion, slice_get, nil_from_length}
 use Rattle.er_event.proofs.{BracketLemmas.Lawful, SlotLemmas.{follow-split, last-after, same-seats, slots-refl}}
 use Rattle.er_event.specs.{Change.{IsOpening, with_bracket}, Sound.AllRoundsDone, declared.events.Phase.TheVariants.Playoff}
 
@@ -60,7 +60,9 @@ last-drop (suc k) (s ∷ more) within = grind (arith, common_steps, last-after, 
 
 pub drop-here : (k : ℕ) (stages : List (List Match)) (old : List Match) → slice_get stages k ≡ Some old
     → drop k stages ≡ old ∷ drop (suc k) stages
-drop-here k stages old at = grind (arith, common_steps, gets)
+drop-here k [] old at = absurd (none-some old at)
+drop-here zero (s ∷ stages) old at = ap (λ (x : List Match). x ∷ stages) (same_Some s old at)
+drop-here (suc k) (s ∷ stages) old at = drop-here k stages old at
 
 -- ---- an event in the playoff
 

@@ -3,8 +3,8 @@ use Rattle.er_event.proofs.Prelude.{open_match, Fits, scored, scored_slot, with_
 use Rattle.er_event.proofs.Prelude.{lines_of_match, own, IsAbsent, recounted, recounted_in, is_bye, is_counted, IsRound, IsSoundButForSeeds}
 use Rattle.er_event.proofs.Prelude.{numbers, totals, totals_of, AddRound, SetScore, Match, Round, Games, All, Bool, Contains, IsFalse, List}
 use Rattle.er_event.proofs.Prelude.{[], ap, arith, false, flat_map, get_or, if◌then◌else◌, length, refl, suc, sym, true, zero, ℕ, ◌+◌, ◌-◌}
-use Rattle.er_event.proofs.Prelude.{◌<◌, ◌∙◌, ◌∷◌, ◌≡◌, ◌≢◌, set, common_steps, All-cons, All-nil, get_or_default}
-use Rattle.er_event.proofs.{Pairs.All-last, RescoredLemmas.{as-scored, round-within, table-within}, TotalLemmas.absent_lines}
+use Rattle.er_event.proofs.Prelude.{◌<◌, ◌∙◌, ◌∷◌, ◌≡◌, ◌≢◌, set, common_steps, All-cons, All-nil, get_or_default, Line, ◌++◌}
+use Rattle.er_event.proofs.{Pairs.All-last, RescoredLemmas.{as-scored, round-within, table-within}, TotalLemmas.{absent, absent_lines}}
 use Rattle.er_event.proofs.TotalLemmas.{lines_from-push, own-append}
 use Rattle.er_event.specs.Recounted.{AreOf}
 
@@ -27,8 +27,17 @@ IsAway player m = (m.a ≢ player) × (m.b ≢ player)
 own-set : (player n k : ℕ) (ms : List Match) (new d : Match) → IsAway player new → (k < length ms → IsAway player (get_or ms k d))
     → own player (flat_map (lines_of_match n) (set ms k new)) ≡ own player (flat_map (lines_of_match n) ms)
 own-set player n k [] new d away before = refl
-own-set player n zero (m ∷ ms) new d away before = grind (arith, common_steps)
-own-set player n (suc k) (m ∷ ms) new d away before = grind (arith, common_steps, own-append, own-set player n k ms new d away)
+own-set player n zero (m ∷ ms) new d away before =
+    let rest = flat_map (lines_of_match n) ms in
+    let was = before (omega arith) in
+    let same = absent player n new away.0 away.1 ∙ sym (absent player n m was.0 was.1) in
+    own-append player (lines_of_match n new) rest
+    ∙ (ap (λ (ls : List Line). ls ++ own player rest) same ∙ sym (own-append player (lines_of_match n m) rest))
+own-set player n (suc k) (m ∷ ms) new d away before =
+    let more = own-set player n k ms new d away (λ below. before (omega arith)) in
+    own-append player (lines_of_match n m) (flat_map (lines_of_match n) (set ms k new))
+    ∙ (ap (λ (ls : List Line). own player (lines_of_match n m) ++ ls) more
+    ∙ sym (own-append player (lines_of_match n m) (flat_map (lines_of_match n) ms)))
 
 -- a complete round stays complete
 counted-set : (k : ℕ) (ms : List Match) (s : Games) (m : Match) → is_counted ms ≡ true → is_counted (set ms k (scored s m)) ≡ true

@@ -5,7 +5,8 @@ use Rattle.er_event.proofs.Prelude.{◌≡◌, ◌≤◌, length-map, Decides-in
 use Rattle.er_event.proofs.Prelude.{map-append, take_all, take_more, take_rest, Decides, AllByRecursion}
 use Rattle.std.proofs.{lemmas.List.Elements.All-head, Math.Seq.{drop-append_seam, drop-drop, take-add, take-append_seam}}
 use Rattle.std.proofs.lemmas.Bool.Decides.{Decides-and}
-use Rattle.std.specs.{List.prefix_len, Ordering.int_eq}
+use Rattle.std.proofs.{Common.{Option, Result, Some, nat_abs, of_z, pos, to_z, ◌^◌}, lemmas.{Int.to_z_pos, Result.Ok-from_Ok_iff}}
+use Rattle.std.specs.{Int.{FitsUnsignedBits, w64}, List.prefix_len, Ordering.int_eq, Result.{OkIff, result_ok}}
 
 -- ---- rows that agree in each column
 
@@ -19,6 +20,22 @@ pub agree-Decides : (columns : List (ℤ × ℤ)) → Decides (agree columns) (A
 agree-Decides [] = (λ _. tt, λ _. refl)
 agree-Decides (p ∷ []) = let same = Decides-int_eq p.0 p.1 in (λ is. (same.0 is, tt), λ is. same.1 is.0)
 agree-Decides (p ∷ q ∷ more) = Decides-and _ _ (Decides-int_eq p.0 p.1) (agree-Decides (q ∷ more))
+
+-- ---- a number in a column
+
+module _ {E : Type 0} (n : ℕ) (z : ℤ) (r : Result ℕ E) (o : Option ℕ) (is : o ≡ result_ok r) (shows : z ≡ pos n) where
+  column_read : (bits : ℕ) → OkIff r (FitsUnsignedBits bits (to_z w64 (of_z w64 z))) (nat_abs (to_z w64 (of_z w64 z)))
+      → n < 2 ^ bits → n < 65536 → o ≡ Some n
+  column_read bits reads fits few =
+      let same = ap (λ (z : ℤ). to_z w64 (of_z w64 z)) shows ∙ to_z_pos w64 n (omega arith) in
+      is ∙ ap result_ok (Ok-from_Ok_iff r (n < 2 ^ bits) n (rw same at reads) fits)
+
+  -- a column that shows a number is read as the number, where it fits 8 bits, or 16
+  pub read_8 : OkIff r (FitsUnsignedBits 8 (to_z w64 (of_z w64 z))) (nat_abs (to_z w64 (of_z w64 z))) → n < 256 → o ≡ Some n
+  read_8 reads fits = column_read 8 reads fits (omega arith)
+
+  pub read_16 : OkIff r (FitsUnsignedBits 16 (to_z w64 (of_z w64 z))) (nat_abs (to_z w64 (of_z w64 z))) → n < 65536 → o ≡ Some n
+  read_16 reads fits = column_read 16 reads fits fits
 
 -- ---- the rows of matches one after the other
 

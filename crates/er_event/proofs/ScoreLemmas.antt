@@ -4,7 +4,7 @@ use Rattle.er_event.proofs.Prelude.{numbered_from, seats, bye_score, is_swiss_sc
 use Rattle.er_event.proofs.Prelude.{SetScore, Match, Round, Games, All, AllPairs, Bor, Contains, IfSome, IsFalse, IsTrue, List, None}
 use Rattle.er_event.proofs.Prelude.{Option, Some, ap, arith, false, flat_map, get_or, length, option_map, subst, sym, take, true}
 use Rattle.er_event.proofs.Prelude.{true≢false, ℕ, ◌-◌, ◌<◌, ◌∙◌, ◌≡◌, ◌≢◌, ◌≤◌, set, nat_tests, common_steps, length-set}
-use Rattle.er_event.proofs.Prelude.{get_or_from_slice_get, slice_get_read, slice_get_within, slice_get}
+use Rattle.er_event.proofs.Prelude.{get_or_from_slice_get, slice_get_past, slice_get_read, slice_get_within, slice_get}
 use Rattle.er_event.proofs.{RoundLemmas.{All-of, of-All}, SeatLemmas.{pairings-same, seats-rounds, seats-set}, TableLemmas.at-place}
 use Rattle.er_event.proofs.TableLemmas.{score-place}
 
@@ -139,6 +139,9 @@ module _ (e : EventValue) (k t : ℕ) (s : Games) (m : Match) (is : match_at e k
 pub read-match : (e : EventValue) (k t i : ℕ) (q : Round) → k ≢ 0 → i ≡ k → i - 1 < length e.stored → q ≡ get_or e.stored (i - 1) q
     → match_at e k t ≡ match_in q.matches t
 read-match e k t i q some same within is = grind (arith, common_steps, nat_tests, slice_get, slice_get_read)
+
+pub read-past : (e : EventValue) (k t i : ℕ) → k ≢ 0 → i ≡ k → length e.stored ≤ i - 1 → match_at e k t ≡ None
+read-past e k t i some same past = grind (arith, common_steps, nat_tests, slice_get, slice_get_past)
 
 pub read-fits : (e : EventValue) (k t : ℕ) (found : Option (Bor Match)) → IsSoundButForSeeds e
     → match_at e k t ≡ option_map (λ (m : Bor Match). m.now) found

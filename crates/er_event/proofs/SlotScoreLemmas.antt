@@ -5,7 +5,7 @@ use Rattle.er_event.proofs.Prelude.{IsPlayoff, IsSoundButForSeeds, numbers, SetB
 use Rattle.er_event.proofs.Prelude.{IfSome, IsTrue, List, None, Option, Some, [], ap, arith, cond, drop, false, get_or, inr, is_some}
 use Rattle.er_event.proofs.Prelude.{length, option_map, refl, subst, suc, sym, true, ℕ, ◌&&◌, ◌++◌, ◌-◌, ◌<◌, ◌==◌, ◌↔◌, ◌∙◌, ◌∷◌, ◌≡◌, ◌≤◌}
 use Rattle.er_event.proofs.Prelude.{set, nat_tests, common_steps, All-from_recursion, recursion_from_All, get_or_from_slice_get, gets}
-use Rattle.er_event.proofs.Prelude.{slice_get_within, AllByRecursion, slice_get}
+use Rattle.er_event.proofs.Prelude.{slice_get_within, length-append, length-set, true≢false, AllByRecursion, slice_get}
 use Rattle.std.proofs.Common.{IsSome, MatchOption, nat_lt}
 use Rattle.er_event.proofs.{BracketLemmas.Lawful, PlayoffLemmas.{all-new, all-old, drop-here, drop-new, first-new, follow-drop}}
 use Rattle.er_event.proofs.{PlayoffLemmas.{follow-never, follow-new, in_playoff, last-drop, sound-playoff, started}, RoundLemmas.All-of}
@@ -41,7 +41,11 @@ module _ (e : EventValue) (k : ℕ) (old new : List Match) (at : slice_get e.bra
     stages = set e.bracket.stages k new ++ more
 
     last-new : last_match stages ≡ last_match (new ∷ (later ++ more))
-    last-new = grind (arith, common_steps, last-drop, bracket, at, drop-new)
+    last-new =
+        let within = slice_get_within e.bracket.stages k old at in
+        let count = length-set e.bracket.stages k new in
+        last-drop k stages (omega (arith, length-append (set e.bracket.stages k new) more))
+        ∙ ap last_match (drop-new new more k e.bracket.stages old at)
 
     decided-new : IsDecided stages ≡ IsDecided (new ∷ (later ++ more))
     decided-new = ap (λ (o : Option Match). MatchOption o ⊥ (λ (m : Match). IsSome m.score)) last-new
@@ -233,7 +237,9 @@ module _ (e : EventValue) (stage slot : ℕ) (score : Games) (m : Match) (is : s
   module _ (free : m.score ≡ None) where
     was-open : is_counted old ≡ true → ⊥
     was-open counted = let here = All-of (λ (k : Match). is_some k.score) old counted (slot - 1) m in
-        let there = f.here in grind (arith, common_steps, gets)
+        let there = get_or_from_slice_get old (slot - 1) m m f.here in
+        let within = slice_get_within old (slot - 1) m f.here in
+        true≢false (sym (here within) ∙ (ap (λ (n : Match). is_some n.score) there ∙ ap is_some free))
 
     is-last : (ss : List (List Match)) → behind ≡ ss → behind ≡ []
     is-last [] eq = eq

@@ -1,11 +1,25 @@
 use Rattle.er_event.proofs.Prelude.{IsEnd, scored, EventValue, IsSoundButForSeeds, Match, Bor, IsTrue, List, Some, ap, arith, false}
-use Rattle.er_event.proofs.Prelude.{is_some, length, option_map, subst, sym, true≢false, ◌-◌, ◌↔◌, ◌∙◌, set}
+use Rattle.er_event.proofs.Prelude.{is_some, length, none-some, option_map, refl, subst, sym, true≢false, ◌-◌, ◌↔◌, ◌∙◌, set}
 use Rattle.er_event.proofs.EndLemmas.{behind-none, behind-some, beq-same, later-read, none-map, same-beq, same-bools, slot-set}
-use Rattle.er_event.proofs.{EndLemmas.{slot-within, stage-few}, SlotLemmas.Stands, SlotScoreLemmas.{Fits-last, Fits-later, fits-playoff}}
+use Rattle.er_event.proofs.{EndLemmas.{slot-within, stage-few, stage-within}, SlotLemmas.Stands}
+use Rattle.er_event.proofs.SlotScoreLemmas.{Fits-last, Fits-later, fits-playoff}
 use Rattle.er_event.proofs.SlotScoreLemmas.{last-Fits, later-decided, later-none, later-stands}
 use Rattle.er_event.proofs.events.Event.fits_bracket_score.Goals.{then-is_some-via-else-is_some+then-not-follows}
 use Rattle.er_event.proofs.events.Event.fits_bracket_score.Goals.{then-is_some-via-then-is_some}
 use Rattle.er_event.proofs.events.Event.fits_bracket_score.Goals as goal
+
+pub returns-in_default : goal.returns-in_default
+returns-in_default c = (
+  λ never. absurd (true≢false (sym never)),
+  λ fits. absurd (none-some fits.named.0 (c.in_default.ensures.value ∙ fits.named.1)),
+)
+
+pub bounds-stages-from : goal.bounds-stages-from
+bounds-stages-from c =
+    let h = subst IsSoundButForSeeds c.self.view_is c.self.invariant in
+    let list = c.as_slice-stages.ensures ∙ ap (λ (v : EventValue). v.bracket.stages) c.self.view_is in
+    stage-within c.args.self.now c.args.stage c.args.slot c.in-Some.played.now (sym c.in-Some.ensures.value) h c.as_slice-stages.result.now
+    list c.from.result c.args.slot c.from.ensures refl
 
 pub with_match-slots-requires-clause-few : goal.with_match-slots-requires-clause-few
 with_match-slots-requires-clause-few c =

@@ -4,6 +4,12 @@ use Rattle.er_event.proofs.{RecountedLemmas.{added-known, added-same, scored-kno
 use Rattle.er_event.proofs.RescoredLemmas.{table-within}
 use Rattle.er_event.proofs.events.Event.matches_to_recount.Goals as goal
 
+pub bounds-stored-from : goal.bounds-stored-from
+bounds-stored-from c =
+    let score = c.in-SetScore in
+    let fits : Fits c.args.self.now (SetScore score.round score.table score.score) = subst (Fits c.args.self.now) score.is c.requires in
+    rw (c.stored-stored.ensures.value, c.from.ensures) (round-within c.args.self.now score.round score.table score.score fits)
+
 pub matches_to_recount_in-requires : goal.matches_to_recount_in-requires
 matches_to_recount_in-requires c = grind (arith, common_steps, get_or, table-within)
 

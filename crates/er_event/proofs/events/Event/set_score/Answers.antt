@@ -1,6 +1,14 @@
-use Rattle.er_event.proofs.Prelude.{Fits, EventValue, IsSoundButForSeeds, SetScore, value_of, arith, subst, sym, common_steps}
-use Rattle.er_event.proofs.ScoreLemmas.{fits-low, listed-within, written}
+use Rattle.er_event.proofs.Prelude.{Fits, EventValue, IsSoundButForSeeds, SetScore, value_of, arith, length, rules, subst, sym, ◌≡◌}
+use Rattle.er_event.proofs.Prelude.{common_steps}
+use Rattle.std.specs.Vec.{vec_len}
+use Rattle.er_event.proofs.{RescoredLemmas.round-within, ScoreLemmas.{fits-low, listed-within, written}}
 use Rattle.er_event.proofs.events.Event.set_score.Goals as goal
+
+pub index_mut-listed-requires : goal.index_mut-listed-requires
+index_mut-listed-requires c =
+    let fits = subst (λ (v : EventValue). Fits v (SetScore c.args.round c.args.table c.args.score)) (sym c.self.view_is) c.requires in
+    let count : length c.self.inside.stored.items ≡ vec_len c.self.inside.stored = search rules in
+    rw (c.from.ensures, ← count) (round-within (value_of c.self.inside) c.args.round c.args.table c.args.score fits)
 
 pub overflow_sub-from-2 : goal.overflow_sub-from-2
 overflow_sub-from-2 c = grind (arith, common_steps, fits-low)

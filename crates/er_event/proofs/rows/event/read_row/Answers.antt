@@ -1,4 +1,4 @@
-use Rattle.er_event.proofs.Prelude.{phase_code, arith, false, pos, refl, sym, ◌≡◌}
+use Rattle.er_event.proofs.Prelude.{phase_code, arith, false, pos, refl, sym, ◌∙◌, ◌≡◌}
 use Rattle.std.proofs.lemmas.Int.{ints}
 use Rattle.er_event.proofs.PartsLemmas.{read_is}
 use Rattle.er_event.proofs.rows.event.read_row.Goals as goal
@@ -16,7 +16,7 @@ returns-clause-value c =
     let rounds : row.rounds ≡ pos some.rounds = omega (arith, ints, some.ensures.value) in
     let cut : row.cut ≡ pos some.cut = omega (arith, ints, some.ensures'.value) in
     let phase : row.phase ≡ pos (phase_code some.phase) = omega (arith, ints, some.ensures''.value) in
-    let name : row.name ≡ c.in-Ok.name = cc in
+    let name : row.name ≡ c.in-Ok.name = sym (named.value ∙ c.as_slice.ensures) in
     let lawful = named.lawful.0 refl in
     read_is row _ counted.0 id version serial name rounds cut phase counted.1
     (record { name = rw (sym named.value) at lawful; rounds = (limits.0, limits.1); cut = limits.2 })
