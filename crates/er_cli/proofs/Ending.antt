@@ -1,9 +1,11 @@
 -- A flush keeps what was written, and where it fails what was written is a beginning of what is due.
 use Rattle.std.proofs.{Common.{◌≡◌, ◌⊎◌, inl, inr, ℕ, List, length, Option, None, refl, sym, subst, arith}, lemmas.List.take_all}
-use Rattle.std.proofs.KnownBytes.{Appends-kept, Keeps-trans}
+use Rattle.std.proofs.KnownBytes.{Appends-kept, Keeps-refl, Keeps-trans}
 use Rattle.std.specs.Io.KnownBytes.{Keeps}
-use Rattle.er_cli.specs.{declared.TheConstants.{DONE, USAGE, DEVICE, MEMORY}, Script.{RunsLines, Prints, PrintsPart}, Status.{Ends, Serves}}
-use Rattle.er_cli.specs.Status.{Breaks}
+use Rattle.er_cli.specs.{declared.TheConstants.{DONE, USAGE, DEVICE, MEMORY}, Script.{RunsLines, Prints, PrintsPart}}
+use Rattle.er_cli.specs.Status.{Breaks, Ends, EndsUnread, IsTooLong, Serves, UnreadPart}
+use Rattle.er_cli.specs.{declared.input.InputFault.InputFault, declared.input.InputFault.TheVariants.{TooLong, Read}}
+use Rattle.er_cli.specs.declared.input.InputFault.TheVariants as fault
 use Rattle.er_cli.proofs.Sending.{whole_part, part_kept}
 
 prints_whole : (lines : List (List ℕ)) (before after : Option (List ℕ)) → Prints lines before after → PrintsPart lines before after
@@ -77,6 +79,16 @@ pub Ends-breaks : (input before mid after : Option (List ℕ)) (status : ℕ) �
 Ends-breaks input before mid after status ends keeps =
     Breaks-kept input before mid after (broken input before mid status ends ends.one_of) keeps
 
+-- a script that was run to its end
+pub Ends-done : (input before after : Option (List ℕ)) → Serves input before after → Ends input before after DONE
+Ends-done input before after served = record {
+  done = λ _. served;
+  too_long = λ is. absurd (omega (arith, is));
+  device = λ is. absurd (omega (arith, is));
+  memory = λ is. absurd (omega (arith, is));
+  one_of = inl refl;
+}
+
 -- the status of a fault says no more than what was printed
 pub Ends-device : (input before after : Option (List ℕ)) → Breaks input before after → Ends input before after DEVICE
 Ends-device input before after breaks = record {
@@ -86,3 +98,32 @@ Ends-device input before after breaks = record {
   memory = λ is. absurd (omega (arith, is));
   one_of = inr (inr (inl refl));
 }
+
+-- ---- a script that is not run
+
+module _ (input before after : Option (List ℕ)) where
+  pub Ends-unread : (fault : InputFault) (status : ℕ) → (fault ≡ TooLong → IsTooLong input) → EndsUnread fault before after status
+      → Ends input before after status
+  Ends-unread TooLong status long (is, printed) = record {
+    done = λ other. absurd (omega (arith, is, other));
+    too_long = λ _. (long refl, printed);
+    device = λ other. absurd (omega (arith, is, other));
+    memory = λ other. absurd (omega (arith, is, other));
+    one_of = inr (inl is);
+  }
+  Ends-unread Read status long (is, same) =
+      let kept : Keeps before after = rw same (Keeps-refl before) in
+      subst (λ (s : ℕ). Ends input before after s) (sym is) (Ends-device input before after (inl kept))
+  Ends-unread fault.Memory status long (is, printed) = record {
+    done = λ other. absurd (omega (arith, is, other));
+    too_long = λ other. absurd (omega (arith, is, other));
+    device = λ other. absurd (omega (arith, is, other));
+    memory = λ _. printed;
+    one_of = inr (inr (inr is));
+  }
+
+  pub Breaks-unread : (fault : InputFault) → (fault ≡ TooLong → IsTooLong input) → UnreadPart fault before after
+      → Breaks input before after
+  Breaks-unread TooLong long part = inr (inr (inl (long refl, part)))
+  Breaks-unread Read long same = inl same
+  Breaks-unread fault.Memory long part = inr (inr (inr part))

@@ -1,13 +1,15 @@
 -- One name more of a list.
 use Rattle.std.proofs.Common.{◌≡◌, inl, inr, ℕ, ◌+◌, ◌<◌, Bool, true, false, IsFalse, List, [], ◌∷◌, ◌++◌, length, map, take, get_or}
-use Rattle.std.proofs.Common.{Some, None, Ok, Err, is_ok, not, refl, sym, ap, subst, ◌∙◌, arith, true≢false, append-nil, length-append}
-use Rattle.std.proofs.{Common.length-take-le, lemmas.List.{length-map, take_all, take_more, map-append}, lemmas.List.Elements.filter-append}
-use Rattle.std.proofs.lemmas.List.Folds.{list_any-append}
+use Rattle.std.proofs.Common.{Some, None, Ok, Err, OnOk, IfErr, is_ok, not, refl, sym, ap, subst, ◌∙◌, arith, true≢false}
+use Rattle.std.proofs.{Common.{append-nil, length-append, length-take-le}, lemmas.List.{length-map, take_all, take_more, map-append}}
+use Rattle.std.proofs.lemmas.List.{Elements.filter-append, Folds.list_any-append}
 use Rattle.std.specs.List.{filter, list_any, take-map}
 use Rattle.er_event.specs.{declared.commands.Command.Command, declared.commands.Command.TheVariants.Enrol}
 use Rattle.er_event.specs.{declared.commands.Receipt.Receipt, declared.refusals.Refusal.Refusal}
+use Rattle.sqlite_trees.specs.declared.store.Store.{Ghosts}
 use Rattle.er_store.specs.Fault.{IsFault}
-use Rattle.er_desk.specs.{Desk.{Standing, Turn}, Reply.Reply, Run.Runs}
+use Rattle.er_desk.specs.{declared.desk.Desk.Desk, Desk.{ShowsOwn, Standing, Turn, point_of, standing, state}, Headline.LeavesJust}
+use Rattle.er_desk.specs.{Reply.Reply, Run.Runs}
 use Rattle.er_paper.specs.declared.imports.PlayerLine.{PlayerLine}
 use Rattle.er_cli.specs.{declared.importing.Additions.Additions, Importing.{Enrols, is_already, is_stop, is_taken, names_of, additions_of}}
 
@@ -33,6 +35,16 @@ runs_on old new command reply (inr (inl it)) on = subst (λ (s : Standing). IsFa
 runs_on old new command reply (inr (inr (inl it))) on =
     absurd (true≢false (sym (fault_stops it.why it.fault) ∙ sym (ap is_stop it.answered) ∙ on))
 runs_on old new command reply (inr (inr (inr it))) on = absurd (true≢false (sym (ap is_stop it.answered) ∙ on))
+
+-- after a reply, while the desk runs, a crash leaves its event
+module _ {S : Type 0} (g : Ghosts S) (old new : Desk S g) where
+  pub replied_leaves : (reply : Reply) → (ShowsOwn g old → OnOk reply (LeavesJust (state g new) (point_of (standing new))))
+      → IfErr reply (λ _. IsFalse (standing new).stopped → new ≡ old)
+      → ShowsOwn g old → LeavesJust (state g old) (point_of (standing old)) → IsFalse (standing new).stopped
+      → LeavesJust (state g new) (point_of (standing new))
+  replied_leaves (Ok receipt) acknowledged same shows left runs = acknowledged shows
+  replied_leaves (Err why) acknowledged same shows left runs =
+      subst (λ (d : Desk S g). LeavesJust (state g d) (point_of (standing d))) (sym (same runs)) left
 
 -- ---- one name more was handed in
 

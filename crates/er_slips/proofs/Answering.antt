@@ -4,23 +4,24 @@ use Rattle.std.proofs.Common.{Some, None, Result, Ok, Err, IsTrue, IsFalse, IfOk
 use Rattle.std.proofs.{Common.{refl, sym, ap, subst, ◌∙◌}, lemmas.Bool.Decides.nat_tests}
 use Rattle.std.specs.{Io.KnownBytes.Keeps, List.AllByRecursion, declared.alloc.AllocError.AllocError}
 use Rattle.sqlite.specs.{Table.Table, Effect.Database}
-use Rattle.er_event.specs.{declared.refusals.Refusal.Refusal, declared.refusals.Refusal.TheVariants.{Memory, NeedsReopen}}
+use Rattle.er_event.specs.{declared.refusals.Refusal.Refusal, declared.refusals.Refusal.TheVariants.{Memory, NeedsReopen, NoSuchMatch}}
 use Rattle.er_event.specs.{declared.commands.TheConstants.MAX_SERIAL, declared.scores.Games.Games, declared.slips.SlipRow.SlipRow}
 use Rattle.er_event.specs.Event.{EventValue}
 use Rattle.er_json.specs.Slip.{slip_text}
 use Rattle.er_paper.specs.Texts.{rows_text}
 use Rattle.er_rank.specs.declared.rows.Row.{Row}
-use Rattle.er_store.specs.Standing.{IsOther, KeepsOthers}
+use Rattle.er_store.specs.{Fault.IsReadFault, Slip.FindsSlip, Standing.{IsOther, KeepsOthers}}
 use Rattle.sqlite_trees.specs.declared.store.Store.{Ghosts}
-use Rattle.er_desk.specs.{declared.desk.Desk.Desk, Desk.{Standing, Turn, ShowsEvent, ShowsOwn, point_of, standing, state, Reads, ReadsRows}}
+use Rattle.er_desk.specs.{declared.desk.Desk.Desk, Desk.{Standing, Turn, ShowsEvent, ShowsOwn, point_of, standing, state}}
+use Rattle.er_desk.specs.Desk.{Reads, ReadsRows, ReadsSlip}
 use Rattle.er_desk.specs.{Headline.{LeavesJust, AreTheStandings}, Reply.{Reply, receipt, reply_to, IsDue}}
 use Rattle.er_slips.specs.{declared.answer.Answer.Answer, declared.request.asked.Asked.Asked}
 use Rattle.er_slips.specs.{declared.request.asked.Asked.TheVariants.{Standings, Pairings, Slip, Report}, declared.request.asked.Fault.Fault}
 use Rattle.er_slips.specs.{declared.request.asked.Unasked.Unasked, declared.request.asked.Unasked.TheVariants.Refused}
 use Rattle.er_slips.specs.{declared.serve.Served.Served, declared.serve.Served.TheVariants.{Answered, ReadFault, WriteFault}, Request.Asks}
 use Rattle.er_slips.specs.{Request.TellsAsked, Answer.{AnswerValue, answer_value, fault_answer, refusal_answer, slip_answer, text_answer}}
-use Rattle.er_slips.specs.{Answer.status_of, Whole.{reply_answer, IsAnswered, submitted, IsAnswerUnless503}, Serving.IsRowsAnswer}
-use Rattle.er_slips.specs.Serving.{IsSlipAnswer, AnswersRequest, IsServed, IsUnserved, Writes, EndsServing, IsWritten}
+use Rattle.er_slips.specs.{Answer.status_of, Whole.{reply_answer, row_answer, IsAnswered, submitted, IsAnswerUnless503}}
+use Rattle.er_slips.specs.Serving.{IsRowsAnswer, IsSlipAnswer, AnswersRequest, IsServed, IsUnserved, Writes, EndsServing, IsWritten}
 use Rattle.er_event.specs.declared.commands.Command.TheVariants.{Result as Hand}
 
 pub reopening : (desk : Standing) (Shows : EventValue → AnswerValue → Type 0) (answer : AnswerValue) (why : Refusal)
@@ -31,7 +32,8 @@ reopening desk Shows answer why stopped is = inr (stopped.0, is ∙ ap refusal_a
 pub made-is : (made : Result Answer AllocError) (answer due : AnswerValue) → IfOk made (λ a. answer_value a ≡ due)
     → MatchResult made (λ a. answer ≡ answer_value a) (λ _. answer ≡ refusal_answer Memory)
     → (answer ≡ due) ⊎ (answer ≡ refusal_answer Memory)
-made-is h1 answer due of is = grind (arith, common_steps)
+made-is (Ok made) answer due of is = inl (is ∙ of)
+made-is (Err error) answer due of is = inr is
 
 pub slip-made : (read : Result SlipRow Refusal) (row : SlipRow) (made : Result Answer AllocError) (answer : AnswerValue) → read ≡ Ok row
     → IfOk made (λ a. answer_value a ≡ slip_answer (slip_text row))
@@ -99,6 +101,9 @@ ends-unserved Stood input old before after answer served is wrote = grind (arith
 
 -- ---- the answer of a desk that runs, over tables that stand
 
+same-refusal : {A : Type 0} (why other : Refusal) → ◌≡◌ {A = Result A Refusal} (Err why) (Err other) → why ≡ other
+same-refusal why other is = cc
+
 module _ (old new : Standing) (input : List ℕ) (answer : AnswerValue) (runs : IsFalse old.stopped) where
   exact : (asked : Result Asked Fault) → Asks input asked → IsAnswered old.event old.serial asked answer
       → IsAnswerUnless503 old.event old.serial input answer
@@ -106,6 +111,11 @@ module _ (old new : Standing) (input : List ℕ) (answer : AnswerValue) (runs : 
 
   hindered : (why : Refusal) → status_of why ≡ 503 → answer ≡ refusal_answer why → IsAnswerUnless503 old.event old.serial input answer
   hindered why is same = inr (ap (λ (a : AnswerValue). a.status) same ∙ is)
+
+  faulty : (why : Refusal) → IsReadFault why → answer ≡ refusal_answer why → IsAnswerUnless503 old.event old.serial input answer
+  faulty why (inl (inl memory)) e = hindered why (ap status_of memory) e
+  faulty why (inl (inr refused)) e = hindered why (ap status_of refused) e
+  faulty why (inr row) e = hindered why (ap status_of row) e
 
   runs-on : {A : Type 0} → IsTrue old.stopped → A
   runs-on stopped = absurd (true≢false (sym stopped ∙ runs))
@@ -120,8 +130,10 @@ module _ (old new : Standing) (input : List ℕ) (answer : AnswerValue) (runs : 
   )
   rows-by (Ok rows) is reads are (inr memory) = hindered Memory refl memory
   rows-by (Err why) is (inl (running, same, inl ok)) are e = absurd (true≢false (sym ok))
-  rows-by (Err why) is (inl (running, same, inr memory)) are e = grind (arith, common_steps)
-  rows-by (Err why) is (inr (inl (running, same, other, fault, f))) are e = grind (arith, common_steps)
+  rows-by (Err why) is (inl (running, same, inr memory)) are e =
+      hindered Memory refl (e ∙ ap refusal_answer (same-refusal why Memory memory))
+  rows-by (Err why) is (inr (inl (running, same, other, fault, f))) are e =
+      faulty why (subst IsReadFault (sym (same-refusal why other f)) fault) e
   rows-by (Err why) is (inr (inr (stopped, same, f))) are e = runs-on stopped
 
   reply-by : (round table : ℕ) (score : Games) (reply : Reply) → Asks input (Ok (Report round table score))
@@ -140,15 +152,29 @@ module _ (old new : Standing) (input : List ℕ) (answer : AnswerValue) (runs : 
           → IsAnswerUnless503 old.event old.serial input answer
       by (inl memory) = hindered Memory refl (e ∙ ap reply_answer it.answered ∙ ap refusal_answer memory)
       by (inr due) = exact (Ok (Report round table score)) is (Err it.why, due, e ∙ ap reply_answer it.answered)
-  reply-by round table score reply is (inr (inr (inl it))) e = grind (arith, common_steps)
+  reply-by round table score reply is (inr (inr (inl it))) e = faulty it.why (inl it.fault) (e ∙ ap reply_answer it.answered)
   reply-by round table score reply is (inr (inr (inr it))) e = runs-on it.was_stopped
+
+  slip-by : (round table : ℕ) (read : Result SlipRow Refusal) → Asks input (Ok (Slip round table)) → ReadsSlip old read new
+      → FindsSlip old.event round table read → IsSlipAnswer read answer → IsAnswerUnless503 old.event old.serial input answer
+  slip-by round table (Ok row) is reads found (inl e) = exact (Ok (Slip round table)) is (e ∙ ap row_answer (sym found))
+  slip-by round table (Ok row) is reads found (inr memory) = hindered Memory refl memory
+  slip-by round table (Err why) is (inl (running, same, inl ok)) found e = absurd (true≢false (sym ok))
+  slip-by round table (Err why) is (inl (running, same, inr passes)) found e =
+      let no_match = same-refusal why NoSuchMatch passes in
+      exact (Ok (Slip round table)) is (e ∙ ap refusal_answer no_match ∙ ap row_answer (sym (found no_match)))
+  slip-by round table (Err why) is (inr (inl (running, same, other, fault, f))) found e =
+      faulty why (subst IsReadFault (sym (same-refusal why other f)) fault) e
+  slip-by round table (Err why) is (inr (inr (stopped, same, f))) found e = runs-on stopped
 
   answered-by : (Stood : Type 0) → Stood → (asked : Result Asked Fault) → Asks input asked → AnswersRequest Stood old asked answer new
       → IsAnswerUnless503 old.event old.serial input answer
   answered-by Stood stood (Err fault) is answers = exact (Err fault) is answers.0
   answered-by Stood stood (Ok Standings) is (read, reads, found, e) = rows-by read is reads (found stood) e
-  answered-by Stood stood (Ok (Pairings round)) is answers = grind (arith, common_steps)
-  answered-by Stood stood (Ok (Slip round table)) is (read, reads, found, e) = grind (arith, common_steps)
+  answered-by Stood stood (Ok (Pairings round)) is (inl (running, inl shown), same) = exact (Ok (Pairings round)) is shown
+  answered-by Stood stood (Ok (Pairings round)) is (inl (running, inr memory), same) = hindered Memory refl memory
+  answered-by Stood stood (Ok (Pairings round)) is (inr (stopped, e), same) = runs-on stopped
+  answered-by Stood stood (Ok (Slip round table)) is (read, reads, found, e) = slip-by round table read is reads (found stood) e
   answered-by Stood stood (Ok (Report round table score)) is (reply, turn, e) = reply-by round table score reply is turn e
 
   due-by : (Stood : Type 0) → Stood → IsServed Stood (Some input) old answer new ⊎ IsUnserved old answer new
@@ -188,4 +214,9 @@ module _ {S : Type 0} (g : Ghosts S) (old new : Desk S g) where
   -- after reading, the desk stands where it stood
   pub read-leaves : {A : Type 0} (passing : Refusal) (read : Result A Refusal) → Reads passing (standing old) read (standing new)
       → LeavesJust (state g new) (point_of (standing old)) → LeavesJust (state g new) (point_of (standing new))
-  read-leaves passing read h1 leaves = grind (arith, common_steps)
+  read-leaves passing read (inl (running, same, ended)) leaves =
+      subst (λ (s : Standing). LeavesJust (state g new) (point_of s)) (sym same) leaves
+  read-leaves passing read (inr (inl (running, same, why, fault, stops))) leaves =
+      subst (λ (s : Standing). LeavesJust (state g new) (point_of s)) (sym same) leaves
+  read-leaves passing read (inr (inr (stopped, same, waits))) leaves =
+      subst (λ (s : Standing). LeavesJust (state g new) (point_of s)) (sym same) leaves

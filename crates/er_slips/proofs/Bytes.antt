@@ -35,3 +35,9 @@ shorter old new m n le same = sym (take-take m n new le) ∙ ap (take m) same �
 pub came_more : (start a b : Option (List ℕ)) (old new : List ℕ) (f n : ℕ) → take f new ≡ take f old → Consumes start a (take f old)
     → Consumes a b (slice_range new f (f + n)) → Consumes start b (take (f + n) new)
 came_more start a b old new f n kept before came = grind (arith, common_steps, Consumes-trans, grown)
+
+-- or none came
+pub none_came : (start a b : Option (List ℕ)) (old new : List ℕ) (f n : ℕ) → n ≡ 0 → take f new ≡ take f old
+    → Consumes start a (take f old) → Consumes a b (slice_range new f (f + n)) → Consumes start b (take f new)
+none_came start a b old new f n zero kept before came =
+    let same : f + n ≡ f = omega (arith, zero) in rw same at (came_more start a b old new f n kept before came)

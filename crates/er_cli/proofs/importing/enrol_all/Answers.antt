@@ -1,4 +1,5 @@
 use Rattle.std.proofs.Common.{◌≡◌, ◌+◌, ◌≤◌, IsFalse, None, false, arith, sym, ◌∙◌, ap, subst, not, take}
+use Rattle.std.proofs.lemmas.List.{take_all}
 use Rattle.er_desk.specs.Desk.{standing}
 use Rattle.er_cli.specs.{declared.importing.Additions.Additions, Importing.{Enrols, is_stop, names_of}}
 use Rattle.er_cli.proofs.{Enrolling.{added, ended, found, runs_on}, importing.enrol_all.Goals.{in-Ok, in-Err}}
@@ -9,6 +10,13 @@ returns-in-Err-2-clause-enrols g c =
     ended c.args.lines.now c.loop-line.line-index c.line-item.result c.loop-line-test.true c.line-item.is _ _ _ c.loop-line.additions
     c.loop-line.invariant.enrols c.enrol.result c.enrol.ensures.turn
     c.in-Err.why c.in-Err.is (sym c.if-is_taken.ensures)
+
+pub returns-in-Err-2-clause-clean : goal.returns-in-Err-2-clause-clean
+returns-in-Err-2-clause-clean g c clean = c.loop-line.invariant.clean (c.enrol.ensures.clean clean)
+
+pub returns-in-Err-2-clause-stands : goal.returns-in-Err-2-clause-stands
+returns-in-Err-2-clause-stands g c clean shows =
+    c.enrol.ensures.stands clean (c.loop-line.invariant.stands (c.enrol.ensures.clean clean) shows)
 
 pub returns-in-Err-2-clause-leaves : goal.returns-in-Err-2-clause-leaves
 returns-in-Err-2-clause-leaves g c = λ shows left runs clean trees may.
@@ -47,3 +55,10 @@ loop-line-preserved g c =
       stands = λ clean shows. one.stands clean (inv.stands (one.clean clean) shows) runs;
       leaves = λ shows left clean trees may. one.leaves (inv.stands (one.clean clean) shows) (inv.leaves shows left) runs clean trees may;
     }
+
+pub returns-clause-enrols : goal.returns-clause-enrols
+returns-clause-enrols g c =
+    let all = take_all c.loop-line.line-index c.args.lines.now c.loop-line-test.false in rw all at c.loop-line.invariant.enrols
+
+pub returns-clause-leaves : goal.returns-clause-leaves
+returns-clause-leaves g c shows left runs = c.loop-line.invariant.leaves shows left
