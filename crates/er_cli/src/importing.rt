@@ -23,14 +23,14 @@ use std::io::Write;
 pub const MAX_LIST_BYTES: usize = 131_072;
 
 /// How many names an import has added, and how many were there already.
-#[derive(Clone, Copy, Debug, PartialEq, Eq)]
+#[derive(Clone, Copy)]
 pub struct Additions {
     pub added: usize,
     pub already: usize,
 }
 
 /// How an import has ended: with all names, or at the first that is refused otherwise than as taken.
-#[derive(Debug, Drop)]
+#[derive(Drop)]
 pub struct Enrolled {
     pub additions: Additions,
     pub stop: Option<Refusal>,

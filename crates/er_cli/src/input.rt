@@ -9,7 +9,7 @@ use std::io::{self, Read};
 pub const MAX_SCRIPT_BYTES: usize = 65_536;
 
 /// Why an input was not read.
-#[derive(Clone, Copy, Debug, PartialEq, Eq)]
+#[derive(Clone, Copy)]
 pub enum InputFault {
     TooLong,
     /// A read failed.

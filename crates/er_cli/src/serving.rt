@@ -51,7 +51,7 @@ fn serve_client<S: Alter>(alloc: Global, desk: &mut Desk<S>, client: &TcpStream)
 }
 
 /// The listener gave no connection.
-#[derive(Clone, Copy, Debug, PartialEq, Eq)]
+#[derive(Clone, Copy)]
 struct AcceptFault;
 
 /// Serves so many clients, one after the other.

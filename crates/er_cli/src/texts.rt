@@ -7,7 +7,7 @@ use er_paper::ShortText;
 use std::io::Write;
 
 /// What a line of a script is answered.
-#[derive(Debug, Drop)]
+#[derive(Drop)]
 pub enum Answer {
     Accepted(Receipt),
     Text(Items<u8>),
@@ -16,7 +16,7 @@ pub enum Answer {
 }
 
 /// A write or a flush failed.
-#[derive(Clone, Copy, Debug, PartialEq, Eq)]
+#[derive(Clone, Copy)]
 pub struct WriteFault;
 
 /// Writes the bytes, by one call where the writer takes them all. A call that takes none has failed.

@@ -10,7 +10,7 @@ use std::alloc::{AllocError, Global};
 const KEPT: usize = 1024;
 
 /// Where a search found no legal pairing, and the steps that it took. With no place left in the word it stands for none.
-#[derive(Clone, Copy, Debug)]
+#[derive(Clone, Copy)]
 pub struct KnownDeadEnd {
     index: usize,
     left: u64,

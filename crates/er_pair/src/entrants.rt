@@ -4,7 +4,7 @@ ghost use Rattle.er_pair.specs.inside.Entrant.{is_before};
 use std::cmp::Reverse;
 
 /// What decides where a player stands in the order: more match points first, then the smaller key, then the smaller number.
-#[derive(Clone, Copy, Debug, PartialEq, Eq, PartialOrd, Ord)]
+#[derive(Clone, Copy, PartialEq, Eq, PartialOrd, Ord)]
 pub struct Entrant {
     pub points: Reverse<u8>,
     pub key: u32,

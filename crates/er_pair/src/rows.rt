@@ -68,7 +68,7 @@ pub fn empty_rows(alloc: Global, count: usize) -> Result<Vec<Row>, AllocError>
 }
 
 /// A place in a walk over the places that two rows leave free: the word that it stands in, and the bits of that word that are ahead.
-#[derive(Clone, Copy, Debug)]
+#[derive(Clone, Copy)]
 pub struct Cursor {
     pub index: usize,
     pub left: u64,

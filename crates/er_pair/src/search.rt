@@ -8,7 +8,7 @@ use crate::rows::{Cursor, Row};
 use er_event::MAX_PLAYERS;
 
 /// How a search ended.
-#[derive(Clone, Copy, Debug, PartialEq, Eq)]
+#[derive(Clone, Copy)]
 pub enum Outcome {
     /// The pairs are found.
     Paired,

@@ -51,7 +51,7 @@ pub struct ResultLine {
 }
 
 /// Which heading a table of players has.
-#[derive(Clone, Copy, Debug, PartialEq, Eq)]
+#[derive(Clone, Copy)]
 enum Heading {
     Full,
     Names,

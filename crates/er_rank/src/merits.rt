@@ -10,7 +10,7 @@ use std::cmp::Reverse;
 
 /// What decides where a player stands, one after the other, the greater first: match points, opponents' match-win,
 /// own game-win and opponents' game-win percentage.
-#[derive(Clone, Copy, Debug, PartialEq, Eq, PartialOrd, Ord)]
+#[derive(Clone, Copy, PartialEq, Eq, PartialOrd, Ord)]
 pub struct Merit {
     pub points: Reverse<u8>,
     pub omw: Reverse<Share>,

@@ -12,7 +12,7 @@ use er_event::{PlayerNo, Tally};
 use std::alloc::{AllocError, Global};
 
 /// Where a player stands: by merit, and then by number.
-#[derive(Clone, Copy, Debug, PartialEq, Eq, PartialOrd, Ord)]
+#[derive(Clone, Copy, PartialEq, Eq, PartialOrd, Ord)]
 pub struct Placing {
     pub merit: Merit,
     pub player: PlayerNo,

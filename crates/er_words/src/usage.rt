@@ -29,7 +29,7 @@ pub enum UsageFault {
 }
 
 /// What a word has to be.
-#[derive(Clone, Copy, Debug, PartialEq, Eq)]
+#[derive(Clone, Copy)]
 enum Kind {
     Text,
     SmallNumber,
