@@ -1,11 +1,7 @@
-ghost use Rattle.std.specs.Prelude.{◌≡◌, false, IfSome};
-
-use crate::helpers::{commands, desk_after, new_desk, submit};
-use crate::requests::are_unavailable;
+use crate::helpers::{commands, desk_after, submit};
 use er_desk::{Desk, Reply};
-use er_event::{Cause, Receipt, Refusal};
-use sqlite::{Alter, Connection, FileStore, Files, MemStore, Options};
-use sqlite_disk::{Fuse, Memory};
+use er_event::{Receipt, Refusal};
+use sqlite::MemStore;
 use std::alloc::Global;
 use std::test::Fail;
 
@@ -59,64 +55,5 @@ fn plays(alloc: Global) -> Option<bool> {
 #[test]
 fn a_desk_answers_and_is_adopted(rt: HostRuntime) -> Result<(), Fail> {
     assert_eq!(rt; plays(rt.alloc()), Some(true));
-    Ok(())
-}
-
-/// An empty database, whose log fails after so many calls.
-fn failing(alloc: Global, calls: u64) -> Option<Connection<FileStore<Fuse<Memory>>>>
-    ensures { IfSome result (λ conn. conn.in_transaction ≡ false) }
-{
-    let log = Fuse::new(Memory::new(alloc), calls);
-    let db = Fuse::new(Memory::new(alloc), u64::MAX);
-    Connection::open_files(alloc, Files { log, db }, Options::new(7)).ok()
-}
-
-/// What the desk answers to the player of this number.
-fn enrol<S: Alter>(alloc: Global, desk: &mut Desk<S>, number: u16) -> Option<Reply> {
-    match format!(in alloc; "enrol P{number}") {
-        Ok(line) => submit(alloc, desk, line.as_str()),
-        Err(_) => None,
-    }
-}
-
-/// The first refusal of the players P1, P2, .. that are enrolled in turn.
-fn first_refusal<S: Alter>(alloc: Global, desk: &mut Desk<S>) -> Option<Refusal> {
-    for number in 1..=512 {
-        if let Err(why) = enrol(alloc, desk, number)? {
-            return Some(why);
-        }
-    }
-    None
-}
-
-const REFUSED: Refusal = Refusal::Store {
-    cause: Cause::Refused,
-};
-
-/// Whether the desk is to be opened anew: as it says of itself, to a command, to the reader of a slip and to requests.
-fn is_stopped<S: Alter>(alloc: Global, desk: &mut Desk<S>) -> bool {
-    desk.needs_reopen()
-        && submit(alloc, desk, "enrol Ana") == Some(Err(Refusal::NeedsReopen))
-        && desk.slip(alloc, 1, 1).err() == Some(Refusal::NeedsReopen)
-        && are_unavailable(alloc, desk)
-}
-
-/// Whether the first refusal is that of the device, after which the desk is stopped.
-fn stops<S: Alter + Drop>(alloc: Global, conn: Connection<S>) -> Option<bool>
-    requires { conn.in_transaction ≡ false }
-{
-    let mut desk = new_desk(alloc, conn, 3, 0)?;
-    let why = first_refusal(alloc, &mut desk);
-    Some(why == Some(REFUSED) && is_stopped(alloc, &mut desk))
-}
-
-fn stops_with_the_device(alloc: Global) -> Option<bool> {
-    stops(alloc, failing(alloc, 100)?)
-}
-
-/// After a fault of the device the desk takes no command, shows no slip, and answers each request with a 503.
-#[test]
-fn a_fault_of_the_device_stops_the_desk(rt: HostRuntime) -> Result<(), Fail> {
-    assert_eq!(rt; stops_with_the_device(rt.alloc()), Some(true));
     Ok(())
 }

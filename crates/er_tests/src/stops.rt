@@ -5,11 +5,12 @@ ghost use Rattle.sqlite_disk.specs.Memory.{memory_is_usable};
 ghost use Rattle.sqlite_disk.specs.Fuse.{inner_of, IsFresh};
 
 use crate::helpers::{command, name, new_desk};
+use crate::requests::are_unavailable;
 use crate::stores::are_same;
 use er_desk::{Desk, Reply};
 use er_event::{Cause, Command, Event, Refusal};
 use er_paper::{bracket_text, standings_text};
-use sqlite::{Alter, Connection, FileStore, Files, MemStore, Options};
+use sqlite::{Alter, Connection, Files, MemStore, Options};
 use sqlite_disk::{Crash, Disk, Fuse, Memory};
 use std::alloc::Global;
 use std::test::Fail;
@@ -77,10 +78,24 @@ struct Ended {
     files: Disks,
 }
 
-fn closed(acknowledged: Option<usize>, conn: Connection<FileStore<Fuse<Memory>>>) -> Ended {
-    Ended {
-        acknowledged,
-        files: conn.into_store().close(),
+/// What a session does over a connection.
+#[derive(Clone, Copy)]
+enum Session {
+    /// It creates the event, and sends the commands before this place.
+    First { to: usize },
+    /// It opens the event, and sends the commands before the second place. Those before the first one were acknowledged.
+    Next { before: usize, to: usize },
+    /// It opens what so many acknowledged commands left, none where creation was not, and sends all that come after them.
+    Rest { acknowledged: Option<usize> },
+}
+
+impl Session {
+    /// What is acknowledged where the files were not opened.
+    const fn unopened(self) -> Option<usize> {
+        match self {
+            Session::Next { before, to: _ } => Some(before),
+            Session::First { to: _ } | Session::Rest { acknowledged: _ } => None,
+        }
     }
 }
 
@@ -103,45 +118,49 @@ fn receipts(replies: &[Reply]) -> Option<usize> {
     all.then_some(count)
 }
 
+/// Whether the desk is to be opened anew: as it says of itself, to a command, to the reader of a slip and to requests.
+fn is_stopped<S: Alter>(alloc: Global, desk: &mut Desk<S>) -> bool {
+    desk.needs_reopen()
+        && desk.submit(alloc, Command::Start) == Err(Refusal::NeedsReopen)
+        && desk.slip(alloc, 1, 1).err() == Some(Refusal::NeedsReopen)
+        && are_unavailable(alloc, desk)
+}
+
 /// Sends a case's commands from the serial on and before this place. The count of all that were acknowledged then. A desk that was stopped takes
-/// no other command.
+/// no other command, shows no slip, and answers each request with a 503.
 fn send<S: Alter>(alloc: Global, desk: &mut Desk<S>, case: Case, to: usize) -> Option<usize> {
     let serial = desk.serial().ok()? as usize;
     let replies = desk
         .run(alloc, commands(alloc, case.lines, serial, to)?)
         .ok()?;
     let count = serial.checked_add(receipts(replies.as_slice())?)?;
-    let waits = count == to || desk.submit(alloc, Command::Start) == Err(Refusal::NeedsReopen);
+    let waits = count == to || is_stopped(alloc, desk);
     waits.then_some(count)
 }
 
-/// A session over empty files, which creates the event and sends the commands before this place.
-fn first_session(alloc: Global, case: Case, log: u64, db: u64, to: usize) -> Option<Ended> {
-    let friday = name("Friday")?;
-    let files = Files {
-        log: Fuse::new(Memory::new(alloc), log),
-        db: Fuse::new(Memory::new(alloc), db),
-    };
-    let conn = match Connection::open_files(alloc, files, Options::new(7)) {
-        Ok(conn) => conn,
-        Err((_error, left)) => {
-            return Some(Ended {
-                acknowledged: None,
-                files: left.into_files(),
-            });
-        }
+/// Creates an event over a connection and sends the commands before this place. The count of all that were acknowledged then.
+fn create_on<S: Alter>(
+    alloc: Global,
+    case: Case,
+    conn: Connection<S>,
+    to: usize,
+) -> (Option<usize>, Connection<S>)
+    requires { conn.in_transaction ≡ false }
+{
+    let Some(friday) = name("Friday") else {
+        return (None, conn);
     };
     match Desk::create(alloc, conn, friday, case.rounds, case.cut) {
         Ok(mut desk) => {
             let acknowledged = send(alloc, &mut desk, case, to);
-            Some(closed(acknowledged, desk.close()))
+            (acknowledged, desk.close())
         }
-        Err((conn, _why)) => Some(closed(None, conn)),
+        Err((conn, _why)) => (None, conn),
     }
 }
 
 /// Opens an event over a connection and sends the commands before this place. The count of all that were acknowledged then.
-fn session_on<S: Alter>(
+fn adopt_on<S: Alter>(
     alloc: Global,
     case: Case,
     conn: Connection<S>,
@@ -159,24 +178,6 @@ fn session_on<S: Alter>(
     }
 }
 
-/// A session over the files of an event with so many commands. Where it stops while it opens them, nothing more is acknowledged.
-fn next_session(alloc: Global, case: Case, files: Disks, before: usize, to: usize) -> Ended
-    requires { IsTrue (memory_is_usable (inner_of files.log)) × IsFresh files.log
-        × IsTrue (memory_is_usable (inner_of files.db)) × IsFresh files.db }
-{
-    let conn = match Connection::open_files(alloc, files, Options::new(7)) {
-        Ok(conn) => conn,
-        Err((_error, left)) => {
-            return Ended {
-                acknowledged: Some(before),
-                files: left.into_files(),
-            };
-        }
-    };
-    let (acknowledged, conn) = session_on(alloc, case, conn, before, to);
-    closed(acknowledged, conn)
-}
-
 /// Whether this is the event that so many commands make with no stop, with its standings.
 fn is_unstopped(alloc: Global, case: Case, count: usize, event: &Event) -> Option<bool> {
     let desk = unstopped(alloc, case, count)?;
@@ -184,6 +185,16 @@ fn is_unstopped(alloc: Global, case: Case, count: usize, event: &Event) -> Optio
     let same_text = standings_text(alloc, event).ok()?.as_slice()
         == standings_text(alloc, plain).ok()?.as_slice();
     Some(same_text && are_same(event, plain))
+}
+
+/// The same of a desk's event.
+fn is_desk_unstopped<S: Alter>(
+    alloc: Global,
+    case: Case,
+    count: usize,
+    desk: &Desk<S>,
+) -> Option<bool> {
+    is_unstopped(alloc, case, count, desk.event().ok()?)
 }
 
 /// Whether an opening may find this serial: that of the acknowledged commands, or one more; and 0 where creation was not acknowledged.
@@ -202,47 +213,106 @@ fn ends_well<S: Alter>(
     acknowledged: Option<usize>,
 ) -> Option<bool> {
     let serial = desk.serial().ok()? as usize;
-    let begins_well = is_unstopped(alloc, case, serial, desk.event().ok()?)?;
+    let begins_well = is_desk_unstopped(alloc, case, serial, desk)?;
     let all = case.lines.lines().count();
     let is_sent = send(alloc, desk, case, all) == Some(all);
-    let ends_well = is_unstopped(alloc, case, all, desk.event().ok()?)?;
+    let ends_well = is_desk_unstopped(alloc, case, all, desk)?;
     Some(may_find(acknowledged, serial) && begins_well && is_sent && ends_well)
 }
 
-/// Whether the tables hold the event of all commands, as whoever opens them next finds it.
-fn holds_all<S: Alter + Drop>(alloc: Global, case: Case, conn: Connection<S>) -> Option<bool>
+/// The count of all commands, if the tables hold their event, as whoever opens them next finds it.
+fn holds_all<S: Alter>(
+    alloc: Global,
+    case: Case,
+    conn: Connection<S>,
+) -> (Option<usize>, Connection<S>)
     requires { conn.in_transaction ≡ false }
 {
-    let desk = Desk::adopt(alloc, conn).ok()?;
-    is_unstopped(alloc, case, case.lines.lines().count(), desk.event().ok()?)
+    let all = case.lines.lines().count();
+    match Desk::adopt(alloc, conn) {
+        Ok(desk) => {
+            let holds = is_desk_unstopped(alloc, case, all, &desk);
+            ((holds == Some(true)).then_some(all), desk.close())
+        }
+        Err((conn, _why)) => (None, conn),
+    }
 }
 
-/// Whether what a connection shows is an event that may be there, leads to the end, and stays in the tables.
-fn goes_on_from<S: Alter + Drop>(
+/// How many commands are acknowledged in the end, if what a connection shows is an event that may be there, leads to the end, and stays in the
+/// tables. There may be none where creation was not acknowledged.
+fn goes_on_from<S: Alter>(
     alloc: Global,
     case: Case,
     conn: Connection<S>,
     acknowledged: Option<usize>,
-) -> Option<bool>
+) -> (Option<usize>, Connection<S>)
     requires { conn.in_transaction ≡ false }
 {
     match Desk::adopt(alloc, conn) {
         Ok(mut desk) => {
             let is_well = ends_well(alloc, &mut desk, case, acknowledged);
-            let stays = holds_all(alloc, case, desk.close());
-            Some(is_well == Some(true) && stays == Some(true))
+            let (all, conn) = holds_all(alloc, case, desk.close());
+            (if is_well == Some(true) { all } else { None }, conn)
         }
-        Err((_conn, why)) => Some(acknowledged.is_none() && why == Refusal::NoEvent),
+        Err((conn, why)) => {
+            let may_be_none = acknowledged.is_none() && why == Refusal::NoEvent;
+            (may_be_none.then_some(0), conn)
+        }
     }
+}
+
+/// The count of commands that are acknowledged after a session over a connection, and its store.
+fn run_on<S: Alter + Drop>(
+    alloc: Global,
+    case: Case,
+    conn: Connection<S>,
+    session: Session,
+) -> (Option<usize>, S)
+    requires { conn.in_transaction ≡ false }
+{
+    let (acknowledged, conn) = match session {
+        Session::First { to } => create_on(alloc, case, conn, to),
+        Session::Next { before, to } => adopt_on(alloc, case, conn, before, to),
+        Session::Rest { acknowledged } => goes_on_from(alloc, case, conn, acknowledged),
+    };
+    (acknowledged, conn.into_store())
+}
+
+/// A session over these files.
+fn run_over(alloc: Global, case: Case, files: Disks, session: Session) -> Ended
+    requires { IsTrue (memory_is_usable (inner_of files.log)) × IsFresh files.log
+        × IsTrue (memory_is_usable (inner_of files.db)) × IsFresh files.db }
+{
+    match Connection::open_files(alloc, files, Options::new(7)) {
+        Ok(conn) => {
+            let (acknowledged, store) = run_on(alloc, case, conn, session);
+            let files = store.close();
+            Ended {
+                acknowledged,
+                files,
+            }
+        }
+        Err((_error, left)) => Ended {
+            acknowledged: session.unopened(),
+            files: left.into_files(),
+        },
+    }
+}
+
+/// A session over empty files, which creates the event and sends the commands before this place.
+fn first_session(alloc: Global, case: Case, log: u64, db: u64, to: usize) -> Ended {
+    let files = Files {
+        log: Fuse::new(Memory::new(alloc), log),
+        db: Fuse::new(Memory::new(alloc), db),
+    };
+    run_over(alloc, case, files, Session::First { to })
 }
 
 /// Whether files that stop no more hold what they may, and lead to the end.
 fn goes_on(alloc: Global, case: Case, files: &Disks, acknowledged: Option<usize>) -> Option<bool> {
     let files = opened_again(alloc, files, NEVER, NEVER)?;
-    match Connection::open_files(alloc, files, Options::new(7)) {
-        Ok(conn) => goes_on_from(alloc, case, conn, acknowledged),
-        Err(_) => None,
-    }
+    let ended = run_over(alloc, case, files, Session::Rest { acknowledged });
+    Some(ended.acknowledged.is_some())
 }
 
 /// Whether what a session left goes on after the process has stopped, with all that was written, and after the machine has, with what was synced.
@@ -266,7 +336,7 @@ const fn calls_of(stops_log: bool, calls: u64) -> (u64, u64) {
 /// Whether a whole event ends before the stop. It survives the stop, or there is no answer.
 fn whole_event_ends(alloc: Global, case: Case, log: u64, db: u64) -> Option<bool> {
     let all = case.lines.lines().count();
-    let mut it = first_session(alloc, case, log, db, all)?;
+    let mut it = first_session(alloc, case, log, db, all);
     let is_whole = it.acknowledged == Some(all);
     survives(alloc, case, &mut it).then_some(is_whole)
 }
@@ -288,7 +358,7 @@ fn session_ends(alloc: Global, case: Case, files: Disks, places: (usize, usize))
         × IsTrue (memory_is_usable (inner_of files.db)) × IsFresh files.db }
 {
     let (from, to) = places;
-    let mut it = next_session(alloc, case, files, from, to);
+    let mut it = run_over(alloc, case, files, Session::Next { before: from, to });
     let is_whole = it.acknowledged == Some(to);
     survives(alloc, case, &mut it).then_some(is_whole)
 }
@@ -384,7 +454,7 @@ result 2 1 2 0 0
 
 /// The calls at which a session is stopped that pairs the second round and goes on.
 fn second_round(alloc: Global, stops_log: bool) -> Option<u64> {
-    let before = first_session(alloc, EIGHT, NEVER, NEVER, 14)?;
+    let before = first_session(alloc, EIGHT, NEVER, NEVER, 14);
     later_session(alloc, EIGHT, &before.files, (14, 16), stops_log)
 }
 
@@ -407,7 +477,7 @@ fn first_calls(
 ) -> Option<u64> {
     for calls in from_calls..10_000 {
         let (log, db) = calls_of(stops_log, calls);
-        if first_session(alloc, case, log, db, to)?.acknowledged == Some(to) {
+        if first_session(alloc, case, log, db, to).acknowledged == Some(to) {
             return Some(calls);
         }
     }
@@ -425,7 +495,8 @@ fn is_sent(
 ) -> Option<bool> {
     let (from, to) = places;
     let (log, db) = calls_of(stops_log, calls);
-    let it = next_session(alloc, case, opened_again(alloc, files, log, db)?, from, to);
+    let files = opened_again(alloc, files, log, db)?;
+    let it = run_over(alloc, case, files, Session::Next { before: from, to });
     Some(it.acknowledged == Some(to))
 }
 
@@ -468,7 +539,7 @@ fn two_second_stops(alloc: Global, files: &Disks) -> Option<u64> {
 /// The stops of second sessions, after a first one that stops at this call of one of its files, and after the process and the machine have.
 fn stops_after(alloc: Global, calls: u64, stops_log: bool) -> Option<u64> {
     let (log, db) = calls_of(stops_log, calls);
-    let mut it = first_session(alloc, EIGHT, log, db, 10)?;
+    let mut it = first_session(alloc, EIGHT, log, db, 10);
     let after_process = two_second_stops(alloc, &it.files)?;
     it.files.log.crash();
     it.files.db.crash();
