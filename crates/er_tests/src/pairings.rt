@@ -365,27 +365,45 @@ fn drawn_order(
     Ok(order)
 }
 
-/// Two hundred orders of up to fourteen numbers, with few and with many meetings.
+/// Whether these are the pairs that the entries are, two by two.
+fn are_laid_out(pairs: &[(u16, u16)], entries: &[u16]) -> bool {
+    let mut left = entries;
+    for (one, other) in pairs {
+        let [a, b, later @ ..] = left else {
+            return false;
+        };
+        if a != one || b != other {
+            return false;
+        }
+        left = later;
+    }
+    left.is_empty()
+}
+
+/// Whether both searches find the same pairs of this order, or none for the same reason.
+fn is_same_search(rt: &impl Abort, alloc: Global, order: &[u16], met: &Met) -> bool {
+    let found = pairing_of(rt, alloc, order, met);
+    match (found, plain_pairing_of(alloc, order, met)) {
+        (Ok(found), Ok(plain)) => are_laid_out(found.as_slice(), plain.as_slice()),
+        (Err(found), Err(plain)) => found == plain,
+        (Ok(_), Err(_)) | (Err(_), Ok(_)) => false,
+    }
+}
+
+/// Whether the two agree on an order of up to fourteen numbers, with the more meetings, the greater the case.
+fn agrees(rt: &impl Abort, alloc: Global, state: &mut u64, case: u16) -> Result<bool, Fail> {
+    let last = case % 13 + 1;
+    let met = drawn_meetings(rt, alloc, state, last, u64::from(case / 13) * 5)?;
+    let order = drawn_order(rt, alloc, state, last)?;
+    Ok(is_same_search(rt, alloc, order.as_slice(), &met))
+}
+
+/// Two hundred orders, with few and with many meetings.
 #[test]
 fn agrees_with_a_plain_search(rt: HostRuntime) -> Result<(), Fail> {
-    let alloc = rt.alloc();
     let mut state = 1;
-    for case in 0..200_u16 {
-        let last = case % 13 + 1;
-        let met = drawn_meetings(&rt, alloc, &mut state, last, u64::from(case / 13) * 5)?;
-        let order = drawn_order(&rt, alloc, &mut state, last)?;
-        let found = pairing_of(&rt, alloc, order.as_slice(), &met);
-        let plain = plain_pairing_of(alloc, order.as_slice(), &met);
-        assert_eq!(rt; found.as_ref().err(), plain.as_ref().err(), "case {case}");
-        if let (Ok(found), Ok(plain)) = (found, plain) {
-            assert_eq!(rt; found.len() * 2, plain.len(), "case {case}");
-            for (pair, two) in found.iter().zip(plain.chunks_exact(2)) {
-                assert!(rt;
-                    two.len() == 2 && pair.0 == two[0] && pair.1 == two[1],
-                    "case {case}"
-                );
-            }
-        }
+    for case in 0..200 {
+        assert!(rt; agrees(&rt, rt.alloc(), &mut state, case)?, "case {case}");
     }
     Ok(())
 }

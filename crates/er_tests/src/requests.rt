@@ -258,10 +258,12 @@ fn paired(alloc: Global) -> Option<Desk<MemStore>> {
 /// Whether each of these requests to one desk has its answer, and none changes it.
 fn change_nothing(alloc: Global, requests: &[(&str, &str)]) -> Option<bool> {
     let mut desk = paired(alloc)?;
-    let are_right = requests.iter().all(|(requests, answer)| are_answered(
-        alloc, &mut desk, requests, answer,
-    ));
-    Some(are_right && desk.serial() == Ok(6))
+    for (requests, answer) in requests {
+        if !are_answered(alloc, &mut desk, requests, answer) {
+            return Some(false);
+        }
+    }
+    Some(desk.serial() == Ok(6))
 }
 
 /// Worked examples 23 and 51, and the short requests of 44.
@@ -356,9 +358,7 @@ fn is_taken(alloc: Global, request: &[u8], step: usize) -> Option<bool> {
 
 /// Whether a score is taken once, whether it comes whole or byte by byte.
 fn is_taken_once(alloc: Global, request: &[u8]) -> bool {
-    [usize::MAX, 1]
-        .iter()
-        .all(|step| is_taken(alloc, request, *step) == Some(true))
+    is_taken(alloc, request, usize::MAX) == Some(true) && is_taken(alloc, request, 1) == Some(true)
 }
 
 fn long_one_is_taken_once(alloc: Global) -> Option<bool> {
@@ -401,9 +401,13 @@ fn ends_at(alloc: Global, desk: &mut Desk<MemStore>, call: usize) -> bool {
 /// Whether each call in turn that fails leaves the serial at 6, and no call is made after the last byte.
 fn needs_each_read(alloc: Global) -> Option<bool> {
     let mut desk = paired(alloc)?;
-    let all_end = (1..=POST.len()).all(|call| ends_at(alloc, &mut desk, call));
+    for call in 1..=POST.len() {
+        if !ends_at(alloc, &mut desk, call) {
+            return Some(false);
+        }
+    }
     let last = Source::failing(POST.as_bytes(), POST.len().saturating_add(1));
-    Some(all_end && has_answer(alloc, &mut desk, last, TAKEN))
+    Some(has_answer(alloc, &mut desk, last, TAKEN))
 }
 
 /// Worked example 45: nothing is submitted. A client that waits for its answer after the last byte gets it.

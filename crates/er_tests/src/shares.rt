@@ -72,14 +72,23 @@ fn a_third_is_above_the_minimum(rt: HostRuntime) -> Result<(), Fail> {
     Ok(())
 }
 
-/// Worked example 12: 7165 and 7164 of 13,608 parts of the whole.
+/// 7165 of 13,608 parts of the whole.
+fn greater_average() -> Result<Share, Fail> {
+    let (a, b, c) = (match_win(16, 7)?, match_win(14, 9)?, match_win(11, 8)?);
+    let usual = match_win(3, 2)?;
+    Ok(average(&[a, b, c, usual, usual, usual, usual, usual, usual]))
+}
+
+/// 7164 of 13,608 parts of the whole.
+fn smaller_average() -> Result<Share, Fail> {
+    let (a, b, usual) = (match_win(12, 7)?, match_win(18, 9)?, match_win(3, 2)?);
+    Ok(average(&[a, b, usual, usual, usual, usual, usual, usual, usual]))
+}
+
+/// Worked example 12.
 #[test]
 fn averages_that_print_alike_differ(rt: HostRuntime) -> Result<(), Fail> {
-    let usual = match_win(3, 2)?;
-    let (a, b, c) = (match_win(16, 7)?, match_win(14, 9)?, match_win(11, 8)?);
-    let first = average(&[a, b, c, usual, usual, usual, usual, usual, usual]);
-    let (a, b) = (match_win(12, 7)?, match_win(18, 9)?);
-    let second = average(&[a, b, usual, usual, usual, usual, usual, usual, usual]);
+    let (first, second) = (greater_average()?, smaller_average()?);
     assert_eq!(rt; (hundredths(first), hundredths(second)), (5265, 5265));
     assert!(rt; has_parts(rt.alloc(), first, "653803697369386677373260000")?);
     assert!(rt; has_parts(rt.alloc(), second, "653712447725650545248016000")?);

@@ -4,10 +4,15 @@ use er_paper::{ResultLine, players_csv, read_players_csv, read_results_csv, resu
 use std::alloc::Global;
 use std::test::Fail;
 
+/// The players of four as they are written.
+fn written_players(alloc: Global) -> Option<Vec<u8>> {
+    let desk = desk_after(alloc, 3, 0, FOUR)?;
+    players_csv(alloc, desk.event().ok()?).ok()
+}
+
 /// Whether the players of four are written as this text, and read as four of whom the last has this number.
 fn players_return(alloc: Global, text: &[u8], number: u16) -> Option<bool> {
-    let desk = desk_after(alloc, 3, 0, FOUR)?;
-    let written = players_csv(alloc, desk.event().ok()?).ok()?;
+    let written = written_players(alloc)?;
     let read = read_players_csv(alloc, &written).ok()?;
     Some(written.as_slice() == text && read.len() == 4 && read.last()?.no.get() == number)
 }
@@ -31,12 +36,18 @@ fn first_line() -> Option<ResultLine> {
     })
 }
 
-/// Whether the matches that a desk has are written as this text, and read as two, of which this is the first.
-fn results_return(alloc: Global, lines: &str, text: &[u8]) -> Option<bool> {
+/// The matches of a desk that took these commands, as they are written.
+fn written_results(alloc: Global, lines: &str) -> Option<Vec<u8>> {
     let desk = desk_after(alloc, 3, 0, lines)?;
-    let written = results_csv(alloc, desk.event().ok()?).ok()?;
+    results_csv(alloc, desk.event().ok()?).ok()
+}
+
+/// Whether its matches are written as this text, and read as two, of which this is the first.
+fn results_return(alloc: Global, lines: &str, text: &[u8]) -> Option<bool> {
+    let written = written_results(alloc, lines)?;
+    let first = first_line()?;
     let read = read_results_csv(alloc, &written).ok()?;
-    Some(written.as_slice() == text && read.len() == 2 && *read.first()? == first_line()?)
+    Some(written.as_slice() == text && read.len() == 2 && read.first() == Some(&first))
 }
 
 #[test]
