@@ -1,5 +1,6 @@
 ghost use Rattle.std.specs.List.{range_with_len};
-ghost use Rattle.std.specs.Prelude.{◌≡◌, ◌≢◌, ◌+◌, ◌<◌, ◌≤◌, ◌++◌, ◌∷◌, [], ℕ, List, All, IfOk, IfErr, OnOk, IfSome, Option, map, length, ⊤, IsUtf8};
+ghost use Rattle.std.specs.Prelude.{◌≡◌, ◌≢◌, ◌+◌, ◌<◌, ◌≤◌, ◌++◌, ◌∷◌, [], ℕ, List, All, IfOk, IfErr, OnOk, IfSome};
+ghost use Rattle.std.specs.Prelude.{Option, map, length, ⊤, IsUtf8};
 ghost use Rattle.sqlite.specs.declared.types.Value.TheVariants.{Text};
 ghost use Rattle.sqlite.specs.Order.{Row, column};
 ghost use Rattle.er_event.specs.declared.rows.pairing.PairingRow.{PairingRow};

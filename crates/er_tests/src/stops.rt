@@ -238,8 +238,8 @@ fn holds_all<S: Alter>(
     }
 }
 
-/// How many commands are acknowledged in the end, if what a connection shows is an event that may be there, leads to the end, and stays in the
-/// tables. There may be none where creation was not acknowledged.
+/// How many commands are acknowledged in the end, if what a connection shows is an event that may be there, leads to the end, and stays in
+/// the tables. There may be none where creation was not acknowledged.
 fn goes_on_from<S: Alter>(
     alloc: Global,
     case: Case,
