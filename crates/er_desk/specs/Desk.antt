@@ -1,5 +1,5 @@
 -- What a desk shows, and what a command does to it.
-use Rattle.std.specs.Prelude.{◌≡◌, ◌⊎◌, ℕ, ◌+◌, ◌<◌, ◌≤◌, ◌==◌, ◌||◌, Bool, true, false, IsTrue, IsFalse, Result, Ok, Err, IsOk}
+use Rattle.std.specs.Prelude.{◌≡◌, ◌⊎◌, ℕ, ◌+◌, ◌<◌, Bool, true, false, IsTrue, IsFalse, Result, Ok, Err, IsOk}
 use Rattle.sqlite_trees.specs.declared.store.Store.{Ghosts}
 use Rattle.sqlite.specs.State.{State}
 use Rattle.sqlite.specs.Tree.{Trees}

@@ -1,5 +1,5 @@
 -- Rows of pairings, and the matches that they show.
-use Rattle.er_event.proofs.Prelude.{open_match, own, AreTables, FitRows, FitsRow, is_of, table_rows, is_bye, numbered_from}
+use Rattle.er_event.proofs.Prelude.{open_match, AreTables, FitRows, FitsRow, is_of, table_rows, is_bye, numbered_from}
 use Rattle.er_event.proofs.Prelude.{keyed_round_rows, keyed_rows_from, pairing_row, Match, Round, PairingRow, All, Bool, IsFalse, IsTrue}
 use Rattle.er_event.proofs.Prelude.{List, MatchResult, None, Option, Result, Some, [], ap, ap₂, arith, false, get_or, inl, inr, length, map}
 use Rattle.er_event.proofs.Prelude.{not, pos, refl, subst, sym, take, true, ℕ, ℤ, ◌++◌, ◌+◌, ◌-◌, ◌<◌, ◌==◌, ◌∙◌, ◌∷◌, ◌≡◌, ◌≤◌, ◌⊎◌}

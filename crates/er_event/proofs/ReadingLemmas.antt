@@ -1,7 +1,7 @@
 -- The events of rows, while the rows are read.
 use Rattle.er_event.proofs.Prelude.{EventValue, IsEventRow, IsFirstFault, IsOf, bracket_rows_from, keyed_rows_from, player_row, ArePlayers}
 use Rattle.er_event.proofs.Prelude.{AreRounds, AreStages, IsSoundButForSeeds, numbers, Match, Player, Round, Setup, IsSetUpAs, List, [], ap}
-use Rattle.er_event.proofs.Prelude.{arith, length, map, refl, sym, ℕ, ◌∙◌, ◌≡◌, set, common_steps, range_with_len}
+use Rattle.er_event.proofs.Prelude.{arith, length, map, refl, sym, ℕ, ◌∙◌, ◌≡◌, common_steps, range_with_len}
 use Rattle.er_event.proofs.PartsLemmas.{players-same}
 use Rattle.er_event.specs.{Parts.{HasAllRows, HasPlayerRows, HasRoundRows}, declared.events.parts.Parts.Parts}
 use Rattle.er_event.specs.declared.refusals.Place.TheVariants.{BracketTable, PairingTable, PlayerTable}

@@ -1,5 +1,5 @@
 -- Rows of a bracket, and the matches that they show.
-use Rattle.er_event.proofs.Prelude.{own, numbered_from, bracket_row, bracket_rows_from, Match, BracketRow, FitStageRows, List, [], arith}
+use Rattle.er_event.proofs.Prelude.{numbered_from, bracket_row, bracket_rows_from, Match, BracketRow, FitStageRows, List, [], arith}
 use Rattle.er_event.proofs.Prelude.{false, pos, refl, ℕ, ℤ, ◌+◌, ◌∷◌, ◌≡◌, Decides-int_eq, common_steps, Decides}
 use Rattle.er_event.proofs.RowLemmas.{AreInTurn, agree, agree-Decides, length-numbered}
 use Rattle.er_event.specs.inside.Stages.{is_of_stage}

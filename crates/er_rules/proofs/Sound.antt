@@ -1,6 +1,6 @@
 -- The step keeps an event sound.
 use Rattle.std.proofs.{lemmas.Grind.common_steps, Common.{Result, ◌≡◌, ◌+◌, ◌<◌, ◌≤◌, ◌==◌, nat_le, nat_lt, false, not, List, [], ◌∷◌}}
-use Rattle.std.proofs.{Common.{◌++◌, length, Option, Some, None, Ok, refl, sym, ap, subst, ◌∙◌, arith, is_none}, lemmas.Bool.not-false}
+use Rattle.std.proofs.{Common.{◌++◌, length, Option, Some, None, Ok, refl, sym, subst, ◌∙◌, arith, is_none}, lemmas.Bool.not-false}
 use Rattle.std.proofs.lemmas.Bool.Decides.{nat_tests}
 use Rattle.er_event.specs.{declared.scores.Games.Games, declared.events.Phase.TheVariants.{Enrolling, Swiss}, declared.matches.Match.Match}
 use Rattle.er_event.specs.declared.changes.Change.TheVariants.{AddPlayer, SetDropped, SetPhase, AddRound, SetScore, AddBracket}
@@ -8,7 +8,7 @@ use Rattle.er_event.specs.{declared.changes.Change.TheVariants.SetBracketScore, 
 use Rattle.er_event.specs.declared.commands.Command.TheVariants.{Enrol, Start, Pair, Correct, Drop, Cut}
 use Rattle.er_event.specs.{declared.refusals.Refusal.Refusal, declared.refusals.Refusal.TheVariants.{IsBye, BadScore, NotReported}}
 use Rattle.er_event.specs.{Event.EventValue, Name.is_lawful_name, Score.{is_swiss_score, is_playoff_score}, Round.{is_bye, match_at}}
-use Rattle.er_event.specs.{Bracket.{slot_at, following, is_over}, Change.with_round, Sound.IsSoundButForSeeds, Safe.ChangesKeepSound}
+use Rattle.er_event.specs.{Bracket.{slot_at, following, is_over}, Sound.IsSoundButForSeeds, Safe.ChangesKeepSound}
 use Rattle.er_bracket.specs.Seeds.{first_stage}
 use Rattle.er_pair.specs.{Met.have_met, Order.seed_words, Pairing.entries, Laws.{StandOnce, LegalSeats}}
 use Rattle.er_rules.specs.{Commands.{Check, active, already, checks_at}, Step.{Steps, Makes, checks, scored_at}, Sound.IsSound}

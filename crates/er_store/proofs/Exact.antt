@@ -4,7 +4,7 @@ use Rattle.er_store.proofs.Prelude.{Query, common_steps, ◌≡◌, ◌+◌, ◌
 use Rattle.er_store.proofs.Prelude.{subst, ◌∙◌, arith, Ordering, Bool, true, false, cond, None, ordering_then, AllByRecursion}
 use Rattle.er_store.proofs.Prelude.{IsPermutation, IsPermutation-map, All-from_recursion, recursion_from_All, Row, column, col, eval_all}
 use Rattle.er_store.proofs.Prelude.{IsAnswer, output, Output, overlay, Trees, columns_at, by_first, by_first_two, Lists, first_columns}
-use Rattle.er_store.proofs.Prelude.{table_query, all-map, value_cmp, ◌≢◌, Less, IsTrue, filter, IsUtf8, range_with_len, IsPermutation-sym}
+use Rattle.er_store.proofs.Prelude.{table_query, all-map, value_cmp, ◌≢◌, IsTrue, filter, IsUtf8, range_with_len, IsPermutation-sym}
 use Rattle.er_store.proofs.Prelude.{IsPermutation-trans, nat_tests, Error, SqliteFailure, IsAscending, Database, one_permutation}
 use Rattle.er_store.proofs.Prelude.{BracketTable, EventTable, PlayerTable, TallyTable, EventValue, Player, Match, PlayerRow, is_lawful_name}
 use Rattle.er_store.proofs.Prelude.{numbers, names, IsSoundButForSeeds, numbered_from, event_row, player_row, player_rows, bracket_row}

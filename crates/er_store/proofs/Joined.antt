@@ -3,7 +3,7 @@ use Rattle.er_store.proofs.Prelude.{player_tree, pairing_tree}
 use Rattle.er_store.proofs.Prelude.{column, is_lawful_name, is_bye, is_at, number, ◌≡◌, Bool, true, false, ◌&&◌, cond, if◌then◌else◌, List}
 use Rattle.er_store.proofs.Prelude.{[], ◌∷◌, ◌++◌, map, filter, flat_map, refl, ap, ap₂, subst, ◌∙◌, arith, list_all, IsPermutation, Binary}
 use Rattle.er_store.proofs.Prelude.{Value, Row, is_true, Env, eval_all, holds, IsAnswer, or_nulls, overlay, Trees, Compare, Eq, binary}
-use Rattle.er_store.proofs.Prelude.{numbered, pairing, Player, common_steps, ◌≢◌, ◌⊎◌, inl, inr, ℕ, suc, ◌==◌, ◌<◌, ◌≤◌, min, max, nat_lt}
+use Rattle.er_store.proofs.Prelude.{Player, common_steps, ◌≢◌, ◌⊎◌, inl, inr, ℕ, suc, ◌==◌, ◌<◌, ◌≤◌, min, max, nat_lt}
 use Rattle.er_store.proofs.Prelude.{length, get_or, Result, Ok, Err, IfErr, MatchResult, Option, Some, None, option_map, option_to_list}
 use Rattle.er_store.proofs.Prelude.{All, Contains, IfSome, IsTrue, IsFalse, sym, AllByRecursion, range_with_len, IsPermutation-sym, All-nil}
 use Rattle.er_store.proofs.Prelude.{All-cons, All-from_recursion, All-weaker, recursion_from_All, nat_tests, Text, Database, filter-map}

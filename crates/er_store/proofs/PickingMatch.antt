@@ -6,7 +6,7 @@ use Rattle.er_store.proofs.Prelude.{if◌then◌else◌, append-nil, ◌&&◌, o
 use Rattle.er_store.proofs.Prelude.{map-append, All-head, All-tail, filter-append, none-some, same_Some, IsPermutation, is_eq, slot_at}
 use Rattle.er_store.proofs.Prelude.{with_slot_score, with_score, EventValue, numbered_from, is_bye, table_of, match_at, is_at, match_in}
 use Rattle.er_store.proofs.Prelude.{pairing_rows, pairing_rows_from, bracket_rows_from, bracket_rows, Match, Round, Games, Binary}
-use Rattle.er_store.proofs.Prelude.{from_truth, Row, column, value_cmp, filter_same, Compare, Eq, ToNumeric, filter-map, map-map, bracket}
+use Rattle.er_store.proofs.Prelude.{from_truth, Row, column, value_cmp, filter_same, Compare, Eq, ToNumeric, filter-map, map-map}
 use Rattle.er_store.proofs.Prelude.{◌≡◌, ℕ}
 use Rattle.std.proofs.{Math.ListN.set, lemmas.Option.{get_or_from_slice_get, option_and_then_some}}
 use Rattle.er_event.specs.Bracket.{open_match}

@@ -3,7 +3,7 @@ use Rattle.er_store.proofs.Prelude.{arith, common_steps, ◌≡◌, inl, inr, �
 use Rattle.er_store.proofs.Prelude.{Compiled, first, Schema, Row, Error, timed, State, Survives, ShowsRows, IsUnchanged, KeepsTables}
 use Rattle.er_store.proofs.Prelude.{begins_select, read_event, read_players, read_pairings, read_bracket, read_tallies, read_meetings}
 use Rattle.er_store.proofs.Prelude.{read_slip, understood, listing_schema, CommitsShowing, Shown, FailsToQuery, IsNotRun, everything, []}
-use Rattle.er_store.proofs.Prelude.{◌∷◌, ◌++◌, map, Result, Select, HasGiven, Held, state, Query, Trees, command_of, Ghosts, CompileError}
+use Rattle.er_store.proofs.Prelude.{◌∷◌, ◌++◌, map, Result, HasGiven, Held, state, Query, Trees, command_of, Ghosts, CompileError}
 use Rattle.er_store.proofs.Prelude.{IsReadRefused, Selects}
 use Rattle.sqlite_ast.specs.declared.Statement.{Statement}
 use Rattle.sqlite_syntax.specs.declared.statement.Parsed.{Parsed}

@@ -6,7 +6,7 @@ use Rattle.er_store.proofs.Prelude.{◌≢◌, list_all, IsPermutation, IsPermut
 use Rattle.er_store.proofs.Prelude.{Trees, put_row, without_rowid, cast, cast_row, is_taken, Update, State, Table, one_permutation}
 use Rattle.er_store.proofs.Prelude.{filter-map, IsPermutation-filter, filter_same, columns_at, number, HasTables, IsOther, Ran, Goes}
 use Rattle.er_store.proofs.Prelude.{length, Contains, true, range_with_len, IsPermutation-trans, Int, Text, PlayerTable, Player, EventValue}
-use Rattle.er_store.proofs.Prelude.{dropped_at, TallyRow, player, set_dropped, stored_player, StandsWith, BringsToWith, totals, TallyTable}
+use Rattle.er_store.proofs.Prelude.{dropped_at, TallyRow, player, set_dropped, stored_player, StandsWith, BringsToWith, TallyTable}
 use Rattle.er_store.proofs.Prelude.{Totals, tally_row, tally_rows_by, tally, set_tally, stored_tally, set_for, map-map, true≢false, Less}
 use Rattle.er_store.proofs.Prelude.{Equal, is_eq, AllByRecursion, Value, Null, value_cmp_total, is_int, filter_all, all_weaker}
 use Rattle.er_store.proofs.Prelude.{all_from_test, test_from_all, BracketTable, PairingTable, Games, Match, is_bye, match_at, slot_at}

@@ -1,4 +1,4 @@
-use Rattle.er_event.proofs.Prelude.{arith, subst, sym, true, true≢false, ◌∙◌, common_steps}
+use Rattle.er_event.proofs.Prelude.{arith, subst, sym, true≢false, ◌∙◌, common_steps}
 use Rattle.er_event.proofs.BracketLemmas.{IsFirst, bracket-first, is-bracket, of-AllLawful}
 use Rattle.er_event.proofs.brackets.is_bracket.Goals.{then-cut-eq0-via-else-cut-eq0+then-not-is_first, then-cut-eq0-via-then-cut-eq0}
 use Rattle.er_event.proofs.brackets.is_bracket.Goals as goal

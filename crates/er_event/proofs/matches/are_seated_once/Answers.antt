@@ -1,4 +1,4 @@
-use Rattle.er_event.proofs.Prelude.{seats, Match, AllPairs, List, arith, false, flat_map, refl, subst, sym, true, ◌∙◌, ◌≢◌, common_steps}
+use Rattle.er_event.proofs.Prelude.{seats, Match, AllPairs, List, arith, flat_map, refl, subst, sym, ◌∙◌, ◌≢◌, common_steps}
 use Rattle.er_event.proofs.Prelude.{take_all}
 use Rattle.er_event.proofs.SeatLemmas.{seats-apart, seats-free, seats-more}
 use Rattle.er_event.proofs.matches.are_seated_once.Goals as goal

@@ -1,4 +1,4 @@
-use Rattle.er_event.proofs.Prelude.{names, arith, false, length, sym, ◌<◌, ◌∙◌, IsUtf8}
+use Rattle.er_event.proofs.Prelude.{arith, length, sym, ◌<◌, ◌∙◌, IsUtf8}
 use Rattle.er_event.proofs.NameLemmas.{is_lawful_name-parts, is_lawful_name-utf8, is_ok-when}
 use Rattle.er_event.proofs.names.is_lawful.Goals as goal
 

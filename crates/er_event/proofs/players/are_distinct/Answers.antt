@@ -1,4 +1,4 @@
-use Rattle.er_event.proofs.Prelude.{names, Player, AllPairs, List, arith, false, refl, subst, ◌≢◌, common_steps, take_all}
+use Rattle.er_event.proofs.Prelude.{names, Player, AllPairs, List, arith, refl, subst, ◌≢◌, common_steps, take_all}
 use Rattle.er_event.proofs.PartsLemmas.{names-more, names-new}
 use Rattle.er_event.proofs.players.are_distinct.Goals as goal
 

@@ -1,4 +1,4 @@
-use Rattle.er_event.proofs.Prelude.{arith, false}
+use Rattle.er_event.proofs.Prelude.{arith}
 use Rattle.er_event.proofs.PartsLemmas.{plays}
 use Rattle.er_event.proofs.players.may_play.Goals as goal
 

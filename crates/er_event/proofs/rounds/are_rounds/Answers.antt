@@ -1,4 +1,4 @@
-use Rattle.er_event.proofs.Prelude.{Swiss, arith, false, length, true, common_steps, take_all, range_with_len}
+use Rattle.er_event.proofs.Prelude.{Swiss, arith, length, common_steps, take_all, range_with_len}
 use Rattle.er_event.proofs.PrefixLemmas.{next_follows, next_rounds, no_rounds}
 use Rattle.er_event.proofs.rounds.are_rounds.Goals as goal
 

@@ -1,4 +1,4 @@
-use Rattle.er_event.proofs.Prelude.{arith, false, sym, ◌∙◌, nat_tests, common_steps}
+use Rattle.er_event.proofs.Prelude.{arith, sym, ◌∙◌, nat_tests, common_steps}
 use Rattle.er_event.proofs.RoundLemmas.{is_round, round_last, round_lawful}
 use Rattle.er_event.proofs.rounds.is_round.Goals as goal
 

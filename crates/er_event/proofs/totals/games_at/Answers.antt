@@ -1,4 +1,4 @@
-use Rattle.er_event.proofs.Prelude.{scored_slot, totals, Match, Round, IsSeatedOnce, List, ap, false, subst, sym, true, ◌∙◌}
+use Rattle.er_event.proofs.Prelude.{scored_slot, Match, Round, IsSeatedOnce, List, ap, subst, sym, ◌∙◌}
 use Rattle.er_event.proofs.TotalLemmas.{seated-here, seated-there}
 use Rattle.er_event.proofs.totals.games_at.Goals as goal
 

@@ -1,4 +1,4 @@
-use Rattle.er_event.proofs.Prelude.{scored_slot, totals, totals_of, ap, arith, false, true, ◌∙◌, common_steps}
+use Rattle.er_event.proofs.Prelude.{scored_slot, totals_of, ap, arith, ◌∙◌, common_steps}
 use Rattle.er_event.proofs.TotalLemmas.{apart_at, one_match, own-all, slot-length}
 use Rattle.er_event.proofs.totals.games_with.Goals as goal
 

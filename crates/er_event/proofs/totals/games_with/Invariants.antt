@@ -1,4 +1,4 @@
-use Rattle.er_event.proofs.Prelude.{scored_slot, lines_of_match, own, totals, [], flat_map, take, ℕ, ◌≡◌}
+use Rattle.er_event.proofs.Prelude.{scored_slot, lines_of_match, own, [], flat_map, take, ℕ, ◌≡◌}
 use Rattle.er_event.proofs.totals.games_with.Given as goal
 
 abbrev pub invariant-loop-at : goal.invariant-loop-at

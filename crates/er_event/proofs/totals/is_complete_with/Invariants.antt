@@ -1,4 +1,4 @@
-use Rattle.er_event.proofs.Prelude.{scored_slot, is_counted, totals, take, true, ◌≡◌}
+use Rattle.er_event.proofs.Prelude.{scored_slot, is_counted, take, true, ◌≡◌}
 use Rattle.er_event.proofs.totals.is_complete_with.Given as goal
 
 abbrev pub invariant-loop-at : goal.invariant-loop-at

@@ -1,4 +1,4 @@
-use Rattle.er_event.proofs.Prelude.{totals, totals_of, arith, common_steps}
+use Rattle.er_event.proofs.Prelude.{totals_of, arith, common_steps}
 use Rattle.er_event.proofs.TotalLemmas.{apart_at, one_match}
 use Rattle.er_event.proofs.totals.own_games.Goals as goal
 

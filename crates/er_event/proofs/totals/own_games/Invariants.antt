@@ -1,4 +1,4 @@
-use Rattle.er_event.proofs.Prelude.{lines_of_match, own, totals, [], flat_map, take, ℕ, ◌≡◌}
+use Rattle.er_event.proofs.Prelude.{lines_of_match, own, [], flat_map, take, ℕ, ◌≡◌}
 use Rattle.er_event.proofs.totals.own_games.Given as goal
 
 abbrev pub invariant-loop-played : goal.invariant-loop-played

@@ -1,4 +1,4 @@
-use Rattle.er_event.proofs.Prelude.{totals, Some, true, ◌∙◌}
+use Rattle.er_event.proofs.Prelude.{Some, ◌∙◌}
 use Rattle.er_event.proofs.{TotalLemmas.{over-more, totals-more, totals-same}, totals.totals_in.Goals.{in-Some, in_default}}
 use Rattle.er_event.proofs.totals.totals_in.Goals as goal
 

@@ -1,4 +1,4 @@
-use Rattle.er_event.proofs.Prelude.{lines_from, own, totals, totals_of, AreOver, take, ◌≡◌}
+use Rattle.er_event.proofs.Prelude.{lines_from, own, totals_of, AreOver, take, ◌≡◌}
 use Rattle.er_event.proofs.totals.totals_in.Given as goal
 
 abbrev pub invariant-loop-round : goal.invariant-loop-round

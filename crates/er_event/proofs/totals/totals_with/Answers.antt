@@ -1,4 +1,4 @@
-use Rattle.er_event.proofs.Prelude.{totals, Round, rescored, Some, [], arith, get_or, length, true, ◌<◌, ◌∙◌, ◌≡◌, get_or_default}
+use Rattle.er_event.proofs.Prelude.{Round, rescored, Some, [], arith, get_or, length, ◌<◌, ◌∙◌, ◌≡◌, get_or_default}
 use Rattle.er_event.proofs.{TotalLemmas.{over-more, rescored-length, totals-more, totals-same}, totals.totals_with.Goals.in-Some}
 use Rattle.er_event.proofs.totals.totals_with.Goals.{in_default}
 use Rattle.er_event.proofs.totals.totals_with.Goals as goal

@@ -1,4 +1,4 @@
-use Rattle.er_event.proofs.Prelude.{lines_from, own, totals, totals_of, AreOver, rescored, take, ◌≡◌}
+use Rattle.er_event.proofs.Prelude.{lines_from, own, totals_of, AreOver, rescored, take, ◌≡◌}
 use Rattle.er_event.proofs.totals.totals_with.Given as goal
 
 abbrev pub invariant-loop-at : goal.invariant-loop-at

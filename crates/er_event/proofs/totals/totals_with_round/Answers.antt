@@ -1,4 +1,4 @@
-use Rattle.er_event.proofs.Prelude.{totals, None, Some, sym, ◌∙◌}
+use Rattle.er_event.proofs.Prelude.{None, Some, sym, ◌∙◌}
 use Rattle.er_event.proofs.TotalLemmas.{plus-none, totals-push}
 use Rattle.er_event.proofs.totals.totals_with_round.Goals as goal
 

@@ -1,4 +1,4 @@
-use Rattle.er_store.proofs.Prelude.{after, with_player, ◌≡◌, true, false, List, Option, Some, None, IfSome, option_map, sym, ap, subst, ◌∙◌}
+use Rattle.er_store.proofs.Prelude.{after, with_player, ◌≡◌, List, Option, Some, None, IfSome, option_map, sym, ap, subst, ◌∙◌}
 use Rattle.er_store.proofs.Prelude.{rules, on_ok_weaker, SetDropped, Match, IsStage}
 use Rattle.std.proofs.Common.{Bor}
 use Rattle.er_event.specs.{Change.Fits, declared.changes.Change.TheVariants.SetScore}

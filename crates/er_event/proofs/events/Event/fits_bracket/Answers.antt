@@ -1,4 +1,4 @@
-use Rattle.er_event.proofs.Prelude.{IsDecided, EventValue, numbers, [], ap, arith, false, length, subst, sym, ◌∙◌, ◌∷◌, common_steps}
+use Rattle.er_event.proofs.Prelude.{IsDecided, EventValue, numbers, [], ap, arith, length, subst, sym, ◌∙◌, ◌∷◌, common_steps}
 use Rattle.er_event.proofs.Prelude.{range_with_len}
 use Rattle.er_event.proofs.{BracketLemmas.bracket-same, PlayoffLemmas.{no-stage, not-true, opening-first, opening-undecided, sound-opening}}
 use Rattle.er_event.proofs.PlayoffLemmas.{true-empty, true-not}

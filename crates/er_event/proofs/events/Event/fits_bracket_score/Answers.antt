@@ -1,5 +1,5 @@
-use Rattle.er_event.proofs.Prelude.{IsEnd, scored, EventValue, IsSoundButForSeeds, Match, Bor, IsTrue, List, Some, ap, arith, false}
-use Rattle.er_event.proofs.Prelude.{is_some, length, none-some, option_map, refl, subst, sym, true≢false, ◌-◌, ◌↔◌, ◌∙◌, set}
+use Rattle.er_event.proofs.Prelude.{IsEnd, scored, EventValue, IsSoundButForSeeds, Match, Bor, IsTrue, List, Some, ap, arith}
+use Rattle.er_event.proofs.Prelude.{length, none-some, option_map, refl, subst, sym, true≢false, ◌-◌, ◌↔◌, ◌∙◌, set}
 use Rattle.er_event.proofs.EndLemmas.{behind-none, behind-some, beq-same, later-read, none-map, same-beq, same-bools, slot-set}
 use Rattle.er_event.proofs.{EndLemmas.{slot-within, stage-few, stage-within}, SlotLemmas.Stands}
 use Rattle.er_event.proofs.SlotScoreLemmas.{Fits-last, Fits-later, fits-playoff}

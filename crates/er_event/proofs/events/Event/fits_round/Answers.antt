@@ -1,4 +1,4 @@
-use Rattle.er_event.proofs.Prelude.{EventValue, Swiss, ap, arith, false, length, rules, sym, ◌<◌, ◌∙◌, ◌≡◌, range_with_len}
+use Rattle.er_event.proofs.Prelude.{EventValue, Swiss, ap, arith, length, rules, sym, ◌<◌, ◌∙◌, ◌≡◌, range_with_len}
 use Rattle.er_event.proofs.AddLemmas.{IsSound-round, round-follows}
 use Rattle.er_event.proofs.events.Event.fits_round.Goals as goal
 

@@ -1,4 +1,4 @@
-use Rattle.er_event.proofs.Prelude.{EventValue, is_counted, Round, ap, false, length, sym, ◌∙◌, ◌≡◌, list_all}
+use Rattle.er_event.proofs.Prelude.{EventValue, is_counted, Round, ap, length, sym, ◌∙◌, ◌≡◌, list_all}
 use Rattle.er_event.proofs.RoundLemmas.{All-of, of-All}
 use Rattle.er_event.proofs.events.Event.has_all_rounds.Goals as goal
 

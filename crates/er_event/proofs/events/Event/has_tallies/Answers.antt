@@ -1,4 +1,4 @@
-use Rattle.er_event.proofs.Prelude.{tally_row, totals, Player, List, [], ap, ap₂, arith, false, get_or, length, map, refl, sym, true, ℕ}
+use Rattle.er_event.proofs.Prelude.{tally_row, totals, Player, List, [], ap, ap₂, arith, get_or, length, map, refl, sym, ℕ}
 use Rattle.er_event.proofs.Prelude.{◌++◌, ◌<◌, ◌∙◌, ◌∷◌, ◌≡◌, get_or_default, take_all, take_more, TallyRow}
 use Rattle.std.proofs.lemmas.List.{map_more}
 use Rattle.er_event.proofs.events.Event.has_tallies.Goals as goal

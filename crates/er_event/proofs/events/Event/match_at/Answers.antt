@@ -1,4 +1,4 @@
-use Rattle.er_event.proofs.Prelude.{match_in, Match, Round, List, ap, false, get_or, length, subst, sym, ◌-◌, ◌<◌, ◌∙◌}
+use Rattle.er_event.proofs.Prelude.{match_in, Match, Round, List, ap, get_or, length, subst, sym, ◌-◌, ◌<◌, ◌∙◌}
 use Rattle.er_event.proofs.Prelude.{◌≡◌, ◌≤◌}
 use Rattle.er_event.proofs.ScoreLemmas.{read-fits, read-match, read-past}
 use Rattle.er_event.proofs.events.Event.match_at.Goals as goal

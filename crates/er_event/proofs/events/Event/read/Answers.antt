@@ -1,4 +1,4 @@
-use Rattle.er_event.proofs.Prelude.{EventValue, IsFirstFault, IsOf, IsSoundButForSeeds, [], length, rules, subst, sym, ◌≡◌, set, Damaged}
+use Rattle.er_event.proofs.Prelude.{EventValue, IsFirstFault, IsOf, IsSoundButForSeeds, [], length, rules, subst, sym, ◌≡◌, Damaged}
 use Rattle.er_event.proofs.ReadingLemmas.{event_of, is_whole, players_fault, rounds_fault, row_there, stages_fault}
 use Rattle.er_event.proofs.events.Event.read.Goals as goal
 

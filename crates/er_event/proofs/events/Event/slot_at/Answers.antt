@@ -1,4 +1,4 @@
-use Rattle.er_event.proofs.Prelude.{slot_at, slot_in, EventValue, IsSoundButForSeeds, Match, List, ap, subst, ◌∙◌}
+use Rattle.er_event.proofs.Prelude.{slot_in, EventValue, IsSoundButForSeeds, Match, List, ap, subst, ◌∙◌}
 use Rattle.er_event.proofs.SlotScoreLemmas.{open-fits}
 use Rattle.er_event.proofs.events.Event.slot_at.Goals as goal
 

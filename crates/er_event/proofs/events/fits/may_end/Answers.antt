@@ -1,4 +1,4 @@
-use Rattle.er_event.proofs.Prelude.{arith, false, sym, true≢false, ◌∙◌, common_steps}
+use Rattle.er_event.proofs.Prelude.{arith, sym, true≢false, ◌∙◌, common_steps}
 use Rattle.er_event.proofs.EndLemmas.{beq-same, none-over, same-beq}
 use Rattle.er_event.proofs.events.fits.may_end.Goals as goal
 

@@ -1,4 +1,3 @@
-use Rattle.er_event.proofs.Prelude.{names, false}
 use Rattle.er_event.proofs.NameLemmas.{IsStored-name}
 use Rattle.er_event.proofs.names.Name.try_from_bytes.Goals as goal
 

@@ -1,4 +1,4 @@
-use Rattle.er_event.proofs.Prelude.{AreStages, false, rules, subst, sym, true, true≢false, ◌∙◌, ◌≡◌, range_with_len, Damaged}
+use Rattle.er_event.proofs.Prelude.{AreStages, rules, subst, sym, true≢false, ◌∙◌, ◌≡◌, range_with_len, Damaged}
 use Rattle.er_event.proofs.StagesShown.{stages_shown}
 use Rattle.er_event.proofs.rows.bracket.read_bracket.Goals as goal
 

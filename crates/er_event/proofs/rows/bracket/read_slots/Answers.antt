@@ -1,4 +1,4 @@
-use Rattle.er_event.proofs.Prelude.{open_match, bracket_row, slot_rows, [], ap, ap₂, arith, false, get_or, sym, true, ◌++◌, ◌∙◌, ◌∷◌, ◌≡◌}
+use Rattle.er_event.proofs.Prelude.{open_match, bracket_row, slot_rows, [], ap, ap₂, arith, get_or, sym, ◌++◌, ◌∙◌, ◌∷◌, ◌≡◌}
 use Rattle.er_event.proofs.Prelude.{common_steps, take_more, same_Some}
 use Rattle.er_event.proofs.{PairingLemmas.never_none, RowLemmas.{all_shown, here_shown, rows_more}, StageLemmas.nothing}
 use Rattle.er_event.proofs.rows.bracket.read_slots.Goals as goal

@@ -1,5 +1,5 @@
-use Rattle.er_event.proofs.Prelude.{bracket_rows_from, Memory, Match, FitStageRows, List, [], ap, arith, drop, false, get_or, length, refl}
-use Rattle.er_event.proofs.Prelude.{rules, subst, sym, take, true, ◌++◌, ◌+◌, ◌∙◌, ◌∷◌, ◌≡◌, ◌≤◌, common_steps, All-drop, length-drop}
+use Rattle.er_event.proofs.Prelude.{bracket_rows_from, Memory, Match, FitStageRows, List, [], ap, arith, drop, get_or, length, refl}
+use Rattle.er_event.proofs.Prelude.{rules, subst, sym, take, ◌++◌, ◌+◌, ◌∙◌, ◌∷◌, ◌≡◌, ◌≤◌, common_steps, All-drop, length-drop}
 use Rattle.er_event.proofs.Prelude.{take_more, take_rest}
 use Rattle.er_event.proofs.{RowLemmas.{drop_next, next_shown, next_within, none_left, value_more}, StageLemmas.stages_in_turn}
 use Rattle.er_event.proofs.rows.bracket.read_stages.Goals as goal

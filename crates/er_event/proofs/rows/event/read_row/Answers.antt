@@ -1,4 +1,4 @@
-use Rattle.er_event.proofs.Prelude.{phase_code, arith, false, pos, refl, sym, ◌∙◌, ◌≡◌}
+use Rattle.er_event.proofs.Prelude.{phase_code, arith, pos, refl, sym, ◌∙◌, ◌≡◌}
 use Rattle.std.proofs.lemmas.Int.{ints}
 use Rattle.er_event.proofs.PartsLemmas.{read_is}
 use Rattle.er_event.proofs.rows.event.read_row.Goals as goal

@@ -1,4 +1,4 @@
-use Rattle.er_event.proofs.Prelude.{is_bye, PairingRow, List, ap, arith, drop, false, get_or, inl, inr, sym, true, true≢false, ◌∙◌}
+use Rattle.er_event.proofs.Prelude.{PairingRow, List, ap, arith, drop, get_or, inl, inr, sym, true≢false, ◌∙◌}
 use Rattle.er_event.proofs.Prelude.{common_steps, take_rest}
 use Rattle.er_event.proofs.PairingLemmas.{bye_or_tables, first_is_bye, first_is_table, found_as, keyed-tables, none_first, nothing}
 use Rattle.er_event.proofs.PairingLemmas.{some_rows, with_bye_rows}

@@ -1,5 +1,5 @@
-use Rattle.er_event.proofs.Prelude.{FitRows, keyed_rows_from, Memory, Round, List, [], ap, arith, drop, false, get_or, length, refl, rules}
-use Rattle.er_event.proofs.Prelude.{subst, sym, take, true, ◌++◌, ◌+◌, ◌∙◌, ◌∷◌, ◌≡◌, ◌≤◌, common_steps, All-drop, length-drop, take_more}
+use Rattle.er_event.proofs.Prelude.{FitRows, keyed_rows_from, Memory, Round, List, [], ap, arith, drop, get_or, length, refl, rules}
+use Rattle.er_event.proofs.Prelude.{subst, sym, take, ◌++◌, ◌+◌, ◌∙◌, ◌∷◌, ◌≡◌, ◌≤◌, common_steps, All-drop, length-drop, take_more}
 use Rattle.er_event.proofs.Prelude.{take_rest}
 use Rattle.er_event.proofs.{PairingLemmas.rounds_in_turn, RowLemmas.{drop_next, next_shown, next_within, none_left, value_more}}
 use Rattle.er_event.proofs.rows.pairing.read_rounds.Goals as goal

@@ -1,5 +1,5 @@
-use Rattle.er_event.proofs.Prelude.{open_match, AreTables, table_rows, is_bye, pairing_row, Match, IsFalse, [], ap, ap₂, arith, false}
-use Rattle.er_event.proofs.Prelude.{get_or, subst, sym, true, ◌++◌, ◌∙◌, ◌∷◌, ◌≡◌, common_steps, All-push, take_more, same_Some}
+use Rattle.er_event.proofs.Prelude.{open_match, AreTables, table_rows, is_bye, pairing_row, Match, IsFalse, [], ap, ap₂, arith}
+use Rattle.er_event.proofs.Prelude.{get_or, subst, sym, ◌++◌, ◌∙◌, ◌∷◌, ◌≡◌, common_steps, All-push, take_more, same_Some}
 use Rattle.er_event.proofs.{PairingLemmas.{never_none, nothing}, RowLemmas.{all_shown, here_shown, rows_more}}
 use Rattle.er_event.proofs.rows.pairing.read_tables.Goals as goal
 
