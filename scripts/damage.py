@@ -1,8 +1,9 @@
 """Damages files of random events, each in one way, and has the program print their standings, players and bracket. What C SQLite reads of a copy says
 what is due. A file that was damaged by SQL is answered by just the event that its rows stand for, or refused 27 or 29. Where bytes were
 damaged, a refusal 25, 27 or 29 is always lawful, and the texts of an event where its rows are read; only of a file that C SQLite
-can't read may the texts be those of another event, one that the file once held. A file that is refused keeps its bytes, but for an empty one; beside
-it a log may be begun, or its log be ended, where nothing of it is read.
+can't read may the texts be those of another event, one that the file once held. A file that is refused keeps its bytes, but for an empty one, which
+is begun anew. A log beside it may be ended, or begun anew where nothing of it is read; one that wasn't there isn't left, and one that was stays. A
+file that is read is the event alone, without its log, then.
 """
 import collections
 import concurrent.futures
@@ -10,6 +11,7 @@ import copy
 import itertools
 import os
 import random
+import shutil
 import sqlite3
 import subprocess
 import sys
@@ -18,10 +20,11 @@ import tempfile
 import damaged_bytes
 import damaged_rows
 import plain_file
-from event_files import copied, due, rows_of, rows_of_copy, run, words_of
+from event_files import copied, due, rows_alone, rows_of, rows_of_copy, run, words_of
 from plain_event import PLAYOFF
 from plain_log import FRAME, HEAD, committed
 from random_play import random_event
+from stopping import run_unclosed
 from tally import check, end
 
 READINGS = ("standings", "players", "bracket")
@@ -41,31 +44,39 @@ def texts_of(event):
 
 
 class Template:
-    """A random event in two files: one as the program left it, with its log, and one into which C SQLite has put the log."""
+    """A random event in three files: one with all of it in its log, as where the program was stopped behind each answer; one that the program has
+    closed; and one into which C SQLite has put the log, and has taken it away.
+    """
 
     def __init__(self, states):
         self.states, self.event = states, states[-1][1]
         self.kept = {}
 
-    def make(self, program, folder):
-        self.logged, self.whole = f"{folder}/logged/e.event", f"{folder}/whole/e.event"
-        for file in (self.logged, self.whole):
+    def make(self, program, library, folder):
+        self.program, self.library = program, library
+        self.logged, self.closed, self.whole = (f"{folder}/{it}/e.event" for it in ("logged", "closed", "whole"))
+        for file in (self.logged, self.closed, self.whole):
             os.makedirs(os.path.dirname(file))
         names = [line.split("\t")[1] for line, _ in self.states if line.startswith("enrol\t")]
         with open(f"{folder}/names.csv", "w", encoding="utf-8") as it:
             it.writelines(f"{line}\n" for line in ["name", *names])
-        self.send(program, self.states[0][0], "ok 0")
-        check("import", run(program, ["import", self.logged, f"{folder}/names.csv"]), due([f"added {len(names)} already 0"]))
+        self.send(words_of(self.states[0][0], self.logged), "ok 0")
+        self.send(["import", self.logged, f"{folder}/names.csv"], f"added {len(names)} already 0")
         for line, event in self.states[1 + len(names) :]:
-            self.send(program, line, f"ok {event.serial}")
+            self.send(words_of(line, self.logged), f"ok {event.serial}")
         check("rows of an undamaged file", rows_of_copy(self.logged), rows_of(self.event))
-        copied(self.logged, os.path.dirname(self.whole))
+        check("it has not closed", os.path.getsize(f"{self.logged}-wal") > HEAD + FRAME, True)
+        for file in (self.closed, self.whole):
+            copied(self.logged, os.path.dirname(file))
+        check("closed", run(program, ["players", self.closed]), due(self.event.players()))
+        check("rows of a closed file", rows_alone(self.closed), rows_of(self.event))
         base = sqlite3.connect(self.whole)
         base.execute("PRAGMA wal_checkpoint(TRUNCATE)").fetchall()
         base.close()
 
-    def send(self, program, line, answer):
-        check(line, run(program, words_of(line, self.logged)), due([answer]))
+    def send(self, words, answer):
+        """A command line that ends before it closes the file."""
+        check(words, run_unclosed(self.program, self.library, words), due([answer])[1:])
 
     def held(self):
         """The texts of all the events that the file has held."""
@@ -115,11 +126,11 @@ def kinds():
     return [(part, kind) for part, those in parts for kind in those for _ in range(WEIGHTS.get(kind, 1))]
 
 
-def read_by_sqlite(file):
+def read_by_sqlite(file, takes=copied):
     """What is due to the three readings by what C SQLite reads of a copy; nothing where it can't read it."""
     with tempfile.TemporaryDirectory() as room:
         try:
-            return texts_of(plain_file.read(copied(file, room)))
+            return texts_of(plain_file.read(takes(file, room)))
         except plain_file.NoEvent:
             return REFUSALS[27]
         except plain_file.Damaged:
@@ -140,16 +151,16 @@ def change_of_log(before, after):
     read = committed(before)
     if read > same:
         return WRONGLY
-    return "an end put to its log" if read else "a log without a head begun anew" if len(before) > HEAD + FRAME else "an empty log put beside it"
+    return "an end put to its log" if read else "a log without a head begun anew" if len(before) > HEAD + FRAME else "an empty log begun anew"
 
 
 def change_of(before, after):
-    """How a refused file was changed."""
-    log, file = "e.event-wal", "e.event"
-    if set(after) - {log} != {file}:
+    """How a refused file was changed. A log is there or not, as before."""
+    file, log = "e.event", "e.event-wal"
+    if set(after) != set(before):
         return WRONGLY
     if after[file] != before[file]:
-        return WRONGLY if before[file] else "an empty file begun, with its log"
+        return WRONGLY if before[file] else "an empty file begun, with the log that was there" if log in before else "an empty file begun"
     return change_of_log(before.get(log, b""), after.get(log, b"")) or "none"
 
 
@@ -171,7 +182,7 @@ class Damages:
         part, kind = self.kinds[number % len(self.kinds)]
         template = dice.choice(self.templates)
         is_logged = part == "logged" or part == "rows" and dice.random() < 0.5
-        file = copied(template.logged if is_logged else template.whole, room)
+        file = copied(template.logged if is_logged else dice.choice((template.closed, template.whole)), room)
         if part == "rows":
             damaged_rows.damage(dice, file, kind, template.event)
         else:
@@ -207,6 +218,8 @@ class Damages:
                 faults.append("a refused file was changed")
             if not change and due_answers and read_by_sqlite(file) != due_answers:
                 faults.append("C SQLite reads something else afterwards")
+            if not change and due_answers and read_by_sqlite(file, shutil.copy) != due_answers:
+                faults.append("C SQLite reads something else of the file alone afterwards")
             return Outcome(kind, name_of(due_answers), name_of(answers), change, [f"damage {number}, {kind}: {it}" for it in faults])
 
 
@@ -218,12 +231,12 @@ def told(outcomes):
     return lines + [f"{count:6} refused files, changed: {change}" for change, count in sorted(changes.items())]
 
 
-def main(program, count, seed, jobs, templates, longest):
+def main(program, library, count, seed, jobs, templates, longest):
     with tempfile.TemporaryDirectory() as folder:
         dice, outcomes = random.Random(seed), []
         chosen_ones = chosen(dice, templates, longest)
         for number, template in enumerate(chosen_ones):
-            template.make(program, f"{folder}/{number}")
+            template.make(program, library, f"{folder}/{number}")
         damages = Damages(program, chosen_ones, seed)
         with concurrent.futures.ThreadPoolExecutor(jobs) as pool:
             for outcome in pool.map(damages.tried, range(count)):
@@ -239,4 +252,4 @@ def main(program, count, seed, jobs, templates, longest):
 
 
 if __name__ == "__main__":
-    main(sys.argv[1], *map(int, sys.argv[2:]))
+    main(*sys.argv[1:3], *map(int, sys.argv[3:]))

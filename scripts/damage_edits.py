@@ -12,15 +12,13 @@ import sys
 import tempfile
 
 import plain_file
-from damage import bytes_in, change_of
+from damage import bytes_in
 from event_files import copied, due, run
 from plain_event import Event
 from tally import check, end
 
 program, takes_all = os.path.abspath(sys.argv[1]), sys.argv[2:] == ["all"]
 ZERO = "0" * 64
-# of a file without a log: opening it puts an empty one beside it
-UNCHANGED = ("none", "an empty log put beside it")
 Good = collections.namedtuple("Good", "file event writing")
 Edit = collections.namedtuple("Edit", "example table what sql")
 
@@ -204,7 +202,7 @@ def run_in_copy(name, how, sql, good, refusals):
         for words in ("players", "standings", good.writing):
             got = run(program, with_file(words, file))
             check(f"{name}, {words}", got in refusals or got, True)
-        check(f"{name}, the file stays", change_of(before, bytes_in(room)) in UNCHANGED, True)
+        check(f"{name}, the file stays, and no log is left", bytes_in(room) == before, True)
         return table_at_fault(file)
 
 

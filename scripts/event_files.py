@@ -26,8 +26,8 @@ def due(answer):
     return STATUSES.get(int(answer[0].split()[1]), 1), b"", text
 
 
-def run(program, words):
-    ran = subprocess.run([program, *words], stdin=subprocess.DEVNULL, capture_output=True, timeout=60)
+def run(program, words, **how):
+    ran = subprocess.run([program, *words], stdin=subprocess.DEVNULL, capture_output=True, timeout=60, **how)
     return ran.returncode, ran.stdout, ran.stderr
 
 
@@ -46,6 +46,26 @@ def event_of_four():
     event.start()
     event.pair(1, bytes(32))
     return event
+
+
+def play_playoff(sends):
+    """An event of six players, one round and a playoff of four, line by line, with what each is answered. Some lines are refused."""
+    event = Event(1, 4)
+    sends("init\tE\t1\t4", ["ok 0"], event)
+    for number in range(1, 7):
+        sends(f"enrol\tP{number}", event.enrol(f"P{number}"), event)
+    sends("init\tE\t1\t4", ["refused 28 EventExists"], event)
+    sends("players", event.players(), event)
+    sends("start", event.start(), event)
+    sends(f"pair\t1\t{'0' * 64}", event.pair(1, bytes(32)), event)
+    for table in (1, 2, 3):
+        sends(f"result\t1\t{table}\t2\t0\t0", event.report(1, table, (2, 0, 0), True), event)
+    sends("correct\t1\t1\t2\t0\t0", event.report(1, 1, (2, 0, 0), False), event)
+    sends("drop\t2", event.drop(2), event)
+    sends("standings", event.standings(), event)
+    sends("cut", event.end_rounds(), event)
+    for stage, slot, (x, y, d) in ((1, 1, (1, 1, 0)), (1, 1, (2, 0, 0)), (1, 2, (1, 2, 0)), (2, 1, (0, 2, 0)), (2, 1, (0, 2, 0))):
+        sends(f"playoff\t{stage}\t{slot}\t{x}\t{y}\t{d}", event.play(stage, slot, (x, y, d)), event)
 
 
 def pairing_rows(event):
@@ -95,6 +115,12 @@ def rows_of_copy(file):
     with tempfile.TemporaryDirectory() as folder:
         copy = copied(file, folder)
         return rows_read(copy) if os.path.exists(copy) else None
+
+
+def rows_alone(file):
+    """The same of a copy without its log, as somebody takes the one file along."""
+    with tempfile.TemporaryDirectory() as folder:
+        return rows_read(shutil.copy(file, folder)) if os.path.exists(file) else None
 
 
 def rows_left(file, before):

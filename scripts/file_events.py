@@ -1,36 +1,58 @@
-"""Plays random events by command lines on the program as it is built, one process a line, beside a plain reading of the rules. Compared
-are each answer, its stream and the exit status, and after each command the rows of the tables, as C SQLite reads them: of the file itself,
-or of a copy with its log.
+"""Plays events by command lines on the program as it is built, one process a line, beside a plain reading of the rules: random ones, and one with a
+playoff. Compared are each answer, its stream and the exit status, and after each command the rows of the tables, as C SQLite reads them of the file
+alone, without its log. In half of the cases C SQLite opens the file itself too, and so may end the log. Of the one with a playoff the program is
+given the file alone as well, and has to print its players, standings and bracket.
 """
+import os
 import random
+import shutil
 import sys
 import tempfile
 
-from event_files import due, rows_of, rows_of_copy, rows_read, run, words_of
+from event_files import due, play_playoff, rows_alone, rows_of, rows_read, run, words_of
 from random_play import random_event
 
 
+class Playing:
+    def __init__(self, program, reading):
+        self.program, self.reading = program, reading
+        self.lines = self.wrong = 0
+
+    def begin(self, name, folder):
+        self.name, self.file = name, f"{folder}/e.event"
+
+    def compare(self, line, got, want):
+        if got != want:
+            self.wrong += 1
+            print(f"{self.name}, {line!r}: {got}, and not {want}", file=sys.stderr)
+
+    def play(self, line, answer, event):
+        self.lines += 1
+        self.compare(line, run(self.program, words_of(line, self.file)), due(answer))
+        self.compare(line, rows_alone(self.file), rows_of(event))
+        if self.reading.random() < 0.5:
+            self.compare(line, rows_read(self.file), rows_of(event))
+
+    def play_and_show(self, line, answer, event):
+        """The same, and what the program shows of the file alone."""
+        self.play(line, answer, event)
+        with tempfile.TemporaryDirectory() as folder:
+            alone = shutil.copy(self.file, folder)
+            shown = [run(self.program, [name, alone]) for name in ("players", "standings", "bracket")]
+            self.compare(f"{line}, shown", shown, [due(event.players()), due(event.standings()), due(event.bracket())])
+
+
 def main(program, count, seed):
-    dice, reading, lines, wrong = random.Random(seed), random.Random(seed), 0, 0
+    dice, playing = random.Random(seed), Playing(os.path.abspath(program), random.Random(seed))
     for number in range(count):
         with tempfile.TemporaryDirectory() as folder:
-            file = f"{folder}/e.event"
-
-            def play(line, answer, event):
-                nonlocal lines, wrong
-                lines += 1
-                got = run(program, words_of(line, file))
-                if got != due(answer):
-                    wrong += 1
-                    print(f"event {number}, {line!r}: {got}, and not {due(answer)}", file=sys.stderr)
-                rows = (rows_read if reading.random() < 0.5 else rows_of_copy)(file)
-                if rows != rows_of(event):
-                    wrong += 1
-                    print(f"event {number}, {line!r}: {rows}, and not {rows_of(event)}", file=sys.stderr)
-
-            random_event(play, dice, number)
-    print(f"random events in files: {count} events, {lines} command lines, {wrong} wrong")
-    return 1 if wrong else 0
+            playing.begin(f"event {number}", folder)
+            random_event(playing.play, dice, number)
+    with tempfile.TemporaryDirectory() as folder:
+        playing.begin("the playoff", folder)
+        play_playoff(playing.play_and_show)
+    print(f"events in files: {count} random ones and one with a playoff, {playing.lines} command lines, {playing.wrong} wrong")
+    return 1 if playing.wrong else 0
 
 
 sys.exit(main(sys.argv[1], int(sys.argv[2]), int(sys.argv[3])))

@@ -8,7 +8,7 @@ import random
 import sys
 import tempfile
 
-from event_files import due, rows_of, rows_of_copy, run, words_of
+from event_files import due, rows_alone, rows_of, run, words_of
 from plain_event import PLAYOFF, SWISS, Event
 from plain_http import read_of, served as served_plainly
 from random_play import random_playoff_score, random_score
@@ -74,8 +74,8 @@ class Evening:
             yield random_request(self.dice, self.event)
 
     def look(self):
-        """The file, and what command lines show of it."""
-        rows = rows_of_copy(self.file)
+        """The file, without its log as the end of serving leaves it, and what command lines show of it."""
+        rows = rows_alone(self.file)
         if rows != rows_of(self.event):
             self.complain("rows", rows, rows_of(self.event))
         self.line("standings", self.event.standings())

@@ -1,6 +1,6 @@
 """Stops the program by SIGKILL while it serves: behind an answer, at a random instant while a score is handed in, and in the middle of a request.
-The file then holds every score that was acknowledged, and of the one on its way all or nothing. It is served again on the same port, and that
-score is sent again: it is taken, or answered with the score that is stored.
+The file then holds every score that was acknowledged, and of the one on its way all or nothing; and once a command line has run, it holds them alone,
+without its log. It is served again on the same port, and that score is sent again: it is taken, or answered with the score that is stored.
 """
 import copy
 import random
@@ -8,7 +8,7 @@ import sys
 import tempfile
 import time
 
-from event_files import due, rows_of, rows_of_copy, run, words_of
+from event_files import due, rows_alone, rows_of, rows_of_copy, run, words_of
 from plain_event import Event
 from plain_http import served as served_plainly
 from serving import Serving, free_port, received, sent_whole
@@ -126,6 +126,8 @@ class Stops:
                 again = self.turn(serving)
             self.stops += 1
             self.line("standings", self.event.standings())
+            if rows_alone(self.file) != rows_of(self.event):
+                self.complain("the file alone", rows_alone(self.file), rows_of(self.event))
             if not again and not self.event.is_open():
                 if len(self.event.stored) == self.event.rounds:
                     return

@@ -41,15 +41,18 @@ def with_sums(data):
     return data
 
 
+def has_head(data):
+    """Whether the log begins with a head that is right."""
+    return data[:4] in MAGIC and len(data) >= HEAD and struct.pack(">2I", *added(order_of(data), data[:24], 0, 0)) == data[24:HEAD]
+
+
 def committed(data):
     """How many bytes of the log are read: up to the end of the last frame that commits, before any that isn't right."""
     data = bytes(data)
-    if data[:4] not in MAGIC or len(data) < HEAD:
+    if not has_head(data):
         return 0
     order, end = order_of(data), 0
     sums = added(order, data[:24], 0, 0)
-    if struct.pack(">2I", *sums) != data[24:HEAD]:
-        return 0
     for at in starts(data):
         frame = data[at : at + FRAME + PAGE]
         sums = sums_of_frame(order, frame, *sums)
@@ -58,3 +61,9 @@ def committed(data):
         if frame[4:8] != bytes(4):
             end = at + FRAME + PAGE
     return end
+
+
+def without_salts(data):
+    """The log without what is drawn anew each time that it is begun: its salts, and the checksums over them; but whether they are right, and how far."""
+    frames = [data[at : at + 8] + data[at + FRAME : at + FRAME + PAGE] for at in starts(data)]
+    return len(data), data[:12], has_head(data), committed(data), *frames

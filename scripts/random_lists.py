@@ -1,6 +1,7 @@
 """Random lists and events, beside a plain reading of the rules. A list that Python's `csv` wrote is imported; the players are exported, read by
 Python's `csv`, and imported into a second event. A random event's tables are exported at random instants of a script. And lists are damaged, by bytes
-that are turned, cut out, doubled or put in: each is answered as the rules have it, and nobody else is enrolled.
+that are turned, cut out, doubled or put in: each is answered as the rules have it, and nobody else is enrolled. After each import the file alone holds
+who is enrolled, without its log.
 """
 import csv
 import io
@@ -9,7 +10,7 @@ import subprocess
 import sys
 import tempfile
 
-from event_files import run
+from event_files import rows_alone, rows_of, run
 from plain_csv import imported, players_rows, records, results_rows, written
 from plain_event import Event
 from random_play import random_event
@@ -66,6 +67,7 @@ class Files:
             it.write(data)
         due = imported(self.event, data)
         check(f"{what}: {data!r}", self.run("import", self.list), due)
+        check(f"{what}, the file alone", rows_alone(self.file), rows_of(self.event))
 
     def exported(self, what):
         got = self.run("export", "players")

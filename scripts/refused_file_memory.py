@@ -1,15 +1,18 @@
 """Runs command lines over a file with one growth of memory refused, each in turn. The answer is as ever, or `refused 24 Memory` with status
 4. The file then holds the event as it was, or as the command leaves it, and so where it was answered as ever. An import for which
-memory ran out has enrolled as many names as it says, or one more. What the file holds then the program shows, once nothing is refused.
+memory ran out has enrolled as many names as it says, or one more. What the file holds then the program shows, once nothing is refused, and behind
+that the file alone holds it, without its log.
 
 An opening alone grows some 4,300 times, so that of a command line's growths each STRIDE-th is refused, and then each of the last 150.
 """
+import concurrent.futures
 import os
 import subprocess
 import sys
 import tempfile
 
-from event_files import copied, rows_of_copy
+from event_files import copied, rows_alone, rows_of_copy
+from plain_log import without_salts
 from refusing import no_cause_no_fault, refusing
 
 LAST = 150
@@ -45,8 +48,9 @@ def write_lists(room, names):
 
 
 def bytes_of(file):
-    """The bytes of the file and of its log, or None where one isn't there."""
-    return tuple(open(it, "rb").read() if os.path.exists(it) else None for it in (file, f"{file}-wal"))
+    """The bytes of the file and of its log, or None where one isn't there. Logs are alike that differ in their salts alone."""
+    data, log = (open(it, "rb").read() if os.path.exists(it) else None for it in (file, f"{file}-wal"))
+    return data, log and without_salts(log)
 
 
 class Line:
@@ -79,8 +83,10 @@ class Line:
         held = bytes_of(file)
         if held not in self.seen:
             with tempfile.TemporaryDirectory() as room:
-                at = copied(file, room)
-                self.seen[held] = rows_of_copy(file), self.run(at, ["players"]), self.run(at, ["standings"])
+                at, rows = copied(file, room), rows_of_copy(file)
+                shown = self.run(at, ["players"]), self.run(at, ["standings"])
+                alone = rows_alone(at)
+                self.seen[held] = rows if alone == rows else f"{rows}, and then the file alone {alone}", *shown
         return self.seen[held]
 
     def imported(self, count):
@@ -114,13 +120,14 @@ class Line:
 
 def main(program, library, stride):
     growths, wrong = 0, []
-    with tempfile.TemporaryDirectory() as room:
+    # a command line waits for the disk most of the time
+    with tempfile.TemporaryDirectory() as room, concurrent.futures.ThreadPoolExecutor(len(os.sched_getaffinity(0))) as pool:
         file = f"{room}/e.event"
         for words, is_tried in COMMANDS:
             it = Line(program, library, file, words, NAMES)
             if is_tried:
                 tried = sorted({*range(1, it.count + 1, stride), *range(max(1, it.count - LAST + 1), it.count + 1)})
-                growths, wrong = growths + len(tried), wrong + it.faults(map, tried)
+                growths, wrong = growths + len(tried), wrong + it.faults(pool.map, tried)
             write_lists(room, NAMES)
             it.run(file, words)
     print("\n".join(wrong), file=sys.stderr, end="\n" if wrong else "")

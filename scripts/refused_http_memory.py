@@ -4,7 +4,9 @@ event before the score or after it. The next request is never the one that lacks
 
 A score that is handed in grows some hundreds of times, so that of a request's growths each STRIDE-th is refused, and then each of the last 60.
 """
+import concurrent.futures
 import copy
+import os
 import sys
 import tempfile
 
@@ -74,13 +76,14 @@ class Request:
 
 def main(program, library, stride):
     count, wanting, wrong = 0, 0, []
-    with tempfile.TemporaryDirectory() as room:
+    # a program that serves waits for the disk most of the time
+    with tempfile.TemporaryDirectory() as room, concurrent.futures.ThreadPoolExecutor(len(os.sched_getaffinity(0))) as pool:
         template = f"{room}/e.event"
         make_four(program, template)
         for sent in REQUESTS:
             it = Request(program, library, template, event_of_four(), sent)
             tried = sorted({*range(it.first, it.last + 1, stride), *range(max(it.first, it.last - LAST + 1), it.last + 1)})
-            told, faults = it.faults(map, tried)
+            told, faults = it.faults(pool.map, tried)
             count, wanting, wrong = count + len(tried), wanting + told, wrong + faults
     print("\n".join(wrong), file=sys.stderr, end="\n" if wrong else "")
     print(f"refused memory while it serves: {count} growths, each refused once, and {wanting} answers that say so")

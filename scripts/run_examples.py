@@ -78,17 +78,24 @@ def run_seeds():
 SUBCOMMANDS = "init enrol import start pair result correct drop cut playoff standings players slips bracket export serve".split()
 
 
+def wide_lines(text):
+    """The lines of a text that a terminal of 80 columns breaks."""
+    return [it for it in text.split(b"\n") if len(it) > 80]
+
+
 def run_words():
     """A text that is asked for goes to the output. Words that are no command line are named on the errors, above what is to be written."""
     status, help_text, errors = run(b"", ["--help"])
     check("--help", (status, help_text.startswith(b"usage: event_reporter SUBCOMMAND FILE WORDS\n"), errors), (0, True, b""))
     check("-h", run(b"", ["-h"]), (0, help_text, b""))
+    check("--help fits 80 columns", wide_lines(help_text), [])
     for word in ("--version", "-V"):
         check(word, run(b"", [word]), (0, b"event_reporter 0.1.0\n", b""))
     for name in SUBCOMMANDS:
         status, text, errors = run(b"", [name, "--help"])
         check(f"{name} --help", (status, text.startswith(b"usage: event_reporter %s FILE" % name.encode()), b"\nExample: event_reporter " in text, errors), (0, True, True, b""))
         check(f"{name} -h", run(b"", [name, "-h"]), (0, text, b""))
+        check(f"{name} --help fits 80 columns", wide_lines(text), [])
         for word in ("--version", "-V"):
             check(f"{name} {word}", run(b"", [name, word]), (0, b"event_reporter 0.1.0\n", b""))
         check(f"{name} in the help", b"\n  %s FILE" % name.encode() in help_text, True)

@@ -1,5 +1,5 @@
-"""Runs the program as it is built on files: each transcript of a folder as command lines, one process a line; and then the files that a
-person may hand in, each with a clear answer and nothing changed.
+"""Runs the program as it is built on files: each transcript of a folder as command lines, one process a line; then the files that a person may
+hand in, each with a clear answer, nothing changed, and no litter beside it; and copies, as a person makes them and goes back to them.
 
 An empty line of a transcript begins the next file. What a script is answered `usage` is a fault of usage here, whose text goes to the errors.
 """
@@ -14,7 +14,10 @@ import subprocess
 import sys
 import tempfile
 
-from event_files import due, make_four
+from event_files import copied, due, event_of_four, make_four, rows_alone, rows_of
+from plain_event import Event
+from plain_log import committed
+from serving import Serving, hear_interrupts, served
 from tally import check, end
 from transcripts import parts_of
 
@@ -74,6 +77,21 @@ def bytes_of(file):
     return open(file, "rb").read()
 
 
+def log_of(file):
+    return f"{file}-wal"
+
+
+def laid(room, name, data):
+    """A file with these bytes."""
+    with open(f"{room}/{name}", "wb") as it:
+        it.write(data)
+    return f"{room}/{name}"
+
+
+def bytes_in(room):
+    return {name: bytes_of(f"{room}/{name}") for name in os.listdir(room)}
+
+
 def run_paths(room):
     """Where FILE is, or is not."""
     check("no such file", run("players", f"{room}/none"), refused(27, "NoEvent"))
@@ -113,6 +131,122 @@ def run_contents(room):
     check("its own table stays", sqlite3.connect(other).execute("SELECT body FROM note").fetchall(), [("chairs",)])
     check("a second event", run("init", whole, "Saturday", "3", "0"), refused(28, "EventExists"))
     check("a second event changes nothing", run("players", whole), SERVED)
+
+
+def without_log(file, *statements):
+    """The file as another program leaves it, which has put the log into it and taken it away."""
+    by_sqlite(file, *statements, "PRAGMA wal_checkpoint(TRUNCATE)")
+    check(f"{file} has no log", os.path.exists(log_of(file)), False)
+    return file
+
+
+def check_litter(what, answers, words, room):
+    """A command that is refused, and leaves the folder as it is."""
+    before = bytes_in(room)
+    got = run(*words)
+    check(what, got in answers or got, True)
+    after = bytes_in(room)
+    check(f"{what}, what lies there", sorted(after), sorted(before))
+    check(f"{what}, the bytes", [it for it in before if after.get(it) != before[it]], [])
+
+
+INIT = ("init", "Friday", "3", "0")
+
+
+def run_litter(room):
+    """A file that is refused has no log beside it that wasn't there."""
+    store, no_event, damaged, exists = (refused(*it) for it in ((25, "Store"), (27, "NoEvent"), (29, "Damaged"), (28, "EventExists")))
+    reading = [("players",), ("standings",), ("enrol", "Cy"), ("export", "players"), ("serve", "0", "1"), ("import", "/dev/null")]
+    text, short = laid(room, "README.md", b"# A text\n" * 900), laid(room, "names.csv", b"name\nAna\n")
+    other = by_sqlite(f"{room}/other", "CREATE TABLE note(body TEXT)")
+    logged = by_sqlite(f"{room}/logged", "PRAGMA journal_mode = WAL", "CREATE TABLE note(body TEXT)")
+    there = without_log(made(f"{room}/there"))
+    wrong = without_log(shutil.copy(there, f"{room}/wrong"), "UPDATE player SET no = 7 WHERE no = 2")
+    cut, torn = laid(room, "cut", bytes_of(there)[:100]), laid(room, "torn", bytes_of(there)[:6000])
+    for what, file, answers, commands in (
+        ("a text", text, [store], [*reading, INIT]),
+        ("a short text", short, [store], [*reading, INIT]),
+        ("another program's file", other, [no_event], reading),
+        ("another program's file, which had a log", logged, [no_event], reading),
+        ("a damaged event", wrong, [damaged], reading),
+        ("an event that is there", there, [exists], [INIT]),
+        ("an event cut at 100 bytes", cut, [store, no_event, damaged], reading),
+        ("an event cut in its second page", torn, [store, no_event, damaged], reading),
+    ):
+        for name, *rest in commands:
+            with tempfile.TemporaryDirectory() as folder:
+                check_litter(f"{what}, {name}", answers, (name, copied(file, folder), *rest), folder)
+
+
+def run_empty(_room):
+    """An empty file becomes an empty database, and has no log beside it."""
+    for name, *rest in (("players",), ("standings",), ("enrol", "Cy")):
+        with tempfile.TemporaryDirectory() as room:
+            file = laid(room, "empty", b"")
+            check(f"an empty file, {name}", run(name, file, *rest), refused(27, "NoEvent"))
+            check(f"an empty file, {name}, what lies there", os.listdir(room), ["empty"])
+            base = sqlite3.connect(file)
+            check(f"an empty file, {name}, what is in it", base.execute("SELECT * FROM sqlite_schema").fetchall(), [])
+            base.close()
+            check(f"an empty file, {name}, and an event in it", run("players", made(file)), SERVED)
+
+
+def with_log(file):
+    """The file while another program has it open, and its log with it."""
+    with tempfile.TemporaryDirectory() as room:
+        base = sqlite3.connect(file, isolation_level=None)
+        base.execute("CREATE TABLE note(body TEXT)")
+        kept = copied(file, room)
+        base.close()
+        for more in ("", "-wal"):
+            shutil.copy(kept + more, file + more)
+    check(f"{file} has a log", os.path.getsize(log_of(file)) > 4096, True)
+    return file
+
+
+def run_logs(room):
+    """A log that was there before stays, and keeps what is read of it, whatever is answered; and the file of an event that is refused stays as it is."""
+    logs = [("an empty log", b""), ("a log that is none", b"Ana\nBo\n" * 900), ("the log of an event", bytes_of(log_of(with_log(made(f"{room}/e")))))]
+    for what, log in logs:
+        for name, *rest in (("players",), INIT):
+            with tempfile.TemporaryDirectory() as other:
+                text = laid(other, "text", b"Ana\nBo\n" * 900)
+                laid(other, "text-wal", log)
+                check_litter(f"a text beside {what}, {name}", [refused(25, "Store")], (name, text, *rest), other)
+    damaged = with_log(by_sqlite(made(f"{room}/damaged"), "UPDATE player SET no = 7 WHERE no = 2"))
+    other = with_log(by_sqlite(f"{room}/other", "PRAGMA journal_mode = WAL"))
+    there = with_log(made(f"{room}/there"))
+    for what, file, (name, *rest), answer in (
+        ("a damaged event", damaged, ("players",), refused(29, "Damaged")),
+        ("another program's file", other, ("players",), refused(27, "NoEvent")),
+        ("an event that is there", there, INIT, refused(28, "EventExists")),
+    ):
+        before, log = bytes_of(file), bytes_of(log_of(file))
+        read = committed(log)
+        check(f"{what} with a log", run(name, file, *rest), answer)
+        check(f"{what} with a log, the file stays", bytes_of(file) == before, True)
+        check(f"{what} with a log, what is read of it stays", (read > 4096, bytes_of(log_of(file))[:read] == log[:read]), (True, True))
+    check("the event that is there, with its log", run("players", there), SERVED)
+
+
+def run_links(room):
+    """FILE is a link into another folder: the log lies beside the file that it leads to, and so does no litter."""
+    away, here = f"{room}/away", f"{room}/here"
+    os.mkdir(away)
+    os.mkdir(here)
+    file, link = made(f"{away}/friday.event"), f"{here}/e.event"
+    os.symlink(file, link)
+    check("a link to an event", run("enrol", link, "Cy"), due(["ok 3"]))
+    check("a link to an event, what lies beside it", os.listdir(here), ["e.event"])
+    check("a link to an event, what lies beside the file", sorted(os.listdir(away)), ["friday.event", "friday.event-wal"])
+    check("the event without the link", run("players", file)[1].count(b"\n"), 4)
+    check("the event alone", rows_alone(link), rows_alone(file))
+    os.remove(log_of(file))
+    check_litter("a link to an event that is there", [refused(28, "EventExists")], (INIT[0], link, *INIT[1:]), away)
+    text = f"{here}/text"
+    os.symlink(laid(away, "README.md", b"# A text\n" * 900), text)
+    for folder in (here, away):
+        check_litter("a link to a text", [refused(25, "Store")], ("players", text), folder)
 
 
 def run_after_sqlite(room):
@@ -182,18 +316,40 @@ def run_locked(room):
     check("at once", all(err == b"refused 25 Store\n" and status == 3 for out, err, status in answers if status), True)
     check("each has a serial", taken, sorted(b"ok %d\n" % it for it in range(3, 3 + len(taken))))
     check("each that was taken is there", run("players", file)[1].count(b"\n"), 3 + len(taken))
+    without_log(file)
+    inits = [("init", file, "Friday", "3", "0")] * 6
+    lines = [*(("enrol", file, f"Q{it}") for it in range(6)), *inits]
+    at_once = [subprocess.Popen([program, *words], stdout=subprocess.PIPE, stderr=subprocess.PIPE) for words in lines]
+    more = [it.communicate()[0] for it in at_once]
+    check("at once, where there is no log, with ones that are refused", [it for it in more[6:] if it], [])
+    check("each that was taken is there too", run("players", file)[1].count(b"\n"), 3 + len(taken) + sum(it != b"" for it in more))
 
 
-def run_full_disk(room):
-    """A disk on which nothing can grow."""
-    file = made(f"{room}/e.event")
+def run_narrowly(most, *words):
+    """A command line while no file can have more bytes than these."""
 
     def narrow():
         signal.signal(signal.SIGXFSZ, signal.SIG_IGN)
-        resource.setrlimit(resource.RLIMIT_FSIZE, (0, 0))
+        resource.setrlimit(resource.RLIMIT_FSIZE, (most, most))
 
-    check("a full disk", run("enrol", file, "Cy", preexec_fn=narrow, restore_signals=False), refused(25, "Store"))
+    return run(*words, preexec_fn=narrow, restore_signals=False)
+
+
+def run_full_disk(room):
+    """A disk on which nothing can be written, on which nothing can grow, and on which only the close finds no room."""
+    file = made(f"{room}/e.event")
+    log = os.path.getsize(log_of(file))
+    check("a disk that takes nothing", run_narrowly(0, "enrol", file, "Cy"), refused(25, "Store"))
+    check("a full disk", run_narrowly(log, "enrol", file, "Cy"), refused(25, "Store"))
+    check("a full disk, reading", run_narrowly(log, "players", file), SERVED)
     check("after a full disk", run("players", file), SERVED)
+    four, event = f"{room}/four.event", event_of_four()
+    make_four(program, four)
+    # the log has room for what a result writes, and the file takes a part of the page of its pairings
+    check("a close without room", run_narrowly(18_000, "result", four, "1", "1", "2", "1", "0"), due(event.report(1, 1, (2, 1, 0), True)))
+    check("a close without room, the log keeps it", os.path.getsize(log_of(four)) > log, True)
+    check("after a close without room", run("slips", four, "1"), due(event.slips(1)))
+    check("after a close without room, the file alone", rows_alone(four), rows_of(event))
 
 
 def run_terminal(_room):
@@ -231,8 +387,129 @@ def run_rights(room):
     check("as its owner", run("players", file), SERVED)
 
 
+def run_alone(room):
+    """The file alone is the event, once a list is imported, and once `serve` has come to its end."""
+    file, event = f"{room}/e.event", Event(3, 0)
+    check("alone, init", run("init", file, "E", "3", "0"), due(["ok 0"]))
+    check("alone, after init", rows_alone(file), rows_of(event))
+    names = laid(room, "names.csv", b"name\n" + b"".join(b"P%d\n" % it for it in range(1, 24)))
+    for number in range(1, 24):
+        event.enrol(f"P{number}")
+    check("alone, import", run("import", file, names), due(["added 23 already 0"]))
+    check("alone, after import", rows_alone(file), rows_of(event))
+    check("alone, import again", run("import", file, names), due(["added 0 already 23"]))
+    check("alone, after import again", rows_alone(file), rows_of(event))
+    four, event = f"{room}/four.event", event_of_four()
+    make_four(program, four)
+    check("alone, before it serves", rows_alone(four), rows_of(event))
+    with Serving(program, four, 2) as serving:
+        for table in (1, 2):
+            serving.ask(slip(table))
+            event.report(1, table, (2, 1, 0), True)
+        check("alone, it has served", serving.end(), served(2))
+    check("alone, after it has served", rows_alone(four), rows_of(event))
+
+
+def slip(table):
+    return b'POST /rounds/1/tables/%d HTTP/1.1\r\nContent-Length: 19\r\n\r\n{"a":2,"b":1,"d":0}' % table
+
+
+class Desk:
+    """An event of four in a folder, `friday.event`, and what is typed there."""
+
+    def __init__(self, room):
+        self.room, self.file, self.event = room, f"{room}/friday.event", event_of_four()
+        os.symlink(os.path.abspath(program), f"{room}/event_reporter")
+        make_four(program, self.file)
+
+    def type(self, line):
+        """What a line prints to a shell in the folder."""
+        ran = subprocess.run(line, shell=True, cwd=self.room, stdin=subprocess.DEVNULL, stdout=subprocess.PIPE, stderr=subprocess.STDOUT, timeout=60)
+        return ran.stdout
+
+    def shows(self, what, file, event):
+        """The event is in this file, as the program shows it."""
+        for name in ("players", "standings"):
+            check(f"{what}, {name}", self.type(f"./event_reporter {name} {file}"), due(getattr(event, name)())[1])
+        check(f"{what}, slips", self.type(f"./event_reporter slips {file} 1"), due(event.slips(1))[1])
+
+    def result(self, table):
+        answer = self.event.report(1, table, (2, 0, 0), True)
+        check(f"result at table {table}", self.type(f"./event_reporter result friday.event 1 {table} 2 0 0"), due(answer)[1])
+
+    def serve_and_interrupt(self, table):
+        """A score that was handed in, and then Ctrl-C."""
+        with Serving(program, self.file, 100, preexec_fn=hear_interrupts) as serving:
+            serving.ask(slip(table))
+            self.event.report(1, table, (2, 1, 0), True)
+            serving.process.send_signal(signal.SIGINT)
+            check("Ctrl-C", serving.end()[:2], (-signal.SIGINT, b""))
+
+    def goes_on(self, what, table, event):
+        """The file takes the score of this table, and is the event with it then."""
+        answer = event.report(1, table, (0, 2, 0), True)
+        check(f"{what}, it goes on", self.type(f"./event_reporter result friday.event 1 {table} 0 2 0"), due(answer)[1])
+        self.shows(f"{what}, and after it", "friday.event", event)
+        check(f"{what}, the file alone", rows_alone(self.file), rows_of(event))
+
+
+def typed(what, desk, *lines):
+    """Lines that print nothing."""
+    for line in lines:
+        check(f"{what}: {line}", desk.type(line), b"")
+
+
+def run_copies(_room):
+    """A copy of the one file while nothing runs; and after Ctrl-C, once a command has run, or of both files."""
+    with tempfile.TemporaryDirectory() as room:
+        desk = Desk(room)
+        desk.result(1)
+        typed("a copy", desk, "mkdir stick", "cp friday.event stick/")
+        desk.shows("a copy of the one file", "stick/friday.event", desk.event)
+    with tempfile.TemporaryDirectory() as room:
+        desk = Desk(room)
+        desk.serve_and_interrupt(1)
+        typed("a copy of both", desk, "mkdir both one", "cp friday.event friday.event-wal both/")
+        desk.type("./event_reporter players friday.event")
+        typed("a copy after players", desk, "cp friday.event one/")
+        desk.shows("a copy of both", "both/friday.event", desk.event)
+        desk.shows("a copy after players", "one/friday.event", desk.event)
+        desk.goes_on("after the copies", 2, desk.event)
+
+
+# how an older copy is taken back: of both names, or of the file alone while the log of the newer event is put away
+RESTORINGS = [
+    ("both names", ["cp copies/friday.event copies/friday.event-wal ."]),
+    ("the log removed", ["rm -f friday.event-wal", "cp copies/friday.event ."]),
+    ("both moved", ["mkdir older", "mv friday.event friday.event-wal older/", "cp copies/friday.event ."]),
+]
+
+
+def run_restoring(_room):
+    """An older copy in place of a newer event, which was closed, or ended by Ctrl-C with scores in its log."""
+    for what, lines in RESTORINGS:
+        for is_closed in (True, False):
+            name = f"{what}, {'closed' if is_closed else 'after Ctrl-C'}"
+            with tempfile.TemporaryDirectory() as room:
+                desk = Desk(room)
+                typed(name, desk, "mkdir copies", "cp friday.event* copies/")
+                if is_closed:
+                    desk.result(1)
+                else:
+                    desk.serve_and_interrupt(1)
+                typed(name, desk, *lines)
+                older = event_of_four()
+                desk.shows(name, "friday.event", older)
+                desk.goes_on(name, 1, older)
+                if os.path.exists(f"{room}/older"):
+                    desk.shows(f"{name}, the newer one", "older/friday.event", desk.event)
+
+
+PARTS = [run_paths, run_contents, run_litter, run_empty, run_logs, run_links, run_alone, run_copies, run_restoring]
+PARTS += [run_after_sqlite, run_totals, run_locked, run_full_disk, run_rights, run_terminal]
+
 run_transcripts()
-for part in (run_paths, run_contents, run_after_sqlite, run_totals, run_locked, run_full_disk, run_rights, run_terminal):
+for part in PARTS:
     with tempfile.TemporaryDirectory() as room:
         part(room)
 end("files, as the program is built")

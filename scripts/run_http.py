@@ -19,7 +19,7 @@ import time
 
 from event_files import due
 from plain_event import Event
-from serving import Serving, free_port, received, sent_to_the_end, sent_whole, served
+from serving import Serving, free_port, hear_interrupts, received, sent_to_the_end, sent_whole, served
 from tally import check, end
 
 program = sys.argv[1]
@@ -332,11 +332,6 @@ def run_locked(room):
         check("held, and served again", serving.ask(get("/rounds/1/tables/1")), REPORTED_SLIP)
         check("held, the end", serving.end(), served(2))
     check("no longer held", run("result", file, "1", "2", "2", "0", "0"), due(["ok 8"]))
-
-
-def hear_interrupts():
-    """Where these scripts run behind others, the shell may have had Ctrl-C ignored."""
-    signal.signal(signal.SIGINT, signal.SIG_DFL)
 
 
 def run_ended(room):

@@ -2,6 +2,7 @@
 import random
 import re
 import select
+import signal
 import socket
 import subprocess
 
@@ -51,6 +52,11 @@ def received(client):
         if not more:
             return came
         came += more
+
+
+def hear_interrupts():
+    """Where these scripts run behind others, the shell may have had Ctrl-C ignored."""
+    signal.signal(signal.SIGINT, signal.SIG_DFL)
 
 
 class Serving:

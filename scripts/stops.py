@@ -1,5 +1,6 @@
 """Stops the program at random instants of random events over files, by SIGKILL, and looks at what the file then holds: the event before the
-command or after it, whole, and after it where the command was acknowledged. Then the command is sent again, if it was not taken.
+command or after it, whole, and after it where the command was acknowledged. Behind the commands that come next the file alone holds it, without its
+log. Then the command is sent again, if it was not taken.
 """
 import copy
 import os
@@ -9,7 +10,7 @@ import sys
 import tempfile
 import time
 
-from event_files import due, rows_left, rows_of, run, words_of
+from event_files import due, rows_alone, rows_left, rows_of, run, words_of
 from random_play import random_event
 
 
@@ -70,6 +71,8 @@ class Stops:
                 wanted = texts if is_after else self.texts
                 if self.shown() != wanted:
                     self.complain(line, f"{self.shown()}, and not {wanted}")
+                if rows_alone(self.file) != (after if is_after else self.before):
+                    self.complain(line, f"the file alone holds {rows_alone(self.file)} then")
             if self.stops == self.count:
                 raise Stopped
             if is_after and after != self.before:

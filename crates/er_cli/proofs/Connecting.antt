@@ -1,11 +1,12 @@
 -- One connection after the other.
-use Rattle.std.proofs.Common.{◌≡◌, inr, ℕ, suc, ◌+◌, Bool, true, false, IsTrue, IsFalse, List, Option, refl, sym, ap, subst, ◌∙◌, ◌≤◌}
+use Rattle.std.proofs.Common.{◌≡◌, ◌⊎◌, inl, inr, ℕ, suc, ◌+◌, Bool, true, false, IsTrue, IsFalse, List, Option, refl, sym, ap, subst, ◌∙◌, ◌≤◌}
 use Rattle.std.proofs.Common.{arith, true≢false}
+use Rattle.std.proofs.Math.Nat.{le_refl}
 use Rattle.std.specs.Io.KnownBytes.{Appends}
 use Rattle.sqlite_trees.specs.declared.store.Store.{Ghosts}
 use Rattle.er_desk.specs.{declared.desk.Desk.Desk, Desk.{ShowsOwn, Standing, point_of, standing, state}, Headline.LeavesJust}
 use Rattle.sqlite.specs.State.{HasCleanDisk}
-use Rattle.er_cli.specs.{declared.TheConstants.DEVICE, Serving.{Connects, ConnectsAll, PrintsServed, listening, served}, Texts.AppendsPart}
+use Rattle.er_cli.specs.{declared.TheConstants.{DONE, DEVICE}, Serving.{Connects, ConnectsAll, ConnectsUpTo, PrintsServed, listening, served}, Texts.AppendsPart}
 use Rattle.er_cli.proofs.Sending.{part_after, part_first, whole_part}
 
 one_more : (count : ℕ) → suc count ≡ count + 1
@@ -15,6 +16,12 @@ one_more count = omega arith
 pub connects_more : (count : ℕ) (first old new : Standing) → ConnectsAll count first old → Connects old new
     → ConnectsAll (count + 1) first new
 connects_more count first old new all one = subst (λ (n : ℕ). ConnectsAll n first new) (one_more count) (old, all, one)
+
+-- all of so many are so many at most
+pub connects_up_to : (count status : ℕ) (old new : Standing)
+    → ((status ≡ DONE) × ConnectsAll count old new) ⊎ ((status ≡ DEVICE) × ConnectsUpTo count old new) → ConnectsUpTo count old new
+connects_up_to count status old new (inl (done, all)) = (count, le_refl count, all)
+connects_up_to count status old new (inr (broke, some)) = some
 
 -- a desk that was stopped stays as it is
 module _ {S : Type 0} {g : Ghosts S} (first old new : Desk S g) where

@@ -1,25 +1,39 @@
--- The statuses, and how long a script and a list may be, as literals.
+-- The statuses, how long a script and a list may be, how long a client may take, and how long a log is that may hold something, as literals.
 use Rattle.std.proofs.Common.{◌≡◌, refl}
 use Rattle.er_cli.specs.{declared.TheConstants.{DONE, REFUSED, USAGE, DEVICE, MEMORY}, declared.importing.TheConstants.MAX_LIST_BYTES}
 use Rattle.er_cli.specs.declared.input.TheConstants.{MAX_SCRIPT_BYTES}
+use Rattle.er_cli.specs.declared.client.TheConstants.{READ_SECONDS, WRITE_SECONDS, CLIENT_SECONDS}
+use Rattle.er_cli.specs.declared.closing.TheConstants.{LEAST_LOG}
 
-done_is_0 : DONE ≡ 0
+pub done_is_0 : DONE ≡ 0
 done_is_0 = refl
 
-refused_is_1 : REFUSED ≡ 1
+pub refused_is_1 : REFUSED ≡ 1
 refused_is_1 = refl
 
-usage_is_2 : USAGE ≡ 2
+pub usage_is_2 : USAGE ≡ 2
 usage_is_2 = refl
 
-device_is_3 : DEVICE ≡ 3
+pub device_is_3 : DEVICE ≡ 3
 device_is_3 = refl
 
-memory_is_4 : MEMORY ≡ 4
+pub memory_is_4 : MEMORY ≡ 4
 memory_is_4 = refl
 
-a_script_has_65536_bytes : MAX_SCRIPT_BYTES ≡ 65536
+pub a_script_has_65536_bytes : MAX_SCRIPT_BYTES ≡ 65536
 a_script_has_65536_bytes = refl
 
-a_list_has_131072_bytes : MAX_LIST_BYTES ≡ 131072
+pub a_list_has_131072_bytes : MAX_LIST_BYTES ≡ 131072
 a_list_has_131072_bytes = refl
+
+pub a_read_takes_1_second : READ_SECONDS ≡ 1
+a_read_takes_1_second = refl
+
+pub a_write_takes_10_seconds : WRITE_SECONDS ≡ 10
+a_write_takes_10_seconds = refl
+
+pub a_client_takes_30_seconds : CLIENT_SECONDS ≡ 30
+a_client_takes_30_seconds = refl
+
+pub a_log_with_a_frame_has_568_bytes : LEAST_LOG ≡ 568
+a_log_with_a_frame_has_568_bytes = refl

@@ -1,55 +1,62 @@
 -- What a command line over the file of an event may be answered.
-use Rattle.std.specs.Prelude.{◌≡◌, ◌⊎◌, ◌≤◌, ℕ, false, IsFalse, List, Option, MatchOption, Ok, Err}
+use Rattle.std.specs.Prelude.{◌≡◌, ◌⊎◌, ◌≤◌, ℕ, false, IsFalse, List, Option, MatchOption, Result, Err, MatchResult}
+use Rattle.sqlite_disk.specs.declared.Disk as disk
+use Rattle.sqlite_trees.specs.declared.store.Store.{Ghosts}
+use Rattle.sqlite_store.specs.declared.store.FileStore.{FileStore}
+use Rattle.sqlite.specs.State.{HasCleanDisk}
+use Rattle.sqlite.specs.Files.{over_files}
 use Rattle.er_event.specs.declared.refusals.Refusal.{Refusal}
-use Rattle.er_event.specs.declared.refusals.Refusal.TheVariants.{Memory, NoEvent, EventExists}
+use Rattle.er_event.specs.declared.refusals.Refusal.TheVariants.{NoEvent, EventExists}
 use Rattle.er_event.specs.declared.commands.TheConstants.{MAX_SERIAL}
 use Rattle.er_rules.specs.Commands.{first_refusal}
 use Rattle.er_rules.specs.Sound.{IsSound}
-use Rattle.sqlite_trees.specs.declared.store.Store.{Ghosts}
-use Rattle.sqlite.specs.State.{HasCleanDisk}
 use Rattle.er_store.specs.Fault.{IsFault, IsLoadFault}
 use Rattle.er_store.specs.Standing.{HasTables, AreKeyed}
 use Rattle.er_desk.specs.declared.desk.Desk.{Desk}
-use Rattle.er_desk.specs.Desk.{Standing, ShowsOwn, standing, state}
-use Rattle.er_desk.specs.Reply.{Reply, receipt}
+use Rattle.er_desk.specs.Desk.{Standing, ShowsOwn, running_at, standing, state}
+use Rattle.er_desk.specs.History.{new_point}
+use Rattle.er_desk.specs.Reply.{receipt}
 use Rattle.er_words.specs.declared.action.Action.{Action}
 use Rattle.er_words.specs.declared.action.Action.TheVariants.{Init, Open}
 use Rattle.er_words.specs.declared.action.Task.{Task}
 use Rattle.er_words.specs.declared.action.Task.TheVariants.{Ask, Import, Serve}
 use Rattle.er_cli.specs.declared.texts.Answer.{Answer}
-use Rattle.er_cli.specs.declared.texts.Answer.TheVariants.{Refused}
+use Rattle.er_cli.specs.declared.texts.Answer.TheVariants.{Accepted, Refused}
 use Rattle.er_cli.specs.declared.TheConstants.{DEVICE}
 use Rattle.er_cli.specs.declared.help.TheConstants.{CANNOT_LISTEN}
 use Rattle.er_cli.specs.Help.{Says, Tells}
 use Rattle.er_cli.specs.Importing.{Imports}
-use Rattle.er_cli.specs.Serving.{PrintsServed}
+use Rattle.er_cli.specs.Serving.{ConnectsUpTo, PrintsServed}
 use Rattle.er_cli.specs.Setup.{init_checks}
-use Rattle.er_cli.specs.Answers.{DeskAnswers, reply_answer}
+use Rattle.er_cli.specs.Answers.{DeskAnswers}
+use Rattle.er_cli.specs.Closing.{IsPutAway}
 
 -- there is no event in the file, or it is damaged, or memory or the device fails
 abbrev pub IsNotOpened : Answer → Type 0
 IsNotOpened answer = (why : Refusal) × ((why ≡ NoEvent) ⊎ IsLoadFault why) × (answer ≡ Refused why)
 
--- the event is made, or the file has one, or memory or the store fails
-abbrev pub IsMade : Reply → Type 0
-IsMade reply = (reply ≡ Ok (receipt 0)) ⊎ (reply ≡ Err EventExists) ⊎ ((why : Refusal) × IsFault why × (reply ≡ Err why))
+-- the file has an event, or memory or the store fails
+abbrev pub IsNotMade : Refusal → Type 0
+IsNotMade why = (why ≡ EventExists) ⊎ IsFault why
 
-abbrev pub MakesInFile : Answer → Type 0
-MakesInFile answer = (reply : Reply) × IsMade reply × (answer ≡ reply_answer reply)
+-- the desk of an event that was just made
+abbrev pub IsNew : {S : Type 0} {g : Ghosts S} → List ℕ → ℕ → ℕ → Desk S g → Type 0
+IsNew name rounds cut desk = standing desk ≡ running_at (new_point name rounds cut)
 
 -- What is checked of an event that is to be made comes before any file is touched.
-abbrev pub InitAnswers : List ℕ → ℕ → ℕ → Answer → Type 0
-InitAnswers name rounds cut answer =
+abbrev pub InitReplies : {S : Type 0} (g : Ghosts S) → List ℕ → ℕ → ℕ → Result (Desk S g) Refusal → Type 0
+InitReplies g name rounds cut made =
     MatchOption (first_refusal (init_checks false name rounds cut))
-    (MakesInFile answer ⊎ (answer ≡ Refused Memory))
-    (λ why. (answer ≡ Refused why) ⊎ (answer ≡ Refused Memory))
+    (MatchResult made (IsNew name rounds cut) IsNotMade)
+    (λ why. made ≡ Err why)
 
 module _ (out out_then err err_then : Option (List ℕ)) (status : ℕ) where
   -- clients were served, or the port can't be had
-  abbrev pub ServesClients : ℕ → Type 0
-  ServesClients count =
-      (PrintsServed count out out_then status × (err_then ≡ err))
-      ⊎ Says CANNOT_LISTEN.now DEVICE (record { meant = err; other = out }) (record { meant = err_then; other = out_then }) status
+  abbrev pub ServesClients : ℕ → Standing → Standing → Type 0
+  ServesClients count old new =
+      (PrintsServed count out out_then status × (err_then ≡ err) × ConnectsUpTo count old new)
+      ⊎ (Says CANNOT_LISTEN.now DEVICE (record { meant = err; other = out }) (record { meant = err_then; other = out_then }) status
+      × (new ≡ old))
 
 -- a desk that was just opened: its event is sound, and no fault of the store is behind
 pub record IsOpened {S : Type 0} (g : Ghosts S) (desk : Desk S g) : Type 0 where
@@ -59,20 +66,40 @@ pub record IsOpened {S : Type 0} (g : Ghosts S) (desk : Desk S g) : Type 0 where
   -- tables with the schema stand for it, on a clean disk
   pub stands : HasCleanDisk (state g desk) → HasTables (state g desk).now.schema → AreKeyed (state g desk).now → ShowsOwn g desk
 
--- what is done with an event that was opened, by its desk
-abbrev pub Does : {S : Type 0} (g : Ghosts S) → Desk S g → Task → (out out_then err err_then : Option (List ℕ)) → ℕ → Type 0
-Does {S} g desk (Ask request) out out_then err err_then status =
-    (answer : Answer) × (last : Desk S g)
+-- what is done with an event that was opened, by its desk, and where that stands then
+abbrev pub Does : {S : Type 0} (g : Ghosts S) → Desk S g → Task → Desk S g → (out out_then err err_then : Option (List ℕ)) → ℕ → Type 0
+Does g desk (Ask request) last out out_then err err_then status =
+    (answer : Answer)
     × DeskAnswers (HasCleanDisk (state g last) × ShowsOwn g desk) (standing desk) request answer (standing last)
     × Tells answer out out_then err err_then status
-Does g desk (Import list) out out_then err err_then status =
-    (last : Standing) × Imports (standing desk) last out out_then err err_then status
-Does g desk (Serve port count) out out_then err err_then status = ServesClients out out_then err err_then status count
+Does g desk (Import list) last out out_then err err_then status = Imports (standing desk) (standing last) out out_then err err_then status
+Does g desk (Serve port count) last out out_then err err_then status =
+    ServesClients out out_then err err_then status count (standing desk) (standing last)
 
--- What a command line does to the output and the errors, and its status. An event is opened by a desk over such a store.
-abbrev pub EndsLine : {S : Type 0} → Ghosts S → Action → (out out_then err err_then : Option (List ℕ)) → ℕ → Type 0
-EndsLine g (Init name rounds cut) out out_then err err_then status =
-    (answer : Answer) × InitAnswers name rounds cut answer × Tells answer out out_then err err_then status
-EndsLine {S} g (Open task) out out_then err err_then status =
-    ((answer : Answer) × IsNotOpened answer × Tells answer out out_then err err_then status)
-    ⊎ ((desk : Desk S g) × IsOpened g desk × Does g desk task out out_then err err_then status)
+-- while the desk runs, its tables stand for its event, where they stood for it before
+abbrev pub StandsOn : {S : Type 0} (g : Ghosts S) → Desk S g → Desk S g → Type 0
+StandsOn g old new = HasCleanDisk (state g new) → ShowsOwn g old → IsFalse (standing new).stopped → ShowsOwn g new
+
+module _ {D : Type 0} (g : disk.Ghosts D) (out out_then err err_then : Option (List ℕ)) (status : ℕ) where
+  -- an event was made, and its file put away; or why it was not
+  abbrev pub Makes : List ℕ → ℕ → ℕ → Type 0
+  Makes name rounds cut =
+      (made : Result (Desk (FileStore D g) over_files) Refusal)
+      × InitReplies over_files name rounds cut made
+      × MatchResult made
+      (λ desk. IsPutAway g desk × Tells (Accepted (receipt 0)) out out_then err err_then status)
+      (λ why. Tells (Refused why) out out_then err err_then status)
+
+  -- An event was opened, one thing was done with it, and its file put away.
+  pub record OpensFor (task : Task) : Type 0 where
+    pub desk : Desk (FileStore D g) over_files
+    pub last : Desk (FileStore D g) over_files
+    pub opened : IsOpened over_files desk
+    pub does : Does over_files desk task last out out_then err err_then status
+    pub stands : StandsOn over_files desk last
+    pub put_away : IsPutAway g last
+
+  -- What a command line does to the output and the errors, and its status. An event is opened by a desk over such files.
+  abbrev pub EndsLine : Action → Type 0
+  EndsLine (Init name rounds cut) = Makes name rounds cut
+  EndsLine (Open task) = ((answer : Answer) × IsNotOpened answer × Tells answer out out_then err err_then status) ⊎ OpensFor task

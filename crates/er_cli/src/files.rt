@@ -1,29 +1,30 @@
-ghost use Rattle.std.specs.Prelude.{◌≡◌, ◌⊎◌, ◌≤◌, false, IsFalse, IfOk, IfErr, MatchResult};
+ghost use Rattle.std.specs.Prelude.{◌≡◌, ◌⊎◌, ◌≤◌, false, IsFalse, IfErr, MatchResult};
+ghost use Rattle.sqlite.specs.Files.{over_files};
 ghost use Rattle.er_event.specs.declared.commands.TheConstants.{MAX_SERIAL};
 ghost use Rattle.er_rules.specs.Sound.{IsSound};
 ghost use Rattle.er_event.specs.Sound.{AreLimits};
 ghost use Rattle.er_desk.specs.Desk.{standing};
-ghost use Rattle.er_desk.specs.Reply.{Reply, receipt};
-ghost use Rattle.er_words.specs.declared.action.Action.TheVariants.{Open};
+ghost use Rattle.er_desk.specs.Reply.{receipt};
+ghost use Rattle.er_words.specs.declared.action.Action.TheVariants.{Init, Open};
 ghost use Rattle.er_words.specs.Action.{action_of};
-ghost use Rattle.er_cli.specs.Answers.{reply_answer};
 ghost use Rattle.er_store.specs.Fault.{IsLoadFault};
-ghost use Rattle.er_cli.specs.Files.{Does, EndsLine, InitAnswers, IsMade, ServesClients};
+ghost use Rattle.er_cli.specs.Closing.{IsPutAway};
+ghost use Rattle.er_cli.specs.Files.{Does, EndsLine, InitReplies, IsNew, IsNotMade, IsOpened, Makes, OpensFor, ServesClients, StandsOn};
 ghost use Rattle.er_cli.specs.Help.{Tells};
 
-use crate::answers::{answer, reply_answer};
+use crate::answers::answer;
+use crate::closing::{NewLog, clear_fault, clear_refused, clear_unopened, log_to_make, put_away};
 use crate::help::CANNOT_LISTEN;
 use crate::importing::import;
 use crate::serving::serve_on;
 use crate::setup::set_up;
 use crate::texts::Answer;
 use crate::{DEVICE, say_all, tell};
-use er_desk::{Desk, Reply, opening_refusal};
+use er_desk::{Desk, opening_refusal};
 use er_event::{Cause, Name, Receipt, Refusal};
 use er_words::{Action, Line, Task};
 use sqlite::{Alter, Connection, FileFrom, FileStore, Wary};
-use sqlite_trees::store::Store;
-use std::alloc::Global;
+use sqlite_disk::Disk;
 use std::fs;
 use std::io::Write;
 use std::net::{Ipv4Addr, TcpListener};
@@ -41,41 +42,95 @@ fn find_file(rt: &HostRuntime, path: &str) -> Result<(), Refusal>
     }
 }
 
-/// Makes an event over a connection, which is closed then.
-fn create_once<S: Alter + Drop>(
-    alloc: Global,
-    conn: Connection<S>,
+/// Makes an event over a connection. `log` is a log that this run made.
+fn create_once<D: Disk + Drop>(
+    rt: &HostRuntime,
+    conn: Connection<FileStore<D>>,
+    log: Option<&NewLog>,
     name: Name,
     rounds: u8,
     cut: u8,
-) -> Reply
+) -> Result<Desk<FileStore<D>>, Refusal>
     requires limits { AreLimits rounds cut }
     requires mode { conn.in_transaction ≡ false }
-    ensures { IsMade result }
+    ensures { MatchResult result (IsNew name rounds cut) IsNotMade }
 {
-    match Desk::create(alloc, conn, name, rounds, cut) {
-        Ok(_desk) => Ok(Receipt { serial: 0 }),
-        Err((_conn, why)) => Err(why),
+    match Desk::create(rt.alloc(), conn, name, rounds, cut) {
+        Ok(desk) => Ok(desk),
+        Err((conn, why)) => {
+            clear_refused(rt, conn, log);
+            Err(why)
+        }
     }
 }
 
 /// Makes an event in a file, which is made where it isn't there.
-fn create(rt: &HostRuntime, path: &str, name: Name, rounds: u8, cut: u8) -> Reply
+fn create(
+    rt: &HostRuntime,
+    path: &str,
+    name: Name,
+    rounds: u8,
+    cut: u8,
+) -> Result<Desk<FileStore<FileFrom<Wary>>>, Refusal>
     requires limits { AreLimits rounds cut }
-    ensures { IsMade result }
+    ensures { MatchResult result (IsNew name rounds cut) IsNotMade }
 {
+    let log = log_to_make(rt, path);
     match Connection::open_from(rt, path, false, Wary) {
-        Ok(conn) => create_once(rt.alloc(), conn, name, rounds, cut),
-        Err((error, _left)) => Err(opening_refusal(error)),
+        Ok(conn) => create_once(rt, conn, log.as_ref(), name, rounds, cut),
+        Err((error, left)) => {
+            clear_unopened(rt, left, log.as_ref());
+            Err(opening_refusal(error))
+        }
     }
 }
 
 /// Makes an event in a file, once it is sure that it may be set up so.
-fn init(rt: &HostRuntime, path: &str, name: &[u8], rounds: u8, cut: u8) -> Reply
-    ensures { InitAnswers name.now rounds cut (reply_answer result) }
+fn init(
+    rt: &HostRuntime,
+    path: &str,
+    name: &[u8],
+    rounds: u8,
+    cut: u8,
+) -> Result<Desk<FileStore<FileFrom<Wary>>>, Refusal>
+    ensures { InitReplies over_files name.now rounds cut result }
 {
     let name = set_up(rt.alloc(), name, rounds, cut)?;
     create(rt, path, name, rounds, cut)
+}
+
+/// Tells that an event was made, and closes its file once that is written.
+fn tell_made<D: Disk + Drop, O: Write, E: Write>(
+    desk: Desk<FileStore<D>>,
+    out: &mut O,
+    err: &mut E,
+) -> u8
+    ensures put_away { IsPutAway D.Disk desk }
+    ensures told { Tells (Answer.Accepted (receipt 0)) (O.contents out.old) (O.contents out.new)
+        (E.contents err.old) (E.contents err.new) result }
+{
+    let status = tell(out, err, &Answer::Accepted(Receipt { serial: 0 }));
+    put_away(desk);
+    status
+}
+
+/// Makes an event, and tells so or why not.
+fn make<O: Write, E: Write>(
+    rt: &HostRuntime,
+    path: &str,
+    name: &[u8],
+    rounds: u8,
+    cut: u8,
+    out: &mut O,
+    err: &mut E,
+) -> u8
+    ensures { Makes ⟦<FileFrom<Wary> as Disk>⟧ (O.contents out.old) (O.contents out.new)
+        (E.contents err.old) (E.contents err.new) result name.now rounds cut }
+{
+    match init(rt, path, name, rounds, cut) {
+        Ok(desk) => tell_made(desk, out, err),
+        Err(why) => tell_refusal(out, err, why),
+    }
 }
 
 /// Serves the clients of a desk, on this machine alone.
@@ -87,34 +142,53 @@ fn listen<S: Alter, O: Write, E: Write>(
     out: &mut O,
     err: &mut E,
 ) -> u8
-    ensures { ServesClients (O.contents out.old) (O.contents out.new) (E.contents err.old)
-        (E.contents err.new) result count }
+    ensures serves { ServesClients (O.contents out.old) (O.contents out.new) (E.contents err.old)
+        (E.contents err.new) result count (standing desk.old) (standing desk.new) }
+    ensures stands { StandsOn S.Store desk.old desk.new }
 {
     match TcpListener::bind(rt, (Ipv4Addr::LOCALHOST, port)) {
-        Ok(listener) => serve_on(rt.alloc(), desk, &listener, count, out),
+        Ok(listener) => serve_on(rt, desk, &listener, count, out),
         Err(_error) => say_all(err, CANNOT_LISTEN, DEVICE),
     }
 }
 
-/// Does what an event was opened for. Its desk is closed then.
-fn do_task<S: Alter + Drop, O: Write, E: Write>(
+/// Does what an event was opened for.
+fn do_task<S: Alter, O: Write, E: Write>(
     rt: &HostRuntime,
-    mut desk: Desk<S>,
+    desk: &mut Desk<S>,
     task: Task,
     out: &mut O,
     err: &mut E,
 ) -> u8
-    requires sound { IsSound desk.event }
-    requires low { desk.serial ≤ MAX_SERIAL }
-    requires ready { IsFalse (standing desk).stopped }
-    ensures { Does S.Store desk task (O.contents out.old) (O.contents out.new) (E.contents err.old)
-        (E.contents err.new) result }
+    requires sound { IsSound desk.old.event }
+    requires low { desk.old.serial ≤ MAX_SERIAL }
+    requires ready { IsFalse (standing desk.old).stopped }
+    ensures does { Does S.Store desk.old task desk.new (O.contents out.old) (O.contents out.new)
+        (E.contents err.old) (E.contents err.new) result }
+    ensures stands { StandsOn S.Store desk.old desk.new }
 {
     match task {
-        Task::Ask { request } => tell(out, err, &answer(rt.alloc(), &mut desk, request)),
-        Task::Import { list } => import(rt, &mut desk, list.as_str(), out, err),
-        Task::Serve { port, count } => listen(rt, &mut desk, port, count, out, err),
+        Task::Ask { request } => tell(out, err, &answer(rt.alloc(), desk, request)),
+        Task::Import { list } => import(rt, desk, list.as_str(), out, err),
+        Task::Serve { port, count } => listen(rt, desk, port, count, out, err),
     }
+}
+
+/// Does it with the desk of a file, and closes that once the answer is written.
+fn do_and_close<D: Disk + Drop, O: Write, E: Write>(
+    rt: &HostRuntime,
+    mut desk: Desk<FileStore<D>>,
+    task: Task,
+    out: &mut O,
+    err: &mut E,
+) -> u8
+    requires opened { IsOpened over_files desk }
+    ensures { OpensFor D.Disk (O.contents out.old) (O.contents out.new) (E.contents err.old)
+        (E.contents err.new) result task }
+{
+    let status = do_task(rt, &mut desk, task, out, err);
+    put_away(desk);
+    status
 }
 
 /// Tells why a file was not opened.
@@ -133,28 +207,28 @@ fn open<O: Write, E: Write>(
     out: &mut O,
     err: &mut E,
 ) -> u8
-    ensures { EndsLine ⟦<FileStore<FileFrom<Wary>> as Store>⟧ (Open task) (O.contents out.old)
-        (O.contents out.new) (E.contents err.old) (E.contents err.new) result }
+    ensures { EndsLine ⟦<FileFrom<Wary> as Disk>⟧ (O.contents out.old) (O.contents out.new)
+        (E.contents err.old) (E.contents err.new) result (Open task) }
 {
     if let Err(why) = find_file(rt, path) {
         return tell_refusal(out, err, why);
     }
+    let log = log_to_make(rt, path);
     match er_desk::open(rt, path, Wary) {
-        Ok(desk) => do_task(rt, desk, task, out, err),
-        Err(fault) => tell_refusal(out, err, fault.into_refusal()),
+        Ok(desk) => do_and_close(rt, desk, task, out, err),
+        Err(fault) => tell_refusal(out, err, clear_fault(rt, fault, log.as_ref())),
     }
 }
 
 /// Does what a command line asks of its file, and gives the status to end with.
 pub fn act<O: Write, E: Write>(rt: &HostRuntime, line: Line, out: &mut O, err: &mut E) -> u8
-    ensures { EndsLine ⟦<FileStore<FileFrom<Wary>> as Store>⟧ (action_of line) (O.contents out.old)
-        (O.contents out.new) (E.contents err.old) (E.contents err.new) result }
+    ensures { EndsLine ⟦<FileFrom<Wary> as Disk>⟧ (O.contents out.old) (O.contents out.new)
+        (E.contents err.old) (E.contents err.new) result (action_of line) }
 {
     let (file, action) = line.into_parts();
     match action {
         Action::Init { name, rounds, cut } => {
-            let reply = init(rt, file.as_str(), name.as_slice(), rounds, cut);
-            tell(out, err, &reply_answer(reply))
+            make(rt, file.as_str(), name.as_slice(), rounds, cut, out, err)
         }
         Action::Open { task } => open(rt, file.as_str(), task, out, err),
     }

@@ -14,55 +14,81 @@ pub const HELP: &str = "\
 usage: event_reporter SUBCOMMAND FILE WORDS
        event_reporter < SCRIPT
 
-Keeps one event of a Magic Swiss tournament in FILE. What is answered `ok` is in the file, wherever the program is stopped.
+Keeps one event of a Magic Swiss tournament in FILE. What is answered `ok` is
+in the file, wherever the program is stopped.
 
-  init FILE NAME ROUNDS CUT       creates the event: 1 to 9 rounds, and a cut to 0, 2, 4 or 8 players
+  init FILE NAME ROUNDS CUT       creates the event: 1 to 9 rounds, and a cut
+                                  to 0, 2, 4 or 8 players
   enrol FILE NAME                 enrols a player, who gets the next number
-  import FILE CSV                 enrols the players of a list: a CSV with the heading name, and a name a line
+  import FILE CSV                 enrols the players of a list: a CSV with the
+                                  heading name, and a name a line
   start FILE                      ends enrolling, with two players or more
-  pair FILE ROUND SEED            pairs the next round; SEED, 64 hexadecimal digits, draws the order of players with equal points
-  result FILE ROUND TABLE X Y D   enters a score: games won by the first-named player, by the second, and drawn
-  correct FILE ROUND TABLE X Y D  replaces a score that was entered, as often as it must be
-  drop FILE PLAYER                drops the player of this number, who stays listed
-  cut FILE                        once all rounds are complete, seeds the playoff by the standings, dropped players left out
-  playoff FILE STAGE SLOT X Y D   enters a score of the playoff, with its games as for result; one of the two must have won more
-  players FILE                    lists the players by number, with a D at those who were dropped
-  standings FILE                  lists the players by rank, with their points and percentages
-  slips FILE ROUND                lists the matches of a round that was paired, table by table
-  bracket FILE                    lists the matches of the playoff, stage by stage, and then its champion
-  export FILE KIND                prints a CSV; KIND is players, or results for those of the Swiss rounds
-  serve FILE PORT COUNT           lets players read slips and hand in scores over HTTP on this machine, for so many connections
+  pair FILE ROUND SEED            pairs the next round; SEED, 64 hexadecimal
+                                  digits, draws the order of equal points
+  result FILE ROUND TABLE X Y D   enters a score: games won by the player named
+                                  first, by the second, and drawn
+  correct FILE ROUND TABLE X Y D  replaces a score, as often as it must be
+  drop FILE PLAYER                drops the player of this number, who stays
+                                  listed
+  cut FILE                        once all rounds are complete, seeds the
+                                  playoff by the standings; who has dropped is
+                                  left out
+  playoff FILE STAGE SLOT X Y D   enters a score of the playoff, as for result;
+                                  one of the two must have won more games
+  players FILE                    lists the players by number, with a D at
+                                  those who have dropped
+  standings FILE                  lists the players by rank, with their points
+                                  and percentages
+  slips FILE ROUND                lists the matches of a round, table by table
+  bracket FILE                    lists the matches of the playoff, stage by
+                                  stage, and then its champion
+  export FILE KIND                prints a CSV; KIND is players, or results for
+                                  those of the Swiss rounds
+  serve FILE PORT COUNT           takes scores over HTTP from programs on this
+                                  machine, for so many connections
 
   SUBCOMMAND --help               says more of one of them
   -h, --help                      prints this text
   -V, --version                   prints the version
 
-An evening: init, enrol each player or import a list, start. Then for each round pair, slips, and a result for each table; then the
-next pair. After the last round, standings, or cut and a playoff for each match. Try it:
+An evening: init, enrol each player or import a list, start. Then for each
+round pair, slips, and a result for each table; then the next pair. After the
+last round, standings, or cut and a playoff for each match. Try it:
 
   event_reporter init friday.event 'Friday Night' 3 0
   event_reporter enrol friday.event Ana
   event_reporter players friday.event
 
-With no words the same commands are read as a script from standard input, without FILE, a line each, their words separated by
-one TAB. A script keeps its event in memory alone. Try it: ./event_reporter < examples/friday.txt
+To keep a copy, copy FILE once nothing runs on it. Do so before each pair, cut
+and drop: there is no other way back from one.
 
-A command that is taken is answered `ok` and how many were taken so far. Another is answered `refused`, a number and a name, and
-has changed nothing; an import that is refused keeps the players who were enrolled before. The refusals:
+With no words the same commands are read as a script from standard input,
+without FILE, a line each, their words separated by one TAB. A script keeps its
+event in memory alone. Try it: ./event_reporter < examples/friday.txt
 
-   1 BadName          1 to 60 bytes, no control character, no space at either end: write the name anew
-   2 NameTaken        a player has this name: add something that tells the two apart
-   3 PlayersFull      512 players are enrolled, and there is no room for more
+A command that is taken is answered `ok` and how many were taken so far. Another
+is answered `refused`, a number and a name, and has changed nothing; an import
+that is refused keeps the players who were enrolled before. The refusals:
+
+   1 BadName          1 to 60 bytes, no control character, no space at either
+                      end: write the name anew
+   2 NameTaken        a player has this name: add what tells the two apart
+   3 PlayersFull      512 players are enrolled: there is no room for more
    4 NotEnrolling     the event has started: nobody enrols any more
-   5 TooFewPlayers    two players who have not dropped are wanted: enrol them first
-   6 NotSwiss         the Swiss rounds have not begun, or the playoff has: start, or playoff
-   7 WrongRound       another round is the next one: slips of the last one shows where the event is
-   8 RoundOpen        a match of the last round has no score: slips shows it with a -
+   5 TooFewPlayers    two players who have not dropped are wanted: enrol them
+   6 NotSwiss         the Swiss rounds have not begun, or the playoff has:
+                      start, or playoff
+   7 WrongRound       another round is next: slips of the last one shows where
+                      the event is
+   8 RoundOpen        a match of the last round has no score: slips shows it
+                      with a -
    9 AllRoundsPaired  all rounds are paired: enter what is missing, then cut
-  10 NoPairing        whoever is left has met: no further round can be paired, and the standings stand
+  10 NoPairing        whoever is left has met: no further round can be paired,
+                      and the standings stand
   11 Budget           no pairing was found in a million steps: take another SEED
-  12 NoSuchMatch      no such match is stored: slips and bracket list those that are
-  13 BadScore         0 to 2 wins each and not both 2, in the playoff 0 to 3 and not equal, and 0 to 3 draws
+  12 NoSuchMatch      no such match is stored: see slips and bracket
+  13 BadScore         0 to 2 wins each and not both 2, in the playoff 0 to 3 and
+                      not equal, and 0 to 3 draws
   14 AlreadyReported  the match has a score: correct replaces it
   15 NotReported      the match has no score to replace: result enters it
   16 IsBye            table 0 is the bye, whose score stays 2-0-0
@@ -70,25 +96,38 @@ has changed nothing; an import that is refused keeps the players who were enroll
   18 AlreadyDropped   the player has dropped already
   19 RoundsNotDone    a round is not paired yet, or has a match with no score
   20 NoCut            the event was created with no cut: the standings stand
-  21 TooFewForCut     fewer players are left than the cut takes: the standings stand
-  22 NotPlayoff       the playoff has not begun, or has its champion: cut, or bracket
+  21 TooFewForCut     fewer players are left than the cut takes: the standings
+                      stand
+  22 NotPlayoff       the playoff has not begun, or has its champion: cut, or
+                      bracket
   23 SerialFull       the event has taken 999,999 commands, and takes no more
-  24 Memory           the machine had no memory left: close something and try again
-  25 Store            the file was not read or written: look at its rights, the disk, and who else has it open
+  24 Memory           the machine had no memory left: close something and try
+                      again
+  25 Store            the file was not read or written: see below
   26 NeedsReopen      a write failed before: run the command anew
-  27 NoEvent          there is no such file, or no event in it: look at the path, or init
+  27 NoEvent          there is no such file, or no event in it: look at the
+                      path, or init
   28 EventExists      the file has an event already: take another FILE
-  29 Damaged          the file holds what no event can be: go back to a copy of it
+  29 Damaged          the file holds what no event can be: go back to a copy
   30 BadSetup         NAME is as a player's, ROUNDS 1 to 9, CUT 0, 2, 4 or 8
 
-The status is 0 where it was done, 1 refused or a faulty CSV, 2 not understood, 3 Store, NeedsReopen, a CSV that can't be read, or
-another read or write that failed, 4 Memory.
+After 25 Store the command is in the file whole or not at all. In this order:
+  1. End what has FILE open: serve, another command, an sqlite3.
+  2. ls -l FILE* : is it the event and no list, and may you write it and its
+     folder?
+  3. df -h . : is there room on the disk?
+  4. Look with players or slips, and send the command again if it is not there.
+
+The status is 0 where it was done, 1 refused or a faulty CSV, 2 not understood,
+3 Store, NeedsReopen, a CSV that can't be read, or another read or write that
+failed, 4 Memory.
 ";
 
 pub const INIT: &str = "\
 usage: event_reporter init FILE NAME ROUNDS CUT
 
-Creates an event in FILE, and the file where it is not there yet. Other tables of the file stay.
+Creates an event in FILE, and the file where it is not there yet. Other tables
+of the file stay.
 
   NAME    1 to 60 bytes of text, in quotes where it has spaces
   ROUNDS  the Swiss rounds: 1 to 9
@@ -102,28 +141,36 @@ pub const ENROL: &str = "\
 usage: event_reporter enrol FILE NAME
 
 Enrols a player, who gets the next number. The event must not have started.
+No name is changed later: look at it with players before start.
 
   NAME    1 to 60 bytes of text, in quotes where it has spaces; nobody else's
 
 Example: event_reporter enrol friday.event 'Ana Lima'
-Refuses: 1 BadName, 2 NameTaken, 3 PlayersFull, 4 NotEnrolling, 23 SerialFull, 24 Memory, 25 Store, 27 NoEvent, 29 Damaged.
+Refuses: 1 BadName, 2 NameTaken, 3 PlayersFull, 4 NotEnrolling, 23 SerialFull,
+24 Memory, 25 Store, 27 NoEvent, 29 Damaged.
 ";
 
 pub const IMPORT: &str = "\
 usage: event_reporter import FILE CSV
 
-Enrols the players of a list, in its order. A name that is enrolled already is counted and passed over, so a list that has grown can be
-imported again. Any other refusal stops it, and whoever was enrolled before it stays. The event must not have started.
+Enrols the players of a list, in its order. A name that is enrolled already is
+counted and passed over, so a list that has grown can be imported again. Any
+other refusal stops it, and whoever was enrolled before it stays. The event must
+not have started.
 
-  CSV     a file of at most 131072 bytes: a line `name`, and then a name a line, in double quotes where it has a comma;
-          or what `export` gave of the players, of which the names are taken. /dev/stdin reads a pipe
+  CSV     a file of at most 131072 bytes: a line `name`, and then a name a line,
+          in double quotes where it has a comma; or what `export` gave of the
+          players, of which the names are taken. /dev/stdin reads a pipe
 
 Example: event_reporter import friday.event names.csv
-   then: printf 'name\\nAna\\nBo\\n' | event_reporter import friday.event /dev/stdin
-Answers `added` and `already`, each with its number. A faulty list is answered `bad csv heading`, or `bad csv row` and the number of the
-row, and nobody is enrolled; rows count from 1 behind the heading, up to 512. A list that can't be read or is too long is answered
-`cannot read`, with status 3.
-Refuses: 3 PlayersFull, 4 NotEnrolling, 23 SerialFull, 24 Memory, 25 Store, 27 NoEvent, 29 Damaged.
+   then: printf 'name\\nAna\\nBo\\n' |
+         event_reporter import friday.event /dev/stdin
+Answers `added` and `already`, each with its number. A faulty list is answered
+`bad csv heading`, or `bad csv row` and the number of the row, and nobody is
+enrolled; rows count from 1 behind the heading, up to 512. A list that can't be
+read or is too long is answered `cannot read`, with status 3.
+Refuses: 3 PlayersFull, 4 NotEnrolling, 23 SerialFull, 24 Memory, 25 Store,
+27 NoEvent, 29 Damaged.
 ";
 
 pub const START: &str = "\
@@ -132,20 +179,26 @@ usage: event_reporter start FILE
 Ends enrolling. Two players or more must have enrolled.
 
 Example: event_reporter start friday.event
-Refuses: 4 NotEnrolling, 5 TooFewPlayers, 23 SerialFull, 24 Memory, 25 Store, 27 NoEvent, 29 Damaged.
+Refuses: 4 NotEnrolling, 5 TooFewPlayers, 23 SerialFull, 24 Memory, 25 Store,
+27 NoEvent, 29 Damaged.
 ";
 
 pub const PAIR: &str = "\
 usage: event_reporter pair FILE ROUND SEED
 
-Pairs the next round. The round before must have all its scores.
+Pairs the next round. The round before must have all its scores. A round is not
+paired anew: look at the players and drops first, and copy FILE.
 
   ROUND   the number of the round, from 1
-  SEED    64 hexadecimal digits, which draw the order of players with equal points: a new one for each round
+  SEED    64 hexadecimal digits, which draw the order of players with equal
+          points: a new one for each round. Write it down first: the file does
+          not hold it, and with it anybody can work the round out again
 
-Example: event_reporter pair friday.event 1 $(openssl rand -hex 32)
-Refuses: 5 TooFewPlayers, 6 NotSwiss, 7 WrongRound, 8 RoundOpen, 9 AllRoundsPaired, 10 NoPairing, 11 Budget, 23 SerialFull,
-24 Memory, 25 Store, 27 NoEvent, 29 Damaged.
+A seed:  k=$(openssl rand -hex 32); echo \"round 1 $k\" >> friday.keys
+Example: event_reporter pair friday.event 1 $k
+Refuses: 5 TooFewPlayers, 6 NotSwiss, 7 WrongRound, 8 RoundOpen,
+9 AllRoundsPaired, 10 NoPairing, 11 Budget, 23 SerialFull, 24 Memory, 25 Store,
+27 NoEvent, 29 Damaged.
 ";
 
 pub const RESULT: &str = "\
@@ -154,12 +207,13 @@ usage: event_reporter result FILE ROUND TABLE X Y D
 Enters the score of a match that has none.
 
   ROUND TABLE  as slips lists them
-  X Y          the games that the first-named player has won, and the second: 0 to 2, not both 2
+  X Y          the games that the player named first has won, and the second:
+               0 to 2, not both 2
   D            the games that were drawn: 0 to 3
 
 Example: event_reporter result friday.event 1 2 2 1 0
-Refuses: 6 NotSwiss, 12 NoSuchMatch, 13 BadScore, 14 AlreadyReported, 16 IsBye, 23 SerialFull, 24 Memory, 25 Store, 27 NoEvent,
-29 Damaged.
+Refuses: 6 NotSwiss, 12 NoSuchMatch, 13 BadScore, 14 AlreadyReported, 16 IsBye,
+23 SerialFull, 24 Memory, 25 Store, 27 NoEvent, 29 Damaged.
 ";
 
 pub const CORRECT: &str = "\
@@ -168,32 +222,38 @@ usage: event_reporter correct FILE ROUND TABLE X Y D
 Replaces the score of a match. Rounds that were paired since stay as they are.
 
   ROUND TABLE  as slips lists them
-  X Y          the games that the first-named player has won, and the second: 0 to 2, not both 2
+  X Y          the games that the player named first has won, and the second:
+               0 to 2, not both 2
   D            the games that were drawn: 0 to 3
 
 Example: event_reporter correct friday.event 1 2 0 2 0
-Refuses: 6 NotSwiss, 12 NoSuchMatch, 13 BadScore, 15 NotReported, 16 IsBye, 23 SerialFull, 24 Memory, 25 Store, 27 NoEvent,
-29 Damaged.
+Refuses: 6 NotSwiss, 12 NoSuchMatch, 13 BadScore, 15 NotReported, 16 IsBye,
+23 SerialFull, 24 Memory, 25 Store, 27 NoEvent, 29 Damaged.
 ";
 
 pub const DROP: &str = "\
 usage: event_reporter drop FILE PLAYER
 
-Drops a player, who stays in the standings and is paired no more. An open match must still get its score.
+Drops a player, who stays in the standings and is paired no more, and does not
+come back. An open match must still get its score.
 
   PLAYER  the player's number, as players lists it
 
 Example: event_reporter drop friday.event 3
-Refuses: 6 NotSwiss, 17 NoSuchPlayer, 18 AlreadyDropped, 23 SerialFull, 24 Memory, 25 Store, 27 NoEvent, 29 Damaged.
+Refuses: 6 NotSwiss, 17 NoSuchPlayer, 18 AlreadyDropped, 23 SerialFull,
+24 Memory, 25 Store, 27 NoEvent, 29 Damaged.
 ";
 
 pub const CUT: &str = "\
 usage: event_reporter cut FILE
 
-Seeds the playoff with the first of the standings, dropped players left out. All rounds must be complete.
+Seeds the playoff with the first of the standings; who has dropped is left out.
+All rounds must be complete. From then on their scores are corrected no more:
+look at the standings first, and copy FILE.
 
 Example: event_reporter cut friday.event
-Refuses: 6 NotSwiss, 19 RoundsNotDone, 20 NoCut, 21 TooFewForCut, 23 SerialFull, 24 Memory, 25 Store, 27 NoEvent, 29 Damaged.
+Refuses: 6 NotSwiss, 19 RoundsNotDone, 20 NoCut, 21 TooFewForCut, 23 SerialFull,
+24 Memory, 25 Store, 27 NoEvent, 29 Damaged.
 ";
 
 pub const PLAYOFF: &str = "\
@@ -202,19 +262,21 @@ usage: event_reporter playoff FILE STAGE SLOT X Y D
 Enters the score of a playoff match. It is not corrected later: look twice.
 
   STAGE SLOT  as bracket lists them
-  X Y         the games that the first-named player has won, and the second: 0 to 3, not equal
+  X Y         the games that the player named first has won, and the second:
+              0 to 3, not equal
   D           the games that were drawn: 0 to 3
 
 Example: event_reporter playoff friday.event 1 1 2 0 0
-Refuses: 12 NoSuchMatch, 13 BadScore, 14 AlreadyReported, 22 NotPlayoff, 23 SerialFull, 24 Memory, 25 Store, 27 NoEvent,
-29 Damaged.
+Refuses: 12 NoSuchMatch, 13 BadScore, 14 AlreadyReported, 22 NotPlayoff,
+23 SerialFull, 24 Memory, 25 Store, 27 NoEvent, 29 Damaged.
 ";
 
 pub const STANDINGS: &str = "\
 usage: event_reporter standings FILE
 
-Lists the players by rank, with match points, the opponents' match-win percentage, the player's own game-win percentage and the
-opponents'. Only complete rounds count.
+Lists the players by rank, with match points, the opponents' match-win
+percentage, the player's own game-win percentage and the opponents'. Only
+complete rounds count.
 
 Example: event_reporter standings friday.event
 Refuses: 24 Memory, 25 Store, 27 NoEvent, 29 Damaged.
@@ -223,7 +285,7 @@ Refuses: 24 Memory, 25 Store, 27 NoEvent, 29 Damaged.
 pub const PLAYERS: &str = "\
 usage: event_reporter players FILE
 
-Lists the players by number, with a D at those who were dropped.
+Lists the players by number, with a D at those who have dropped.
 
 Example: event_reporter players friday.event
 Refuses: 24 Memory, 25 Store, 27 NoEvent, 29 Damaged.
@@ -232,11 +294,14 @@ Refuses: 24 Memory, 25 Store, 27 NoEvent, 29 Damaged.
 pub const SLIPS: &str = "\
 usage: event_reporter slips FILE ROUND
 
-Lists the matches of a round that was paired: table, the two players' numbers, the score or a -, and their names. A bye comes last.
+Lists the matches of a round that was paired: table, the two players' numbers,
+the score or a -, and their names. A bye comes last.
 
   ROUND   the number of the round, from 1
 
 Example: event_reporter slips friday.event 1
+   then, which tables are open:
+         event_reporter slips friday.event 1 | awk '$4 == \"-\"'
 Refuses: 12 NoSuchMatch, 24 Memory, 25 Store, 27 NoEvent, 29 Damaged.
 ";
 
@@ -252,10 +317,12 @@ Refuses: 24 Memory, 25 Store, 27 NoEvent, 29 Damaged.
 pub const EXPORT: &str = "\
 usage: event_reporter export FILE KIND
 
-Prints a CSV, for a spreadsheet or another program: a heading, and then a line each. The playoff is not in it; see bracket.
+Prints a CSV, for a spreadsheet or another program: a heading, and then a line
+each. The playoff is not in it; see bracket.
 
-  KIND    players: their numbers and names, and a 1 at those who were dropped
-          results: the matches of the rounds that were paired, with their scores; a bye has table 0 and b 0
+  KIND    players: their numbers and names, and a 1 at those who have dropped
+          results: the matches of the rounds that were paired, with their
+          scores; a bye has table 0 and b 0
 
 Example: event_reporter export friday.event players > players.csv
    then: event_reporter export friday.event results > results.csv
@@ -265,8 +332,14 @@ Refuses: 24 Memory, 25 Store, 27 NoEvent, 29 Damaged.
 pub const SERVE: &str = "\
 usage: event_reporter serve FILE PORT COUNT
 
-Answers HTTP on 127.0.0.1, this machine alone, one connection after the other, and prints `listening` and its port. While it serves,
-no other command opens FILE. Ctrl-C stops it, and what was answered with a serial is kept; after COUNT connections it ends.
+Takes scores over HTTP from programs on this machine, as a script, a form or a
+second window with curl, so that they don't open FILE themselves. It listens on
+127.0.0.1: no phone and no other machine reaches it.
+
+It serves one connection after the other, each within 30 seconds, and prints
+`listening` and its port. While it serves, no other command opens FILE. Ctrl-C
+stops it, and what was answered with a serial is kept; after COUNT connections
+it ends.
 
   PORT    0 to 65535; 0 takes any that is free
   COUNT   the connections to serve: 1 to 1000000
@@ -278,20 +351,23 @@ no other command opens FILE. Ctrl-C stops it, and what was answered with a seria
 
 Example: event_reporter serve friday.event 8080 100
    then: curl http://127.0.0.1:8080/rounds/1/tables/1
-   then: curl -d '{\"a\":2,\"b\":1,\"d\":0}' http://127.0.0.1:8080/rounds/1/tables/1
-Refuses: 24 Memory, 25 Store, 27 NoEvent, 29 Damaged. Where it can't listen the status is 3.
+   then: curl -d '{\"a\":2,\"b\":1,\"d\":0}' \\
+         http://127.0.0.1:8080/rounds/1/tables/1
+Refuses: 24 Memory, 25 Store, 27 NoEvent, 29 Damaged. Where it can't listen the
+status is 3.
 ";
 
 /// What a person is told where the port can't be had.
 pub const CANNOT_LISTEN: &str = "\
-event_reporter: cannot listen at this port: another program may have it, or it is below 1024
-Try port 0, which takes any that is free.
+event_reporter: cannot listen at this port: another program may have it, or it
+is below 1024. Try port 0, which takes any that is free.
 ";
 
 /// What a terminal is told where there are no words, since a prompt that says nothing looks as if it hung.
 pub const AWAITING: &str = "\
-event_reporter: no words were given, so a script is read from this terminal: a line each, its words separated by one TAB.
-Ctrl-D ends it, Ctrl-C leaves it. For an event in a file, try: event_reporter --help
+event_reporter: no words were given, so a script is read from this terminal:
+a line each, its words separated by one TAB. Ctrl-D ends it, Ctrl-C leaves it.
+For an event in a file, try: event_reporter --help
 ";
 
 /// Writes a text, and has the writer pass it on.

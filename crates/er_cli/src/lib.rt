@@ -13,6 +13,8 @@ ghost use Rattle.er_words.specs.Line.{line_of};
 ghost use Rattle.er_cli.specs.Status.{Ends, EndsUnread, UnreadPart, Breaks};
 
 mod answers;
+mod client;
+mod closing;
 mod complaints;
 mod files;
 mod help;
@@ -33,8 +35,8 @@ use help::{AWAITING, say, text_for};
 use input::{InputFault, lines_of, read_script};
 use script::run_lines;
 pub use serving::serve_on;
-use sqlite::{FileFrom, FileStore, Wary};
-use sqlite_trees::store::Store;
+use sqlite::{FileFrom, Wary};
+use sqlite_disk::Disk;
 use std::alloc::Global;
 use std::io::{Read, Write};
 use texts::{Answer, WriteFault, flush, print_answer};
@@ -165,7 +167,8 @@ fn say_usage<O: Write, E: Write>(alloc: Global, words: &[String], out: &mut O, e
     }
 }
 
-/// Does what the words of a command line ask, and gives the status to end with. The event's file is opened, asked and closed again.
+/// Does what the words of a command line ask, and gives the status to end with. The event's file is opened, asked and, once the answer is written,
+/// closed again, so that it holds the event without its log too.
 pub fn run<O: Write, E: Write>(rt: &HostRuntime, words: &[String], out: &mut O, err: &mut E) -> u8
     // A text that the words ask for goes to the output.
     ensures asked { IfSome (text_for (map string_bytes words.now))
@@ -179,8 +182,8 @@ pub fn run<O: Write, E: Write>(rt: &HostRuntime, words: &[String], out: &mut O, 
     // What is one is answered as the event of the file has it, with the status of that answer. Memory may be wanting to read it.
     ensures answered { text_for (map string_bytes words.now) ≡ None
         → IfSome (line_of (map string_bytes words.now))
-        (λ line. EndsLine ⟦<FileStore<FileFrom<Wary>> as Store>⟧ (action_of line)
-        (O.contents out.old) (O.contents out.new) (E.contents err.old) (E.contents err.new) result
+        (λ line. EndsLine ⟦<FileFrom<Wary> as Disk>⟧ (O.contents out.old) (O.contents out.new)
+        (E.contents err.old) (E.contents err.new) result (action_of line)
         ⊎ Tells (Answer.Refused Refusal.Memory) (O.contents out.old) (O.contents out.new)
         (E.contents err.old) (E.contents err.new) result) }
 {

@@ -4,13 +4,13 @@ ghost use Rattle.er_desk.specs.Desk.{ShowsOwn, point_of, standing, state};
 ghost use Rattle.er_desk.specs.Headline.{LeavesJust};
 ghost use Rattle.er_cli.specs.Serving.{Connects, ConnectsAll, ConnectsUpTo, PrintsServed, listening, served};
 
+use crate::client::Client;
 use crate::texts::{WriteFault, print_line};
 use crate::{DEVICE, DONE};
 use er_desk::Desk;
 use er_paper::ShortText;
 use er_slips::serve_one;
 use sqlite::Alter;
-use std::alloc::Global;
 use std::io::Write;
 use std::net::{TcpListener, TcpStream};
 
@@ -34,8 +34,8 @@ fn served_line(count: u32) -> ShortText
     line
 }
 
-/// Serves the request of one client. One that goes away counts as served.
-fn serve_client<S: Alter>(alloc: Global, desk: &mut Desk<S>, client: &TcpStream)
+/// Serves the request of one client. One that goes away, or whose time is over, counts as served.
+fn serve_client<S: Alter>(rt: &HostRuntime, desk: &mut Desk<S>, stream: &TcpStream)
     ensures turn { Connects (standing desk.old) (standing desk.new) }
     ensures waits { IsTrue (standing desk.old).stopped → desk.new ≡ desk.old }
     ensures clean { HasCleanDisk (state S.Store desk.new) → HasCleanDisk (state S.Store desk.old) }
@@ -46,8 +46,11 @@ fn serve_client<S: Alter>(alloc: Global, desk: &mut Desk<S>, client: &TcpStream)
         → IsFalse (standing desk.new).stopped
         → LeavesJust (state S.Store desk.new) (point_of (standing desk.new)) }
 {
+    let Ok(client) = Client::new(rt, stream) else {
+        return;
+    };
     let (mut reader, mut writer) = (client, client);
-    let _served = serve_one(alloc, desk, &mut reader, &mut writer);
+    let _served = serve_one(rt.alloc(), desk, &mut reader, &mut writer);
 }
 
 /// The listener gave no connection.
@@ -56,7 +59,7 @@ struct AcceptFault;
 
 /// Serves so many clients, one after the other.
 fn serve_clients<S: Alter>(
-    alloc: Global,
+    rt: &HostRuntime,
     desk: &mut Desk<S>,
     listener: &TcpListener,
     count: u32,
@@ -74,18 +77,19 @@ fn serve_clients<S: Alter>(
         → LeavesJust (state S.Store desk.new) (point_of (standing desk.new)) }
 {
     for _ in 0..count {
-        let Ok((client, _address)) = listener.accept() else {
+        let Ok((stream, _address)) = listener.accept() else {
             return Err(AcceptFault);
         };
-        serve_client(alloc, desk, &client);
+        serve_client(rt, desk, &stream);
     }
     Ok(())
 }
 
 /// Serves so many clients of a listener, one after the other, and gives the status to end with: 3 where the listener or a print fails.
-/// Prints the port that it listens at, and at the end how many it has served. A client that goes away counts as served.
+/// Prints the port that it listens at, and at the end how many it has served. A client that goes away counts as served. Each has a second for
+/// each read, ten for each write, and thirty in all: then it counts as served too, and the next one is taken.
 pub fn serve_on<S: Alter, W: Write>(
-    alloc: Global,
+    rt: &HostRuntime,
     desk: &mut Desk<S>,
     listener: &TcpListener,
     count: u32,
@@ -113,7 +117,7 @@ pub fn serve_on<S: Alter, W: Write>(
     let Ok(()) = print_line(out, &listening_line(address.port())) else {
         return DEVICE;
     };
-    let Ok(()) = serve_clients(alloc, desk, listener, count) else {
+    let Ok(()) = serve_clients(rt, desk, listener, count) else {
         return DEVICE;
     };
     match print_line(out, &served_line(count)) {

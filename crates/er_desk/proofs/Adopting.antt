@@ -1,6 +1,8 @@
 -- What an opening makes of the tables that it finds.
 use Rattle.std.proofs.Common.{Option, Some, None, IfSome, ◌≡◌, ℕ, is_ok, IsTrue, sym, ap, ap₂, subst, ◌∙◌}
+use Rattle.std.proofs.Math.Logic.{∥∥₁_elim}
 use Rattle.sqlite_trees.specs.declared.store.Store.{Ghosts}
+use Rattle.sqlite_trees.specs.Props.{Trees-set}
 use Rattle.sqlite.specs.{Tree.Trees, Effect.{Database, IsDatabase}, State.{State, Opens, IsLive, HasCleanDisk, IsUnchanged}, Start.FindsIn}
 use Rattle.sqlite.specs.{Files.HoldsDatabase, Held.{Held, state}}
 use Rattle.sqlite_wal.specs.Recovery.{Image}
@@ -60,7 +62,7 @@ module _ (s : State) (image : Image) (opened : Opens s × IsLive s) (found : Fin
   pub opened_stands : (point : Point) → ((db : Database) (e : EventValue) (n : ℕ) → IsDatabase db → IsStored e n db.trees
       → StandsFor db e n) → WasLeft image point → StandsFor s.now point.event point.serial
   opened_stands point law (db, holds, stored) = law s.now point.event point.serial (opened.1 opened.0.is_open).0
-      (subst (IsStored point.event point.serial) (sym (sees db holds)) stored)
+      (subst (IsStored point.event point.serial) (sym (∥∥₁_elim holds (Trees-set _ _) (sees db))) stored)
 
   pub sees_unchanged : (new : State) (db : Trees) → HoldsDatabase image db → IsUnchanged s new
       → (new.now.trees ≡ db) × (new.now ≡ new.committed)

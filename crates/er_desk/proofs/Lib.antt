@@ -6,3 +6,4 @@ mod Plain
 mod Adopting
 mod Slips
 mod NextSession
+mod Resting

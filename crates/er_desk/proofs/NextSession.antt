@@ -1,7 +1,9 @@
 -- A session goes on from where a history has ended.
 use Rattle.std.proofs.{lemmas.Grind.common_steps, Common.{◌≡◌, List, [], ◌∷◌, ◌++◌, Result, Ok, Err, IfOk, IfErr, MatchResult, IsFalse}}
 use Rattle.std.proofs.Common.{Vec, Global, inl, refl, sym, subst, arith}
+use Rattle.std.proofs.Math.Logic.{∥∥₁_elim}
 use Rattle.sqlite_trees.specs.declared.store.Store.{Ghosts}
+use Rattle.sqlite_trees.specs.Props.{Trees-set}
 use Rattle.sqlite.specs.{State.HasCleanDisk, Files.{HoldsDatabase, file_state}, Tree.Trees}
 use Rattle.sqlite_wal.specs.Recovery.{Image}
 use Rattle.er_event.specs.declared.commands.Command.{Command}
@@ -46,7 +48,8 @@ module _ (law : Histories) (image : Image) (new first : Point) (ends : List Ende
       → OnRefused why (λ conn. Leaves (file_state conn) (NextBegins new ends no_session))
   refused_begins (Unopened refusal left) kept = tt
   refused_begins (Refused conn refusal) kept = λ clean trees may.
-      quiet_begins trees (subst (IsStored first.event first.serial) (sym (kept was.left.0 was.left.1 clean trees may)) was.left.2)
+      let same : trees ≡ was.left.0 = ∥∥₁_elim was.left.1 (Trees-set _ _) (λ holds. kept was.left.0 holds clean trees may) in
+      quiet_begins trees (subst (IsStored first.event first.serial) (sym same) was.left.2)
 
   -- a desk before the commands and after them
   module _ {S E : Type 0} (g : Ghosts S) (old now : Desk S g) (commands : List Command) where

@@ -43,7 +43,7 @@ IsEmptyFile s = s.now.schema ≡ no_schema
 
 -- what the file holds is a thing that a crash left of this event
 abbrev pub WasLeft : Image → Point → Type 0
-WasLeft image point = (db : Trees) × HoldsDatabase image db × IsStored point.event point.serial db
+WasLeft image point = (db : Trees) × ∥ HoldsDatabase image db ∥₁ × IsStored point.event point.serial db
 
 -- an opening finds just this event and this serial: its tables stand for them, and a crash leaves them again
 pub record FindsAgain {S : Type 0} (g : Ghosts S) (desk : Desk S g) (point : Point) : Type 0 where

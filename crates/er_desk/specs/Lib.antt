@@ -11,3 +11,4 @@ pub mod Headline
 pub mod History
 pub mod Resuming
 pub mod Opening
+pub mod Closing

@@ -323,7 +323,12 @@ impl<S: Alter> Desk<S> {
     pub fn close(self) -> Connection<S>
         ensures same { result ≡ tables.connection self.store }
         ensures mode { result.in_transaction ≡ false }
+        // Where the tables stand for the event, a crash leaves just that.
+        ensures left { ShowsOwn S.Store self
+            → LeavesJust (state S.Store self) (point_of (standing self)) }
     {
+        // What the tables stand for, a crash leaves: this tells the proof.
+        shown_is_stored(&self.store);
         let Desk {
             store: tables,
             event: _,

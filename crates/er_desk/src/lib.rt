@@ -2,12 +2,14 @@
 //! `specs/Headline.antt` says in a few lines what the public calls promise together.
 #![tactic(auto)]
 
+mod closing;
 mod desk;
 pub mod laws;
 mod opening;
 mod sessions;
 mod stored;
 
+pub use closing::close_file;
 pub use desk::{Desk, Reply};
 pub use opening::{OpenFault, open, opening_refusal};
 pub use sessions::session;

@@ -4,7 +4,5 @@ use Rattle.er_cli.proofs.files.act.Goals as goal
 
 pub returns-in-Init : goal.returns-in-Init
 returns-in-Init g c = rw (sym (ap (λ (parts : List ℕ × Action). parts.1) c.into_parts-file.ensures), c.in-Init.is) (
-  c.reply_answer.result,
-  rw (c.reply_answer.ensures, sym c.as_slice.ensures) c.init-reply.ensures,
-  c.tell.ensures,
-)
+    rw (sym c.as_slice.ensures) c.make.ensures
+    )

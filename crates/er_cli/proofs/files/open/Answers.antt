@@ -7,24 +7,14 @@ returns-in-Err g c = inl (Refused c.in-Err.why, (c.in-Err.why, c.in-Err.ensures,
 
 pub returns-in-Err-open : goal.returns-in-Err-open
 returns-in-Err-open g c = inl (
-  Refused c.into_refusal.result,
+  Refused c.clear_fault.result,
   (
-    c.into_refusal.result,
-    rw c.into_refusal.ensures c.in-Err-open.ensures.why,
+    c.clear_fault.result,
+    rw c.clear_fault.ensures c.in-Err-open.ensures.why,
     refl,
   ),
   c.tell_refusal-in-Err-open.ensures,
 )
 
 pub returns-in-Ok : goal.returns-in-Ok
-returns-in-Ok g c =
-    inr (
-      c.in-Ok.desk,
-      record {
-        sound = c.in-Ok.ensures.sound.0;
-        low = c.in-Ok.ensures.sound.1;
-        ready = c.in-Ok.ensures.ready;
-        stands = c.in-Ok.ensures.stands;
-      },
-      c.do_task.ensures,
-    )
+returns-in-Ok g c = inr c.do_and_close.ensures

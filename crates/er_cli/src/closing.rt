@@ -1,0 +1,130 @@
+ghost use Rattle.std.specs.Prelude.{◌≡◌, ◌<◌, ◌↔◌, IsTrue, if◌then◌else◌, Some, None};
+ghost use Rattle.er_desk.specs.Opening.{why_of};
+ghost use Rattle.er_cli.specs.Closing.{IsPutAway};
+
+use er_desk::{Desk, OpenFault, close_file};
+use er_event::Refusal;
+use sqlite::{Connection, FileStore, Leftover};
+use sqlite_disk::Disk;
+use std::fs;
+
+/// A log that is shorter than its header (32 bytes) with one frame (24) of the smallest page (512) holds nothing.
+const LEAST_LOG: u64 = 32 + 24 + 512;
+
+/// The log that a run will make beside a file which has none.
+#[derive(Drop)]
+pub struct NewLog {
+    path: String,
+    /// The file is not there, or is empty. Where it is not opened then, its log may be what tells how far the new database has got.
+    is_beside_nothing: bool,
+}
+
+/// Closes the desk of a file at the end of a run. Nothing that was answered rests on it: where it fails, the log keeps what it has.
+pub fn put_away<D: Disk + Drop>(desk: Desk<FileStore<D>>)
+    ensures { IsPutAway D.Disk desk }
+{
+    match close_file(desk) {
+        Ok(_files) => {}
+        Err((_error, store)) => drop(store.close()),
+    }
+}
+
+/// Where the log of a file lies: beside what a link leads to.
+fn log_path(rt: &HostRuntime, path: &str) -> Option<String> {
+    match fs::canonicalize(rt, path) {
+        Ok(real) => format!(in rt.alloc(); "{}-wal", real.as_str()).ok(),
+        Err(_error) => format!(in rt.alloc(); "{path}-wal").ok(),
+    }
+}
+
+/// Whether a file is not there, or is empty.
+fn is_nothing(rt: &HostRuntime, path: &str) -> bool {
+    match fs::metadata(rt, path) {
+        Ok(found) => found.len() == 0,
+        Err(_error) => true,
+    }
+}
+
+/// A log that is there already is none of this run's.
+fn unless_there(is_there: bool, log: NewLog) -> Option<NewLog>
+    ensures { result ≡ (if is_there then None else Some log) }
+{
+    if is_there { None } else { Some(log) }
+}
+
+/// The log that a run will make beside a file. None where one is there already, or where that can't be told.
+pub fn log_to_make(rt: &HostRuntime, path: &str) -> Option<NewLog> {
+    let log = NewLog {
+        path: log_path(rt, path)?,
+        is_beside_nothing: is_nothing(rt, path),
+    };
+    match fs::exists(rt, log.path.as_str()) {
+        Ok(is_there) => unless_there(is_there, log),
+        Err(_error) => None,
+    }
+}
+
+/// Whether a log of this many bytes holds nothing.
+fn holds_nothing(size: u64) -> bool
+    ensures { IsTrue result ↔ (size < LEAST_LOG) }
+{
+    size < LEAST_LOG
+}
+
+/// Removes a log that this run made, where nothing is in it. Whoever calls still holds the file, so that nobody else writes the log.
+fn remove_empty(rt: &HostRuntime, log: &NewLog) {
+    match fs::metadata(rt, log.path.as_str()) {
+        Ok(found) if holds_nothing(found.len()) => {
+            let _ = fs::remove_file(rt, log.path.as_str());
+        }
+        _ => {}
+    }
+}
+
+/// Takes away what an opening that was refused has left beside the file. `log` is a log that this run made.
+pub fn clear_refused<D: Disk + Drop>(
+    rt: &HostRuntime,
+    conn: Connection<FileStore<D>>,
+    log: Option<&NewLog>,
+) {
+    let Some(log) = log else {
+        return;
+    };
+    match conn.close_files() {
+        Ok(_files) => remove_empty(rt, log),
+        Err((_error, store)) => drop(store.close()),
+    }
+}
+
+/// The same where the file was not opened. Where nothing is left of it, it isn't held, and no log is removed; nor is that of a new database.
+pub fn clear_unopened<D: Disk + Drop>(
+    rt: &HostRuntime,
+    left: Option<Leftover<D>>,
+    log: Option<&NewLog>,
+) {
+    if let (Some(_left), Some(log)) = (left, log)
+        && !log.is_beside_nothing
+    {
+        remove_empty(rt, log);
+    }
+}
+
+/// The same of an opening of an event, and says why it was refused.
+pub fn clear_fault<D: Disk + Drop>(
+    rt: &HostRuntime,
+    fault: OpenFault<D>,
+    log: Option<&NewLog>,
+) -> Refusal
+    ensures { result ≡ why_of fault }
+{
+    match fault {
+        OpenFault::Unopened { refusal, left } => {
+            clear_unopened(rt, left, log);
+            refusal
+        }
+        OpenFault::Refused { conn, refusal } => {
+            clear_refused(rt, conn, log);
+            refusal
+        }
+    }
+}

@@ -1,0 +1,49 @@
+-- What the desk of a file leaves once it is closed.
+use Rattle.std.specs.Prelude.{◌≡◌, [], IsTrue, Result, IfOk, IfErr}
+use Rattle.sqlite_disk.specs.declared.Disk.{Ghosts}
+use Rattle.sqlite_disk.specs.declared.Files.{Files}
+use Rattle.sqlite_wal.specs.Recovery.{Image}
+use Rattle.sqlite_wal.specs.Files.{outcomes}
+use Rattle.sqlite_wal.specs.Reads.{AreClean}
+use Rattle.sqlite_trees.specs.View.{IsClean}
+use Rattle.sqlite_store.specs.declared.store.FileStore.{FileStore}
+use Rattle.sqlite_store.specs.FileStore.{files as store_files, view, recovers}
+use Rattle.sqlite.specs.Tree.{Trees}
+use Rattle.sqlite.specs.declared.error.Error.{Error}
+use Rattle.sqlite.specs.Files.{image_of, over_files, FailsToClose}
+use Rattle.er_store.specs.Standing.{IsStored}
+use Rattle.er_store.specs.Store.{connection}
+use Rattle.er_desk.specs.declared.desk.Desk.{Desk}
+use Rattle.er_desk.specs.Desk.{Point, ShowsOwn, point_of, state, standing}
+use Rattle.er_desk.specs.Headline.{WasLeft}
+
+-- the event's file holds this event and this serial, with its log and without it
+pub record IsAtRest (image : Image) (point : Point) : Type 0 where
+  pub both : WasLeft image point
+  pub alone : WasLeft (record image { log = [] }) point
+
+-- as the two files read now, and as a crash may leave them
+pub record AreAtRest {D : Type 0} (g : Ghosts D) (files : Files D) (point : Point) : Type 0 where
+  pub seen : IsAtRest (image_of g files) point
+  pub left : (image : Image) → outcomes g files.log files.db image → IsAtRest image point
+
+module _ {D : Type 0} {g : Ghosts D} (desk : Desk (FileStore D g) over_files) where
+  -- a crash leaves nothing that it could not leave before
+  abbrev pub LeavesNoMore : FileStore D g → Type 0
+  LeavesNoMore last = (trees : Trees) → recovers last trees → (state over_files desk).may_leave trees
+
+  -- Nothing is lost. A crash leaves what it could before, and where the tables stood for the event, on a clean disk, that event.
+  pub record LosesNothing (last : FileStore D g) : Type 0 where
+    pub as_before : LeavesNoMore last
+    pub stored : IsClean (view last) → ShowsOwn over_files desk → (trees : Trees) → recovers last trees
+        → IsStored (point_of (standing desk)).event (point_of (standing desk)).serial trees
+
+  -- How the desk's file was closed: it is at rest, or memory or the device was wanting, and nothing is lost.
+  pub record IsClosedAs (closed : Result (Files D) (Error × FileStore D g)) : Type 0 where
+    pub rests : IfOk closed (λ files. AreClean g files.log files.db → ShowsOwn over_files desk → AreAtRest g files (point_of (standing desk)))
+    -- and whatever the desk stood at, a fault behind it or not, these are files from which a crash leaves nothing new
+    pub spares : IfOk closed (λ files. (last : FileStore D g) × (store_files last ≡ (files.log, files.db)) × LeavesNoMore last)
+    -- the two may be opened again
+    pub usable : IfOk closed (λ files. IsTrue (g.is_usable files.log) × IsTrue (g.is_usable files.db))
+    pub fails : IfErr closed (λ it. LosesNothing it.1)
+    pub why : IfErr closed (λ it. IsClean (view it.1) → FailsToClose (connection desk.store) it.1 it.0)
