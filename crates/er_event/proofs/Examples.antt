@@ -6,6 +6,7 @@ use Rattle.std.specs.{Prelude.{◌≡◌, ℕ, pos, Bool, true, false, List, [],
 use Rattle.std.specs.Str.{chars}
 use Rattle.er_event.specs.Rows.{player_rows, keyed_pairing_rows, bracket_rows, event_row, pairing_rows}
 use Rattle.er_share.specs.declared.TheConstants.{MAX_ROUNDS}
+use Rattle.er_event.specs.declared.rows.event.TheConstants.{MOST_OLD_ROUNDS}
 use Rattle.er_event.specs.declared.events.fits.TheConstants.{MAX_SLOTS}
 use Rattle.er_event.specs.{declared.names.TheConstants.MAX_NAME_BYTES, declared.rows.bracket.TheConstants.MAX_STAGES, Slip.slip_of}
 
@@ -13,6 +14,9 @@ use Rattle.er_event.specs.{declared.names.TheConstants.MAX_NAME_BYTES, declared.
 
 pub nine_rounds : MAX_ROUNDS ≡ 9
 nine_rounds = refl
+
+pub nine_rounds_of_version_1 : MOST_OLD_ROUNDS ≡ 9
+nine_rounds_of_version_1 = refl
 
 pub players_of_an_event : MAX_PLAYERS ≡ 512
 players_of_an_event = refl
@@ -106,9 +110,9 @@ pub row_of_the_event : event_row 1 paired 5 ≡ record {
 row_of_the_event = refl
 
 pub rows_of_players : player_rows paired ≡
-    record { no = pos 1; name = codes "Ana"; dropped = pos 0 }
-    ∷ record { no = pos 2; name = codes "Bo"; dropped = pos 1 }
-    ∷ record { no = pos 3; name = codes "Cy"; dropped = pos 0 } ∷ []
+    record { no = pos 1; name = codes "Ana"; dropped = pos 0; joined = pos 0 }
+    ∷ record { no = pos 2; name = codes "Bo"; dropped = pos 1; joined = pos 0 }
+    ∷ record { no = pos 3; name = codes "Cy"; dropped = pos 0; joined = pos 0 } ∷ []
 rows_of_players = refl
 
 -- the first-named player has the higher number, and the match is open

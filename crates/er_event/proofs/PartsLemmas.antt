@@ -5,18 +5,27 @@ use Rattle.er_event.proofs.Prelude.{arith, drop, false, get_or, length, map, pos
 use Rattle.er_event.proofs.Prelude.{common_steps, get_or-range_with_len, all_pairs_push, get_or_default, map-append, take_more}
 use Rattle.er_event.proofs.Prelude.{bytes_eq-Decides, range_with_len, bytes_eq}
 use Rattle.std.proofs.{Common.length-take, Math.ListN.get_or-map, lemmas.List.Elements.All-map, lemmas.List.Folds.Any-from_list_any}
+use Rattle.er_event.specs.Version.{IsVersion, KeepsRounds}
 use Rattle.er_event.proofs.PlayerLemmas.{has_name-none, range-push}
 use Rattle.er_event.specs.{Sound.IsSetUp, declared.rows.player.PlayerRow.PlayerRow, inside.Reading.{IsLawfulPlayer, Suits}}
 
 set_up_as : (s : Setup) (e : EventValue) → IsSetUp s.name s.rounds s.cut → IsSetUpAs s e → IsSetUp e.name e.rounds e.cut
 set_up_as s e h so = grind (arith, common_steps)
 
-pub read_is : (row : EventRow) (s : Setup) (serial : ℕ) → row.id ≡ pos 1 → row.version ≡ pos 1 → row.serial ≡ pos serial → row.name ≡ s.name
+pub read_is : (row : EventRow) (s : Setup) (version serial : ℕ) → row.id ≡ pos 1 → row.version ≡ pos version → IsVersion version
+    → KeepsRounds version s.rounds → row.serial ≡ pos serial → row.name ≡ s.name
     → row.rounds ≡ pos s.rounds → row.cut ≡ pos s.cut
     → row.phase ≡ pos (phase_code s.phase) → serial ≤ MAX_SERIAL → IsSetUp s.name s.rounds s.cut → (e : EventValue) → IsSetUpAs s e
     → IsEventRow (row ∷ []) e
-read_is row s serial id version counted name rounds cut phase low set_up e so =
-    record { serial = serial; low = low; set_up = set_up_as s e set_up so; row = grind (arith, common_steps) }
+read_is row s version serial id is known keeps counted name rounds cut phase low set_up e so = record {
+  version = version;
+  known = known;
+  keeps = λ first. rw so.rounds (keeps first);
+  serial = serial;
+  low = low;
+  set_up = set_up_as s e set_up so;
+  row = grind (arith, common_steps);
+}
 
 pub one_row : {A : Type 0} (rows : List A) (x : A) → 1 ≤ length rows → length rows < 2 → x ≡ get_or rows 0 x → rows ≡ x ∷ []
 one_row rows x some few is = grind (arith, common_steps)

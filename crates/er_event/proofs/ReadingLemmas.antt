@@ -62,7 +62,8 @@ module _ (parts : Parts) (s : Setup) (set : (e : EventValue) → IsSetUpAs s e �
         (only : (others : List Round) → AreRounds s.phase s.rounds known others → parts.pairings ≡ keyed_rows_from 1 others
         → others ≡ rounds) where
       rounds_there : (stages : List (List Match)) → HasRoundRows parts (event_of s players rounds stages)
-      rounds_there stages = grind (arith, common_steps)
+      rounds_there stages =
+          record { players = players_there rounds stages; rows = paired; rounds = rw plays.numbered are }
 
       stages_as : (e : EventValue) → HasAllRows parts e → AreStages s.phase s.cut known e.bracket.stages
       stages_as e has =
@@ -87,10 +88,46 @@ module _ (parts : Parts) (s : Setup) (set : (e : EventValue) → IsSetUpAs s e �
             × ((other : EventValue) → IsOf parts other → IsSoundButForSeeds other → other ≡ whole)
         is_whole =
             let event = row_there players rounds stages in (
-              record { serial = event.serial; low = event.low; are = grind (arith, event.row) },
+              record {
+                version = event.version;
+                known = event.known;
+                keeps = event.keeps;
+                serial = event.serial;
+                low = event.low;
+                are = grind (arith, event.row);
+              },
               grind (arith, common_steps, row_there),
               λ other is sound. only_whole other is sound,
             )
           where
             only_whole : (other : EventValue) → IsOf parts other → IsSoundButForSeeds other → other ≡ whole
-            only_whole other is sound = grind (arith, common_steps, as_set, same_players, stages_as)
+            only_whole other is sound =
+                let row : IsEventRow parts.event other = record {
+                  version = is.version;
+                  known = is.known;
+                  keeps = is.keeps;
+                  serial = is.serial;
+                  low = is.low;
+                  set_up = sound.set_up;
+                  row = ap (λ (p : Parts). p.event) is.are;
+                } in
+                let listed_too : HasPlayerRows parts other = record {
+                  event = row;
+                  rows = ap (λ (p : Parts). p.players) is.are;
+                  players = sound.players;
+                } in
+                let paired_too : HasRoundRows parts other = record {
+                  players = listed_too;
+                  rows = ap (λ (p : Parts). p.pairings) is.are;
+                  rounds = sound.rounds;
+                } in
+                let all : HasAllRows parts other = record {
+                  rounds = paired_too;
+                  rows = ap (λ (p : Parts). p.bracket) is.are;
+                  bracket = sound.bracket;
+                } in
+                let so = as_set other row in
+                let players_are = same_players other listed_too in
+                let rounds_are = only other.stored (rounds_as other paired_too) paired_too.rows in
+                let stages_are = only_these other.bracket.stages (stages_as other all) all.rows in
+                grind arith

@@ -20,6 +20,7 @@ pub mod Bracket
 pub mod Sound
 pub mod Change
 pub mod Safe
+pub mod Version
 pub mod Rows
 pub mod Parts
 pub mod Pairings

@@ -7,29 +7,36 @@ use Rattle.er_event.specs.declared.events.parts.Parts.{Parts}
 use Rattle.er_event.specs.declared.rows.event.EventRow.{EventRow}
 use Rattle.er_event.specs.Event.{EventValue}
 use Rattle.er_event.specs.Rows.{event_row, player_rows, keyed_pairing_rows, bracket_rows}
+use Rattle.er_event.specs.Version.{IsVersion, Keeps}
 use Rattle.er_event.specs.Sound.{numbers, IsSetUp, ArePlayers, AreRounds, AreStages}
 
--- the rows of an event with this serial, each table in the order of its key
-abbrev pub parts_of : EventValue → ℕ → Parts
-parts_of e serial = record {
-  event = event_row 1 e serial ∷ [];
+-- the rows of an event with this serial in tables of this version, each table in the order of its key
+abbrev pub parts_of : ℕ → EventValue → ℕ → Parts
+parts_of version e serial = record {
+  event = event_row version e serial ∷ [];
   players = player_rows e;
   pairings = keyed_pairing_rows e;
   bracket = bracket_rows e;
 }
 
--- the rows are those of the event, with some serial
+-- the rows are those of the event, with some serial, in tables of a version that keeps it
 pub record IsOf (parts : Parts) (e : EventValue) : Type 0 where
+  pub version : ℕ
+  pub known : IsVersion version
+  pub keeps : Keeps version e
   pub serial : ℕ
   pub low : serial ≤ MAX_SERIAL
-  pub are : parts ≡ parts_of e serial
+  pub are : parts ≡ parts_of version e serial
 
--- the one row of the event's table is that of an event within the limits
+-- the one row of the event's table is that of an event within the limits, of a version that keeps it
 pub record IsEventRow (rows : List EventRow) (e : EventValue) : Type 0 where
+  pub version : ℕ
+  pub known : IsVersion version
+  pub keeps : Keeps version e
   pub serial : ℕ
   pub low : serial ≤ MAX_SERIAL
   pub set_up : IsSetUp e.name e.rounds e.cut
-  pub row : rows ≡ event_row 1 e serial ∷ []
+  pub row : rows ≡ event_row version e serial ∷ []
 
 -- the event of the first two tables
 pub record HasPlayerRows (parts : Parts) (e : EventValue) : Type 0 where

@@ -38,8 +38,9 @@ event_row version e serial = record {
   phase = pos (phase_code e.phase);
 }
 
+-- nobody has joined late
 abbrev pub player_row : Player → PlayerRow
-player_row p = record { no = pos p.no; name = p.name; dropped = flag p.dropped }
+player_row p = record { no = pos p.no; name = p.name; dropped = flag p.dropped; joined = pos 0 }
 
 abbrev pub player_rows : EventValue → List PlayerRow
 player_rows e = map player_row e.players

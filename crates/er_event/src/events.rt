@@ -114,6 +114,7 @@ impl Event {
 
     pub fn rounds(&self) -> u8
         ensures value { result ≡ self.now.rounds }
+        ensures within { (1 ≤ result) × (result ≤ MAX_ROUNDS) }
     {
         self.rounds
     }

@@ -30,7 +30,10 @@ pub use names::{MAX_NAME_BYTES, Name, NameFault};
 pub use players::{MAX_PLAYERS, Player, PlayerNo};
 pub use refusals::{Cause, Place, Refusal};
 pub use rounds::Round;
-pub use rows::{BracketRow, EventRow, PairingRow, PlayerRow, TallyRow, match_at_table, read_tally};
+pub use rows::{
+    BracketRow, EventRow, MOST_OLD_ROUNDS, PairingRow, PlayerRow, TallyRow, match_at_table,
+    read_tally,
+};
 pub use scores::{Games, Score};
 pub use slips::SlipRow;
 pub use tallies::{Meeting, Tally};

@@ -9,7 +9,7 @@ ghost use Rattle.std.specs.Prelude.{◌≡◌, ◌≢◌, Bool, IfSome, IsNone};
 ghost use Rattle.er_event.specs.Rows.{flag};
 
 pub use bracket::{BracketRow, read_bracket};
-pub use event::{EventRow, Setup, read_event};
+pub use event::{EventRow, MOST_OLD_ROUNDS, Setup, read_event};
 pub use pairing::{PairingRow, match_at_table, read_stored};
 pub use player::{PlayerRow, read_players};
 pub use tally::{TallyRow, is_row_of, read_tally};

@@ -6,7 +6,7 @@ use Rattle.er_store.proofs.Prelude.{IsPermutation, map-append, take_all, take_mo
 use Rattle.er_store.proofs.Prelude.{Place, rows_in, rows_with, PairingTable, Match, Round, PairingRow, EventValue, with_round, pairing_row}
 use Rattle.er_store.proofs.Prelude.{round_rows, pairing_rows, TallyRow, pairing_columns, stored_pairing, StandsWith, IsKeyed, Puts, Moves}
 use Rattle.er_store.proofs.Prelude.{BringsToWith, all_from_test, test_from_all, BracketTable, BracketRow, with_stage, bracket_row}
-use Rattle.er_store.proofs.Prelude.{stage_rows, bracket_rows, bracket_columns, stored_slot}
+use Rattle.er_store.proofs.Prelude.{stage_rows, bracket_rows, bracket_columns, stored_slot, Layout, version_of}
 use Rattle.sqlite_trees.proofs.TreeLemmas.{IsTable-put_row, all-put_row}
 use Rattle.er_store.proofs.{Together.{pairings_set, moves_then, row_put, bracket_set}, Grouped.{rows_more, pairing_rows_are, newest_more}}
 use Rattle.er_store.proofs.Grouped.{bracket_rows_are}
@@ -32,33 +32,32 @@ keyed_put id columns rows keyed = record {
 -- ---- the tables with one match more of a round
 
 -- The round has one match more.
-pub pairing_added : (e : EventValue) (before : List Match) (m : Match) (id : ℤ) {old new : State} {s : ℕ} {kept : List TallyRow}
-    → StandsWith old.now (with_round e before) s kept → Puts pairing_tree (stored_pairing id (next_row e before m)) old new
-    → BringsToWith old new (with_round e (before ++ m ∷ [])) s kept
-pairing_added e before m id {old} stands put =
+pub pairing_added : (e : EventValue) (before : List Match) (m : Match) (id : ℤ) {l : Layout} {old new : State} {s : ℕ}
+    {kept : List TallyRow} → StandsWith l old.now (with_round e before) s kept
+    → Puts pairing_tree (stored_pairing id (next_row e before m)) old new
+    → BringsToWith l old new (with_round e (before ++ m ∷ [])) s kept
+pairing_added e before m id {old = old} stands put =
     let row = next_row e before m in
     let all = newest_more pairing_row (λ (r : Round). r.matches) pairing_rows_from pairing_rows_are e.stored (record { matches = before })
     (record { matches = before ++ m ∷ [] }) m refl in
     pairings_set stands (with_round e (before ++ m ∷ [])).stored put.goes (row_put stands PairingTable _ (pairing_columns row) _ put refl
     (ap (map pairing_columns) all ∙ map-append pairing_columns (pairing_rows (with_round e before)) (row ∷ [])))
-    (rw put.rows (keyed_put id _ (old.now.trees pairing_tree) stands.pairings_keyed))
+    (rw put.rows (keyed_put id _ (old.now.trees pairing_tree) stands.has.keyed.pairings))
 
 -- tables that show the same rows of another event stand for that one
-pub stands_as : {db : Database} {e f : EventValue} {s : ℕ} {kept : List TallyRow}
-    → ((table : Place) → IsPermutation (rows_in db table) (rows_with e s kept table)
-    → IsPermutation (rows_in db table) (rows_with f s kept table)) → StandsWith db e s kept → StandsWith db f s kept
-stands_as same stands = record {
+pub stands_as : {l : Layout} {db : Database} {e f : EventValue} {s : ℕ} {kept : List TallyRow} → f.rounds ≡ e.rounds
+    → ((table : Place) → IsPermutation (rows_in l db table) (rows_with (version_of l) e s kept table)
+    → IsPermutation (rows_in l db table) (rows_with (version_of l) f s kept table)) → StandsWith l db e s kept → StandsWith l db f s kept
+stands_as rounds same stands = record {
   low = stands.low;
-  tables = stands.tables;
-  rows = λ table. same table (stands.rows table);
-  pairings_keyed = stands.pairings_keyed;
-  bracket_keyed = stands.bracket_keyed;
+  keeps = λ first. rw rounds (stands.keeps first);
+  has = record { tables = stands.has.tables; rows = λ table. same table (stands.has.rows table); keyed = stands.has.keyed };
 }
 
 -- a round of no match has no row
-pub none_added : (e : EventValue) {db : Database} {s : ℕ} {kept : List TallyRow}
-    → StandsWith db e s kept → StandsWith db (with_round e []) s kept
-none_added e = stands_as (elim [ PairingTable ↦ λ rows. rw (pairing_none e) rows | _ ↦ λ rows. rows ])
+pub none_added : (e : EventValue) {l : Layout} {db : Database} {s : ℕ} {kept : List TallyRow}
+    → StandsWith l db e s kept → StandsWith l db (with_round e []) s kept
+none_added e = stands_as refl (elim [ PairingTable ↦ λ rows. rw (pairing_none e) rows | _ ↦ λ rows. rows ])
 
 -- ---- matches, one after the other
 
@@ -69,8 +68,8 @@ pub record Same (old new : State) : Type 0 where
   pub now_is : new.now ≡ old.now
   pub committed_is : new.committed ≡ old.committed
 
-pub same_moves : {old mid new : State} → Same old mid → Moves mid new → Moves old new
-same_moves {old} {mid} {new} same moves = record {
+pub same_moves : {l : Layout} {old mid new : State} → Same old mid → Moves l mid new → Moves l old new
+same_moves {l} {old} {mid} {new} same moves = record {
   was = sym same.mode ∙ moves.was;
   shows = record {
     was_open = sym same.is_open ∙ moves.shows.was_open;
@@ -84,14 +83,14 @@ same_moves {old} {mid} {new} same moves = record {
 }
 
 -- so many matches are stored, of a round or a stage that an event has with them
-pub record Adds (event : List Match → EventValue) (count : ℕ) (matches : List Match) (serial : ℕ) (totals : List TallyRow)
+pub record Adds (l : Layout) (event : List Match → EventValue) (count : ℕ) (matches : List Match) (serial : ℕ) (totals : List TallyRow)
     (old new : State) : Type 0 where
   pub none : count ≡ 0 → Same old new
-  pub some : 0 < count → Moves old new
-  pub stands : StandsWith new.now (event matches) serial totals
+  pub some : 0 < count → Moves l old new
+  pub stands : StandsWith l new.now (event matches) serial totals
 
-pub adds_none : (s : State) (event : List Match → EventValue) (serial : ℕ) → {totals : List TallyRow}
-    → StandsWith s.now (event []) serial totals → Adds event 0 [] serial totals s s
+pub adds_none : (s : State) (event : List Match → EventValue) (serial : ℕ) → {l : Layout} {totals : List TallyRow}
+    → StandsWith l s.now (event []) serial totals → Adds l event 0 [] serial totals s s
 adds_none s event serial stands =
     record {
       none = λ _. record { is_open = refl; mode = refl; now_is = refl; committed_is = refl };
@@ -99,28 +98,28 @@ adds_none s event serial stands =
       stands = stands;
     }
 
-pub adds_one : {old mid new : State} {event : List Match → EventValue} {count : ℕ} {before after : List Match} {serial : ℕ}
-    {totals : List TallyRow} → Adds event count before serial totals old mid → BringsToWith mid new (event after) serial totals
-    → Adds event (count + 1) after serial totals old new
-adds_one {old} {mid} {new} {event} {count} was made =
+pub adds_one : {l : Layout} {old mid new : State} {event : List Match → EventValue} {count : ℕ} {before after : List Match} {serial : ℕ}
+    {totals : List TallyRow} → Adds l event count before serial totals old mid → BringsToWith l mid new (event after) serial totals
+    → Adds l event (count + 1) after serial totals old new
+adds_one {l} {old} {mid} {new} {event} {count} was made =
     record { none = λ never. absurd (omega (arith, never)); some = λ _. moves count was.none was.some; stands = made.stands }
   where
-    moves : (n : ℕ) → (n ≡ 0 → Same old mid) → (0 < n → Moves old mid) → Moves old new
+    moves : (n : ℕ) → (n ≡ 0 → Same old mid) → (0 < n → Moves l old mid) → Moves l old new
     moves zero none some = same_moves (none refl) made.moves
     moves (suc n) none some = moves_then (some (omega arith)) made.moves
 
 -- the next match of a list is stored
-pub adds_next : {old mid new : State} {event : List Match → EventValue} {serial : ℕ} {totals : List TallyRow} (at : ℕ)
+pub adds_next : {l : Layout} {old mid new : State} {event : List Match → EventValue} {serial : ℕ} {totals : List TallyRow} (at : ℕ)
     (matches : List Match) (m : Match)
-    → at < length matches → m ≡ get_or matches at m → Adds event at (take at matches) serial totals old mid
-    → BringsToWith mid new (event (take at matches ++ m ∷ [])) serial totals
-    → Adds event (at + 1) (take (at + 1) matches) serial totals old new
+    → at < length matches → m ≡ get_or matches at m → Adds l event at (take at matches) serial totals old mid
+    → BringsToWith l mid new (event (take at matches ++ m ∷ [])) serial totals
+    → Adds l event (at + 1) (take (at + 1) matches) serial totals old new
 adds_next at matches m below is was made = adds_one was (rw (take_more matches at m below, ← is) made)
 
 -- and all are
-pub adds_all : {old new : State} {event : List Match → EventValue} {serial : ℕ} {totals : List TallyRow} (at : ℕ) (matches : List Match)
-    → 0 < length matches → length matches ≤ at → Adds event at (take at matches) serial totals old new
-    → BringsToWith old new (event matches) serial totals
+pub adds_all : {l : Layout} {old new : State} {event : List Match → EventValue} {serial : ℕ} {totals : List TallyRow}
+    (at : ℕ) (matches : List Match) → 0 < length matches → length matches ≤ at → Adds l event at (take at matches) serial totals old new
+    → BringsToWith l old new (event matches) serial totals
 adds_all at matches some past adds =
     record { moves = adds.some (omega arith); stands = rw (take_all at matches past) at adds.stands }
 
@@ -136,17 +135,17 @@ slots_none e = grind (arith, common_steps, append-nil, bracket_rows_are, rows_mo
 -- ---- the tables with one match more of a stage
 
 -- The stage has one match more.
-pub slot_added : (e : EventValue) (before : List Match) (m : Match) (id : ℤ) {old new : State} {s : ℕ} {kept : List TallyRow}
-    → StandsWith old.now (with_stage e before) s kept → Puts bracket_tree (stored_slot id (next_slot e before m)) old new
-    → BringsToWith old new (with_stage e (before ++ m ∷ [])) s kept
-slot_added e before m id {old} stands put =
+pub slot_added : (e : EventValue) (before : List Match) (m : Match) (id : ℤ) {l : Layout} {old new : State} {s : ℕ} {kept : List TallyRow}
+    → StandsWith l old.now (with_stage e before) s kept → Puts bracket_tree (stored_slot id (next_slot e before m)) old new
+    → BringsToWith l old new (with_stage e (before ++ m ∷ [])) s kept
+slot_added e before m id {old = old} stands put =
     let all = newest_more bracket_row (λ ms. ms) bracket_rows_from bracket_rows_are e.bracket.stages before (before ++ m ∷ []) m refl in
     bracket_set stands (with_stage e (before ++ m ∷ [])).bracket.stages put.goes (row_put stands BracketTable _
     (bracket_columns (next_slot e before m)) _ put refl (ap (map bracket_columns) all
     ∙ map-append bracket_columns (bracket_rows (with_stage e before)) (next_slot e before m ∷ [])))
-    (rw put.rows (keyed_put id _ (old.now.trees bracket_tree) stands.bracket_keyed))
+    (rw put.rows (keyed_put id _ (old.now.trees bracket_tree) stands.has.keyed.bracket))
 
 -- a stage of no match has no row
-pub no_slot_added : (e : EventValue) {db : Database} {s : ℕ} {kept : List TallyRow}
-    → StandsWith db e s kept → StandsWith db (with_stage e []) s kept
-no_slot_added e = stands_as (elim [ BracketTable ↦ λ rows. rw (slots_none e) rows | _ ↦ λ rows. rows ])
+pub no_slot_added : (e : EventValue) {l : Layout} {db : Database} {s : ℕ} {kept : List TallyRow}
+    → StandsWith l db e s kept → StandsWith l db (with_stage e []) s kept
+no_slot_added e = stands_as refl (elim [ BracketTable ↦ λ rows. rw (slots_none e) rows | _ ↦ λ rows. rows ])

@@ -7,29 +7,49 @@ use Rattle.er_store.proofs.Prelude.{one_permutation, Value, Query, Index, View, 
 use Rattle.er_store.proofs.Prelude.{with_phase, flag, event_row, TallyRow, event, player, pairing, bracket, tally, insert_event}
 use Rattle.er_store.proofs.Prelude.{insert_player, insert_pairing, insert_slot, insert_tally, set_serial, set_phase, number, event_columns}
 use Rattle.er_store.proofs.Prelude.{pairing_columns, bracket_columns, tally_columns, event_places, stored_event, stored_player}
-use Rattle.er_store.proofs.Prelude.{stored_pairing, stored_slot, stored_tally, columns_at, HasTables, StandsWith, CanRead, Puts, Ran}
+use Rattle.er_store.proofs.Prelude.{stored_pairing, stored_slot, stored_tally, at_places, HasTables, HasTablesAt, StandsWith, Some}
+use Rattle.er_store.proofs.Prelude.{Layout, Old, version_of, CanRead, Puts, Ran}
 use Rattle.er_store.proofs.Prelude.{BringsToWith, SelectsWith, value_cmp}
 use Rattle.er_event.specs.Rows.{phase_code}
-use Rattle.er_store.proofs.{Writing.{cast_int, cast_null, puts_one, event_rows, replaces}, Meaning.{Means, full, event_query, serial_terms}}
+use Rattle.er_store.proofs.{Writing.{cast_int, cast_null, puts_one, event_rows, replaces}}
+use Rattle.er_store.proofs.{Meaning.{Means, full, event_query, serial_terms, OldMean, old_mean}}
 use Rattle.er_store.proofs.{Meaning.{phase_terms, readable, WritesMean, writes_mean}, Together.row_set}
 
--- what holds of each schema with the four tables in front holds of this one
-pub at_ours : (schema : Schema) (has : HasTables schema) (P : Schema → Type 0) → P (full has.others schema.indexes schema.views) → P schema
+-- what holds of each schema with the event's tables in front holds of this one
+pub at_ours : {l : Layout} (schema : Schema) (has : HasTablesAt l schema) (P : Schema → Type 0)
+    → P (full has.others schema.indexes schema.views l) → P schema
 at_ours schema has P = subst P
     (sym (ap (λ ts. (let s : Schema = record { tables = ts; indexes = schema.indexes; views = schema.views } in s)) has.are))
 
-pub meant : {schema : Schema} → HasTables schema → WritesMean schema
-meant {schema} has = at_ours schema has WritesMean (writes_mean has.others schema.indexes schema.views)
+pub meant : {l : Layout} {schema : Schema} → HasTablesAt l schema → WritesMean schema
+meant {l} {schema} has = at_ours schema has WritesMean (writes_mean has.others schema.indexes schema.views l)
 
-pub selected : {schema : Schema} {params : Row} {sql : List ℕ} {q : Query} → HasTables schema
-    → ((others : List Table) (indexes : List Index) (views : List View) → SelectsWith params sql q (full others indexes views))
+pub old_meant : {schema : Schema} → HasTablesAt Old schema → OldMean schema
+old_meant {schema} has = at_ours schema has OldMean (old_mean has.others schema.indexes schema.views)
+
+pub selected : {l : Layout} {schema : Schema} {params : Row} {sql : List ℕ} {q : Query} → HasTablesAt l schema
+    → ((others : List Table) (indexes : List Index) (views : List View) → SelectsWith params sql q (full others indexes views l))
     → SelectsWith params sql q schema
-selected {schema} {params} {sql} {q} has selects =
+selected {l} {schema} {params} {sql} {q} has selects =
     at_ours schema has (SelectsWith params sql q) (selects has.others schema.indexes schema.views)
 
--- where the four tables are, the event's can be read
+-- where the tables are, the event's can be read
 pub can_read : (schema : Schema) → HasTables schema → CanRead schema
-can_read schema has = at_ours schema has CanRead (readable has.others schema.indexes schema.views)
+can_read schema (l, has) = at_ours schema has CanRead (readable has.others schema.indexes schema.views l)
+
+-- ---- where the tables stand
+
+pub event_at : (l : Layout) {schema : Schema} → HasTablesAt l schema → slice_get schema.tables 0 ≡ Some (event event_tree)
+event_at Old has = ap (λ ts. slice_get ts 0) has.are
+
+pub pairing_at : (l : Layout) {schema : Schema} → HasTablesAt l schema → slice_get schema.tables 2 ≡ Some (pairing pairing_tree)
+pairing_at Old has = ap (λ ts. slice_get ts 2) has.are
+
+pub bracket_at : (l : Layout) {schema : Schema} → HasTablesAt l schema → slice_get schema.tables 3 ≡ Some (bracket bracket_tree)
+bracket_at Old has = ap (λ ts. slice_get ts 3) has.are
+
+pub tally_at : (l : Layout) {schema : Schema} → HasTablesAt l schema → slice_get schema.tables 4 ≡ Some (tally tally_tree)
+tally_at Old has = ap (λ ts. slice_get ts 4) has.are
 
 ok_is_no_err : {A E : Type 0} (a : A) (e : E) → ◌≡◌ {A = Result A E} (Ok a) (Err e) → ⊥
 ok_is_no_err a e is = true≢false (ap is_ok is)
@@ -41,51 +61,51 @@ inside_ok false a e never = absurd (ok_is_no_err a e (never refl))
 
 -- ---- the rows that are put in
 
-pub puts_player : (num : ℕ) (name : List ℕ) (dropped : Bool) {old new : State} → HasTables old.now.schema
+pub puts_player : (num : ℕ) (name : List ℕ) (dropped : Bool) {old new : State} → HasTablesAt Old old.now.schema
     → Ran insert_player (number num ∷ Text name ∷ Int (flag dropped) ∷ []) old new
     → Puts player_tree (stored_player num name dropped) old new
 puts_player num name dropped has =
-    puts_one (player player_tree) (stored_player num name dropped) (meant has).player (ap (λ ts. slice_get ts 1) has.are) refl
+    puts_one (player player_tree) (stored_player num name dropped) (old_meant has).player (ap (λ ts. slice_get ts 1) has.are) refl
     (simp (cast_int, cast_null))
 
 abbrev pub event_parameters : EventValue → ℕ → Row
 event_parameters e serial = number serial ∷ Text e.name ∷ number e.rounds ∷ number e.cut ∷ number (phase_code e.phase) ∷ []
 
-pub puts_event : (e : EventValue) (serial : ℕ) {old new : State} → HasTables old.now.schema
-    → Ran insert_event (event_parameters e serial) old new → Puts event_tree (stored_event e serial) old new
-puts_event e serial has =
-    puts_one (event event_tree) (stored_event e serial) (meant has).event (ap (λ ts. slice_get ts 0) has.are) refl
+pub puts_event : (e : EventValue) (serial : ℕ) {l : Layout} {old new : State} → HasTablesAt l old.now.schema
+    → Ran insert_event (event_parameters e serial) old new → Puts event_tree (stored_event 1 e serial) old new
+puts_event e serial {l} has =
+    puts_one (event event_tree) (stored_event 1 e serial) (meant has).event (event_at l has) refl
     (simp (cast_int, cast_null))
 
 -- a pairing's row takes the next rowid
-pub puts_pairing : (r : PairingRow) {old new : State} → HasTables old.now.schema
+pub puts_pairing : (r : PairingRow) {l : Layout} {old new : State} → HasTablesAt l old.now.schema
     → Ran insert_pairing (pairing_columns r) old new
     → Puts pairing_tree (stored_pairing (next_rowid (old.now.trees pairing_tree)) r) old new
-puts_pairing r {old} has =
+puts_pairing r {l} {old} has =
     puts_one (pairing pairing_tree) (stored_pairing (next_rowid (old.now.trees pairing_tree)) r) (meant has).pairing
-    (ap (λ ts. slice_get ts 2) has.are) refl
+    (pairing_at l has) refl
     (simp (cast_int, cast_null))
 
 -- and so does one of the bracket
-pub puts_slot : (r : BracketRow) {old new : State} → HasTables old.now.schema
+pub puts_slot : (r : BracketRow) {l : Layout} {old new : State} → HasTablesAt l old.now.schema
     → Ran insert_slot (bracket_columns r) old new → Puts bracket_tree (stored_slot (next_rowid (old.now.trees bracket_tree)) r) old new
-puts_slot r {old} has =
+puts_slot r {l} {old} has =
     puts_one (bracket bracket_tree) (stored_slot (next_rowid (old.now.trees bracket_tree)) r) (meant has).slot
-    (ap (λ ts. slice_get ts 3) has.are) refl
+    (bracket_at l has) refl
     (simp (cast_int, cast_null))
 
-pub puts_tally : (r : TallyRow) {old new : State} → HasTables old.now.schema
+pub puts_tally : (r : TallyRow) {l : Layout} {old new : State} → HasTablesAt l old.now.schema
     → Ran insert_tally (tally_columns r) old new → Puts tally_tree (stored_tally r) old new
-puts_tally r has =
-    puts_one (tally tally_tree) (stored_tally r) (meant has).tally (ap (λ ts. slice_get ts 4) has.are) refl (simp (cast_int, cast_null))
+puts_tally r {l} has =
+    puts_one (tally tally_tree) (stored_tally r) (meant has).tally (tally_at l has) refl (simp (cast_int, cast_null))
 
 -- ---- the row of the event
 
-pub one_of : (places : List ℕ) (rows : List Row) (row : Row) → columns_at places rows ≡ row ∷ []
-    → (r : Row) × (rows ≡ r ∷ []) × (map (column r) places ≡ row)
-one_of places [] row e = absurd (cc)
-one_of places (r ∷ []) row e = (r, refl, cc)
-one_of places (r ∷ x ∷ more) row e = absurd (cc)
+pub one_of : (shown : Row → Row) (rows : List Row) (row : Row) → map shown rows ≡ row ∷ []
+    → (r : Row) × (rows ≡ r ∷ []) × (shown r ≡ row)
+one_of shown [] row e = absurd (cc)
+one_of shown (r ∷ []) row e = (r, refl, cc)
+one_of shown (r ∷ x ∷ more) row e = absurd (cc)
 
 taken_out : (r : Row) → rowid r ≡ Int (pos 1) → without_rowid (pos 1) (r ∷ []) ≡ []
 taken_out r id =
@@ -94,30 +114,32 @@ taken_out r id =
 
 -- an UPDATE of the event's table by one value
 sets_event : (terms : List Term) (v : Value) (phase : Phase) (t : ℕ) → t ≤ 999999
-    → {sql : List ℕ} {old new : State} {e : EventValue} {s : ℕ} {kept : List TallyRow} → StandsWith old.now e s kept
+    → {sql : List ℕ} {l : Layout} {old new : State} {e : EventValue} {s : ℕ} {kept : List TallyRow} → StandsWith l old.now e s kept
     → Means sql (Update 0 (record { lets = []; body = event_query terms })) old.now.schema
-    → ((r : Row) → map (column r) event_places ≡ event_columns (event_row 1 e s)
-    → eval_all terms ((v ∷ []) ∷ r ∷ []) ≡ number 1 ∷ stored_event (with_phase e phase) t)
-    → Ran sql (v ∷ []) old new → BringsToWith old new (with_phase e phase) t kept
-sets_event terms v phase t low {old = old} {e = e} {s} stands means shows ran =
-    let has = stands.tables in
+    → ((r : Row) → map (column r) event_places ≡ event_columns (event_row (version_of l) e s)
+    → eval_all terms ((v ∷ []) ∷ r ∷ []) ≡ number 1 ∷ stored_event (version_of l) (with_phase e phase) t)
+    → Ran sql (v ∷ []) old new → BringsToWith l old new (with_phase e phase) t kept
+sets_event terms v phase t low {l = l} {old = old} {e = e} {s} stands means shows ran =
+    let has = stands.has.tables in
     let f = with_phase e phase in
-    let it = one_of event_places (old.now.trees event_tree) (event_columns (event_row 1 e s))
-    (one_permutation _ _ (IsPermutation-sym _ _ (stands.rows EventTable))) in
-    let set = replaces (event event_tree) (pos 1) (stored_event f t) means has (ap (λ ts. slice_get ts 0) has.are) (λ x other. other.0)
+    let now = stored_event (version_of l) f t in
+    let it = one_of (at_places event_places) (old.now.trees event_tree) (event_columns (event_row (version_of l) e s))
+    (one_permutation _ _ (IsPermutation-sym _ _ (stands.has.rows EventTable))) in
+    let set = replaces l (event event_tree) (pos 1) now means has (event_at l has) (λ x other. other.0)
     (λ rows answer. event_rows terms old.now.trees (v ∷ []) it.0 rows it.1 answer ∙ ap (λ x. x ∷ []) (shows it.0 it.2))
     (simp (cast_int, cast_null)) ran in
     let cols = it.2 in
-    row_set stands phase t low set.goes (set.rows ∙ (ap (λ rs. put_row (stored_event f t) (without_rowid (pos 1) rs)) it.1
-    ∙ ap (put_row (stored_event f t)) (taken_out it.0 (cc))))
+    row_set stands phase t low set.goes (set.rows ∙ (ap (λ rs. put_row now (without_rowid (pos 1) rs)) it.1
+    ∙ ap (put_row now) (taken_out it.0 (cc))))
 
-pub serial_set : (t : ℕ) → t ≤ 999999 → {old new : State} {e : EventValue} {s : ℕ} {kept : List TallyRow} → StandsWith old.now e s kept
-    → Ran set_serial (number t ∷ []) old new → BringsToWith old new e t kept
+pub serial_set : (t : ℕ) → t ≤ 999999 → {l : Layout} {old new : State} {e : EventValue} {s : ℕ} {kept : List TallyRow}
+    → StandsWith l old.now e s kept → Ran set_serial (number t ∷ []) old new → BringsToWith l old new e t kept
 serial_set t low {e = e} {s} stands =
-    sets_event serial_terms (number t) e.phase t low stands (meant stands.tables).serial (λ r h. cc)
+    sets_event serial_terms (number t) e.phase t low stands (meant stands.has.tables).serial (λ r h. cc)
 
-pub phase_set : (phase : Phase) {old new : State} {e : EventValue} {s : ℕ} {kept : List TallyRow} → StandsWith old.now e s kept
-    → Ran set_phase (number (phase_code phase) ∷ []) old new → BringsToWith old new (with_phase e phase) s kept
+pub phase_set : (phase : Phase) {l : Layout} {old new : State} {e : EventValue} {s : ℕ} {kept : List TallyRow}
+    → StandsWith l old.now e s kept
+    → Ran set_phase (number (phase_code phase) ∷ []) old new → BringsToWith l old new (with_phase e phase) s kept
 phase_set phase {e = e} {s} stands =
-    sets_event phase_terms (number (phase_code phase)) phase s stands.low stands (meant stands.tables).phase
+    sets_event phase_terms (number (phase_code phase)) phase s stands.low stands (meant stands.has.tables).phase
     (λ r h. cc)

@@ -1,15 +1,17 @@
 -- What the reading statements show, and that it is the rows of an event in order.
-use Rattle.er_store.proofs.Prelude.{event_tree, player_tree, bracket_tree, tally_tree}
+use Rattle.er_store.proofs.Prelude.{event_tree, bracket_tree, tally_tree}
 use Rattle.er_store.proofs.Prelude.{Query, common_steps, ◌≡◌, ◌+◌, ◌<◌, ℕ, List, [], ◌∷◌, map, length, get_or, flat_map, refl, sym, ap, ap₂}
 use Rattle.er_store.proofs.Prelude.{subst, ◌∙◌, arith, Ordering, Bool, true, false, cond, None, ordering_then, AllByRecursion}
-use Rattle.er_store.proofs.Prelude.{IsPermutation, IsPermutation-map, All-from_recursion, recursion_from_All, Row, column, col, eval_all}
-use Rattle.er_store.proofs.Prelude.{IsAnswer, output, Output, overlay, Trees, columns_at, by_first, by_first_two, Lists, first_columns}
+use Rattle.er_store.proofs.Prelude.{IsPermutation, IsPermutation-map, All-from_recursion, recursion_from_All, Row, column, eval_all}
+use Rattle.er_store.proofs.Prelude.{IsAnswer, output, Output, overlay, Trees, Term, at_places, Layout, Old, version_of, players_tree}
+use Rattle.er_store.proofs.Prelude.{player_shown, by_first, by_first_two, Lists, first_columns}
 use Rattle.er_store.proofs.Prelude.{table_query, all-map, value_cmp, ◌≢◌, IsTrue, filter, IsUtf8, range_with_len, IsPermutation-sym}
 use Rattle.er_store.proofs.Prelude.{IsPermutation-trans, nat_tests, Error, SqliteFailure, IsAscending, Database, one_permutation}
 use Rattle.er_store.proofs.Prelude.{BracketTable, EventTable, PlayerTable, TallyTable, EventValue, Player, Match, PlayerRow, is_lawful_name}
 use Rattle.er_store.proofs.Prelude.{numbers, names, IsSoundButForSeeds, numbered_from, event_row, player_row, player_rows, bracket_row}
 use Rattle.er_store.proofs.Prelude.{bracket_rows, tally_row, tally_rows, stage_rows, totals, event_columns, player_columns, bracket_columns}
-use Rattle.er_store.proofs.Prelude.{tally_columns, event_places, player_places, bracket_places, tally_places, StandsFor, out_of_memory}
+use Rattle.er_store.proofs.Prelude.{tally_columns, event_places, bracket_places, tally_places, StandsAt, out_of_memory}
+use Rattle.er_store.proofs.Meaning.{columns, read_terms}
 use Rattle.std.specs.{List.Sorted.IsSorted, Prelude.All}
 use Rattle.std.proofs.{lemmas.List.Sorted.All-permutation, Common.{unwrap_or, is_lt}, Math.ListN.{get_or-map, length-map}}
 use Rattle.std.proofs.lemmas.Str.{IsUtf8-from_is_utf8}
@@ -28,15 +30,16 @@ neither false rows = refl
 pub bare : (trees : Trees) (tree : ℕ) → overlay trees [] tree ≡ trees tree
 bare trees tree = neither _ (trees tree)
 
-terms_shown : (r : Row) (places : List ℕ) → eval_all (map (col 1) places) ([] ∷ r ∷ []) ≡ map (column r) places
-terms_shown r [] = refl
-terms_shown r (place ∷ places) = ap (λ values. column r place ∷ values) (terms_shown r places)
+pub columns_shown : (places : List ℕ) (r : Row) → eval_all (columns places) ([] ∷ r ∷ []) ≡ at_places places r
+columns_shown [] r = refl
+columns_shown (place ∷ places) r = ap (λ values. column r place ∷ values) (columns_shown places r)
 
--- what a row is sorted by stands first in what is shown of it
-pub record IsSortedByKeys (tree : ℕ) (places keys : List ℕ) (order : Row → Row → Ordering) : Type 1 where
+-- the terms of a query show a row so, and what it is sorted by stands first in what is shown
+pub record IsShownByKeys (tree : ℕ) (terms : List Term) (keys : List ℕ) (shown : Row → Row) (order : Row → Row → Ordering) : Type 1 where
+  pub shows : (r : Row) → eval_all terms ([] ∷ r ∷ []) ≡ shown r
   pub Keyed : Output → Type 0
-  pub keyed : (r : Row) → Keyed (output (table_query tree places keys) ([] ∷ r ∷ []))
-  pub agrees : (o p : Output) → Keyed o → Keyed p → is_lt (order o.1 p.1) ≡ is_lt (output_cmp (table_query tree places keys) o p)
+  pub keyed : (r : Row) → Keyed (output (table_query tree terms keys) ([] ∷ r ∷ []))
+  pub agrees : (o p : Output) → Keyed o → Keyed p → is_lt (order o.1 p.1) ≡ is_lt (output_cmp (table_query tree terms keys) o p)
 
 sorted_rows : (Keyed : Output → Type 0) (cmp : Output → Output → Ordering) (order : Row → Row → Ordering)
     → ((o p : Output) → Keyed o → Keyed p → is_lt (order o.1 p.1) ≡ is_lt (cmp o p))
@@ -62,24 +65,25 @@ shows_sorted q Keyed order agrees all {ordered = ordered} are keyed shows same s
       sorted = rw rows (sorted_rows Keyed (output_cmp q) order agrees ordered keys sorted);
     }
 
-module _ (tree : ℕ) (places keys : List ℕ) (order : Row → Row → Ordering) (by : IsSortedByKeys tree places keys order) where
+module _ (tree : ℕ) (terms : List Term) (keys : List ℕ) (shown : Row → Row) (order : Row → Row → Ordering)
+    (by : IsShownByKeys tree terms keys shown order) where
   -- each row once, with its key and what is shown of it
   abbrev each : List Row → List Output
-  each rows = map (output (table_query tree places keys)) (flat_map (λ r. ([] ∷ r ∷ []) ∷ []) rows)
+  each rows = map (output (table_query tree terms keys)) (flat_map (λ r. ([] ∷ r ∷ []) ∷ []) rows)
 
-  each_shown : (rows : List Row) → map (λ (o : Output). o.1) (each rows) ≡ columns_at places rows
+  each_shown : (rows : List Row) → map (λ (o : Output). o.1) (each rows) ≡ map shown rows
   each_shown [] = refl
-  each_shown (r ∷ rows) = ap₂ ◌∷◌ (terms_shown r places) (each_shown rows)
+  each_shown (r ∷ rows) = ap₂ ◌∷◌ (by.shows r) (each_shown rows)
 
   each_keyed : (rows : List Row) → AllByRecursion by.Keyed (each rows)
   each_keyed [] = tt
   each_keyed (r ∷ rows) = (by.keyed r, each_keyed rows)
 
-  pub answer_lists : (trees : Trees) (rows : List Row) → IsAnswer (table_query tree places keys) (overlay trees []) [] rows
-      → Lists order (columns_at places (trees tree)) rows
+  pub answer_lists : (trees : Trees) (rows : List Row) → IsAnswer (table_query tree terms keys) (overlay trees []) [] rows
+      → Lists order (map shown (trees tree)) rows
   answer_lists trees rows a =
-      shows_sorted (table_query tree places keys) by.Keyed order by.agrees (each (trees tree)) (a.distinct
-      ∙ (ap (map (output (table_query tree places keys))) a.grouped ∙ ap each (bare trees tree)))
+      shows_sorted (table_query tree terms keys) by.Keyed order by.agrees (each (trees tree)) (a.distinct
+      ∙ (ap (map (output (table_query tree terms keys))) a.grouped ∙ ap each (bare trees tree)))
       (each_keyed (trees tree)) (each_shown (trees tree)) a.same a.sorted a.shown
 
 -- ---- the two kinds of key
@@ -94,16 +98,23 @@ pub two_agree : (o p : Output) → (column o.0 0 ≡ column o.1 0) × (column o.
     (ordering_then (value_cmp (column o.0 1) (column p.0 1)) Rattle.std.proofs.Common.Equal))
 two_agree o p a b = grind (arith, common_steps)
 
-pub sorted_by_one : (tree place : ℕ) (places : List ℕ) → IsSortedByKeys tree (place ∷ places) (place ∷ []) by_first
+pub sorted_by_one : (tree place : ℕ) (places : List ℕ)
+    → IsShownByKeys tree (columns (place ∷ places)) (place ∷ []) (at_places (place ∷ places)) by_first
 sorted_by_one tree place places = record {
+  shows = columns_shown (place ∷ places);
   Keyed = λ o. column o.0 0 ≡ column o.1 0;
   keyed = λ r. refl;
   agrees = first_agrees;
 }
 
+-- a player, of either version
+pub sorted_players : (l : Layout) → IsShownByKeys (players_tree l) (read_terms l) (0 ∷ []) (player_shown l) by_first
+sorted_players Old = record { shows = λ r. refl; Keyed = λ o. column o.0 0 ≡ column o.1 0; keyed = λ r. refl; agrees = first_agrees }
+
 pub sorted_by_two : (tree first second : ℕ) (places : List ℕ)
-    → IsSortedByKeys tree (first ∷ second ∷ places) (first ∷ second ∷ []) by_first_two
+    → IsShownByKeys tree (columns (first ∷ second ∷ places)) (first ∷ second ∷ []) (at_places (first ∷ second ∷ places)) by_first_two
 sorted_by_two tree first second places = record {
+  shows = columns_shown (first ∷ second ∷ places);
   Keyed = λ o. (column o.0 0 ≡ column o.1 0) × (column o.0 1 ≡ column o.1 1);
   keyed = λ r. (refl, refl);
   agrees = two_agree;
@@ -115,19 +126,18 @@ whole : (width : ℕ) (rows : List Row) → AllByRecursion (λ row. first_column
 whole width [] all = refl
 whole width (r ∷ rows) all = ap₂ ◌∷◌ all.0 (whole width rows all.1)
 
-shown_whole : (width : ℕ) (places : List ℕ) (rows : List Row)
-    → ((r : Row) → first_columns width (map (column r) places) ≡ map (column r) places)
-    → AllByRecursion (λ row. first_columns width row ≡ row) (columns_at places rows)
-shown_whole width places rows all = all-map (λ row. first_columns width row ≡ row) (λ r. map (column r) places) all rows
+shown_whole : (width : ℕ) (shown : Row → Row) (rows : List Row) → ((r : Row) → first_columns width (shown r) ≡ shown r)
+    → AllByRecursion (λ row. first_columns width row ≡ row) (map shown rows)
+shown_whole width shown rows all = all-map (λ row. first_columns width row ≡ row) shown all rows
 
 -- the rows that are listed have the columns that are shown, and no more
-pub listed_whole : (order : Row → Row → Ordering) (width : ℕ) (places : List ℕ) (rows listed : List Row)
-    → ((r : Row) → first_columns width (map (column r) places) ≡ map (column r) places)
-    → Lists order (columns_at places rows) listed → map (first_columns width) listed ≡ listed
-listed_whole order width places rows listed all h =
+pub listed_whole : (order : Row → Row → Ordering) (width : ℕ) (shown : Row → Row) (rows listed : List Row)
+    → ((r : Row) → first_columns width (shown r) ≡ shown r)
+    → Lists order (map shown rows) listed → map (first_columns width) listed ≡ listed
+listed_whole order width shown rows listed all h =
     let P : Row → Type 0 = λ row. first_columns width row ≡ row in
-    whole width listed (recursion_from_All P listed (All-permutation P (columns_at places rows) listed h.same
-    (All-from_recursion P (columns_at places rows) (shown_whole width places rows all))))
+    whole width listed (recursion_from_All P listed (All-permutation P (map shown rows) listed h.same
+    (All-from_recursion P (map shown rows) (shown_whole width shown rows all))))
 
 -- ---- rows that show the same are the same
 
@@ -140,29 +150,30 @@ map-same columns inj (x ∷ xs) (y ∷ ys) h = ap₂ ◌∷◌ (inj x y (cc)) (m
 
 -- ---- the event's row
 
-pub event_exact : (db : Database) (e : EventValue) (s : ℕ) (listed : List Row) → StandsFor db e s
-    → Lists by_first (columns_at event_places (db.trees event_tree)) listed → listed ≡ map event_columns (event_row 1 e s ∷ [])
-event_exact db e s listed stands h = one_permutation (event_columns (event_row 1 e s)) listed
-    (IsPermutation-trans _ _ _ (IsPermutation-sym _ _ (stands.rows EventTable)) h.same)
+pub event_exact : (l : Layout) (db : Database) (e : EventValue) (s : ℕ) (listed : List Row) → StandsAt l db e s
+    → Lists by_first (map (at_places event_places) (db.trees event_tree)) listed
+    → listed ≡ map event_columns (event_row (version_of l) e s ∷ [])
+event_exact l db e s listed stands h = one_permutation (event_columns (event_row (version_of l) e s)) listed
+    (IsPermutation-trans _ _ _ (IsPermutation-sym _ _ (stands.has.rows EventTable)) h.same)
 
 -- ---- the players
 
-pub players_exact : (db : Database) (e : EventValue) (s : ℕ) (listed : List Row) → StandsFor db e s
+pub players_exact : (l : Layout) (db : Database) (e : EventValue) (s : ℕ) (listed : List Row) → StandsAt l db e s
     → numbers e.players ≡ range_with_len 1 (length e.players)
-    → Lists by_first (columns_at player_places (db.trees player_tree)) listed → listed ≡ map player_columns (player_rows e)
-players_exact db e s listed stands numbered h =
+    → Lists by_first (map (player_shown l) (db.trees (players_tree l))) listed → listed ≡ map player_columns (player_rows e)
+players_exact l db e s listed stands numbered h =
     listed_by_one _ listed (map player_columns (player_rows e)) (rw (map-map player_columns player_row e.players)
-    (numbered_rise (λ p. player_columns (player_row p)) (λ p. refl) 1 e.players numbered)) (stands.rows PlayerTable) h
+    (numbered_rise (λ p. player_columns (player_row p)) (λ p. refl) 1 e.players numbered)) (stands.has.rows PlayerTable) h
 
 -- ---- the totals
 
-pub tallies_exact : (db : Database) (e : EventValue) (s : ℕ) (listed : List Row) → StandsFor db e s
+pub tallies_exact : (l : Layout) (db : Database) (e : EventValue) (s : ℕ) (listed : List Row) → StandsAt l db e s
     → numbers e.players ≡ range_with_len 1 (length e.players)
-    → Lists by_first (columns_at tally_places (db.trees tally_tree)) listed → listed ≡ map tally_columns (tally_rows e)
-tallies_exact db e s listed stands numbered h =
+    → Lists by_first (map (at_places tally_places) (db.trees tally_tree)) listed → listed ≡ map tally_columns (tally_rows e)
+tallies_exact l db e s listed stands numbered h =
     listed_by_one _ listed (map tally_columns (tally_rows e))
     (rw (map-map tally_columns (λ (p : Player). tally_row p.no (totals e p.no)) e.players)
-    (numbered_rise (λ p. tally_columns (tally_row p.no (totals e p.no))) (λ p. refl) 1 e.players numbered)) (stands.rows TallyTable) h
+    (numbered_rise (λ p. tally_columns (tally_row p.no (totals e p.no))) (λ p. refl) 1 e.players numbered)) (stands.has.rows TallyTable) h
 
 -- ---- the matches of the playoff
 
@@ -180,13 +191,13 @@ stages_rise : (stages : List (List Match))
 stages_rise [] = tt
 stages_rise (ms ∷ later) = (λ k. slots_rise k ms, stages_rise later)
 
-pub bracket_exact : (db : Database) (e : EventValue) (s : ℕ) (listed : List Row) → StandsFor db e s
-    → Lists by_first_two (columns_at bracket_places (db.trees bracket_tree)) listed → listed ≡ map bracket_columns (bracket_rows e)
-bracket_exact db e s listed stands h =
+pub bracket_exact : (l : Layout) (db : Database) (e : EventValue) (s : ℕ) (listed : List Row) → StandsAt l db e s
+    → Lists by_first_two (map (at_places bracket_places) (db.trees bracket_tree)) listed → listed ≡ map bracket_columns (bracket_rows e)
+bracket_exact l db e s listed stands h =
     let stages = e.bracket.stages in
     let rise = rises_from bracket_columns bracket_row (λ k n. refl) (numbered_from 1) 1 stages (stages_rise stages) in
     listed_by_two _ listed (map bracket_columns (bracket_rows e))
-    (subst (λ rows. IsAscending IsBelow (map bracket_columns rows)) (sym (bracket_rows_are 1 stages)) rise) (stands.rows BracketTable) h
+    (subst (λ rows. IsAscending IsBelow (map bracket_columns rows)) (sym (bracket_rows_are 1 stages)) rise) (stands.has.rows BracketTable) h
 
 -- ---- why a row is refused
 
@@ -200,8 +211,9 @@ is_memory e h = absurd (h (λ same. cc))
 pub lawful-utf8 : (name : List ℕ) → IsTrue (is_lawful_name name) → IsUtf8 name
 lawful-utf8 name h = IsUtf8-from_is_utf8 name (grind (arith, nat_tests))
 
-pub event_text : (e : EventValue) (s : ℕ) → IsSoundButForSeeds e → All (λ (r : EventRow). IsUtf8 r.name) (event_row 1 e s ∷ [])
-event_text e s sound = All-from_recursion (λ (r : EventRow). IsUtf8 r.name) (event_row 1 e s ∷ [])
+pub event_text : (version : ℕ) (e : EventValue) (s : ℕ) → IsSoundButForSeeds e
+    → All (λ (r : EventRow). IsUtf8 r.name) (event_row version e s ∷ [])
+event_text version e s sound = All-from_recursion (λ (r : EventRow). IsUtf8 r.name) (event_row version e s ∷ [])
     (lawful-utf8 e.name sound.set_up.name, tt)
 
 player_texts : (ps : List Player) → AllByRecursion (λ name. IsTrue (is_lawful_name name)) (names ps)

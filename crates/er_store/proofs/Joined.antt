@@ -1,5 +1,5 @@
 -- What the join of a slip reads of tables that stand for an event.
-use Rattle.er_store.proofs.Prelude.{player_tree, pairing_tree}
+use Rattle.er_store.proofs.Prelude.{pairing_tree, Layout, Old, players_tree, player_shown}
 use Rattle.er_store.proofs.Prelude.{column, is_lawful_name, is_bye, is_at, number, ◌≡◌, Bool, true, false, ◌&&◌, cond, if◌then◌else◌, List}
 use Rattle.er_store.proofs.Prelude.{[], ◌∷◌, ◌++◌, map, filter, flat_map, refl, ap, ap₂, subst, ◌∙◌, arith, list_all, IsPermutation, Binary}
 use Rattle.er_store.proofs.Prelude.{Value, Row, is_true, Env, eval_all, holds, IsAnswer, or_nulls, overlay, Trees, Compare, Eq, binary}
@@ -9,8 +9,8 @@ use Rattle.er_store.proofs.Prelude.{All, Contains, IfSome, IsTrue, IsFalse, sym,
 use Rattle.er_store.proofs.Prelude.{All-cons, All-from_recursion, All-weaker, recursion_from_All, nat_tests, Text, Database, filter-map}
 use Rattle.er_store.proofs.Prelude.{IsPermutation-filter, PairingTable, PlayerTable, Match, Round, Games, SlipRow, EventValue, seats}
 use Rattle.er_store.proofs.Prelude.{match_at, pairing_row, pairing_rows, bye_score, slip_of, numbers, names, IsRound, IsSoundButForSeeds}
-use Rattle.er_store.proofs.Prelude.{IsUtf8, NamedPairing, pairing_columns, named_columns, columns_at, player_places, pairing_places}
-use Rattle.er_store.proofs.Prelude.{StandsFor, Side, number_in, name_in, match_of_slip, is_swapped, named_pairing, named_pairings, IsPlayer}
+use Rattle.er_store.proofs.Prelude.{IsUtf8, NamedPairing, pairing_columns, named_columns, at_places, pairing_places}
+use Rattle.er_store.proofs.Prelude.{StandsAt, Side, number_in, name_in, match_of_slip, is_swapped, named_pairing, named_pairings, IsPlayer}
 use Rattle.er_store.proofs.Prelude.{IsLawful, Refusal, Memory, Store, IsFault}
 use Rattle.std.proofs.{lemmas.List.Sorted.length_permutation, Common.AllPairs, lemmas.List.Elements.All-from_get_or}
 use Rattle.std.specs.Option.{ok_or}
@@ -19,7 +19,8 @@ use Rattle.er_event.specs.{declared.refusals.Cause.TheVariants.Refused, declared
 use Rattle.sqlite_keyed.proofs.SliceLemmas.{All-find}
 use Rattle.sqlite_trees.proofs.ListLemmas.{all_from_map}
 use Rattle.er_store.proofs.{Picking.{within, picks, picks_one, picks_none, row_of, rows_of}, Writing.one_shown, Meaning.slip_query}
-use Rattle.er_store.proofs.{Meaning.{slip_terms, score_tests}, Exact.{map-same, lawful-utf8}, Setting.one_picked, PickingMatch.picks_table}
+use Rattle.er_store.proofs.{Meaning.{slip_terms, score_tests}, Exact.{map-same, lawful-utf8, bare}, Setting.one_picked}
+use Rattle.er_store.proofs.{PickingMatch.picks_table}
 use Rattle.er_store.proofs.{PickingMatch.{rows_at, Finds}, Keyed.{all_bye_last, finds, numbered_at, numbered-match, table_alone}}
 use Rattle.er_store.proofs.SlipLemmas.{cond_of, of_max, of_min, either_of}
 use Rattle.er_store.specs.{Rows.text_or_null, Slip.FindsSlip}
@@ -73,22 +74,28 @@ numbered_as n rows = or_nulls (filter (λ r. is_true (binary (Compare Eq Binary)
 abbrev pub asks : Row → Row → Bool
 asks params p = list_all (holds (params ∷ p ∷ [])) score_tests
 
-pub slip_one : (db : Trees) (params p l h : Row) (rows : List Row) → filter (asks params) (db 3) ≡ p ∷ []
-    → numbered_as (column p 3) (db 1) ≡ l ∷ [] → numbered_as (column p 4) (db 1) ≡ h ∷ []
-    → IsAnswer slip_query (overlay db []) params rows → rows ≡ eval_all slip_terms (params ∷ p ∷ l ∷ h ∷ []) ∷ []
-slip_one db params p l h rows one low high a =
-    one_shown slip_query params (params ∷ p ∷ l ∷ h ∷ []) (a.grouped ∙ joined_one (asks params) (λ r. numbered_as (column r 3) (db 1))
-    (λ r. numbered_as (column r 4) (db 1)) params (db 3) p l h one low high) a.distinct a.same a.shown
+pub slip_one : (players : ℕ) (db : Trees) (params p l h : Row) (rows : List Row)
+    → filter (asks params) (db 3) ≡ p ∷ []
+    → numbered_as (column p 3) (db players) ≡ l ∷ [] → numbered_as (column p 4) (db players) ≡ h ∷ []
+    → IsAnswer (slip_query players) (overlay db []) params rows → rows ≡ eval_all slip_terms (params ∷ p ∷ l ∷ h ∷ []) ∷ []
+slip_one players db params p l h rows one low high a =
+    let read = overlay db [] players in
+    let stored = bare db players in
+    one_shown (slip_query players) params (params ∷ p ∷ l ∷ h ∷ []) (a.grouped
+    ∙ joined_one (asks params) (λ r. numbered_as (column r 3) read) (λ r. numbered_as (column r 4) read) params (db 3) p l h one
+    (ap (numbered_as (column p 3)) stored ∙ low)
+    (ap (numbered_as (column p 4)) stored ∙ high)) a.distinct a.same a.shown
 
 pub none_permuted : {X : Type 0} (ys : List X) → IsPermutation [] ys → ys ≡ []
 none_permuted [] same = refl
 none_permuted (y ∷ ys) same = absurd (let len = length_permutation [] (y ∷ ys) same in omega (arith, len))
 
-pub slip_none : (db : Trees) (params : Row) (rows : List Row) → filter (asks params) (db 3) ≡ []
-    → IsAnswer slip_query (overlay db []) params rows → rows ≡ []
-slip_none db params rows none a =
-    let staged : a.staged ≡ [] = a.grouped ∙ (joined (asks params) (λ r. numbered_as (column r 3) (db 1))
-    (λ r. numbered_as (column r 4) (db 1)) params (db 3) ∙ rw none) in
+pub slip_none : (players : ℕ) (db : Trees) (params : Row) (rows : List Row) → filter (asks params) (db 3) ≡ []
+    → IsAnswer (slip_query players) (overlay db []) params rows → rows ≡ []
+slip_none players db params rows none a =
+    let read = overlay db [] players in
+    let staged : a.staged ≡ [] = a.grouped ∙ (joined (asks params) (λ r. numbered_as (column r 3) read)
+    (λ r. numbered_as (column r 4) read) params (db 3) ∙ rw none) in
     rw (none_permuted a.ordered (rw (a.distinct, staged) at a.same)) at a.shown
 
 -- ---- a test that picks none
@@ -97,15 +104,21 @@ no_row : {X : Type 0} (f : X → Row) (xs : List X) → map f xs ≡ [] → xs �
 no_row f [] none = refl
 no_row f (x ∷ xs) none = absurd (cc)
 
-none_picked : (places : List ℕ) (test : Row → Bool) (rows all : List Row) → IsPermutation (columns_at places rows) all
-    → filter test all ≡ [] → filter (λ x. test (map (column x) places)) rows ≡ []
-none_picked places test rows all same none =
-    let both = rw none at (IsPermutation-filter test (columns_at places rows) all same) in
-    let empty = none_permuted (filter test (columns_at places rows)) (IsPermutation-sym _ _ both) in
-    no_row (λ r. map (column r) places) (filter (λ x. test (map (column x) places)) rows)
-    (sym (filter-map test (λ r. map (column r) places) rows) ∙ empty)
+none_picked : (shown : Row → Row) (test : Row → Bool) (rows all : List Row) → IsPermutation (map shown rows) all
+    → filter test all ≡ [] → filter (λ x. test (shown x)) rows ≡ []
+none_picked shown test rows all same none =
+    let both = rw none at (IsPermutation-filter test (map shown rows) all same) in
+    let empty = none_permuted (filter test (map shown rows)) (IsPermutation-sym _ _ both) in
+    no_row shown (filter (λ x. test (shown x)) rows) (sym (filter-map test shown rows) ∙ empty)
 
 -- ---- players who are known
+
+-- what is shown of a player begins with the number and the name
+named : (l : Layout) (r : Row) → column (player_shown l r) 1 ≡ column r 2
+named Old r = refl
+
+picked : (l : Layout) (n : ℕ) (rows : List Row) → filter (picks n) rows ≡ filter (λ r. picks n (player_shown l r)) rows
+picked Old n rows = refl
 
 -- 0 stands for nobody
 abbrev Known : EventValue → ℕ → Type 0
@@ -143,20 +156,22 @@ module _ (e : EventValue) (sound : IsSoundButForSeeds e) where
   lawful_side n (inr known) = subst (λ (o : Side). IfSome o IsPlayer) (sym (somebody n known)) (lawful_player n known)
 
   -- one row has the number, or that of NULLs
-  sits : (db : Database) (s n : ℕ) → StandsFor db e s → Known e n
-      → (l : Row) × (numbered_as (number n) (db.trees player_tree) ≡ l ∷ []) × (column l 2 ≡ text_or_null (name_in (second_of e n)))
-  sits db s n stands (inl none) =
+  sits : (l : Layout) (db : Database) (s n : ℕ) → StandsAt l db e s → Known e n
+      → (row : Row) × (numbered_as (number n) (db.trees (players_tree l)) ≡ row ∷ [])
+      × (column row 2 ≡ text_or_null (name_in (second_of e n)))
+  sits l db s n stands (inl none) =
+      let rows = db.trees (players_tree l) in
       let out = picks_none e.players n (omega (arith, none)) sound.players.numbered in
-      let all = none_picked player_places (picks n) (db.trees player_tree) (rows_of e.players) (stands.rows PlayerTable) out in
-      ([], ap or_nulls all, ap (λ k. text_or_null (name_in (second_of e k))) (sym none))
-  sits db s n stands (inr known) =
+      let all = none_picked (player_shown l) (picks n) rows (rows_of e.players) (stands.has.rows PlayerTable) out in
+      ([], ap or_nulls (picked l n rows ∙ all), ap (λ k. text_or_null (name_in (second_of e k))) (sym none))
+  sits l db s n stands (inr known) =
+      let rows = db.trees (players_tree l) in
       let one = picks_one e.players n sound.players.numbered known in
-      let it = one_picked player_places (picks n) (db.trees player_tree) (rows_of e.players) (row_of one.it) (stands.rows PlayerTable)
-      one.alone in
-      let name : column it.0 2 ≡ Text one.it.name = ap (λ (r : Row). column r 1) it.2 in
+      let it = one_picked (player_shown l) (picks n) rows (rows_of e.players) (row_of one.it) (stands.has.rows PlayerTable) one.alone in
+      let name : column it.0 2 ≡ Text one.it.name = sym (named l it.0) ∙ ap (λ (r : Row). column r 1) it.2 in
       let own = ap (λ (o : Option Player). Text (name_found o)) (sym one.first) in
       let named = ap (λ (o : Side). text_or_null (name_in o)) (sym (somebody n known)) in
-      (it.0, ap or_nulls it.1, name ∙ (own ∙ named))
+      (it.0, ap or_nulls (picked l n rows ∙ it.1), name ∙ (own ∙ named))
 
 -- ---- the matches of a sound event
 
@@ -266,19 +281,21 @@ module _ (e : EventValue) (sound : IsSoundButForSeeds e) (k t : ℕ) (n : ℕ ×
   slip_pairing : pairing_row k n ≡ (named_pairing slip).pairing
   slip_pairing = row_same k t n found.1 ∙ ap (λ m. pairing_row k (t, m)) (sym (same_match e k t n.1))
 
-  slip_read : (db : Database) (s : ℕ) (rows : List Row) → StandsFor db e s → rows_at e k t ≡ pairing_columns (pairing_row k n) ∷ []
-      → IsAnswer slip_query (overlay db.trees []) (number k ∷ number t ∷ []) rows → rows ≡ named_columns (named_pairing slip) ∷ []
-  slip_read db s rows stands alone a =
-      let it = one_picked pairing_places (picks_table k t) (db.trees pairing_tree) (map pairing_columns (pairing_rows e))
-      (pairing_columns (pairing_row k n)) (stands.rows PairingTable) alone in
+  slip_read : (l : Layout) (db : Database) (s : ℕ) (rows : List Row) → StandsAt l db e s
+      → rows_at e k t ≡ pairing_columns (pairing_row k n) ∷ []
+      → IsAnswer (slip_query (players_tree l)) (overlay db.trees []) (number k ∷ number t ∷ []) rows
+      → rows ≡ named_columns (named_pairing slip) ∷ []
+  slip_read l db s rows stands alone a =
+      let it = one_picked (at_places pairing_places) (picks_table k t) (db.trees pairing_tree) (map pairing_columns (pairing_rows e))
+      (pairing_columns (pairing_row k n)) (stands.has.rows PairingTable) alone in
       let p = it.0 in
-      let low = sits e sound db s (min n.1.a n.1.b) stands known_low in
-      let high = sits e sound db s (max n.1.a n.1.b) stands known_high in
+      let low = sits e sound l db s (min n.1.a n.1.b) stands known_low in
+      let high = sits e sound l db s (max n.1.a n.1.b) stands known_high in
       let lo : column p 3 ≡ number (min n.1.a n.1.b) = ap (λ (r : Row). column r 2) it.2 in
       let hi : column p 4 ≡ number (max n.1.a n.1.b) = ap (λ (r : Row). column r 3) it.2 in
-      let read = slip_one db.trees (number k ∷ number t ∷ []) p low.0 high.0 rows it.1
-      (ap (λ v. numbered_as v (db.trees player_tree)) lo ∙ low.1)
-      (ap (λ v. numbered_as v (db.trees player_tree)) hi ∙ high.1) a in
+      let read = slip_one (players_tree l) db.trees (number k ∷ number t ∷ []) p low.0 high.0 rows it.1
+      (ap (λ v. numbered_as v (db.trees (players_tree l))) lo ∙ low.1)
+      (ap (λ v. numbered_as v (db.trees (players_tree l))) hi ∙ high.1) a in
       read ∙ ap (λ (r : Row). r ∷ []) (ap (λ (r : Row). r ++ column low.0 2 ∷ column high.0 2 ∷ []) it.2
       ∙ (ap₂ (λ x y. pairing_columns (pairing_row k n) ++ x ∷ y ∷ []) (low.2 ∙ ap text_or_null low_name)
       (high.2 ∙ ap text_or_null high_name)
@@ -288,18 +305,20 @@ module _ (e : EventValue) (sound : IsSoundButForSeeds e) (k t : ℕ) (n : ℕ ×
 -- ---- the event
 
 -- what is read of it, and that its slip is lawful
-pub slip_exact : (db : Database) (e : EventValue) (s k t : ℕ) (rows : List Row) → StandsFor db e s → IsSoundButForSeeds e
-    → IsAnswer slip_query (overlay db.trees []) (number k ∷ number t ∷ []) rows → rows ≡ map named_columns (named_pairings e k t)
-slip_exact db e s k t rows stands sound a =
+pub slip_exact : (l : Layout) (db : Database) (e : EventValue) (s k t : ℕ) (rows : List Row) → StandsAt l db e s → IsSoundButForSeeds e
+    → IsAnswer (slip_query (players_tree l)) (overlay db.trees []) (number k ∷ number t ∷ []) rows
+    → rows ≡ map named_columns (named_pairings e k t)
+slip_exact l db e s k t rows stands sound a =
     by_case (numbered_at e k t) (table_alone e k t (all_bye_last e sound)) (numbered-match e k t)
     (finds (IsMatch (numbers e.players)) t e k (all_matches e sound))
   where
     by_case : (o : Option (ℕ × Match)) → rows_at e k t ≡ map (λ n. pairing_columns (pairing_row k n)) (option_to_list o)
         → match_at e k t ≡ option_map (λ (n : ℕ × Match). n.1) o → IfSome o (Finds (IsMatch (numbers e.players)) (is_at t))
         → rows ≡ map named_columns (named_pairings e k t)
-    by_case None alone is found = rw is (slip_none db.trees (number k ∷ number t ∷ []) rows (none_picked pairing_places (picks_table k t)
-        (db.trees pairing_tree) (map pairing_columns (pairing_rows e)) (stands.rows PairingTable) alone) a)
-    by_case (Some n) alone is found = rw is (slip_read e sound k t n found db s rows stands alone a)
+    by_case None alone is found = rw is (slip_none (players_tree l) db.trees (number k ∷ number t ∷ []) rows
+        (none_picked (at_places pairing_places) (picks_table k t)
+        (db.trees pairing_tree) (map pairing_columns (pairing_rows e)) (stands.has.rows PairingTable) alone) a)
+    by_case (Some n) alone is found = rw is (slip_read e sound k t n found l db s rows stands alone a)
 
 pub slips_lawful : (e : EventValue) (k t : ℕ) → IsSoundButForSeeds e → IfSome (slip_of e k t) IsLawful
 slips_lawful e k t sound = rw (numbered-match e k t) ((elim (numbered_at e k t) as (λ o. IfSome o

@@ -3,7 +3,8 @@ use Rattle.er_store.proofs.Prelude.{arith, common_steps, ◌≡◌, ◌⊎◌, i
 use Rattle.er_store.proofs.Prelude.{subst, ◌∙◌, Database, State, IsUnchanged, Row, Error, Place, EventValue, HasTables, StandsFor}
 use Rattle.er_store.proofs.Prelude.{out_of_memory, IsReadRefused, KeepsTables, IsFault, reading_refusal, IsNotRun, Bool, true, false, []}
 use Rattle.er_store.proofs.Prelude.{is_ok, IsOk, true≢false, Schema, CompileError, understood, ◌≢◌, ◌<◌, zero, suc, ◌∷◌, map, length}
-use Rattle.er_store.proofs.Prelude.{get_or, All, not-suc-le-zero, All-head, All-tail}
+use Rattle.er_store.proofs.Prelude.{get_or, All, not-suc-le-zero, All-head, All-tail, AreKeyed}
+use Rattle.er_store.specs.Loading.{HoldsEvent}
 use Rattle.std.proofs.Common.{OnOk, OnErr}
 use Rattle.sqlite.specs.declared.error.Error.TheVariants.{SqlInputError, MultipleStatement}
 
@@ -52,6 +53,11 @@ all_err (Err e) p = p
 pub told : {A E : Type 0} (r : Result A E) (e : E) (P : E → Type 0) → IsErrAnd r (λ x. x ≡ e) → P e → IfErr r P
 told (Ok a) e P is p = tt
 told (Err x) e P is p = subst P (sym is) p
+
+-- tables that hold an event stand for it, where the rowids are numbers and rise
+pub stands_where : {db : Database} {e : EventValue} {s : ℕ} → HoldsEvent db e s → AreKeyed db → StandsFor db e s
+stands_where (l, has, holds) keyed =
+    (l, record { low = holds.low; keeps = holds.keeps; has = record { tables = has; rows = holds.rows; keyed = keyed } })
 
 -- ---- what a look for the event's table tells
 

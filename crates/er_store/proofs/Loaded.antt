@@ -1,12 +1,14 @@
 -- What the rows of a sound event tell, and a crash leaves of it.
 use Rattle.er_store.proofs.Prelude.{common_steps, ◌≡◌, ℕ, List, [], ◌∷◌, refl, sym, ap, ap₂, ◌∙◌, arith, Row, Trees, Table, Schema}
-use Rattle.er_store.proofs.Prelude.{Database, EventValue, HasTables, StandsFor, IsStored, ◌≤◌, inl, inr, subst, IsPermutation-sym}
+use Rattle.er_store.proofs.Prelude.{Database, EventValue, HasTablesAt, Layout, version_of, StandsFor, IsStored, ◌≤◌, inl, inr, subst}
+use Rattle.er_store.proofs.Prelude.{IsPermutation-sym}
 use Rattle.er_store.proofs.Prelude.{IsPermutation-trans, Parts, Place, EventTable, PlayerTable, PairingTable, BracketTable, TallyTable}
 use Rattle.er_store.proofs.Prelude.{TallyRow, tally_rows, IsSoundButForSeeds, IsRowFault}
 use Rattle.std.specs.List.{AllZip}
 use Rattle.sqlite_catalog.specs.Listing.{IsSound, IsTableRow}
-use Rattle.er_event.specs.Parts.{parts_of, HasRoundRows, IsFirstFault}
-use Rattle.er_store.specs.Loading.{HoldsEvent, ListsParts, ListsTallies}
+use Rattle.er_event.specs.Parts.{parts_of, HasRoundRows, IsFirstFault, IsOf}
+use Rattle.er_event.specs.Version.{Keeps}
+use Rattle.er_store.specs.Loading.{HoldsEventAt, ListsParts, ListsTallies}
 use Rattle.er_store.proofs.Keyed.{keyed_permutes}
 
 -- ---- what a crash leaves stands for the event again where it is opened
@@ -26,21 +28,43 @@ same_tables (r ∷ rows) (x ∷ xs) (y ∷ ys) p q = ap₂ ◌∷◌ (same_table
 pub schemas_agree : (a b : Schema) (db : Trees) → IsSound a db → IsSound b db → a.tables ≡ b.tables
 schemas_agree a b db p q = same_tables _ a.tables b.tables p.lists.listed.tables q.lists.listed.tables
 
-has_again : (a b : Schema) → a.tables ≡ b.tables → HasTables a → HasTables b
-has_again a b same has = record { others = has.others; are = sym same ∙ has.are; apart = has.apart }
+has_again : (l : Layout) (a b : Schema) → a.tables ≡ b.tables → HasTablesAt l a → HasTablesAt l b
+has_again l a b same has = record { others = has.others; are = sym same ∙ has.are; apart = has.apart }
 
 -- a database whose trees are stored stands for the event, whatever schema was read of them
 pub stands_again : (db : Database) (e : EventValue) (s : ℕ) → IsSound db.schema db.trees → IsStored e s db.trees → StandsFor db e s
-stands_again db e s sound it = grind (arith, common_steps, has_again, schemas_agree)
+stands_again db e s sound it =
+    let stands = it.stands.1 in
+    let tables = schemas_agree it.schema db.schema db.trees it.sound sound in (
+      it.stands.0,
+      record {
+        low = stands.low;
+        keeps = stands.keeps;
+        has = record {
+          tables = has_again it.stands.0 it.schema db.schema tables stands.has.tables;
+          rows = stands.has.rows;
+          keyed = record { pairings = stands.has.keyed.pairings; bracket = stands.has.keyed.bracket };
+        };
+      },
+    )
 
 -- ---- what the rows of a sound event tell
 
-pub no_fault : (parts : Parts) (e : EventValue) (s : ℕ) → s ≤ 999999 → IsSoundButForSeeds e → parts ≡ parts_of e s → (place : Place)
-    → IsFirstFault parts place → ⊥
-no_fault parts e s low sound are =
+-- rows of an event are at fault nowhere
+pub no_fault : (parts : Parts) (e : EventValue) → IsOf parts e → IsSoundButForSeeds e → (place : Place) → IsFirstFault parts place → ⊥
+no_fault parts e it sound =
+    let are = it.are in
     let rounds : HasRoundRows parts e = record {
       players = record {
-        event = record { serial = s; low = low; set_up = sound.set_up; row = ap (λ (p : Parts). p.event) are };
+        event = record {
+          version = it.version;
+          known = it.known;
+          keeps = it.keeps;
+          serial = it.serial;
+          low = it.low;
+          set_up = sound.set_up;
+          row = ap (λ (p : Parts). p.event) are;
+        };
         rows = ap (λ (p : Parts). p.players) are;
         players = sound.players;
       };
@@ -56,24 +80,26 @@ no_fault parts e s low sound are =
     ]
 
 -- nor are the totals of another
-pub no_row_fault : (parts : Parts) (e : EventValue) (s : ℕ) → s ≤ 999999 → IsSoundButForSeeds e → parts ≡ parts_of e s
+pub no_row_fault : (parts : Parts) (e : EventValue) → IsOf parts e → IsSoundButForSeeds e
     → (rows : List TallyRow) → rows ≡ tally_rows e → (place : Place) → IsRowFault parts rows place → ⊥
-no_row_fault parts e s low sound are rows counted place (inl fault) = no_fault parts e s low sound are place fault
-no_row_fault parts e s low sound are rows counted place (inr totals) = totals.1.other e s low are sound counted
+no_row_fault parts e it sound rows counted place (inl fault) = no_fault parts e it sound place fault
+no_row_fault parts e it sound rows counted place (inr totals) = totals.1.other e it sound counted
 
 -- in any order, they are the rows that the tables show
-pub shows_event : (db : Database) (parts : Parts) (e : EventValue) (s : ℕ) → s ≤ 999999 → IsSoundButForSeeds e → parts ≡ parts_of e s
-    → ListsParts db parts → (rows : List TallyRow) → rows ≡ tally_rows e → ListsTallies db rows → HoldsEvent db e s
-shows_event db parts e s low sound are lists rows counted totals =
-    let whole = subst (ListsParts db) are lists in
+pub shows_event : (l : Layout) (db : Database) (parts : Parts) (e : EventValue) (s : ℕ) → s ≤ 999999 → Keeps (version_of l) e
+    → IsSoundButForSeeds e → parts ≡ parts_of (version_of l) e s → ListsParts l db parts
+    → (rows : List TallyRow) → rows ≡ tally_rows e → ListsTallies l db rows → HoldsEventAt l db e s
+shows_event l db parts e s low keeps sound are lists rows counted totals =
+    let whole = subst (ListsParts l db) are lists in
     record {
       low = low;
+      keeps = keeps;
       sound = sound;
       rows = elim [
         | EventTable ↦ whole.event.same
         | PlayerTable ↦ whole.players.same
         | PairingTable ↦ IsPermutation-trans _ _ _ whole.pairings.same (IsPermutation-sym _ _ (keyed_permutes e))
         | BracketTable ↦ whole.bracket.same
-        | TallyTable ↦ (subst (ListsTallies db) counted totals).same
+        | TallyTable ↦ (subst (ListsTallies l db) counted totals).same
       ];
     }

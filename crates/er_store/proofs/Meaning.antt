@@ -1,6 +1,7 @@
 -- What the texts mean, whatever other tables there are.
 use Rattle.er_store.proofs.Prelude.{event_tree, player_tree, pairing_tree, bracket_tree, tally_tree}
-use Rattle.er_store.proofs.Prelude.{set_serial, set_phase, set_dropped, set_score, set_slot_score, set_tally, map, ◌≡◌, ℕ, refl, [], ◌∷◌}
+use Rattle.er_store.proofs.Prelude.{set_serial, set_phase, set_dropped, set_score, set_slot_score, set_tally, map, ◌++◌, ◌≡◌, ℕ, refl, []}
+use Rattle.er_store.proofs.Prelude.{◌∷◌}
 use Rattle.er_store.proofs.Prelude.{List, pos, false, is_ok, sym, ◌∙◌, true≢false, Table, Schema, Term, col, Query, Command, Insert, Update}
 use Rattle.er_store.proofs.Prelude.{Values, Null, Int, Binary, Index, View, Compare, Eq, Gt, ToNumeric, IsPlain, command_of, with_ours}
 use Rattle.er_store.proofs.Prelude.{CanRead, table_query, SelectsWith, Selects, number, event_places, player_places, pairing_places}
@@ -9,7 +10,7 @@ use Rattle.er_store.proofs.Prelude.{insert_tally, read_event, read_players, read
 use Rattle.er_store.proofs.Prelude.{read_slip, understood, listing_schema, everything}
 use Rattle.std.proofs.Common.{lit≤}
 use Rattle.sqlite.specs.{Term.{lit, op1, op2}, Query.{Join, inner, left, end}}
-use Rattle.er_store.specs.{inside.Queries.plain_query, Tables.find_event}
+use Rattle.er_store.specs.{inside.Queries.plain_query, Tables.find_event, Layout.{Layout, Old, players_tree}}
 
 abbrev pub player_terms : List Term
 player_terms = col 0 0 ∷ lit Null ∷ col 0 1 ∷ col 0 2 ∷ []
@@ -68,16 +69,16 @@ slot_score_terms = col 1 0 ∷ col 1 0 ∷ col 1 1 ∷ col 1 2 ∷ col 1 3 ∷ c
 abbrev equals : Term → Term → Term
 equals x y = op2 (Compare Eq Binary) x y
 
--- the pairings, each with the player `lo`, if there is one, and the player `hi`
-abbrev pub slip_from : Join
-slip_from = inner pairing_tree (left player_tree (equals (col 2 0) (col 1 3) ∷ []) (left player_tree (equals (col 3 0) (col 1 4) ∷ []) end))
+-- the pairings, each with the player `lo`, if there is one, and the player `hi`, out of the tree of the players
+abbrev pub slip_from : ℕ → Join
+slip_from players = inner pairing_tree (left players (equals (col 2 0) (col 1 3) ∷ []) (left players (equals (col 3 0) (col 1 4) ∷ []) end))
 
 abbrev pub slip_terms : List Term
 slip_terms = col 1 1 ∷ col 1 2 ∷ col 1 3 ∷ col 1 4 ∷ col 1 5 ∷ col 1 6 ∷ col 1 7 ∷ col 1 8 ∷ col 1 9 ∷ col 2 2 ∷ col 3 2 ∷ []
 
 -- only the match of the round and the table that are given passes
-abbrev pub slip_query : Query
-slip_query = plain_query slip_from score_tests slip_terms
+abbrev pub slip_query : ℕ → Query
+slip_query players = plain_query (slip_from players) score_tests slip_terms
 
 -- the pairings, each with the totals of `lo`, if there are any, and of `hi`
 abbrev pub meeting_from : Join
@@ -103,73 +104,91 @@ pub record Means (sql : List ℕ) (command : Command) (schema : Schema) : Type 0
   pub is : command_of (understood schema sql) ≡ command
   pub plain : IsPlain (understood schema sql)
 
--- what each statement that writes a row means
+-- what each statement that writes a row means, but for those of players
 pub record WritesMean (schema : Schema) : Type 0 where
   pub event : Means insert_event (Insert 0 (Values event_terms 8)) schema
-  pub player : Means insert_player (Insert 1 (Values player_terms 4)) schema
   pub pairing : Means insert_pairing (Insert 2 (Values pairing_terms 10)) schema
   pub slot : Means insert_slot (Insert 3 (Values slot_terms 9)) schema
   pub tally : Means insert_tally (Insert 4 (Values tally_terms 6)) schema
   pub serial : Means set_serial (Update 0 (record { lets = []; body = event_query serial_terms })) schema
   pub phase : Means set_phase (Update 0 (record { lets = []; body = event_query phase_terms })) schema
-  pub dropped : Means set_dropped (Update 1 (record { lets = []; body = rows_query player_tree dropped_tests dropped_terms })) schema
   pub score : Means set_score (Update 2 (record { lets = []; body = rows_query pairing_tree score_tests score_terms })) schema
   pub slot_score : Means set_slot_score
       (Update 3 (record { lets = []; body = rows_query bracket_tree score_tests slot_score_terms })) schema
   pub totals : Means set_tally (Update 4 (record { lets = []; body = rows_query tally_tree dropped_tests totals_terms })) schema
 
-module _ (others : List Table) (indexes : List Index) (views : List View) where
-  abbrev pub full : Schema
-  full = record { tables = with_ours others; indexes = indexes; views = views }
+-- and those of players in version 1
+pub record OldMean (schema : Schema) : Type 0 where
+  pub player : Means insert_player (Insert 1 (Values player_terms 4)) schema
+  pub dropped : Means set_dropped (Update 1 (record { lets = []; body = rows_query player_tree dropped_tests dropped_terms })) schema
 
-  pub writes_mean : WritesMean full
+-- the columns at these places
+abbrev pub columns : List ℕ → List Term
+columns places = map (col 1) places
+
+-- what is read of a player
+abbrev pub read_terms : Layout → List Term
+read_terms Old = columns player_places ++ lit (Int (pos 0)) ∷ []
+
+module _ (others : List Table) (indexes : List Index) (views : List View) where
+  abbrev pub full : Layout → Schema
+  full l = record { tables = with_ours l others; indexes = indexes; views = views }
+
+  pub writes_mean : (l : Layout) → WritesMean (full l)
   unfolding understood everything
-  writes_mean = record {
+  writes_mean Old = record {
     event = record { is = refl; plain = (refl, refl) };
-    player = record { is = refl; plain = (refl, refl) };
     pairing = record { is = refl; plain = (refl, refl) };
     slot = record { is = refl; plain = (refl, refl) };
     tally = record { is = refl; plain = (refl, refl) };
     serial = record { is = refl; plain = (refl, refl) };
     phase = record { is = refl; plain = (refl, refl) };
-    dropped = record { is = refl; plain = (refl, refl) };
     score = record { is = refl; plain = (refl, refl) };
     slot_score = record { is = refl; plain = (refl, refl) };
     totals = record { is = refl; plain = (refl, refl) };
   }
 
-  pub event_selected : Selects read_event (table_query 0 event_places (0 ∷ [])) full
+  pub old_mean : OldMean (full Old)
   unfolding understood everything
-  event_selected = record { names = _; is = refl; plain = (refl, refl); unlisted = refl; whole = (lit≤ tt, refl); typed = refl }
+  old_mean = record {
+    player = record { is = refl; plain = (refl, refl) };
+    dropped = record { is = refl; plain = (refl, refl) };
+  }
 
-  pub players_selected : Selects read_players (table_query 1 player_places (0 ∷ [])) full
+  pub event_selected : (l : Layout) → Selects read_event (table_query 0 (columns event_places) (0 ∷ [])) (full l)
   unfolding understood everything
-  players_selected = record { names = _; is = refl; plain = (refl, refl); unlisted = refl; whole = (lit≤ tt, refl); typed = refl }
+  event_selected Old = record { names = _; is = refl; plain = (refl, refl); unlisted = refl; whole = (lit≤ tt, refl); typed = refl }
 
-  pub tallies_selected : Selects read_tallies (table_query 8 tally_places (0 ∷ [])) full
+  pub players_selected : (l : Layout) → Selects read_players (table_query (players_tree l) (read_terms l) (0 ∷ [])) (full l)
   unfolding understood everything
-  tallies_selected = record { names = _; is = refl; plain = (refl, refl); unlisted = refl; whole = (lit≤ tt, refl); typed = refl }
+  players_selected Old = record { names = _; is = refl; plain = (refl, refl); unlisted = refl; whole = (lit≤ tt, refl); typed = refl }
 
-  pub pairings_selected : Selects read_pairings (table_query 3 pairing_places (1 ∷ 2 ∷ [])) full
+  pub tallies_selected : (l : Layout) → Selects read_tallies (table_query 8 (columns tally_places) (0 ∷ [])) (full l)
   unfolding understood everything
-  pairings_selected = record { names = _; is = refl; plain = (refl, refl); unlisted = refl; whole = (lit≤ tt, refl); typed = refl }
+  tallies_selected Old = record { names = _; is = refl; plain = (refl, refl); unlisted = refl; whole = (lit≤ tt, refl); typed = refl }
 
-  pub bracket_selected : Selects read_bracket (table_query 6 bracket_places (1 ∷ 2 ∷ [])) full
+  pub pairings_selected : (l : Layout) → Selects read_pairings (table_query 3 (columns pairing_places) (1 ∷ 2 ∷ [])) (full l)
   unfolding understood everything
-  bracket_selected = record { names = _; is = refl; plain = (refl, refl); unlisted = refl; whole = (lit≤ tt, refl); typed = refl }
+  pairings_selected Old = record { names = _; is = refl; plain = (refl, refl); unlisted = refl; whole = (lit≤ tt, refl); typed = refl }
 
-  pub slip_selected : (round table : ℕ) → SelectsWith (number round ∷ number table ∷ []) read_slip slip_query full
+  pub bracket_selected : (l : Layout) → Selects read_bracket (table_query 6 (columns bracket_places) (1 ∷ 2 ∷ [])) (full l)
   unfolding understood everything
-  slip_selected round table = record { names = _; is = refl; plain = (refl, refl); unlisted = refl; whole = (lit≤ tt, refl); typed = refl }
+  bracket_selected Old = record { names = _; is = refl; plain = (refl, refl); unlisted = refl; whole = (lit≤ tt, refl); typed = refl }
 
-  pub meetings_selected : Selects read_meetings meeting_query full
+  pub slip_selected : (round table : ℕ) (l : Layout)
+      → SelectsWith (number round ∷ number table ∷ []) read_slip (slip_query (players_tree l)) (full l)
   unfolding understood everything
-  meetings_selected = record { names = _; is = refl; plain = (refl, refl); unlisted = refl; whole = (lit≤ tt, refl); typed = refl }
+  slip_selected round table Old =
+      record { names = _; is = refl; plain = (refl, refl); unlisted = refl; whole = (lit≤ tt, refl); typed = refl }
+
+  pub meetings_selected : (l : Layout) → Selects read_meetings meeting_query (full l)
+  unfolding understood everything
+  meetings_selected Old = record { names = _; is = refl; plain = (refl, refl); unlisted = refl; whole = (lit≤ tt, refl); typed = refl }
 
   -- the table can be read
-  pub readable : CanRead full
+  pub readable : (l : Layout) → CanRead (full l)
   unfolding understood everything
-  readable = refl
+  readable Old = refl
 
 -- an empty file has none
 no_event : is_ok (understood no_schema find_event) ≡ false

@@ -96,13 +96,15 @@ pub use Rattle.sqlite_value.proofs.OrderLemmas.{value_cmp-Int, value_cmp_total}
 pub use Rattle.er_store.specs.Damage.{ReadsBefore, IsRowFault}
 pub use Rattle.er_store.specs.Fault.{IsFault, reading_refusal}
 pub use Rattle.er_store.specs.Reading.{first_columns, Lists, IsReadRefused, by_first_two, out_of_memory, KeepsTables, by_first}
-pub use Rattle.er_store.specs.Rows.{number, columns_at, pairing_columns, bracket_columns, tally_columns, pairing_places, event_places}
+pub use Rattle.er_store.specs.Rows.{number, at_places, player_shown, pairing_columns, bracket_columns, tally_columns, pairing_places}
+pub use Rattle.er_store.specs.Rows.{event_places}
 pub use Rattle.er_store.specs.Rows.{player_places, tally_places, meeting_columns, stored_player, stored_pairing, stored_slot, stored_tally}
 pub use Rattle.er_store.specs.Rows.{player_columns, bracket_places, event_columns, stored_event, named_columns}
 pub use Rattle.er_store.specs.Shape.{Form, Shape}
 pub use Rattle.er_store.specs.Slip.{match_of_slip, is_swapped, Side, number_in, name_in, named_pairing, IsPlayer, IsLawful, named_pairings}
-pub use Rattle.er_store.specs.Standing.{StandsFor, HasTables, StandsWith, IsOther, CanRead, IsKeyed, Shows, with_ours, IsStored, rows_in}
-pub use Rattle.er_store.specs.Standing.{rows_with, KeepsOthers}
+pub use Rattle.er_store.specs.Layout.{Layout, Old, version_of, players_tree, with_ours}
+pub use Rattle.er_store.specs.Standing.{StandsFor, StandsAt, HasTables, HasTablesAt, StandsWith, IsOther, CanRead, IsKeyed, Shows, IsStored}
+pub use Rattle.er_store.specs.Standing.{rows_in, rows_with, KeepsRest, KeepsOthers, HasRows, AreKeyed}
 pub use Rattle.er_store.specs.Tables.{event_tree, player_tree, pairing_tree, bracket_tree, tally_tree}
 pub use Rattle.er_store.specs.Tables.{no_schema, pairing, bracket, read_event, player, tally, set_serial, set_phase, set_dropped, set_score}
 pub use Rattle.er_store.specs.Tables.{set_slot_score, set_tally, insert_event, insert_player, insert_pairing, insert_slot, insert_tally}

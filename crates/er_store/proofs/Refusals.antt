@@ -4,7 +4,7 @@ use Rattle.er_store.proofs.Prelude.{IsAnswer, overlay, timed, Select, Trees, Err
 use Rattle.er_store.proofs.Prelude.{Takes, Selects, SelectsWith, table_query, understood, FailsToQuery, IsNotRun, Shown, ◌≢◌, ◌⊎◌, All, map}
 use Rattle.er_store.proofs.Prelude.{Bool, true, false, None, Option, true≢false, Database, Command, ShowsRows, first, Refusal, Memory}
 use Rattle.er_store.proofs.Prelude.{Damaged, Place, Parts, TallyRow, out_of_memory, reading_refusal, IsRowFault, first_columns}
-use Rattle.er_store.proofs.Prelude.{begins_select, Form, Shape}
+use Rattle.er_store.proofs.Prelude.{begins_select, Form, Shape, Term}
 use Rattle.sqlite.specs.{Effect.RefusesToRead, declared.error.ErrorCode.TheVariants.OperationInterrupted, State.FailsToShow}
 use Rattle.sqlite.specs.{State.{IsNoStatement, store_error}, Program.ProgramOverflows}
 use Rattle.sqlite.proofs.Callers.{reads_as}
@@ -23,9 +23,10 @@ is_statement old sql params e plain takes (inl fault) = rw fault.1 at plain
 is_statement old sql params e plain takes (inr (c, is, why)) = grind (arith, common_steps)
 
 -- a query of one table sums nothing
-sums_nothing : (trees : Trees) (tree : ℕ) (places keys : List ℕ) → ¬ ProgramOverflows trees [] [] [] (table_query tree places keys)
-sums_nothing trees tree places keys (inl sum) = sum
-sums_nothing trees tree places keys (inr fold) = fold.4
+sums_nothing : (trees : Trees) (tree : ℕ) (terms : List Term) (keys : List ℕ)
+    → ¬ ProgramOverflows trees [] [] [] (table_query tree terms keys)
+sums_nothing trees tree terms keys (inl sum) = sum
+sums_nothing trees tree terms keys (inr fold) = fold.4
 
 -- what is shown is an answer of the query
 pub answers : {sql : List ℕ} {params : Row} {q : Query} (old new : State) {rows : List Row} → SelectsWith params sql q old.now.schema
@@ -43,19 +44,19 @@ module _ (q : Query) (params : Row) (sums : (trees : Trees) → ¬ ProgramOverfl
   query_refused (inl (inr fails)) = inl fails
   query_refused (inr (c, s, shows)) = grind (arith, common_steps)
 
-pub read_refused : (tree : ℕ) (places keys : List ℕ) {sql : List ℕ} (old new : State) (e : Error)
-    → Selects sql (table_query tree places keys) old.now.schema → FailsToQuery sql [] old new e → IsReadRefused old new e
-read_refused tree places keys old new e =
-    query_refused (table_query tree places keys) [] (λ trees. sums_nothing trees tree places keys) old new e
+pub read_refused : (tree : ℕ) (terms : List Term) (keys : List ℕ) {sql : List ℕ} (old new : State) (e : Error)
+    → Selects sql (table_query tree terms keys) old.now.schema → FailsToQuery sql [] old new e → IsReadRefused old new e
+read_refused tree terms keys old new e =
+    query_refused (table_query tree terms keys) [] (λ trees. sums_nothing trees tree terms keys) old new e
 
 -- nor does that of a slip
-slip_sums : (params : Row) (trees : Trees) → ¬ ProgramOverflows trees params [] [] slip_query
-slip_sums params trees (inl sum) = sum
-slip_sums params trees (inr fold) = fold.4.4.4
+slip_sums : (players : ℕ) (params : Row) (trees : Trees) → ¬ ProgramOverflows trees params [] [] (slip_query players)
+slip_sums players params trees (inl sum) = sum
+slip_sums players params trees (inr fold) = fold.4.4.4
 
-pub slip_refused : (params : Row) {sql : List ℕ} (old new : State) (e : Error)
-    → SelectsWith params sql slip_query old.now.schema → FailsToQuery sql params old new e → IsReadRefused old new e
-slip_refused params old new e = query_refused slip_query params (slip_sums params) old new e
+pub slip_refused : (players : ℕ) (params : Row) {sql : List ℕ} (old new : State) (e : Error)
+    → SelectsWith params sql (slip_query players) old.now.schema → FailsToQuery sql params old new e → IsReadRefused old new e
+slip_refused players params old new e = query_refused (slip_query players) params (slip_sums players params) old new e
 
 -- nor that of the meetings
 meeting_sums : (trees : Trees) → ¬ ProgramOverflows trees [] [] [] meeting_query

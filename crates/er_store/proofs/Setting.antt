@@ -4,7 +4,8 @@ use Rattle.er_store.proofs.Prelude.{has_rowid, numbers, tally_columns, rowid, va
 use Rattle.er_store.proofs.Prelude.{filter, flat_map, Bool, false, if◌then◌else◌, refl, sym, ap, subst, ◌∙◌, ℤ, pos, slice_get, Some, not}
 use Rattle.er_store.proofs.Prelude.{◌≢◌, list_all, IsPermutation, IsPermutation-sym, Row, column, Term, eval_all, holds, IsAnswer, overlay}
 use Rattle.er_store.proofs.Prelude.{Trees, put_row, without_rowid, cast, cast_row, is_taken, Update, State, Table, one_permutation}
-use Rattle.er_store.proofs.Prelude.{filter-map, IsPermutation-filter, filter_same, columns_at, number, HasTables, IsOther, Ran, Goes}
+use Rattle.er_store.proofs.Prelude.{filter-map, IsPermutation-filter, filter_same, at_places, number, HasTablesAt, Layout, Old, IsOther}
+use Rattle.er_store.proofs.Prelude.{Ran, Goes}
 use Rattle.er_store.proofs.Prelude.{length, Contains, true, range_with_len, IsPermutation-trans, Int, Text, PlayerTable, Player, EventValue}
 use Rattle.er_store.proofs.Prelude.{dropped_at, TallyRow, player, set_dropped, stored_player, StandsWith, BringsToWith, TallyTable}
 use Rattle.er_store.proofs.Prelude.{Totals, tally_row, tally_rows_by, tally, set_tally, stored_tally, set_for, map-map, true≢false, Less}
@@ -20,7 +21,8 @@ use Rattle.sqlite_trees.specs.Tree.{IsTable}
 use Rattle.sqlite_trees.proofs.TreeLemmas.{later_rowids}
 use Rattle.sqlite_keyed.proofs.ListLemmas.{all-filter, ascending-filter}
 use Rattle.er_store.proofs.{Picking.{picks, is_another, picks-compares, picks_one, same_number, picks_row, AreRowsBy}, Effects.one_of}
-use Rattle.er_store.proofs.{Effects.meant, Meaning.{rows_query, dropped_tests, Means, score_tests}, Together.{shows_more, players_set}}
+use Rattle.er_store.proofs.{Effects.{meant, old_meant, tally_at, pairing_at, bracket_at}}
+use Rattle.er_store.proofs.{Meaning.{rows_query, dropped_tests, Means, score_tests}, Together.{shows_more, players_set}}
 use Rattle.er_store.proofs.{Together.{tallies_set, pairings_set, bracket_set}, Writing.{replaces, cast_int, cast_null, one_shown}}
 use Rattle.er_store.proofs.{PickingMatch.{picks_table, is_elsewhere, picks_one_table, picks_one_slot}, Adding.keyed_put}
 
@@ -40,70 +42,72 @@ picked_rows tree tests terms db params r rows one a =
     a.distinct a.same a.shown
 
 -- one stored row shows the one that is picked
-pub one_picked : (places : List ℕ) (test : Row → Bool) (rows : List Row) (all : List Row) (row : Row)
-    → IsPermutation (columns_at places rows) all → filter test all ≡ row ∷ []
-    → (r : Row) × (filter (λ x. test (map (column x) places)) rows ≡ r ∷ []) × (map (column r) places ≡ row)
-one_picked places test rows all row same one =
-    let both = IsPermutation-filter test (columns_at places rows) all same in
-    let single = one_permutation row (filter test (columns_at places rows))
-    (IsPermutation-sym _ _ (subst (IsPermutation (filter test (columns_at places rows))) one both)) in
-    one_of places (filter (λ x. test (map (column x) places)) rows) row (sym (filter-map test (λ r. map (column r) places) rows) ∙ single)
+pub one_picked : (shown : Row → Row) (test : Row → Bool) (rows : List Row) (all : List Row) (row : Row)
+    → IsPermutation (map shown rows) all → filter test all ≡ row ∷ []
+    → (r : Row) × (filter (λ x. test (shown x)) rows ≡ r ∷ []) × (shown r ≡ row)
+one_picked shown test rows all row same one =
+    let both = IsPermutation-filter test (map shown rows) all same in
+    let single = one_permutation row (filter test (map shown rows))
+    (IsPermutation-sym _ _ (subst (IsPermutation (filter test (map shown rows))) one both)) in
+    one_of shown (filter (λ x. test (shown x)) rows) row (sym (filter-map test shown rows) ∙ single)
 
 -- the row of the table is replaced, and the others stay
-pub shows_replaced : (places : List ℕ) (test : Row → Bool) (id : ℤ) (row : Row) (rows new all : List Row)
-    → IsPermutation (columns_at places rows) all → without_rowid id rows ≡ filter (λ x. not (test (map (column x) places))) rows
+pub shows_replaced : (shown : Row → Row) (test : Row → Bool) (id : ℤ) (row : Row) (rows new all : List Row)
+    → IsPermutation (map shown rows) all → without_rowid id rows ≡ filter (λ x. not (test (shown x))) rows
     → new ≡ put_row row (without_rowid id rows) → is_taken (without_rowid id rows) row ≡ false
-    → IsPermutation (columns_at places new) (filter (λ x. not (test x)) all ++ map (column row) places ∷ [])
-shows_replaced places test id row rows new all same kept put free =
+    → IsPermutation (map shown new) (filter (λ x. not (test x)) all ++ shown row ∷ [])
+shows_replaced shown test id row rows new all same kept put free =
     let rest : Row → Bool = λ x. not (test x) in
-    let others = subst (λ l. IsPermutation l (filter rest all))
-    (filter-map rest (λ x. map (column x) places) rows ∙ ap (columns_at places) (sym kept))
-    (IsPermutation-filter rest (columns_at places rows) all same) in
-    subst (λ l. IsPermutation (columns_at places l) (filter rest all ++ map (column row) places ∷ [])) (sym put)
-    (shows_more places row (without_rowid id rows) (map (column row) places) _ free refl others)
+    let others = subst (λ l. IsPermutation l (filter rest all)) (filter-map rest shown rows ∙ ap (map shown) (sym kept))
+    (IsPermutation-filter rest (map shown rows) all same) in
+    subst (λ l. IsPermutation (map shown l) (filter rest all ++ shown row ∷ [])) (sym put)
+    (shows_more shown row (without_rowid id rows) (shown row) _ free refl others)
 
 -- ---- an UPDATE of the row with a number, of a table that the number leads
 
-left_of : (n : ℕ) (more : List ℕ) (rows : List Row)
-    → without_rowid (pos n) rows ≡ filter (λ x. is_another n (map (column x) (0 ∷ more))) rows
-left_of n more = filter_same (λ x. not (has_rowid (pos n) x)) (λ x. is_another n (map (column x) (0 ∷ more)))
-    (λ x. sym (ap not (picks-compares n (map (column x) (0 ∷ more)))))
+-- the number, and then these columns
+abbrev led : (Row → Row) → Row → Row
+led more row = column row 0 ∷ more row
+
+left_of : (n : ℕ) (more : Row → Row) (rows : List Row) → without_rowid (pos n) rows ≡ filter (λ x. is_another n (led more x)) rows
+left_of n more = filter_same (λ x. not (has_rowid (pos n) x)) (λ x. is_another n (led more x))
+    (λ x. sym (ap not (picks-compares n (led more x))))
 
 -- The row is taken out and put in again, with other values. The others stay.
-pub sets_number : (table : Table) (more : List ℕ) (n : ℕ) (row : Row) {values was : Row} {all : List Row} {terms : List Term} {at : ℕ}
-    {sql : List ℕ} {old new : State}
+pub sets_number : (l : Layout) (table : Table) (more : Row → Row) (n : ℕ) (row : Row) {values was : Row} {all : List Row}
+    {terms : List Term} {at : ℕ} {sql : List ℕ} {old new : State}
     → Means sql (Update at (record { lets = []; body = rows_query table.tree dropped_tests terms })) old.now.schema
-    → HasTables old.now.schema → slice_get old.now.schema.tables at ≡ Some table → ((x : ℕ) → IsOther x → x ≢ table.tree)
+    → HasTablesAt l old.now.schema → slice_get old.now.schema.tables at ≡ Some table → ((x : ℕ) → IsOther l x → x ≢ table.tree)
     → ((db : Trees) → overlay db [] table.tree ≡ db table.tree)
-    → ((r : Row) → map (column r) (0 ∷ more) ≡ was → eval_all terms ((number n ∷ values) ∷ r ∷ []) ≡ number n ∷ row)
-    → cast_row table row ≡ row → IsPermutation (columns_at (0 ∷ more) (old.now.trees table.tree)) all → filter (picks n) all ≡ was ∷ []
+    → ((r : Row) → led more r ≡ was → eval_all terms ((number n ∷ values) ∷ r ∷ []) ≡ number n ∷ row)
+    → cast_row table row ≡ row → IsPermutation (map (led more) (old.now.trees table.tree)) all → filter (picks n) all ≡ was ∷ []
     → Ran sql (number n ∷ values) old new → Goes table.tree old new
-    × IsPermutation (columns_at (0 ∷ more) (new.now.trees table.tree)) (filter (is_another n) all ++ map (column row) (0 ∷ more) ∷ [])
-sets_number table more n row {values} {was} {all} {terms} {old = old} {new} means has found apart stored gives cast same one ran =
+    × IsPermutation (map (led more) (new.now.trees table.tree)) (filter (is_another n) all ++ led more row ∷ [])
+sets_number l table more n row {values} {was} {all} {terms} {old = old} {new} means has found apart stored gives cast same one ran =
     let trees = old.now.trees in
-    let it = one_picked (0 ∷ more) (picks n) (trees table.tree) all was same one in
-    let set = replaces table (pos n) row means has found apart
+    let it = one_picked (led more) (picks n) (trees table.tree) all was same one in
+    let set = replaces l table (pos n) row means has found apart
     (λ rows answer. picked_rows table.tree dropped_tests terms trees (number n ∷ values) it.0 rows
-    (ap (filter (λ x. picks n (map (column x) (0 ∷ more)))) (stored trees) ∙ it.1) answer
+    (ap (filter (λ x. picks n (led more x))) (stored trees) ∙ it.1) answer
     ∙ ap (λ x. x ∷ []) (gives it.0 it.2)) cast ran in (
       set.goes,
-      shows_replaced (0 ∷ more) (picks n) (pos n) row (trees table.tree) (new.now.trees table.tree) all same
+      shows_replaced (led more) (picks n) (pos n) row (trees table.tree) (new.now.trees table.tree) all same
           (left_of n more (trees table.tree)) set.rows set.free,
     )
 
 -- ---- what the UPDATE of one player does, which a WHERE picks
 
-pub player_dropped : (n : ℕ) {old new : State} {e : EventValue} {s : ℕ} {kept : List TallyRow} → StandsWith old.now e s kept
+pub player_dropped : (n : ℕ) {old new : State} {e : EventValue} {s : ℕ} {kept : List TallyRow} → StandsWith Old old.now e s kept
     → numbers e.players ≡ range_with_len 1 (length e.players) → Contains (numbers e.players) n
-    → Ran set_dropped (number n ∷ []) old new → BringsToWith old new (with_dropped e n) s kept
+    → Ran set_dropped (number n ∷ []) old new → BringsToWith Old old new (with_dropped e n) s kept
 player_dropped n {old} {new} {e} stands numbered known ran =
-    let has = stands.tables in
+    let has = stands.has.tables in
     let one = picks_one e.players n numbered known in
     let it = one.it in
     let row = stored_player n it.name true in
-    let set = sets_number (player player_tree) (2 ∷ 3 ∷ []) n row (meant has).dropped has (ap (λ ts. slice_get ts 1) has.are)
-    (λ x other. other.1)
-    (λ db. refl) (λ r h. let is = one.is in cc) (simp (cast_int, cast_null)) (stands.rows PlayerTable) one.alone ran in
+    let set = sets_number Old (player player_tree) (λ r. at_places (2 ∷ 3 ∷ []) r ++ number 0 ∷ []) n row (old_meant has).dropped has
+    (ap (λ ts. slice_get ts 1) has.are) (λ x other. other.1) (λ db. refl) (λ r h. let is = one.is in cc) (simp (cast_int, cast_null))
+    (stands.has.rows PlayerTable) one.alone ran in
     players_set stands (map (dropped_at n) e.players) set.0
     (IsPermutation-trans _ _ _ set.1 (rw (same_number it.no n one.is, one.is) at one.replaced))
 
@@ -122,21 +126,21 @@ are_rows n t come_to = record {
   others = λ p apart. rw apart refl;
 }
 
-pub totals_set : (n : ℕ) (t : Totals) (come_to : ℕ → Totals) {old new : State} {e : EventValue} {s : ℕ}
-    → StandsWith old.now e s (tally_rows_by come_to e.players) → numbers e.players ≡ range_with_len 1 (length e.players)
+pub totals_set : (n : ℕ) (t : Totals) (come_to : ℕ → Totals) {l : Layout} {old new : State} {e : EventValue} {s : ℕ}
+    → StandsWith l old.now e s (tally_rows_by come_to e.players) → numbers e.players ≡ range_with_len 1 (length e.players)
     → Contains (numbers e.players) n → Ran set_tally (totals_row n t) old new
-    → BringsToWith old new e s (tally_rows_by (set_for n t come_to) e.players)
-totals_set n t come_to {e = e} stands numbered known ran =
-    let has = stands.tables in
+    → BringsToWith l old new e s (tally_rows_by (set_for n t come_to) e.players)
+totals_set n t come_to {l = l} {e = e} stands numbered known ran =
+    let has = stands.has.tables in
     let rows : (ℕ → Totals) → List TallyRow = λ f. tally_rows_by f e.players in
     let shown : (f : ℕ → Totals) → map tally_columns (rows f) ≡ map (row_by f) e.players =
     λ f. map-map tally_columns (λ (p : Player). tally_row p.no (f p.no)) e.players in
     let next = set_for n t come_to in
     let one = picks_row (row_by come_to) (row_by next) n (are_rows n t come_to) e.players numbered known (shown come_to) (shown next) in
     let it = one.it in
-    let set = sets_number (tally tally_tree) (2 ∷ 3 ∷ 4 ∷ 5 ∷ []) n (stored_tally (tally_row n t)) (meant has).totals has
-    (ap (λ ts. slice_get ts 4) has.are) (λ x other. other.4) (λ db. refl) (λ r h. let is = one.is in cc)
-    (simp (cast_int, cast_null)) (stands.rows TallyTable) one.alone ran in
+    let set = sets_number l (tally tally_tree) (at_places (2 ∷ 3 ∷ 4 ∷ 5 ∷ [])) n (stored_tally (tally_row n t)) (meant has).totals has
+    (tally_at l has) (λ x other. other.4) (λ db. refl) (λ r h. let is = one.is in cc)
+    (simp (cast_int, cast_null)) (stands.has.rows TallyTable) one.alone ran in
     tallies_set stands (rows next) set.0 (IsPermutation-trans _ _ _ set.1 (rw (same_number it.no n one.is, one.is) at one.replaced))
 
 -- ---- the rows without the one that is picked
@@ -203,34 +207,36 @@ module _ (table : Table) (more : List ℕ) where
   -- what the step does to the table
   pub record Sets (k t : ℕ) (row : Row) (all : List Row) (old new : State) : Type 0 where
     pub goes : Goes table.tree old new
-    pub rows : IsPermutation (columns_at places (new.now.trees table.tree)) (filter (is_elsewhere k t) all ++ row ∷ [])
+    pub rows : IsPermutation (map (at_places places) (new.now.trees table.tree)) (filter (is_elsewhere k t) all ++ row ∷ [])
     pub keyed : IsKeyed (new.now.trees table.tree)
 
   -- The row is taken out and put in again, with other values. The others stay.
-  pub sets_row : (k t : ℕ) (is : Row) {values was : Row} {all : List Row} {terms : List Term} {at : ℕ} {sql : List ℕ} {old new : State}
-      → Means sql (Update at (record { lets = []; body = rows_query table.tree score_tests terms })) old.now.schema
+  pub sets_row : (l : Layout) (k t : ℕ) (is : Row) {values was : Row} {all : List Row} {terms : List Term} {at : ℕ} {sql : List ℕ}
+      {old new : State} → Means sql (Update at (record { lets = []; body = rows_query table.tree score_tests terms })) old.now.schema
       → ((db : Trees) → overlay db [] table.tree ≡ db table.tree) → slice_get old.now.schema.tables at ≡ Some table
-      → ((x : ℕ) → IsOther x → x ≢ table.tree) → ((r : Row) (id : ℤ) → rowid r ≡ Int id → map (column r) places ≡ was
+      → ((x : ℕ) → IsOther l x → x ≢ table.tree) → ((r : Row) (id : ℤ) → rowid r ≡ Int id → map (column r) places ≡ was
       → eval_all terms ((number k ∷ number t ∷ values) ∷ r ∷ []) ≡ Int id ∷ Int id ∷ is)
       → ((id : ℤ) → cast_row table (Int id ∷ is) ≡ Int id ∷ is) → ((id : ℤ) → map (column (Int id ∷ is)) places ≡ is)
-      → HasTables old.now.schema → IsPermutation (columns_at places (old.now.trees table.tree)) all → IsKeyed (old.now.trees table.tree)
-      → filter (picks_table k t) all ≡ was ∷ [] → Ran sql (number k ∷ number t ∷ values) old new → Sets k t is all old new
-  sets_row k t is {values} {was} {all} {terms} {old = old} {new} means stored found apart gives cast shows has same keyed one ran =
+      → HasTablesAt l old.now.schema → IsPermutation (map (at_places places) (old.now.trees table.tree)) all
+      → IsKeyed (old.now.trees table.tree) → filter (picks_table k t) all ≡ was ∷ []
+      → Ran sql (number k ∷ number t ∷ values) old new → Sets k t is all old new
+  sets_row l k t is {values} {was} {all} {terms} {old = old} {new} means stored found apart gives cast shows has same keyed one ran =
       let rows = old.now.trees table.tree in
       let picks : Row → Bool = λ r. picks_table k t (map (column r) places) in
-      let it = one_picked places (picks_table k t) rows all was same one in
+      let it = one_picked (at_places places) (picks_table k t) rows all was same one in
       let ints = all-filter (λ x. is_int (rowid x) ≡ true) picks rows (all_from_test (λ x. is_int (rowid x)) rows keyed.numbers) in
       let int = int_of (rowid it.0) (subst (AllByRecursion (λ x. is_int (rowid x) ≡ true)) it.1 ints).0 in
       let id = int.0 in
       let row : Row = Int id ∷ is in
-      let set = replaces table id row means has found apart
+      let set = replaces l table id row means has found apart
       (λ rows answer. picked_rows table.tree score_tests terms old.now.trees (number k ∷ number t ∷ values) it.0 rows
       (ap (filter picks) (stored old.now.trees) ∙ it.1) answer ∙ ap (λ x. x ∷ []) (gives it.0 id int.1 it.2)) (cast id) ran in
       let left = rest picks it.0 id int.1 rows keyed.rise it.1 in
       record {
         goes = set.goes;
-        rows = subst (λ x. IsPermutation (columns_at places (new.now.trees table.tree)) (filter (is_elsewhere k t) all ++ x ∷ []))
-            (shows id) (shows_replaced places (picks_table k t) id row rows (new.now.trees table.tree) all same left set.rows set.free);
+        rows = subst (λ x. IsPermutation (map (at_places places) (new.now.trees table.tree)) (filter (is_elsewhere k t) all ++ x ∷ []))
+            (shows id)
+            (shows_replaced (at_places places) (picks_table k t) id row rows (new.now.trees table.tree) all same left set.rows set.free);
         keyed = subst IsKeyed (sym set.rows)
             (keyed_put id is (without_rowid id rows) (IsKeyed-filter (λ x. not (has_rowid id x)) rows keyed));
       }
@@ -240,28 +246,28 @@ module _ (table : Table) (more : List ℕ) where
 abbrev pub scores : ℕ → ℕ → Games → Row
 scores k t s = number k ∷ number t ∷ number s.x ∷ number s.y ∷ number s.d ∷ []
 
-pub pairing_scored : (k t : ℕ) (score : Games) {m : Match} {old new : State} {e : EventValue} {s : ℕ} {kept : List TallyRow}
-    → StandsWith old.now e s kept → match_at e k t ≡ Some m → is_bye m ≡ false
-    → Ran set_score (scores k t score) old new → BringsToWith old new (with_score e k t score) s kept
-pairing_scored k t score {m} {e = e} stands found seat ran =
-    let has = stands.tables in
+pub pairing_scored : (k t : ℕ) (score : Games) {m : Match} {l : Layout} {old new : State} {e : EventValue} {s : ℕ} {kept : List TallyRow}
+    → StandsWith l old.now e s kept → match_at e k t ≡ Some m → is_bye m ≡ false
+    → Ran set_score (scores k t score) old new → BringsToWith l old new (with_score e k t score) s kept
+pairing_scored k t score {m} {l} {e = e} stands found seat ran =
+    let has = stands.has.tables in
     let one = picks_one_table e k t score m found seat in
     let row = pairing_row k (one.it.0, scored score one.it.1) in
-    let set = sets_row (pairing pairing_tree) (3 ∷ 4 ∷ 5 ∷ 6 ∷ 7 ∷ 8 ∷ 9 ∷ []) k t (pairing_columns row) (meant has).score
-    (λ db. refl) (ap (λ ts. slice_get ts 2) has.are) (λ x other. other.2) (λ r id own h. cc) (λ id. simp cast_int) (λ id. refl)
-    has (stands.rows PairingTable) stands.pairings_keyed one.alone ran in
+    let set = sets_row (pairing pairing_tree) (3 ∷ 4 ∷ 5 ∷ 6 ∷ 7 ∷ 8 ∷ 9 ∷ []) l k t (pairing_columns row) (meant has).score
+    (λ db. refl) (pairing_at l has) (λ x other. other.2) (λ r id own h. cc) (λ id. simp cast_int) (λ id. refl)
+    has (stands.has.rows PairingTable) stands.has.keyed.pairings one.alone ran in
     pairings_set stands (with_score e k t score).stored set.goes (IsPermutation-trans _ _ _ set.rows one.replaced) set.keyed
 
 -- ---- a match of the playoff
 
-pub slot_scored : (k t : ℕ) (score : Games) {m : Match} {old new : State} {e : EventValue} {s : ℕ} {kept : List TallyRow}
-    → StandsWith old.now e s kept → slot_at e k t ≡ Some m
-    → Ran set_slot_score (scores k t score) old new → BringsToWith old new (with_slot_score e k t score) s kept
-slot_scored k t score {m} {e = e} stands found ran =
-    let has = stands.tables in
+pub slot_scored : (k t : ℕ) (score : Games) {m : Match} {l : Layout} {old new : State} {e : EventValue} {s : ℕ} {kept : List TallyRow}
+    → StandsWith l old.now e s kept → slot_at e k t ≡ Some m
+    → Ran set_slot_score (scores k t score) old new → BringsToWith l old new (with_slot_score e k t score) s kept
+slot_scored k t score {m} {l} {e = e} stands found ran =
+    let has = stands.has.tables in
     let one = picks_one_slot e k t score m found in
     let row = bracket_row k (one.it.0, scored score one.it.1) in
-    let set = sets_row (bracket bracket_tree) (3 ∷ 4 ∷ 5 ∷ 6 ∷ 7 ∷ 8 ∷ []) k t (bracket_columns row) (meant has).slot_score (λ db. refl)
-    (ap (λ ts. slice_get ts 3) has.are) (λ x other. other.3) (λ r id own h. cc) (λ id. simp cast_int) (λ id. refl)
-    has (stands.rows BracketTable) stands.bracket_keyed one.alone ran in
+    let set = sets_row (bracket bracket_tree) (3 ∷ 4 ∷ 5 ∷ 6 ∷ 7 ∷ 8 ∷ []) l k t (bracket_columns row) (meant has).slot_score (λ db. refl)
+    (bracket_at l has) (λ x other. other.3) (λ r id own h. cc) (λ id. simp cast_int) (λ id. refl)
+    has (stands.has.rows BracketTable) stands.has.keyed.bracket one.alone ran in
     bracket_set stands (with_slot_score e k t score).bracket.stages set.goes (IsPermutation-trans _ _ _ set.rows one.replaced) set.keyed

@@ -1,11 +1,14 @@
 -- The five shapes are tables, which are looked at one after another.
-use Rattle.er_store.proofs.Prelude.{arith, ℕ, List, [], ◌∷◌, refl, ap, map, subst, sym, ◌≡◌, ◌∙◌, Row, State, Error, columns_at, Form}
-use Rattle.er_store.proofs.Prelude.{Shape, Lists, IsReadRefused, first_columns, HasTables, StandsFor, EventValue, IsSoundButForSeeds, Shown}
+use Rattle.er_store.proofs.Prelude.{arith, ℕ, List, [], ◌∷◌, refl, ap, map, subst, sym, ◌≡◌, ◌∙◌, Row, State, Error, Form, event_places}
+use Rattle.er_store.proofs.Prelude.{pairing_places, bracket_places, tally_places}
+use Rattle.er_store.proofs.Prelude.{Shape, Lists, IsReadRefused, first_columns, HasTablesAt, StandsAt, StandsFor, Layout, Old, version_of}
+use Rattle.er_store.proofs.Prelude.{player_shown, EventValue, IsSoundButForSeeds, Shown}
 use Rattle.er_store.proofs.Prelude.{FailsToQuery, common_steps, Result, Ok, Err, IsErrAnd, on_ok_weaker, Database, unchanged_then, Refusal}
 use Rattle.er_store.proofs.Prelude.{Damaged, Place, ReadsBefore, IsFault}
 use Rattle.std.proofs.lemmas.Result.{on_err_weaker}
 use Rattle.er_store.proofs.{Selecting.selects, Meaning.{event_selected, players_selected, pairings_selected, bracket_selected}}
-use Rattle.er_store.proofs.{Meaning.tallies_selected, Exact.{answer_lists, sorted_by_one, sorted_by_two, listed_whole, event_exact}}
+use Rattle.er_store.proofs.{Meaning.{tallies_selected, columns, read_terms}}
+use Rattle.er_store.proofs.{Exact.{answer_lists, sorted_by_one, sorted_by_two, sorted_players, listed_whole, event_exact}}
 use Rattle.er_store.proofs.{Exact.{players_exact, bracket_exact, tallies_exact, event_text, players_text, map-same}, Refusals.read_refused}
 use Rattle.er_store.proofs.{Refusals.{answers, may_read}, Keyed.pairings_exact, Effects.selected, Crash.survives_both}
 use Rattle.er_store.proofs.LoadLemmas.{then_keeps}
@@ -16,17 +19,17 @@ use Rattle.er_store.specs.{Loading.IsListed, Damage.{IsMisread, IsFirstMisread}}
 -- ---- what the statement of a table reads
 
 module _ {R : Type 0} (form : Form R) (table : Shape R) (it : IsOurs form table) (old new : State) where
-  listed : {rows : List Row} → HasTables old.now.schema → Shown table.read [] old new rows
-      → Lists table.order (columns_at table.places (old.now.trees table.tree)) rows
-  listed {rows} has h = it.lists old.now.trees rows (answers old new (it.selects old.now.schema has) h)
+  listed : (l : Layout) {rows : List Row} → HasTablesAt l old.now.schema → Shown table.read [] old new rows
+      → Lists table.order (map (table.shown l) (old.now.trees (table.tree l))) rows
+  listed l {rows} has h = it.lists l old.now.trees rows (answers old new (it.selects l old.now.schema has) h)
 
-  pub refused : (e : Error) → HasTables old.now.schema → FailsToQuery table.read [] old new e → IsReadRefused old new e
-  refused e has = read_refused table.tree table.places it.keys old new e (it.selects old.now.schema has)
+  pub refused : (l : Layout) (e : Error) → HasTablesAt l old.now.schema → FailsToQuery table.read [] old new e → IsReadRefused old new e
+  refused l e has = read_refused (table.tree l) (it.terms l) it.keys old new e (it.selects l old.now.schema has)
 
   -- the rows are those of the event, where the tables stand for one
-  pub are_rows : {rows : List Row} → Shown table.read [] old new rows → (e : EventValue) (s : ℕ) → StandsFor old.now e s
-      → IsSoundButForSeeds e → rows ≡ map form.columns (table.rows e s)
-  are_rows {rows} shows e s stands sound = it.exact old.now e s rows stands sound (listed stands.tables shows)
+  pub are_rows : (l : Layout) {rows : List Row} → Shown table.read [] old new rows → (e : EventValue) (s : ℕ) → StandsAt l old.now e s
+      → IsSoundButForSeeds e → rows ≡ map form.columns (table.rows (version_of l) e s)
+  are_rows l {rows} shows e s stands sound = it.exact l old.now e s rows stands sound (listed l stands.has.tables shows)
 
   -- what typed rows with their columns are
   pub finds_rows : {rows given : List Row} → Shown table.read [] old new rows → given ≡ rows
@@ -34,16 +37,16 @@ module _ {R : Type 0} (form : Form R) (table : Shape R) (it : IsOurs form table)
   finds_rows {rows} {given} shows same typed are = record {
     reads = may_read form table old new rows given it.begins same shows typed are;
     lists = lists;
-    exact = λ e s stands sound.
-        map-same form.columns it.same typed (table.rows e s)
-        (it.exact old.now e s (map form.columns typed) stands sound (lists stands.tables));
+    exact = λ l e s stands sound.
+        map-same form.columns it.same typed (table.rows (version_of l) e s)
+        (it.exact l old.now e s (map form.columns typed) stands sound (lists l stands.has.tables));
   }
     where
-      lists : HasTables old.now.schema → IsListed form table old.now typed
-      lists has =
-          let all = listed has shows in
-          let width = listed_whole table.order form.width table.places (old.now.trees table.tree) rows it.whole all in
-          subst (Lists table.order (columns_at table.places (old.now.trees table.tree)))
+      lists : (l : Layout) → HasTablesAt l old.now.schema → IsListed form table l old.now typed
+      lists l has =
+          let all = listed l has shows in
+          let width = listed_whole table.order form.width (table.shown l) (old.now.trees (table.tree l)) rows (it.whole l) all in
+          subst (Lists table.order (map (table.shown l) (old.now.trees (table.tree l))))
           (sym (are ∙ (ap (map (first_columns form.width)) same ∙ width))) all
 
 -- ---- the five
@@ -52,60 +55,68 @@ pub event_is_ours : IsOurs event_form event_table
 event_is_ours = record {
   begins = selects.event;
   keys = 0 ∷ [];
-  selects = λ schema has. selected has event_selected;
-  lists = answer_lists _ _ _ _ (sorted_by_one 0 0 (2 ∷ 3 ∷ 4 ∷ 5 ∷ 6 ∷ 7 ∷ []));
-  whole = λ r. refl;
-  exact = λ db e s rows stands sound. event_exact db e s rows stands;
+  terms = λ l. columns event_places;
+  selects = λ l schema has. selected has (λ others indexes views. event_selected others indexes views l);
+  lists = λ l. answer_lists _ _ _ _ _ (sorted_by_one 0 0 (2 ∷ 3 ∷ 4 ∷ 5 ∷ 6 ∷ 7 ∷ []));
+  whole = λ l r. refl;
+  exact = λ l db e s rows stands sound. event_exact l db e s rows stands;
   same = λ r s h. grind arith;
   texts = event_text;
 }
+
+four_shown : (l : Layout) (r : Row) → first_columns 4 (player_shown l r) ≡ player_shown l r
+four_shown Old r = refl
 
 pub player_is_ours : IsOurs player_form player_table
 player_is_ours = record {
   begins = selects.players;
   keys = 0 ∷ [];
-  selects = λ schema has. selected has players_selected;
-  lists = answer_lists _ _ _ _ (sorted_by_one 1 0 (2 ∷ 3 ∷ []));
-  whole = λ r. refl;
-  exact = λ db e s rows stands sound. players_exact db e s rows stands sound.players.numbered;
+  terms = read_terms;
+  selects = λ l schema has. selected has (λ others indexes views. players_selected others indexes views l);
+  lists = λ l. answer_lists _ _ _ _ _ (sorted_players l);
+  whole = four_shown;
+  exact = λ l db e s rows stands sound. players_exact l db e s rows stands sound.players.numbered;
   same = λ r s h. grind arith;
-  texts = λ e s. players_text e;
+  texts = λ version e s. players_text e;
 }
 
 pub pairing_is_ours : IsOurs pairing_form pairing_table
 pairing_is_ours = record {
   begins = selects.pairings;
   keys = 1 ∷ 2 ∷ [];
-  selects = λ schema has. selected has pairings_selected;
-  lists = answer_lists _ _ _ _ (sorted_by_two 3 1 2 (3 ∷ 4 ∷ 5 ∷ 6 ∷ 7 ∷ 8 ∷ 9 ∷ []));
-  whole = λ r. refl;
+  terms = λ l. columns pairing_places;
+  selects = λ l schema has. selected has (λ others indexes views. pairings_selected others indexes views l);
+  lists = λ l. answer_lists _ _ _ _ _ (sorted_by_two 3 1 2 (3 ∷ 4 ∷ 5 ∷ 6 ∷ 7 ∷ 8 ∷ 9 ∷ []));
+  whole = λ l r. refl;
   exact = pairings_exact;
   same = λ r s h. grind arith;
-  texts = λ e s sound k d below. tt;
+  texts = λ version e s sound k d below. tt;
 }
 
 pub bracket_is_ours : IsOurs bracket_form bracket_table
 bracket_is_ours = record {
   begins = selects.bracket;
   keys = 1 ∷ 2 ∷ [];
-  selects = λ schema has. selected has bracket_selected;
-  lists = answer_lists _ _ _ _ (sorted_by_two 6 1 2 (3 ∷ 4 ∷ 5 ∷ 6 ∷ 7 ∷ 8 ∷ []));
-  whole = λ r. refl;
-  exact = λ db e s rows stands sound. bracket_exact db e s rows stands;
+  terms = λ l. columns bracket_places;
+  selects = λ l schema has. selected has (λ others indexes views. bracket_selected others indexes views l);
+  lists = λ l. answer_lists _ _ _ _ _ (sorted_by_two 6 1 2 (3 ∷ 4 ∷ 5 ∷ 6 ∷ 7 ∷ 8 ∷ []));
+  whole = λ l r. refl;
+  exact = λ l db e s rows stands sound. bracket_exact l db e s rows stands;
   same = λ r s h. grind arith;
-  texts = λ e s sound k d below. tt;
+  texts = λ version e s sound k d below. tt;
 }
 
 pub tally_is_ours : IsOurs tally_form tally_table
 tally_is_ours = record {
   begins = selects.tallies;
   keys = 0 ∷ [];
-  selects = λ schema has. selected has tallies_selected;
-  lists = answer_lists _ _ _ _ (sorted_by_one 8 0 (2 ∷ 3 ∷ 4 ∷ 5 ∷ []));
-  whole = λ r. refl;
-  exact = λ db e s rows stands sound. tallies_exact db e s rows stands sound.players.numbered;
+  terms = λ l. columns tally_places;
+  selects = λ l schema has. selected has (λ others indexes views. tallies_selected others indexes views l);
+  lists = λ l. answer_lists _ _ _ _ _ (sorted_by_one 8 0 (2 ∷ 3 ∷ 4 ∷ 5 ∷ []));
+  whole = λ l r. refl;
+  exact = λ l db e s rows stands sound. tallies_exact l db e s rows stands sound.players.numbered;
   same = λ r s h. grind arith;
-  texts = λ e s sound k d below. tt;
+  texts = λ version e s sound k d below. tt;
 }
 
 -- ---- one look after another

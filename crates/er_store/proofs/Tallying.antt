@@ -5,7 +5,7 @@ use Rattle.er_store.proofs.Prelude.{Player, Refusal, Memory, PlayerRow, TallyRow
 use Rattle.er_store.proofs.Prelude.{tally_rows, IsSoundButForSeeds, tally_by, totals, IsFault, Tally, suc, ◌==◌, ◌||◌, if◌then◌else◌, All}
 use Rattle.er_store.proofs.Prelude.{Contains, refl, ap₂, subst, AllByRecursion, range_with_len, nat_tests, map-append}
 use Rattle.er_store.proofs.Prelude.{length-range_with_len, Table, Trees, State, SetDropped, Match, Totals, after, new_player, with_player}
-use Rattle.er_store.proofs.Prelude.{tally_rows_by, numbers, IsOther, Moves, set_for, set_for_all, map-map}
+use Rattle.er_store.proofs.Prelude.{tally_rows_by, numbers, Layout, IsOther, Moves, set_for, set_for_all, map-map}
 use Rattle.std.proofs.lemmas.List.{get_or-map}
 use Rattle.er_event.specs.{declared.changes.Change.Change, declared.changes.Change.TheVariants.AddPlayer}
 use Rattle.er_event.specs.{declared.players.TheConstants.MAX_PLAYERS, Recounted.IsAbsent}
@@ -63,11 +63,12 @@ memory-fault (Err why) P h = inl h
 
 -- ---- a transaction in which nothing was done
 
-same_rows : (trees : Trees) (tables : List Table) → AllByRecursion (λ (t : Table). IsOther t.tree → trees t.tree ≡ trees t.tree) tables
-same_rows trees [] = tt
-same_rows trees (t ∷ more) = (λ _. refl, same_rows trees more)
+same_rows : (l : Layout) (trees : Trees) (tables : List Table)
+    → AllByRecursion (λ (t : Table). IsOther l t.tree → trees t.tree ≡ trees t.tree) tables
+same_rows l trees [] = tt
+same_rows l trees (t ∷ more) = (λ _. refl, same_rows l trees more)
 
-pub moves_self : {a b : State} → Moves a b → Moves b b
+pub moves_self : {l : Layout} {a b : State} → Moves l a b → Moves l b b
 moves_self moves = grind (arith, common_steps, same_rows)
 
 -- ---- players by number

@@ -4,7 +4,7 @@ use Rattle.er_store.proofs.Prelude.{inl, inr, ℕ, List, [], ◌∷◌, map, dro
 use Rattle.er_store.proofs.Prelude.{Result, sym, ap, subst, ◌∙◌, Row, Term, Table, Insert, Values, cast_row, numbered, Trees, Database}
 use Rattle.er_store.proofs.Prelude.{State, runs_as, Puts, Ran, ◌≢◌, ◌==◌, ◌++◌, ap₂, AllByRecursion, IsPermutation, ne_eqb, eval_all}
 use Rattle.er_store.proofs.Prelude.{IsAnswer, output, Output, Query, overlay, Schema, Update, is_taken, without_rowid, put_row}
-use Rattle.er_store.proofs.Prelude.{one_permutation, HasTables, IsOther, with_ours, Goes, all_weaker}
+use Rattle.er_store.proofs.Prelude.{one_permutation, Layout, Old, HasTablesAt, IsOther, with_ours, Goes, all_weaker}
 use Rattle.std.proofs.Common.{◌/◌, MatchBool}
 use Rattle.std.specs.{List.{flat_map, filter_map, cons_option}, Prelude.Option}
 use Rattle.sqlite_rules.specs.{Edit.{edit_of, Applies}, Calls.ids_of, Action.{Writes, works, work_by, work_for, deed_for, pairs}}
@@ -134,18 +134,24 @@ no_works_elsewhere schema keys tree olds news = each schema.tables
     each [] all = refl
     each (t ∷ tables) all = ap₂ ◌++◌ (none t t.references all.0) (each tables all.1)
 
-elsewhere : (tables : List Table) (tree : ℕ) → ((t : ℕ) → IsOther t → t ≢ tree) → (others : List Table)
-    → AllByRecursion (λ t. AllByRecursion (LeadsElsewhere tables) t.references) others
+elsewhere : (l : Layout) (tables : List Table) (tree : ℕ) → ((t : ℕ) → IsOther l t → t ≢ tree) → (others : List Table)
+    → AllByRecursion (λ t. AllByRecursion (LeadsElsewhere l tables) t.references) others
     → AllByRecursion (λ t. AllByRecursion (Elsewhere tables tree) t.references) others
-elsewhere tables tree differs = grind (arith, common_steps, all_weaker)
+elsewhere l tables tree differs = grind (arith, common_steps, all_weaker)
 
 -- so no update of one of the five tables sets off an action
-pub sets_off_nothing : (schema : Schema) (keys : Keys) (tree : ℕ) (olds news : List Row) → HasTables schema
-    → ((t : ℕ) → IsOther t → t ≢ tree) → works schema keys 0 tree olds news ≡ []
-sets_off_nothing schema keys tree olds news has differs =
+pub sets_off_nothing : (l : Layout) (schema : Schema) (keys : Keys) (tree : ℕ) (olds news : List Row) → HasTablesAt l schema
+    → ((t : ℕ) → IsOther l t → t ≢ tree) → works schema keys 0 tree olds news ≡ []
+sets_off_nothing l schema keys tree olds news has differs =
     no_works_elsewhere schema keys tree olds news
     (subst (λ ts. AllByRecursion (λ t. AllByRecursion (Elsewhere ts tree) t.references) ts) (sym has.are)
-    (tt, (tt, (tt, (tt, (tt, elsewhere (with_ours has.others) tree differs has.others has.apart))))))
+    (ours l (with_ours l has.others) has.others (elsewhere l (with_ours l has.others) tree differs has.others has.apart)))
+  where
+    -- those that stand first have no foreign key
+    ours : (l : Layout) (tables others : List Table)
+        → AllByRecursion (λ t. AllByRecursion (Elsewhere tables tree) t.references) others
+        → AllByRecursion (λ t. AllByRecursion (Elsewhere tables tree) t.references) (with_ours l others)
+    ours Old tables others all = (tt, (tt, (tt, (tt, (tt, all)))))
 
 -- ---- one row gives way to another
 
@@ -156,12 +162,12 @@ pub record Replaces (tree : ℕ) (id : ℤ) (row : Row) (old new : State) : Type
   pub rows : new.now.trees tree ≡ put_row row (without_rowid id (old.now.trees tree))
 
 -- an UPDATE does so whose query shows the rowid and the row
-pub replaces : (table : Table) (id : ℤ) (row : Row) {sql : List ℕ} {params : Row} {old new : State} {at : ℕ} {q : Query}
-    → Means sql (Update at (record { lets = []; body = q })) old.now.schema → HasTables old.now.schema
-    → slice_get old.now.schema.tables at ≡ Some table → ((x : ℕ) → IsOther x → x ≢ table.tree)
+pub replaces : (l : Layout) (table : Table) (id : ℤ) (row : Row) {sql : List ℕ} {params : Row} {old new : State} {at : ℕ} {q : Query}
+    → Means sql (Update at (record { lets = []; body = q })) old.now.schema → HasTablesAt l old.now.schema
+    → slice_get old.now.schema.tables at ≡ Some table → ((x : ℕ) → IsOther l x → x ≢ table.tree)
     → ((rows : List Row) → IsAnswer q (overlay old.now.trees []) params rows → rows ≡ (Int id ∷ row) ∷ [])
     → cast_row table row ≡ row → Ran sql params old new → Replaces table.tree id row old new
-replaces table id row {sql} {params} {old} {new} {at} {q} means has found apart shows cast ran =
+replaces l table id row {sql} {params} {old} {new} {at} {q} means has found apart shows cast ran =
     let h = ran.executes in
     let schema = old.now.schema in
     let trees = old.now.trees in
@@ -175,7 +181,7 @@ replaces table id row {sql} {params} {old} {new} {at} {q} means has found apart 
     ap (λ rows. edit_of trees table (ids_of rows) Given 1 rows) (shows u.0 (u.1.answer Null))
     ∙ ap (λ (r : Row). (let e : Edit = record { table = table; gone = id ∷ []; news = r ∷ [] } in e)) cast in
     let wrote = subst (λ (e : Edit). Writes schema keys trees e (Ok new.now.trees)) edited u.3 in
-    let none = sets_off_nothing schema keys table.tree (taken_by trees edit) edit.news has apart in
+    let none = sets_off_nothing l schema keys table.tree (taken_by trees edit) edit.news has apart in
     let applied = one_step schema keys trees new.now.trees edit none wrote in
     record {
       goes = record { was = ran.was; shows = h.1; sound = w.sound; schema = u.2; others = applied.tables };

@@ -7,7 +7,6 @@ use Rattle.sqlite.specs.Effect.{Database, Reads, RefusesToRead}
 use Rattle.sqlite.specs.Listing.{understood, reads_listing, IsSourceOf}
 use Rattle.sqlite_resolve.specs.declared.compiled.Compiled.{Compiled}
 use Rattle.sqlite_resolve.specs.declared.error.CompileError.{CompileError}
-use Rattle.er_event.specs.declared.commands.TheConstants.{MAX_SERIAL}
 use Rattle.er_event.specs.declared.refusals.Refusal.{Refusal}
 use Rattle.er_event.specs.declared.refusals.Refusal.TheVariants.{Damaged}
 use Rattle.er_event.specs.declared.refusals.Place.{Place}
@@ -15,7 +14,7 @@ use Rattle.er_event.specs.declared.refusals.Place.TheVariants.{EventTable, Playe
 use Rattle.er_event.specs.declared.events.parts.Parts.{Parts}
 use Rattle.er_event.specs.declared.rows.tally.TallyRow.{TallyRow}
 use Rattle.er_event.specs.Event.{EventValue}
-use Rattle.er_event.specs.Parts.{IsFirstFault, parts_of}
+use Rattle.er_event.specs.Parts.{IsFirstFault, IsOf}
 use Rattle.er_event.specs.Rows.{tally_rows}
 use Rattle.er_event.specs.Sound.{IsSoundButForSeeds}
 use Rattle.er_store.specs.Shape.{Form, Shape, event_form, player_form, pairing_form, bracket_form, tally_form, event_table, player_table}
@@ -99,9 +98,8 @@ IsFirstMisread db place = ReadsBefore db place × IsMisread db place
 
 -- the first four tables are those of a sound event, and the totals are of no such event
 pub record HasOtherTotals (parts : Parts) (rows : List TallyRow) : Type 0 where
-  pub some : (event : EventValue) × (serial : ℕ) × (serial ≤ MAX_SERIAL) × (parts ≡ parts_of event serial) × IsSoundButForSeeds event
-  pub other : (event : EventValue) (serial : ℕ) → serial ≤ MAX_SERIAL → parts ≡ parts_of event serial
-      → IsSoundButForSeeds event → rows ≢ tally_rows event
+  pub some : (event : EventValue) × IsOf parts event × IsSoundButForSeeds event
+  pub other : (event : EventValue) → IsOf parts event → IsSoundButForSeeds event → rows ≢ tally_rows event
 
 abbrev pub IsRowFault : Parts → List TallyRow → Place → Type 0
 IsRowFault parts rows place = IsFirstFault parts place ⊎ ((place ≡ TallyTable) × HasOtherTotals parts rows)

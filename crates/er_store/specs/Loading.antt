@@ -8,28 +8,34 @@ use Rattle.er_event.specs.declared.rows.tally.TallyRow.{TallyRow}
 use Rattle.er_event.specs.Event.{EventValue}
 use Rattle.er_event.specs.Sound.{IsSoundButForSeeds}
 use Rattle.er_event.specs.Rows.{tally_rows}
-use Rattle.er_store.specs.Rows.{columns_at}
-use Rattle.er_store.specs.Standing.{rows_in, rows_with}
+use Rattle.er_event.specs.Version.{Keeps}
+use Rattle.er_store.specs.Layout.{Layout, version_of}
+use Rattle.er_store.specs.Standing.{HasTablesAt, rows_in, rows_with}
 use Rattle.er_store.specs.Reading.{Lists}
 use Rattle.er_store.specs.Shape.{Form, Shape, event_form, player_form, pairing_form, bracket_form, tally_form, event_table, player_table}
 use Rattle.er_store.specs.Shape.{pairing_table, bracket_table, tally_table}
 
 -- the rows of a table, in the order of its key
-abbrev pub IsListed : {R : Type 0} → Form R → Shape R → Database → List R → Type 0
-IsListed form table db rows = Lists table.order (columns_at table.places (db.trees table.tree)) (map form.columns rows)
+abbrev pub IsListed : {R : Type 0} → Form R → Shape R → Layout → Database → List R → Type 0
+IsListed form table layout db rows = Lists table.order (map (table.shown layout) (db.trees (table.tree layout))) (map form.columns rows)
 
 -- the rows of the four tables that an event is made of
-pub record ListsParts (db : Database) (parts : Parts) : Type 0 where
-  pub event : IsListed event_form event_table db parts.event
-  pub players : IsListed player_form player_table db parts.players
-  pub pairings : IsListed pairing_form pairing_table db parts.pairings
-  pub bracket : IsListed bracket_form bracket_table db parts.bracket
+pub record ListsParts (layout : Layout) (db : Database) (parts : Parts) : Type 0 where
+  pub event : IsListed event_form event_table layout db parts.event
+  pub players : IsListed player_form player_table layout db parts.players
+  pub pairings : IsListed pairing_form pairing_table layout db parts.pairings
+  pub bracket : IsListed bracket_form bracket_table layout db parts.bracket
 
-abbrev pub ListsTallies : Database → List TallyRow → Type 0
+abbrev pub ListsTallies : Layout → Database → List TallyRow → Type 0
 ListsTallies = IsListed tally_form tally_table
 
--- the rows of the five tables are those of a sound event, in any order
-pub record HoldsEvent (db : Database) (e : EventValue) (serial : ℕ) : Type 0 where
+-- the rows of the five tables are those of a sound event that tables of the version can keep, in any order
+pub record HoldsEventAt (layout : Layout) (db : Database) (e : EventValue) (serial : ℕ) : Type 0 where
   pub low : serial ≤ MAX_SERIAL
+  pub keeps : Keeps (version_of layout) e
   pub sound : IsSoundButForSeeds e
-  pub rows : (table : Place) → IsPermutation (rows_in db table) (rows_with e serial (tally_rows e) table)
+  pub rows : (table : Place) → IsPermutation (rows_in layout db table) (rows_with (version_of layout) e serial (tally_rows e) table)
+
+-- so they lie, and so are their rows
+abbrev pub HoldsEvent : Database → EventValue → ℕ → Type 0
+HoldsEvent db e serial = (layout : Layout) × HasTablesAt layout db.schema × HoldsEventAt layout db e serial

@@ -12,6 +12,7 @@ use Rattle.er_event.specs.Event.{EventValue}
 use Rattle.er_store.specs.declared.rows.MeetingRow.{MeetingRow}
 use Rattle.er_store.specs.declared.rows.NamedPairing.{NamedPairing}
 use Rattle.er_event.specs.Rows.{flag, phase_code}
+use Rattle.er_store.specs.Layout.{Layout, Old}
 
 abbrev pub number : ℕ → Value
 number n = Int (pos n)
@@ -20,9 +21,9 @@ number n = Int (pos n)
 abbrev pub event_columns : EventRow → Row
 event_columns r = Int r.id ∷ Int r.version ∷ Int r.serial ∷ Text r.name ∷ Int r.rounds ∷ Int r.cut ∷ Int r.phase ∷ []
 
--- no, name, dropped
+-- no, name, dropped, joined
 abbrev pub player_columns : PlayerRow → Row
-player_columns r = Int r.no ∷ Text r.name ∷ Int r.dropped ∷ []
+player_columns r = Int r.no ∷ Text r.name ∷ Int r.dropped ∷ Int r.joined ∷ []
 
 -- round, tab, lo, hi, swapped, done, x, y, d
 abbrev pub pairing_columns : PairingRow → Row
@@ -48,15 +49,19 @@ text_or_null (Some text) = Text text
 abbrev pub named_columns : NamedPairing → Row
 named_columns r = pairing_columns r.pairing ++ text_or_null r.lo_name ∷ text_or_null r.hi_name ∷ []
 
--- the stored rows at these places, of which 0 is the rowid
-abbrev pub columns_at : List ℕ → List Row → List Row
-columns_at places rows = map (λ r. map (column r) places) rows
+-- what a stored row has at these places, of which 0 is the rowid
+abbrev pub at_places : List ℕ → Row → Row
+at_places places row = map (column row) places
 
 abbrev pub event_places : List ℕ
 event_places = 0 ∷ 2 ∷ 3 ∷ 4 ∷ 5 ∷ 6 ∷ 7 ∷ []
 
 abbrev pub player_places : List ℕ
 player_places = 0 ∷ 2 ∷ 3 ∷ []
+
+-- what is read of a stored player: version 1 doesn't store when one joined, and nobody has joined late in it
+abbrev pub player_shown : Layout → Row → Row
+player_shown Old row = at_places player_places row ++ number 0 ∷ []
 
 abbrev pub pairing_places : List ℕ
 pairing_places = 1 ∷ 2 ∷ 3 ∷ 4 ∷ 5 ∷ 6 ∷ 7 ∷ 8 ∷ 9 ∷ []
@@ -68,9 +73,9 @@ abbrev pub tally_places : List ℕ
 tally_places = 0 ∷ 2 ∷ 3 ∷ 4 ∷ 5 ∷ []
 
 -- the row of the event as it is stored, with NULL in the column that is the rowid
-abbrev pub stored_event : EventValue → ℕ → Row
-stored_event e serial =
-    number 1 ∷ Null ∷ number 1 ∷ number serial ∷ Text e.name ∷ number e.rounds ∷ number e.cut
+abbrev pub stored_event : ℕ → EventValue → ℕ → Row
+stored_event version e serial =
+    number 1 ∷ Null ∷ number version ∷ number serial ∷ Text e.name ∷ number e.rounds ∷ number e.cut
     ∷ number (phase_code e.phase) ∷ []
 
 abbrev pub stored_player : ℕ → List ℕ → Bool → Row

@@ -11,10 +11,11 @@ use Rattle.er_event.specs.declared.rows.player.PlayerRow.{PlayerRow}
 use Rattle.er_event.specs.declared.rows.pairing.PairingRow.{PairingRow}
 use Rattle.er_event.specs.declared.rows.bracket.BracketRow.{BracketRow}
 use Rattle.er_event.specs.declared.rows.tally.TallyRow.{TallyRow}
-use Rattle.er_store.specs.Tables.{event_tree, player_tree, pairing_tree, bracket_tree, tally_tree, read_event, read_players, read_pairings}
+use Rattle.er_store.specs.Layout.{Layout, players_tree}
+use Rattle.er_store.specs.Tables.{event_tree, pairing_tree, bracket_tree, tally_tree, read_event, read_players, read_pairings}
 use Rattle.er_store.specs.Tables.{read_bracket, read_tallies}
-use Rattle.er_store.specs.Rows.{event_columns, player_columns, pairing_columns, bracket_columns, tally_columns, event_places, player_places}
-use Rattle.er_store.specs.Rows.{pairing_places, bracket_places, tally_places}
+use Rattle.er_store.specs.Rows.{event_columns, player_columns, pairing_columns, bracket_columns, tally_columns, at_places, event_places}
+use Rattle.er_store.specs.Rows.{player_shown, pairing_places, bracket_places, tally_places}
 use Rattle.er_store.specs.Reading.{by_first, by_first_two}
 
 -- a typed row: how many columns it has, what they show, and when its texts are texts
@@ -23,21 +24,21 @@ pub record Form (R : Type 0) : Type 1 where
   pub columns : R → Row
   pub is_text : R → Type 0
 
--- a table of such rows: how a refusal names it, the statement that reads it, its tree, the places of a stored row that
--- are read, the order of its key, and the rows of an event with its serial
+-- a table of such rows: how a refusal names it, the statement that reads it, where its tree is, what is read of a stored
+-- row, the order of its key, and the rows of an event with its serial in tables of a version
 pub record Shape (R : Type 0) : Type 1 where
   pub place : Place
   pub read : List ℕ
-  pub tree : ℕ
-  pub places : List ℕ
+  pub tree : Layout → ℕ
+  pub shown : Layout → Row → Row
   pub order : Row → Row → Ordering
-  pub rows : EventValue → ℕ → List R
+  pub rows : ℕ → EventValue → ℕ → List R
 
 abbrev pub event_form : Form EventRow
 event_form = record { width = 7; columns = event_columns; is_text = λ (r : EventRow). IsUtf8 r.name }
 
 abbrev pub player_form : Form PlayerRow
-player_form = record { width = 3; columns = player_columns; is_text = λ (r : PlayerRow). IsUtf8 r.name }
+player_form = record { width = 4; columns = player_columns; is_text = λ (r : PlayerRow). IsUtf8 r.name }
 
 abbrev pub pairing_form : Form PairingRow
 pairing_form = record { width = 9; columns = pairing_columns; is_text = λ (r : PairingRow). ⊤ }
@@ -52,48 +53,48 @@ abbrev pub event_table : Shape EventRow
 event_table = record {
   place = EventTable;
   read = read_event;
-  tree = event_tree;
-  places = event_places;
+  tree = λ layout. event_tree;
+  shown = λ layout. at_places event_places;
   order = by_first;
-  rows = λ e s. event_row 1 e s ∷ [];
+  rows = λ version e s. event_row version e s ∷ [];
 }
 
 abbrev pub player_table : Shape PlayerRow
 player_table = record {
   place = PlayerTable;
   read = read_players;
-  tree = player_tree;
-  places = player_places;
+  tree = players_tree;
+  shown = player_shown;
   order = by_first;
-  rows = λ e s. player_rows e;
+  rows = λ version e s. player_rows e;
 }
 
 abbrev pub pairing_table : Shape PairingRow
 pairing_table = record {
   place = PairingTable;
   read = read_pairings;
-  tree = pairing_tree;
-  places = pairing_places;
+  tree = λ layout. pairing_tree;
+  shown = λ layout. at_places pairing_places;
   order = by_first_two;
-  rows = λ e s. keyed_pairing_rows e;
+  rows = λ version e s. keyed_pairing_rows e;
 }
 
 abbrev pub bracket_table : Shape BracketRow
 bracket_table = record {
   place = BracketTable;
   read = read_bracket;
-  tree = bracket_tree;
-  places = bracket_places;
+  tree = λ layout. bracket_tree;
+  shown = λ layout. at_places bracket_places;
   order = by_first_two;
-  rows = λ e s. bracket_rows e;
+  rows = λ version e s. bracket_rows e;
 }
 
 abbrev pub tally_table : Shape TallyRow
 tally_table = record {
   place = TallyTable;
   read = read_tallies;
-  tree = tally_tree;
-  places = tally_places;
+  tree = λ layout. tally_tree;
+  shown = λ layout. at_places tally_places;
   order = by_first;
-  rows = λ e s. tally_rows e;
+  rows = λ version e s. tally_rows e;
 }

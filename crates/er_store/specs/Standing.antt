@@ -19,27 +19,30 @@ use Rattle.er_event.specs.declared.refusals.Place.{Place}
 use Rattle.er_event.specs.declared.refusals.Place.TheVariants.{EventTable, PlayerTable, PairingTable, BracketTable, TallyTable}
 use Rattle.er_event.specs.declared.rows.tally.TallyRow.{TallyRow}
 use Rattle.er_event.specs.Rows.{event_row, player_rows, pairing_rows, bracket_rows, tally_rows}
-use Rattle.er_store.specs.Tables.{event_tree, player_tree, pairing_tree, bracket_tree, tally_tree, event, player, pairing, bracket, tally}
-use Rattle.er_store.specs.Tables.{find_event, read_event}
-use Rattle.er_store.specs.Rows.{event_columns, player_columns, pairing_columns, bracket_columns, tally_columns, columns_at}
+use Rattle.er_event.specs.Version.{Keeps}
+use Rattle.er_store.specs.Tables.{event_tree, pairing_tree, bracket_tree, tally_tree, find_event, read_event}
+use Rattle.er_store.specs.Layout.{Layout, Old, version_of, players_tree, with_ours}
+use Rattle.er_store.specs.Rows.{event_columns, player_columns, pairing_columns, bracket_columns, tally_columns}
 use Rattle.er_store.specs.Shape.{event_table, player_table, pairing_table, bracket_table, tally_table}
 
-abbrev pub with_ours : List Table → List Table
-with_ours others = event event_tree ∷ player player_tree ∷ pairing pairing_tree ∷ bracket bracket_tree ∷ tally tally_tree ∷ others
-
--- the tree is of none of the five tables
-abbrev pub IsOther : ℕ → Type 0
-IsOther tree = (tree ≢ event_tree) × (tree ≢ player_tree) × (tree ≢ pairing_tree) × (tree ≢ bracket_tree) × (tree ≢ tally_tree)
+-- the tree is of none of the event's five tables
+abbrev pub IsOther : Layout → ℕ → Type 0
+IsOther layout tree =
+    (tree ≢ event_tree) × (tree ≢ players_tree layout) × (tree ≢ pairing_tree) × (tree ≢ bracket_tree) × (tree ≢ tally_tree)
 
 -- a foreign key of another table that does not lead to one of the five
-abbrev pub LeadsElsewhere : List Table → Reference → Type 0
-LeadsElsewhere tables ref = (key : ParentKey) → parent_key tables ref ≡ Some key → IsOther key.0
+abbrev pub LeadsElsewhere : Layout → List Table → Reference → Type 0
+LeadsElsewhere layout tables ref = (key : ParentKey) → parent_key tables ref ≡ Some key → IsOther layout key.0
 
--- the five tables stand first, and no other table refers to them
-pub record HasTables (schema : Schema) : Type 0 where
+-- the tables of this layout stand first, and no other table refers to the event's
+pub record HasTablesAt (layout : Layout) (schema : Schema) : Type 0 where
   pub others : List Table
-  pub are : schema.tables ≡ with_ours others
-  pub apart : AllByRecursion (λ t. AllByRecursion (LeadsElsewhere (with_ours others)) t.references) others
+  pub are : schema.tables ≡ with_ours layout others
+  pub apart : AllByRecursion (λ t. AllByRecursion (LeadsElsewhere layout (with_ours layout others)) t.references) others
+
+-- the tables of an event are there, however they lie
+abbrev pub HasTables : Schema → Type 0
+HasTables schema = (layout : Layout) × HasTablesAt layout schema
 
 -- each row has a rowid of its own, and they rise
 pub record IsKeyed (rows : List Row) : Type 0 where
@@ -52,45 +55,53 @@ pub record AreKeyed (db : Database) : Type 0 where
   pub bracket : IsKeyed (db.trees bracket_tree)
 
 -- where a table is stored
-abbrev pub tree_of : Place → ℕ
-tree_of EventTable = event_table.tree
-tree_of PlayerTable = player_table.tree
-tree_of PairingTable = pairing_table.tree
-tree_of BracketTable = bracket_table.tree
-tree_of TallyTable = tally_table.tree
+abbrev pub tree_of : Layout → Place → ℕ
+tree_of layout EventTable = event_table.tree layout
+tree_of layout PlayerTable = player_table.tree layout
+tree_of layout PairingTable = pairing_table.tree layout
+tree_of layout BracketTable = bracket_table.tree layout
+tree_of layout TallyTable = tally_table.tree layout
 
--- which places of its rows are read
-abbrev pub places_of : Place → List ℕ
-places_of EventTable = event_table.places
-places_of PlayerTable = player_table.places
-places_of PairingTable = pairing_table.places
-places_of BracketTable = bracket_table.places
-places_of TallyTable = tally_table.places
+-- what is read of a row of it
+abbrev pub shown_of : Layout → Place → Row → Row
+shown_of layout EventTable = event_table.shown layout
+shown_of layout PlayerTable = player_table.shown layout
+shown_of layout PairingTable = pairing_table.shown layout
+shown_of layout BracketTable = bracket_table.shown layout
+shown_of layout TallyTable = tally_table.shown layout
 
 -- the rows of a table, as SQL shows them
-abbrev pub rows_in : Database → Place → List Row
-rows_in db table = columns_at (places_of table) (db.trees (tree_of table))
+abbrev pub rows_in : Layout → Database → Place → List Row
+rows_in layout db table = map (shown_of layout table) (db.trees (tree_of layout table))
 
--- the rows of an event, with these of totals
-abbrev pub rows_with : EventValue → ℕ → List TallyRow → Place → List Row
-rows_with e serial totals EventTable = event_columns (event_row 1 e serial) ∷ []
-rows_with e serial totals PlayerTable = map player_columns (player_rows e)
-rows_with e serial totals PairingTable = map pairing_columns (pairing_rows e)
-rows_with e serial totals BracketTable = map bracket_columns (bracket_rows e)
-rows_with e serial totals TallyTable = map tally_columns totals
+-- the rows of an event in tables of this version, with these of totals
+abbrev pub rows_with : ℕ → EventValue → ℕ → List TallyRow → Place → List Row
+rows_with version e serial totals EventTable = event_columns (event_row version e serial) ∷ []
+rows_with version e serial totals PlayerTable = map player_columns (player_rows e)
+rows_with version e serial totals PairingTable = map pairing_columns (pairing_rows e)
+rows_with version e serial totals BracketTable = map bracket_columns (bracket_rows e)
+rows_with version e serial totals TallyTable = map tally_columns totals
 
--- the tables have the schema, and their rows are the event's, in any order, with these rows of totals
-pub record StandsWith (db : Database) (e : EventValue) (serial : ℕ) (totals : List TallyRow) : Type 0 where
-  pub low : serial ≤ MAX_SERIAL
-  pub tables : HasTables db.schema
-  pub rows : (table : Place) → IsPermutation (rows_in db table) (rows_with e serial totals table)
+-- the tables have the schema and show these rows, in any order
+pub record HasRows (layout : Layout) (db : Database) (wanted : Place → List Row) : Type 0 where
+  pub tables : HasTablesAt layout db.schema
+  pub rows : (table : Place) → IsPermutation (rows_in layout db table) (wanted table)
   -- the rowids of these two are shown by no column
-  pub pairings_keyed : IsKeyed (db.trees pairing_tree)
-  pub bracket_keyed : IsKeyed (db.trees bracket_tree)
+  pub keyed : AreKeyed db
+
+-- the rows are those of an event that tables of this version can keep, with these rows of totals
+pub record StandsWith (layout : Layout) (db : Database) (e : EventValue) (serial : ℕ) (totals : List TallyRow) : Type 0 where
+  pub low : serial ≤ MAX_SERIAL
+  pub keeps : Keeps (version_of layout) e
+  pub has : HasRows layout db (rows_with (version_of layout) e serial totals)
 
 -- and the rows of totals are the event's too
+abbrev pub StandsAt : Layout → Database → EventValue → ℕ → Type 0
+StandsAt layout db e serial = StandsWith layout db e serial (tally_rows e)
+
+-- however the tables lie
 abbrev pub StandsFor : Database → EventValue → ℕ → Type 0
-StandsFor db e serial = StandsWith db e serial (tally_rows e)
+StandsFor db e serial = (layout : Layout) × StandsAt layout db e serial
 
 -- nobody is enrolled, and nothing is paired
 pub record IsNew (e : EventValue) : Type 0 where
@@ -126,7 +137,10 @@ Leaves s P = HasCleanDisk s → (trees : Trees) → s.may_leave trees → P tree
 abbrev pub Either : (Trees → Type 0) → (Trees → Type 0) → Trees → Type 0
 Either P Q trees = P trees ⊎ Q trees
 
--- the schema stays, and the rows of the other tables
-pub record KeepsOthers (old new : Database) : Type 0 where
+-- the schema stays, and the rows of the tables that are none of the event's
+pub record KeepsRest (layout : Layout) (old new : Database) : Type 0 where
   pub schema : new.schema ≡ old.schema
-  pub rows : AllByRecursion (λ t. IsOther t.tree → new.trees t.tree ≡ old.trees t.tree) old.schema.tables
+  pub rows : AllByRecursion (λ t. IsOther layout t.tree → new.trees t.tree ≡ old.trees t.tree) old.schema.tables
+
+abbrev pub KeepsOthers : Database → Database → Type 0
+KeepsOthers = KeepsRest Old

@@ -236,7 +236,7 @@ abbrev pub read_event : List ℕ
 read_event = codes "SELECT id, version, serial, name, rounds, cut, phase FROM event ORDER BY id"
 
 abbrev pub read_players : List ℕ
-read_players = codes "SELECT no, name, dropped FROM player ORDER BY no"
+read_players = codes "SELECT no, name, dropped, 0 AS joined FROM player ORDER BY no"
 
 abbrev pub read_pairings : List ℕ
 read_pairings = codes "SELECT round, tab, lo, hi, swapped, done, x, y, d FROM pairing ORDER BY round, tab"

@@ -137,7 +137,7 @@ impl<S: Alter> Store<S> {
             → HasTables (state S.Store conn).now.schema
             → HoldsEvent (state S.Store conn).now it.1 it.2) }
         ensures reads { IfOk result (λ it. HasCleanDisk (store.state S.Store it.0)
-            → ReadsParts (state S.Store conn).now (parts_of it.1 it.2)
+            → ReadsParts (state S.Store conn).now (parts_of 1 it.1 it.2)
             × ReadsTallies (state S.Store conn).now (tally_rows it.1)) }
 
         // Where the tables are ours, they stand for what is found, and a change can be written to them.
@@ -253,7 +253,8 @@ impl<S: Alter> Store<S> {
             → HasTables (store.state S.Store self.old).now.schema
             → IfOk result (λ it. HoldsEvent (store.state S.Store self.old).now it.0 it.1) }
         ensures reads { HasCleanDisk (store.state S.Store self.new)
-            → IfOk result (λ it. ReadsParts (store.state S.Store self.old).now (parts_of it.0 it.1)
+            → IfOk result
+            (λ it. ReadsParts (store.state S.Store self.old).now (parts_of 1 it.0 it.1)
             × ReadsTallies (store.state S.Store self.old).now (tally_rows it.0)) }
 
         // A damaged table that is named is the first at fault. So it is the event's where the event's rows can't be read, which `adopt` answers by `NoEvent`.

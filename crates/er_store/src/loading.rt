@@ -7,6 +7,7 @@ ghost use Rattle.er_event.specs.Event.{EventValue};
 ghost use Rattle.er_event.specs.Sound.{IsSoundButForSeeds};
 ghost use Rattle.er_event.specs.Rows.{event_row, tally_rows};
 ghost use Rattle.er_event.specs.Parts.{IsFirstFault, parts_of};
+ghost use Rattle.er_event.specs.Version.{Keeps};
 ghost use Rattle.er_store.specs.Standing.{HasTables, StandsFor};
 ghost use Rattle.er_store.specs.Loading.{HoldsEvent};
 ghost use Rattle.er_store.specs.Damage.{ReadsParts, ReadsTallies, IsRowFault, IsAtFault, IfDamaged};
@@ -84,9 +85,9 @@ fn serial_of(rows: &[EventRow]) -> Option<u32>
 
 /// The event that the rows are of, with its serial.
 fn event_of(alloc: Global, parts: Parts) -> Result<(Event, u32), Refusal>
-    ensures value { IfOk result (λ it. (parts ≡ parts_of it.0 it.1) × (it.1 ≤ MAX_SERIAL)
-        × IsSoundButForSeeds it.0) }
-    ensures only { (e : EventValue) (s : ℕ) → s ≤ MAX_SERIAL → parts ≡ parts_of e s
+    ensures value { IfOk result (λ it. (parts ≡ parts_of 1 it.0 it.1) × (it.1 ≤ MAX_SERIAL)
+        × Keeps 1 it.0 × IsSoundButForSeeds it.0) }
+    ensures only { (e : EventValue) (s : ℕ) → s ≤ MAX_SERIAL → Keeps 1 e → parts ≡ parts_of 1 e s
         → IsSoundButForSeeds e → IfOk result (λ it. (it.0 ≡ e) × (it.1 ≡ s)) }
     ensures refused { IfErr result (λ why. (why ≡ Refusal.Memory)
         ⊎ ((place : Place) × (why ≡ Refusal.Damaged place) × IsFirstFault parts place)) }
@@ -107,9 +108,10 @@ fn counted_event_of(
     parts: Parts,
     tallies: &[TallyRow],
 ) -> Result<(Event, u32), Refusal>
-    ensures value { IfOk result (λ it. (parts ≡ parts_of it.0 it.1)
-        × (tallies.now ≡ tally_rows it.0) × (it.1 ≤ MAX_SERIAL) × IsSoundButForSeeds it.0) }
-    ensures only { (e : EventValue) (s : ℕ) → s ≤ MAX_SERIAL → parts ≡ parts_of e s
+    ensures value { IfOk result (λ it. (parts ≡ parts_of 1 it.0 it.1)
+        × (tallies.now ≡ tally_rows it.0) × (it.1 ≤ MAX_SERIAL) × Keeps 1 it.0
+        × IsSoundButForSeeds it.0) }
+    ensures only { (e : EventValue) (s : ℕ) → s ≤ MAX_SERIAL → Keeps 1 e → parts ≡ parts_of 1 e s
         → tallies.now ≡ tally_rows e → IsSoundButForSeeds e
         → IfOk result (λ it. (it.0 ≡ e) × (it.1 ≡ s)) }
     ensures refused { IfErr result (λ why. (why ≡ Refusal.Memory)
@@ -142,7 +144,7 @@ pub fn load_tables<S: Alter>(
         → MatchResult result (λ it. (it.0 ≡ e) × (it.1 ≡ s)) IsFault }
     ensures fault { IfErr result IsLoadFault }
     ensures reads { HasCleanDisk (state S.Store conn.new)
-        → IfOk result (λ it. ReadsParts (state S.Store conn.old).now (parts_of it.0 it.1)
+        → IfOk result (λ it. ReadsParts (state S.Store conn.old).now (parts_of 1 it.0 it.1)
         × ReadsTallies (state S.Store conn.old).now (tally_rows it.0)) }
     ensures first { HasCleanDisk (state S.Store conn.new)
         → IfErr result (IfDamaged (IsAtFault (state S.Store conn.old).now)) }

@@ -66,6 +66,7 @@ impl FromRow for PlayerRow {
             no: row.get(0)?,
             name: bytes_of(row, 1)?,
             dropped: row.get(2)?,
+            joined: row.get(3)?,
         })
     }
 }

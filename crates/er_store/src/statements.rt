@@ -7,6 +7,7 @@ ghost use Rattle.er_event.specs.declared.commands.TheConstants.{MAX_SERIAL};
 ghost use Rattle.er_event.specs.declared.rows.tally.TallyRow.{TallyRow};
 ghost use Rattle.er_event.specs.Event.{EventValue};
 ghost use Rattle.er_event.specs.Sound.{numbers};
+ghost use Rattle.er_event.specs.Version.{Keeps};
 ghost use Rattle.er_event.specs.Round.{is_bye, match_at};
 ghost use Rattle.er_event.specs.Bracket.{slot_at};
 ghost use Rattle.er_event.specs.Change.{with_phase, with_dropped, with_round, with_score, with_stage, with_slot_score};
@@ -16,7 +17,8 @@ ghost use Rattle.er_store.specs.inside.Totals.{set_for};
 ghost use Rattle.er_event.specs.declared.totals.Totals.{Totals};
 ghost use Rattle.er_event.specs.declared.matches.Match.{Match};
 ghost use Rattle.er_store.specs.Tables.{event_tree, player_tree};
-ghost use Rattle.er_store.specs.Standing.{HasTables, StandsWith};
+ghost use Rattle.er_store.specs.Standing.{HasTablesAt, StandsWith};
+ghost use Rattle.er_store.specs.Layout.{Layout, Old};
 ghost use Rattle.er_store.specs.inside.Steps.{Ran, Stays, Puts, BringsToWith};
 
 use er_event::{BracketRow, Event, Games, PairingRow, Phase, Score, TallyRow};
@@ -50,7 +52,7 @@ pub fn insert_player<S: Alter>(
 ) -> Result<(), Error>
     ensures same_reference { tx.new.conn.ghost_name ≡ tx.old.conn.ghost_name }
     ensures puts { HasCleanDisk (state S.Store tx.new.conn.now)
-        → HasTables (state S.Store tx.old.conn.now).now.schema
+        → HasTablesAt Old (state S.Store tx.old.conn.now).now.schema
         → OnOk result (Puts player_tree (stored_player number name.now dropped)
         (state S.Store tx.old.conn.now) (state S.Store tx.new.conn.now)) }
     ensures stays { Stays (state S.Store tx.old.conn.now) (state S.Store tx.new.conn.now) }
@@ -69,11 +71,12 @@ pub fn insert_event<S: Alter>(
 ) -> Result<(), Error>
     ensures same_reference { tx.new.conn.ghost_name ≡ tx.old.conn.ghost_name }
     ensures puts { HasCleanDisk (state S.Store tx.new.conn.now)
-        → HasTables (state S.Store tx.old.conn.now).now.schema
-        → OnOk result (Puts event_tree (stored_event event.now serial)
+        → (l : Layout) → HasTablesAt l (state S.Store tx.old.conn.now).now.schema
+        → OnOk result (Puts event_tree (stored_event 1 event.now serial)
         (state S.Store tx.old.conn.now) (state S.Store tx.new.conn.now)) }
     ensures inside { HasCleanDisk (state S.Store tx.new.conn.now)
         → OnOk result (IsTrue (state S.Store tx.new.conn.now).in_transaction) }
+    ensures keeps { Keeps 1 event.now }
     ensures stays { Stays (state S.Store tx.old.conn.now) (state S.Store tx.new.conn.now) }
 {
     let rounds = u32::from(event.rounds());
@@ -93,9 +96,9 @@ pub fn set_serial<S: Alter>(tx: &mut Transaction<'_, S>, serial: u32) -> Result<
     requires { serial ≤ MAX_SERIAL }
     ensures same_reference { tx.new.conn.ghost_name ≡ tx.old.conn.ghost_name }
     ensures makes { HasCleanDisk (state S.Store tx.new.conn.now)
-        → (e : EventValue) (s : ℕ) (t : List TallyRow)
-        → StandsWith (state S.Store tx.old.conn.now).now e s t
-        → OnOk result (BringsToWith (state S.Store tx.old.conn.now)
+        → (l : Layout) (e : EventValue) (s : ℕ) (t : List TallyRow)
+        → StandsWith l (state S.Store tx.old.conn.now).now e s t
+        → OnOk result (BringsToWith l (state S.Store tx.old.conn.now)
         (state S.Store tx.new.conn.now) e serial t) }
     ensures inside { HasCleanDisk (state S.Store tx.new.conn.now)
         → OnOk result (IsTrue (state S.Store tx.new.conn.now).in_transaction) }
@@ -110,10 +113,10 @@ pub const SET_PHASE: &str = "UPDATE event SET phase = ?1";
 pub fn set_phase<S: Alter>(tx: &mut Transaction<'_, S>, phase: Phase) -> Result<(), Error>
     ensures same_reference { tx.new.conn.ghost_name ≡ tx.old.conn.ghost_name }
     ensures makes { HasCleanDisk (state S.Store tx.new.conn.now)
-        → (e : EventValue) (s : ℕ) (t : List TallyRow)
-        → StandsWith (state S.Store tx.old.conn.now).now e s t
-        → OnOk result (BringsToWith (state S.Store tx.old.conn.now) (state S.Store tx.new.conn.now)
-        (with_phase e phase) s t) }
+        → (l : Layout) (e : EventValue) (s : ℕ) (t : List TallyRow)
+        → StandsWith l (state S.Store tx.old.conn.now).now e s t
+        → OnOk result (BringsToWith l (state S.Store tx.old.conn.now)
+        (state S.Store tx.new.conn.now) (with_phase e phase) s t) }
     ensures stays { Stays (state S.Store tx.old.conn.now) (state S.Store tx.new.conn.now) }
 {
     run(tx, SET_PHASE, params![u32::from(phase.code())])
@@ -126,11 +129,11 @@ pub fn set_dropped<S: Alter>(tx: &mut Transaction<'_, S>, number: u32) -> Result
     ensures same_reference { tx.new.conn.ghost_name ≡ tx.old.conn.ghost_name }
     ensures makes { HasCleanDisk (state S.Store tx.new.conn.now)
         → (e : EventValue) (s : ℕ) (t : List TallyRow)
-        → StandsWith (state S.Store tx.old.conn.now).now e s t
+        → StandsWith Old (state S.Store tx.old.conn.now).now e s t
         → numbers e.players ≡ range_with_len 1 (length e.players)
         → Contains (numbers e.players) number
-        → OnOk result (BringsToWith (state S.Store tx.old.conn.now) (state S.Store tx.new.conn.now)
-        (with_dropped e number) s t) }
+        → OnOk result (BringsToWith Old (state S.Store tx.old.conn.now)
+        (state S.Store tx.new.conn.now) (with_dropped e number) s t) }
     ensures stays { Stays (state S.Store tx.old.conn.now) (state S.Store tx.new.conn.now) }
 {
     run(tx, SET_DROPPED, params![number])
@@ -148,11 +151,11 @@ pub fn set_score<S: Alter>(
 ) -> Result<(), Error>
     ensures same_reference { tx.new.conn.ghost_name ≡ tx.old.conn.ghost_name }
     ensures makes { HasCleanDisk (state S.Store tx.new.conn.now)
-        → (e : EventValue) (s : ℕ) (t : List TallyRow)
-        → StandsWith (state S.Store tx.old.conn.now).now e s t → (m : Match)
+        → (l : Layout) (e : EventValue) (s : ℕ) (t : List TallyRow)
+        → StandsWith l (state S.Store tx.old.conn.now).now e s t → (m : Match)
         → match_at e round table ≡ Some m → IsFalse (is_bye m)
-        → OnOk result (BringsToWith (state S.Store tx.old.conn.now) (state S.Store tx.new.conn.now)
-        (with_score e round table score) s t) }
+        → OnOk result (BringsToWith l (state S.Store tx.old.conn.now)
+        (state S.Store tx.new.conn.now) (with_score e round table score) s t) }
     ensures stays { Stays (state S.Store tx.old.conn.now) (state S.Store tx.new.conn.now) }
 {
     let Games { x, y, d } = score.games();
@@ -170,11 +173,12 @@ pub const INSERT_PAIRING: &str =
 pub fn insert_pairing<S: Alter>(tx: &mut Transaction<'_, S>, row: &PairingRow) -> Result<(), Error>
     ensures same_reference { tx.new.conn.ghost_name ≡ tx.old.conn.ghost_name }
     ensures makes { HasCleanDisk (state S.Store tx.new.conn.now)
-        → (e : EventValue) (before : List Match) (m : Match) (s : ℕ) (t : List TallyRow)
-        → StandsWith (state S.Store tx.old.conn.now).now (with_round e before) s t
+        → (l : Layout) (e : EventValue) (before : List Match) (m : Match) (s : ℕ)
+        (t : List TallyRow)
+        → StandsWith l (state S.Store tx.old.conn.now).now (with_round e before) s t
         → row.now ≡ pairing_row (length e.stored + 1) (length before + 1, m)
-        → OnOk result (BringsToWith (state S.Store tx.old.conn.now) (state S.Store tx.new.conn.now)
-        (with_round e (before ++ m ∷ [])) s t) }
+        → OnOk result (BringsToWith l (state S.Store tx.old.conn.now)
+        (state S.Store tx.new.conn.now) (with_round e (before ++ m ∷ [])) s t) }
     ensures stays { Stays (state S.Store tx.old.conn.now) (state S.Store tx.new.conn.now) }
 {
     run(
@@ -201,11 +205,12 @@ pub const INSERT_SLOT: &str =
 pub fn insert_slot<S: Alter>(tx: &mut Transaction<'_, S>, row: &BracketRow) -> Result<(), Error>
     ensures same_reference { tx.new.conn.ghost_name ≡ tx.old.conn.ghost_name }
     ensures makes { HasCleanDisk (state S.Store tx.new.conn.now)
-        → (e : EventValue) (before : List Match) (m : Match) (s : ℕ) (t : List TallyRow)
-        → StandsWith (state S.Store tx.old.conn.now).now (with_stage e before) s t
+        → (l : Layout) (e : EventValue) (before : List Match) (m : Match) (s : ℕ)
+        (t : List TallyRow)
+        → StandsWith l (state S.Store tx.old.conn.now).now (with_stage e before) s t
         → row.now ≡ bracket_row (length e.bracket.stages + 1) (length before + 1, m)
-        → OnOk result (BringsToWith (state S.Store tx.old.conn.now) (state S.Store tx.new.conn.now)
-        (with_stage e (before ++ m ∷ [])) s t) }
+        → OnOk result (BringsToWith l (state S.Store tx.old.conn.now)
+        (state S.Store tx.new.conn.now) (with_stage e (before ++ m ∷ [])) s t) }
     ensures stays { Stays (state S.Store tx.old.conn.now) (state S.Store tx.new.conn.now) }
 {
     run(
@@ -229,11 +234,11 @@ pub fn set_slot_score<S: Alter>(
 ) -> Result<(), Error>
     ensures same_reference { tx.new.conn.ghost_name ≡ tx.old.conn.ghost_name }
     ensures makes { HasCleanDisk (state S.Store tx.new.conn.now)
-        → (e : EventValue) (s : ℕ) (t : List TallyRow)
-        → StandsWith (state S.Store tx.old.conn.now).now e s t → (m : Match)
+        → (l : Layout) (e : EventValue) (s : ℕ) (t : List TallyRow)
+        → StandsWith l (state S.Store tx.old.conn.now).now e s t → (m : Match)
         → slot_at e stage slot ≡ Some m
-        → OnOk result (BringsToWith (state S.Store tx.old.conn.now) (state S.Store tx.new.conn.now)
-        (with_slot_score e stage slot score) s t) }
+        → OnOk result (BringsToWith l (state S.Store tx.old.conn.now)
+        (state S.Store tx.new.conn.now) (with_slot_score e stage slot score) s t) }
     ensures stays { Stays (state S.Store tx.old.conn.now) (state S.Store tx.new.conn.now) }
 {
     let Games { x, y, d } = score.games();
@@ -251,9 +256,9 @@ pub const INSERT_TALLY: &str =
 pub fn insert_tally<S: Alter>(tx: &mut Transaction<'_, S>, row: &TallyRow) -> Result<(), Error>
     ensures same_reference { tx.new.conn.ghost_name ≡ tx.old.conn.ghost_name }
     ensures makes { HasCleanDisk (state S.Store tx.new.conn.now)
-        → (e : EventValue) (s : ℕ) (t : List TallyRow)
-        → StandsWith (state S.Store tx.old.conn.now).now e s t
-        → OnOk result (BringsToWith (state S.Store tx.old.conn.now)
+        → (l : Layout) (e : EventValue) (s : ℕ) (t : List TallyRow)
+        → StandsWith l (state S.Store tx.old.conn.now).now e s t
+        → OnOk result (BringsToWith l (state S.Store tx.old.conn.now)
         (state S.Store tx.new.conn.now) e s (t ++ row.now ∷ [])) }
     ensures stays { Stays (state S.Store tx.old.conn.now) (state S.Store tx.new.conn.now) }
 {
@@ -277,12 +282,13 @@ pub const SET_TALLY: &str =
 pub fn set_tally<S: Alter>(tx: &mut Transaction<'_, S>, row: &TallyRow) -> Result<(), Error>
     ensures same_reference { tx.new.conn.ghost_name ≡ tx.old.conn.ghost_name }
     ensures makes { HasCleanDisk (state S.Store tx.new.conn.now)
-        → (e : EventValue) (s : ℕ) (come_to : ℕ → Totals) (number : ℕ) (totals : Totals)
-        → StandsWith (state S.Store tx.old.conn.now).now e s (tally_rows_by come_to e.players)
+        → (l : Layout) (e : EventValue) (s : ℕ) (come_to : ℕ → Totals) (number : ℕ)
+        (totals : Totals)
+        → StandsWith l (state S.Store tx.old.conn.now).now e s (tally_rows_by come_to e.players)
         → row.now ≡ tally_row number totals
         → numbers e.players ≡ range_with_len 1 (length e.players)
         → Contains (numbers e.players) number
-        → OnOk result (BringsToWith (state S.Store tx.old.conn.now)
+        → OnOk result (BringsToWith l (state S.Store tx.old.conn.now)
         (state S.Store tx.new.conn.now) e s
         (tally_rows_by (set_for number totals come_to) e.players)) }
     ensures stays { Stays (state S.Store tx.old.conn.now) (state S.Store tx.new.conn.now) }

@@ -37,7 +37,7 @@ impl TableRow for PlayerRow {
     }
 
     fn read() -> &'static str {
-        "SELECT no, name, dropped FROM player ORDER BY no"
+        "SELECT no, name, dropped, 0 AS joined FROM player ORDER BY no"
     }
 }
 

@@ -19,7 +19,8 @@ ghost use Rattle.er_store.specs.inside.Totals.{set_for, set_for_all};
 ghost use Rattle.er_event.specs.declared.matches.Match.{Match};
 ghost use Rattle.er_store.specs.inside.Steps.{IsStage};
 ghost use Rattle.er_store.specs.Tables.{no_schema};
-ghost use Rattle.er_store.specs.Standing.{StandsFor, StandsWith, IsStored, IsNew, Shows, Leaves, Either, KeepsOthers, CanRead, ReadsEvent};
+ghost use Rattle.er_store.specs.Layout.{Layout};
+ghost use Rattle.er_store.specs.Standing.{StandsAt, StandsWith, IsStored, IsNew, Shows, Leaves, Either, KeepsOthers, CanRead, ReadsEvent};
 ghost use Rattle.er_store.specs.inside.Steps.{Stays, Moves, BringsTo, BringsToWith, IsReady};
 ghost use Rattle.er_store.specs.Reading.{KeepsTables};
 
@@ -42,10 +43,11 @@ fn insert_round<S: Alter>(
 ) -> Result<(), Error>
     requires fits { Fits event.now (Change.AddRound matches.now) }
     ensures same_reference { tx.new.conn.ghost_name ≡ tx.old.conn.ghost_name }
-    ensures makes { HasCleanDisk (state S.Store tx.new.conn.now) → (s : ℕ) (t : List TallyRow)
-        → StandsWith (state S.Store tx.old.conn.now).now event.now s t
-        → OnOk result (BringsToWith (state S.Store tx.old.conn.now) (state S.Store tx.new.conn.now)
-        (with_round event.now matches.now) s t) }
+    ensures makes { HasCleanDisk (state S.Store tx.new.conn.now)
+        → (l : Layout) (s : ℕ) (t : List TallyRow)
+        → StandsWith l (state S.Store tx.old.conn.now).now event.now s t
+        → OnOk result (BringsToWith l (state S.Store tx.old.conn.now)
+        (state S.Store tx.new.conn.now) (with_round event.now matches.now) s t) }
     ensures stays { Stays (state S.Store tx.old.conn.now) (state S.Store tx.new.conn.now) }
 {
     let round = event.stored().len() as u8 + 1;
@@ -65,10 +67,11 @@ fn insert_stage<S: Alter>(
     requires { IsStage matches.now }
     ensures same_reference { tx.new.conn.ghost_name ≡ tx.old.conn.ghost_name }
     ensures makes { HasCleanDisk (state S.Store tx.new.conn.now)
-        → (e : EventValue) (s : ℕ) (t : List TallyRow)
-        → StandsWith (state S.Store tx.old.conn.now).now e s t → stage ≡ length e.bracket.stages + 1
-        → OnOk result (BringsToWith (state S.Store tx.old.conn.now) (state S.Store tx.new.conn.now)
-        (with_stage e matches.now) s t) }
+        → (l : Layout) (e : EventValue) (s : ℕ) (t : List TallyRow)
+        → StandsWith l (state S.Store tx.old.conn.now).now e s t
+        → stage ≡ length e.bracket.stages + 1
+        → OnOk result (BringsToWith l (state S.Store tx.old.conn.now)
+        (state S.Store tx.new.conn.now) (with_stage e matches.now) s t) }
     ensures stays { Stays (state S.Store tx.old.conn.now) (state S.Store tx.new.conn.now) }
 {
     for (place, played) in matches.iter().enumerate() {
@@ -93,10 +96,11 @@ fn begin_playoff<S: Alter>(
 ) -> Result<(), Error>
     requires fits { Fits event.now (Change.AddBracket matches.now) }
     ensures same_reference { tx.new.conn.ghost_name ≡ tx.old.conn.ghost_name }
-    ensures makes { HasCleanDisk (state S.Store tx.new.conn.now) → (s : ℕ) (t : List TallyRow)
-        → StandsWith (state S.Store tx.old.conn.now).now event.now s t
-        → OnOk result (BringsToWith (state S.Store tx.old.conn.now) (state S.Store tx.new.conn.now)
-        (with_bracket event.now matches.now) s t) }
+    ensures makes { HasCleanDisk (state S.Store tx.new.conn.now)
+        → (l : Layout) (s : ℕ) (t : List TallyRow)
+        → StandsWith l (state S.Store tx.old.conn.now).now event.now s t
+        → OnOk result (BringsToWith l (state S.Store tx.old.conn.now)
+        (state S.Store tx.new.conn.now) (with_bracket event.now matches.now) s t) }
     ensures stays { Stays (state S.Store tx.old.conn.now) (state S.Store tx.new.conn.now) }
 {
     insert_stage(tx, next_number(event), matches)?;
@@ -115,9 +119,11 @@ fn score_stages<S: Alter>(
     requires found { (m : Match) × (slot_at event.now stage slot ≡ Some m) }
     requires few { IfSome next (λ matches. IsStage matches.now) }
     ensures same_reference { tx.new.conn.ghost_name ≡ tx.old.conn.ghost_name }
-    ensures makes { HasCleanDisk (state S.Store tx.new.conn.now) → (s : ℕ) (t : List TallyRow)
-        → StandsWith (state S.Store tx.old.conn.now).now event.now s t
-        → OnOk result (BringsToWith (state S.Store tx.old.conn.now) (state S.Store tx.new.conn.now)
+    ensures makes { HasCleanDisk (state S.Store tx.new.conn.now)
+        → (l : Layout) (s : ℕ) (t : List TallyRow)
+        → StandsWith l (state S.Store tx.old.conn.now).now event.now s t
+        → OnOk result (BringsToWith l (state S.Store tx.old.conn.now)
+        (state S.Store tx.new.conn.now)
         (with_bracket_score event.now stage slot score (option_map (λ m. m.now) next.entry) false) s
         t) }
     ensures stays { Stays (state S.Store tx.old.conn.now) (state S.Store tx.new.conn.now) }
@@ -137,10 +143,11 @@ fn change_rows<S: Alter>(
 ) -> Result<(), Error>
     requires fits { Fits event.now change.now }
     ensures same_reference { tx.new.conn.ghost_name ≡ tx.old.conn.ghost_name }
-    ensures makes { HasCleanDisk (state S.Store tx.new.conn.now) → (s : ℕ) (t : List TallyRow)
-        → StandsWith (state S.Store tx.old.conn.now).now event.now s t
-        → OnOk result (BringsToWith (state S.Store tx.old.conn.now) (state S.Store tx.new.conn.now)
-        (after event.now change.now) s t) }
+    ensures makes { HasCleanDisk (state S.Store tx.new.conn.now)
+        → (l : Layout) (s : ℕ) (t : List TallyRow)
+        → StandsWith l (state S.Store tx.old.conn.now).now event.now s t
+        → OnOk result (BringsToWith l (state S.Store tx.old.conn.now)
+        (state S.Store tx.new.conn.now) (after event.now change.now) s t) }
     ensures stays { Stays (state S.Store tx.old.conn.now) (state S.Store tx.new.conn.now) }
 {
     match change {
@@ -184,11 +191,11 @@ fn recount_player<S: Alter>(
     requires number { (1 ≤ number) × (number ≤ MAX_PLAYERS) }
     ensures same_reference { tx.new.conn.ghost_name ≡ tx.old.conn.ghost_name }
     ensures makes { HasCleanDisk (state S.Store tx.new.conn.now)
-        → (e : EventValue) (s : ℕ) (before : ℕ → Totals)
-        → StandsWith (state S.Store tx.old.conn.now).now e s (tally_rows_by before e.players)
+        → (l : Layout) (e : EventValue) (s : ℕ) (before : ℕ → Totals)
+        → StandsWith l (state S.Store tx.old.conn.now).now e s (tally_rows_by before e.players)
         → numbers e.players ≡ range_with_len 1 (length e.players)
         → Contains (numbers e.players) number
-        → OnOk result (BringsToWith (state S.Store tx.old.conn.now)
+        → OnOk result (BringsToWith l (state S.Store tx.old.conn.now)
         (state S.Store tx.new.conn.now) e s
         (tally_rows_by (set_for number (totals (after event.now change.now) number) before)
         e.players)) }
@@ -214,10 +221,10 @@ fn recount_match<S: Alter>(
     requires known { AreOf event.now (played.now ∷ []) }
     ensures same_reference { tx.new.conn.ghost_name ≡ tx.old.conn.ghost_name }
     ensures makes { HasCleanDisk (state S.Store tx.new.conn.now)
-        → (e : EventValue) (s : ℕ) (before : ℕ → Totals)
+        → (l : Layout) (e : EventValue) (s : ℕ) (before : ℕ → Totals)
         → numbers e.players ≡ numbers event.now.players
-        → StandsWith (state S.Store tx.old.conn.now).now e s (tally_rows_by before e.players)
-        → OnOk result (BringsToWith (state S.Store tx.old.conn.now)
+        → StandsWith l (state S.Store tx.old.conn.now).now e s (tally_rows_by before e.players)
+        → OnOk result (BringsToWith l (state S.Store tx.old.conn.now)
         (state S.Store tx.new.conn.now) e s
         (tally_rows_by (set_for_all (played.now ∷ []) (totals (after event.now change.now)) before)
         e.players)) }
@@ -238,12 +245,13 @@ fn recount<S: Alter>(
 ) -> Result<(), Error>
     requires fits { Fits event.now change.now }
     ensures same_reference { tx.new.conn.ghost_name ≡ tx.old.conn.ghost_name }
-    ensures makes { HasCleanDisk (state S.Store tx.new.conn.now) → (e : EventValue) (s : ℕ)
+    ensures makes { HasCleanDisk (state S.Store tx.new.conn.now)
+        → (l : Layout) (e : EventValue) (s : ℕ)
         → numbers e.players ≡ numbers event.now.players
-        → Moves (state S.Store tx.old.conn.now) (state S.Store tx.old.conn.now)
-        → StandsWith (state S.Store tx.old.conn.now).now e s
+        → Moves l (state S.Store tx.old.conn.now) (state S.Store tx.old.conn.now)
+        → StandsWith l (state S.Store tx.old.conn.now).now e s
         (tally_rows_by (totals event.now) e.players)
-        → OnOk result (BringsToWith (state S.Store tx.old.conn.now)
+        → OnOk result (BringsToWith l (state S.Store tx.old.conn.now)
         (state S.Store tx.new.conn.now) e s
         (tally_rows_by (totals (after event.now change.now)) e.players)) }
     ensures stays { Stays (state S.Store tx.old.conn.now) (state S.Store tx.new.conn.now) }
@@ -264,9 +272,9 @@ fn count_player<S: Alter>(
     requires few { length event.now.players < MAX_PLAYERS }
     ensures same_reference { tx.new.conn.ghost_name ≡ tx.old.conn.ghost_name }
     ensures makes { HasCleanDisk (state S.Store tx.new.conn.now)
-        → (e : EventValue) (s : ℕ) (t : List TallyRow)
-        → StandsWith (state S.Store tx.old.conn.now).now e s t
-        → OnOk result (BringsToWith (state S.Store tx.old.conn.now)
+        → (l : Layout) (e : EventValue) (s : ℕ) (t : List TallyRow)
+        → StandsWith l (state S.Store tx.old.conn.now).now e s t
+        → OnOk result (BringsToWith l (state S.Store tx.old.conn.now)
         (state S.Store tx.new.conn.now) e s (t
         ++ tally_row (length event.now.players + 1)
         (totals (after event.now change.now) (length event.now.players + 1)) ∷ [])) }
@@ -288,9 +296,9 @@ fn change_tables<S: Alter>(
 ) -> Result<(), Error>
     requires fits { Fits event.now change.now }
     ensures same_reference { tx.new.conn.ghost_name ≡ tx.old.conn.ghost_name }
-    ensures makes { HasCleanDisk (state S.Store tx.new.conn.now) → (s : ℕ)
-        → StandsFor (state S.Store tx.old.conn.now).now event.now s
-        → OnOk result (BringsTo (state S.Store tx.old.conn.now) (state S.Store tx.new.conn.now)
+    ensures makes { HasCleanDisk (state S.Store tx.new.conn.now) → (l : Layout) (s : ℕ)
+        → StandsAt l (state S.Store tx.old.conn.now).now event.now s
+        → OnOk result (BringsTo l (state S.Store tx.old.conn.now) (state S.Store tx.new.conn.now)
         (after event.now change.now) s) }
     ensures stays { Stays (state S.Store tx.old.conn.now) (state S.Store tx.new.conn.now) }
 {
@@ -312,8 +320,8 @@ fn change_event<S: Alter>(
     requires low { serial < MAX_SERIAL }
     ensures same_reference { tx.new.conn.ghost_name ≡ tx.old.conn.ghost_name }
     ensures makes { HasCleanDisk (state S.Store tx.new.conn.now)
-        → StandsFor (state S.Store tx.old.conn.now).now event.now serial
-        → OnOk result (BringsTo (state S.Store tx.old.conn.now) (state S.Store tx.new.conn.now)
+        → (l : Layout) → StandsAt l (state S.Store tx.old.conn.now).now event.now serial
+        → OnOk result (BringsTo l (state S.Store tx.old.conn.now) (state S.Store tx.new.conn.now)
         (after event.now change.now) (serial + 1)) }
     ensures inside { HasCleanDisk (state S.Store tx.new.conn.now)
         → OnOk result (IsTrue (state S.Store tx.new.conn.now).in_transaction) }

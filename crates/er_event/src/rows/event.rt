@@ -34,6 +34,9 @@ pub struct Setup {
     pub phase: Phase,
 }
 
+/// How many rounds tables of version 1 keep.
+pub const MOST_OLD_ROUNDS: u8 = 9;
+
 const DAMAGED: PartsFault = PartsFault::Damaged(Place::EventTable);
 
 fn phase_of(value: i64) -> Option<Phase>

@@ -15,12 +15,14 @@ use crate::players::{Player, PlayerNo, may_play};
 use crate::refusals::Place;
 use std::alloc::{AllocError, Global};
 
-/// A row of the table `player`.
+/// A row of the table of players, `joined` being 0 where the table has no such column.
 #[derive(Drop)]
 pub struct PlayerRow {
     pub no: i64,
     pub name: Items<u8>,
     pub dropped: i64,
+    /// How many rounds were stored when the player joined: 0, as nobody joins late.
+    pub joined: i64,
 }
 
 const DAMAGED: PartsFault = PartsFault::Damaged(Place::PlayerTable);
@@ -39,6 +41,9 @@ fn read_player(row: &PlayerRow) -> Option<Player>
     let no = number_of(row.no)?;
     let name = Name::try_from_bytes(row.name.as_slice()).ok()?;
     let dropped = flag_of(row.dropped)?;
+    if row.joined != 0 {
+        return None;
+    }
     Some(Player { no, name, dropped })
 }
 

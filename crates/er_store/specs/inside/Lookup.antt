@@ -5,7 +5,7 @@ use Rattle.sqlite_ast.specs.declared.Statement.TheVariants as written
 use Rattle.sqlite_syntax.specs.declared.statement.Parsed.{Parsed}
 use Rattle.sqlite_resolve.specs.Compile.{first}
 use Rattle.sqlite_resolve.specs.Lowering.{Checked}
-use Rattle.sqlite.specs.Order.{Row, column}
+use Rattle.sqlite.specs.Order.{Row}
 use Rattle.sqlite.specs.Schema.{Schema}
 use Rattle.sqlite.specs.Tree.{Trees}
 use Rattle.sqlite.specs.Query.{IsAnswer}
@@ -20,10 +20,11 @@ use Rattle.er_event.specs.declared.refusals.Refusal.{Refusal}
 use Rattle.er_event.specs.declared.refusals.Refusal.TheVariants.{Damaged}
 use Rattle.er_event.specs.declared.refusals.Place.{Place}
 use Rattle.er_event.specs.declared.rows.tally.TallyRow.{TallyRow}
-use Rattle.er_store.specs.Rows.{columns_at}
+use Rattle.sqlite.specs.Term.{Term}
+use Rattle.er_store.specs.Layout.{Layout, version_of}
 use Rattle.er_store.specs.Shape.{Form, Shape, tally_form, tally_table}
 use Rattle.er_store.specs.Reading.{Lists, first_columns, KeepsTables}
-use Rattle.er_store.specs.Standing.{HasTables, StandsFor}
+use Rattle.er_store.specs.Standing.{HasTablesAt, StandsAt, StandsFor}
 use Rattle.er_store.specs.Loading.{IsListed, ListsParts}
 use Rattle.er_store.specs.Damage.{IsMisreadAs, MayRead, ReadsParts, IsFirstMisread, IfDamaged}
 use Rattle.er_store.specs.Fault.{IsFault, IsLoadFault}
@@ -43,14 +44,17 @@ begins_select (Err e) = false
 pub record IsOurs {R : Type 0} (form : Form R) (table : Shape R) : Type 0 where
   pub begins : begins_select (first table.read) ≡ true
   pub keys : List ℕ
-  pub selects : (schema : Schema) → HasTables schema → Selects table.read (table_query table.tree table.places keys) schema
-  pub lists : (trees : Trees) (rows : List Row) → IsAnswer (table_query table.tree table.places keys) (overlay trees []) [] rows
-      → Lists table.order (columns_at table.places (trees table.tree)) rows
-  pub whole : (r : Row) → first_columns form.width (map (column r) table.places) ≡ map (column r) table.places
-  pub exact : (db : Database) (e : EventValue) (s : ℕ) (rows : List Row) → StandsFor db e s → IsSoundButForSeeds e
-      → Lists table.order (columns_at table.places (db.trees table.tree)) rows → rows ≡ map form.columns (table.rows e s)
+  pub terms : Layout → List Term
+  pub selects : (l : Layout) (schema : Schema) → HasTablesAt l schema
+      → Selects table.read (table_query (table.tree l) (terms l) keys) schema
+  pub lists : (l : Layout) (trees : Trees) (rows : List Row)
+      → IsAnswer (table_query (table.tree l) (terms l) keys) (overlay trees []) [] rows
+      → Lists table.order (map (table.shown l) (trees (table.tree l))) rows
+  pub whole : (l : Layout) (r : Row) → first_columns form.width (table.shown l r) ≡ table.shown l r
+  pub exact : (l : Layout) (db : Database) (e : EventValue) (s : ℕ) (rows : List Row) → StandsAt l db e s → IsSoundButForSeeds e
+      → Lists table.order (map (table.shown l) (db.trees (table.tree l))) rows → rows ≡ map form.columns (table.rows (version_of l) e s)
   pub same : (r s : R) → form.columns r ≡ form.columns s → r ≡ s
-  pub texts : (e : EventValue) (s : ℕ) → IsSoundButForSeeds e → All form.is_text (table.rows e s)
+  pub texts : (version : ℕ) (e : EventValue) (s : ℕ) → IsSoundButForSeeds e → All form.is_text (table.rows version e s)
 
 -- what is found is of the database before; whatever is answered, a crash leaves what it could before
 pub record LooksUp {A : Type 0} (Finds : Database → A → Type 0) (Misses : Database → Refusal → Type 0)
@@ -67,8 +71,8 @@ pub record LooksUp {A : Type 0} (Finds : Database → A → Type 0) (Misses : Da
 -- the rows of a table: as SQL alone says, as the tables list them, and as the event has them
 pub record FindsRows {R : Type 0} (form : Form R) (table : Shape R) (db : Database) (rows : List R) : Type 0 where
   pub reads : MayRead form table db rows
-  pub lists : HasTables db.schema → IsListed form table db rows
-  pub exact : (e : EventValue) (s : ℕ) → StandsFor db e s → IsSoundButForSeeds e → rows ≡ table.rows e s
+  pub lists : (l : Layout) → HasTablesAt l db.schema → IsListed form table l db rows
+  pub exact : (l : Layout) (e : EventValue) (s : ℕ) → StandsAt l db e s → IsSoundButForSeeds e → rows ≡ table.rows (version_of l) e s
 
 -- where the tables stand, memory or the device; and damage is of this table
 pub record MissesRows {R : Type 0} (form : Form R) (table : Shape R) (db : Database) (why : Refusal) : Type 0 where
@@ -78,8 +82,8 @@ pub record MissesRows {R : Type 0} (form : Form R) (table : Shape R) (db : Datab
 -- the rows of the four tables that an event is made of
 pub record FindsParts (db : Database) (parts : Parts) : Type 0 where
   pub reads : ReadsParts db parts
-  pub lists : HasTables db.schema → ListsParts db parts
-  pub exact : (e : EventValue) (s : ℕ) → StandsFor db e s → IsSoundButForSeeds e → parts ≡ parts_of e s
+  pub lists : (l : Layout) → HasTablesAt l db.schema → ListsParts l db parts
+  pub exact : (l : Layout) (e : EventValue) (s : ℕ) → StandsAt l db e s → IsSoundButForSeeds e → parts ≡ parts_of (version_of l) e s
 
 -- those of all five
 abbrev pub FindsTables : Database → Parts × List TallyRow → Type 0

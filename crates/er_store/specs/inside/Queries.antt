@@ -26,9 +26,9 @@ plain_query from filter project = record {
   offset = lit (Int (pos 0));
 }
 
--- the columns at these places of each row of a table, by some of them
-abbrev pub table_query : ℕ → List ℕ → List ℕ → Query
-table_query tree places keys = record (plain_query (inner tree end) [] (map (col 1) places)) {
+-- these terms of each row of a table, by the columns at some places
+abbrev pub table_query : ℕ → List Term → List ℕ → Query
+table_query tree terms keys = record (plain_query (inner tree end) [] terms) {
   order = map (λ place. (col 1 place, record { collation = Binary; descending = false })) keys;
 }
 

@@ -13,7 +13,8 @@ use Rattle.er_event.specs.declared.rows.tally.TallyRow.{TallyRow}
 use Rattle.er_event.specs.Event.{EventValue}
 use Rattle.er_event.specs.Rows.{tally_rows}
 use Rattle.er_store.specs.Tables.{event_tree, player_tree, pairing_tree, bracket_tree, tally_tree, our_schema}
-use Rattle.er_store.specs.Standing.{StandsWith, StandsFor, KeepsOthers}
+use Rattle.er_store.specs.Standing.{StandsWith, StandsFor, KeepsRest}
+use Rattle.er_store.specs.Layout.{Layout}
 
 -- the statement went well, within a transaction
 pub record Ran (sql : List ℕ) (params : Row) (old new : State) : Type 0 where
@@ -40,21 +41,21 @@ pub record Puts (tree : ℕ) (row : Row) (old new : State) : Type 0 where
   pub free : is_taken (old.now.trees tree) row ≡ false
   pub rows : new.now.trees tree ≡ put_row row (old.now.trees tree)
 
--- The transaction goes on from the one to the other, and the other tables of the file are as they were.
-pub record Moves (old new : State) : Type 0 where
+-- The transaction goes on from the one to the other, and the tables that are none of the event's are as they were.
+pub record Moves (layout : Layout) (old new : State) : Type 0 where
   pub was : IsTrue old.in_transaction
   pub shows : Shows old new new.now old.committed true
   pub sound : IsDatabase new.now
-  pub keeps : KeepsOthers old.now new.now
+  pub keeps : KeepsRest layout old.now new.now
 
 -- what a step makes of tables that stand for an event, with these rows of totals
-pub record BringsToWith (old new : State) (e : EventValue) (serial : ℕ) (totals : List TallyRow) : Type 0 where
-  pub moves : Moves old new
-  pub stands : StandsWith new.now e serial totals
+pub record BringsToWith (layout : Layout) (old new : State) (e : EventValue) (serial : ℕ) (totals : List TallyRow) : Type 0 where
+  pub moves : Moves layout old new
+  pub stands : StandsWith layout new.now e serial totals
 
 -- and with those of the event
-abbrev pub BringsTo : State → State → EventValue → ℕ → Type 0
-BringsTo old new e serial = BringsToWith old new e serial (tally_rows e)
+abbrev pub BringsTo : Layout → State → State → EventValue → ℕ → Type 0
+BringsTo layout old new e serial = BringsToWith layout old new e serial (tally_rows e)
 
 -- only the commit is left: the tables stand for the event
 pub record IsReady (s : State) (e : EventValue) (serial : ℕ) : Type 0 where

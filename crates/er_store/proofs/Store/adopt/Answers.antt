@@ -2,8 +2,8 @@ use Rattle.er_store.proofs.Prelude.{ℕ, List, Result, Ok, Err, IsOk, refl, sym,
 use Rattle.er_store.proofs.Prelude.{Schema, Database, IsUnchanged, Compiled, CompileError, EventValue, HasCleanDisk, HasTables, StandsFor}
 use Rattle.er_store.proofs.Prelude.{Shows, Takes, unchanged_then}
 use Rattle.sqlite.specs.Effect.{IsDatabase}
-use Rattle.er_store.specs.Standing.{ReadsEvent}
-use Rattle.er_store.proofs.{Meaning.event_selected, Effects.at_ours, LoadLemmas.{kept_tables, kept_stands, then_keeps}}
+use Rattle.er_store.specs.{Loading.HoldsEvent, Standing.ReadsEvent}
+use Rattle.er_store.proofs.{Meaning.event_selected, Effects.at_ours, LoadLemmas.{kept_tables, kept_stands, then_keeps, stands_where}}
 use Rattle.er_store.proofs.Crash.{shows_leaves, survives_both, only}
 use Rattle.er_store.proofs.Store.adopt.Given as given
 use Rattle.er_store.proofs.Store.adopt.Goals as goal
@@ -13,8 +13,8 @@ takes_ok n sql (Ok c) takes = refl
 takes_ok n sql (Err e) takes = absurd takes
 
 reads_ours : (schema : Schema) → HasTables schema → ReadsEvent schema
-reads_ours schema has = at_ours schema has ReadsEvent
-    (takes_ok 0 read_event _ (event_selected has.others schema.indexes schema.views).whole)
+reads_ours schema (l, has) = at_ours schema has ReadsEvent
+    (takes_ok 0 read_event _ (event_selected has.others schema.indexes schema.views l).whole)
 
 -- the first look leaves what it saw
 same : (g : given.Over) (c : goal.After-result-1 g) → HasCleanDisk (state g.S.Store c.load_tables.new.conn)
@@ -39,7 +39,8 @@ shown g c clean second e s stands =
 pub returns-in-Ok-false-clause-found : goal.returns-in-Ok-false-clause-found
 returns-in-Ok-false-clause-found g c e s stands sound clean =
     let found = (c.in-Ok-false.ensures.found clean).0 in
-    absurd (true≢false (sym (found.1 (reads_ours (state g.S.Store c.args.conn).now.schema stands.tables)) ∙ c.in-Ok-false.field-0-test))
+    let has : HasTables (state g.S.Store c.args.conn).now.schema = (stands.0, stands.1.has.tables) in
+    absurd (true≢false (sym (found.1 (reads_ours (state g.S.Store c.args.conn).now.schema has)) ∙ c.in-Ok-false.field-0-test))
 
 pub returns-in-Err-load_tables-clause-found : goal.returns-in-Err-load_tables-clause-found
 returns-in-Err-load_tables-clause-found g c e s stands sound clean =
@@ -54,14 +55,9 @@ returns-in-Ok-clause-found g c e s stands sound clean =
 pub returns-in-Ok-clause-stands : goal.returns-in-Ok-clause-stands
 returns-in-Ok-clause-stands g c clean has keyed =
     let first = same g c clean in
-    let shows = rw first.0.now_is at (c.in-Ok.ensures.shows clean (kept_tables _ _ first has)) in
-    shown g c clean (c.in-Ok.ensures.same clean) _ _ (record {
-      low = shows.low;
-      tables = has;
-      rows = shows.rows;
-      pairings_keyed = keyed.pairings;
-      bracket_keyed = keyed.bracket;
-    })
+    let shows = subst (λ (db : Database). HoldsEvent db c.in-Ok.event c.in-Ok.serial) first.0.now_is
+    (c.in-Ok.ensures.shows clean (kept_tables _ _ first has)) in
+    shown g c clean (c.in-Ok.ensures.same clean) _ _ (stands_where shows keyed)
 
 pub returns-in-Ok-clause-leaves : goal.returns-in-Ok-clause-leaves
 returns-in-Ok-clause-leaves g c clean e s stands sound =
@@ -83,7 +79,8 @@ returns-in-Ok-clause-reads g c clean = rw (same g c clean).0.now_is at (c.in-Ok.
 pub returns-in-Ok-clause-shows : goal.returns-in-Ok-clause-shows
 returns-in-Ok-clause-shows g c clean has =
     let first = same g c clean in
-    rw first.0.now_is at (c.in-Ok.ensures.shows clean (kept_tables _ _ first has))
+    subst (λ (db : Database). HoldsEvent db c.in-Ok.event c.in-Ok.serial) first.0.now_is
+    (c.in-Ok.ensures.shows clean (kept_tables _ _ first has))
 
 pub returns-in-Ok-clause-same : goal.returns-in-Ok-clause-same
 returns-in-Ok-clause-same g c clean = unchanged_then _ _ _ (same g c clean) (c.in-Ok.ensures.same clean)

@@ -1,8 +1,9 @@
-use Rattle.er_store.proofs.Prelude.{◌≡◌, refl, List, [], ◌∷◌, Trees, Table, Database, KeepsOthers, IsOther}
+use Rattle.er_store.proofs.Prelude.{◌≡◌, refl, List, [], ◌∷◌, Trees, Table, Database, KeepsOthers, IsOther, Old}
 use Rattle.std.specs.List.{AllByRecursion}
 use Rattle.er_store.proofs.Store.write.Goals as goal
 
-same_others : (trees : Trees) (tables : List Table) → AllByRecursion (λ (t : Table). IsOther t.tree → trees t.tree ≡ trees t.tree) tables
+same_others : (trees : Trees) (tables : List Table)
+    → AllByRecursion (λ (t : Table). IsOther Old t.tree → trees t.tree ≡ trees t.tree) tables
 same_others trees [] = tt
 same_others trees (t ∷ more) = (λ other. refl, same_others trees more)
 

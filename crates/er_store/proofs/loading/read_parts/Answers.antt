@@ -46,16 +46,16 @@ returns-clause-looks g c =
     (looks_then c.in_ok-players.ensures.looks (looks_then c.in_ok-pairings.ensures.looks c.in_ok-bracket.ensures.looks)) in
     found_as (λ db it. record {
       reads = record { event = it.0.reads; players = it.1.0.reads; pairings = it.1.1.0.reads; bracket = it.1.1.1.reads };
-      lists = λ has. record {
-        event = it.0.lists has;
-        players = it.1.0.lists has;
-        pairings = it.1.1.0.lists has;
-        bracket = it.1.1.1.lists has;
+      lists = λ l has. record {
+        event = it.0.lists l has;
+        players = it.1.0.lists l has;
+        pairings = it.1.1.0.lists l has;
+        bracket = it.1.1.1.lists l has;
       };
-      exact = λ e s stands sound.
-          let event = it.0.exact e s stands sound in
-          let players = it.1.0.exact e s stands sound in
-          let pairings = it.1.1.0.exact e s stands sound in
-          let bracket = it.1.1.1.exact e s stands sound in
+      exact = λ l e s stands sound.
+          let event = it.0.exact l e s stands sound in
+          let players = it.1.0.exact l e s stands sound in
+          let pairings = it.1.1.0.exact l e s stands sound in
+          let bracket = it.1.1.1.exact l e s stands sound in
           cc;
     }) look

@@ -1,6 +1,7 @@
 use Rattle.er_store.proofs.Prelude.{state, out_of_memory, rules, ◌≡◌, ◌⊎◌, inl, inr, [], ◌∷◌, ◌++◌, map, List, refl, sym, ap, length}
 use Rattle.er_store.proofs.Prelude.{◌∙◌, arith, map-append, length-map, Row, HasCleanDisk, IsUnchanged, unchanged_then}
 use Rattle.er_store.proofs.Prelude.{survives_then, meeting_rows, IsReadRefused, first_columns, meeting_columns, FailsToQuery, Shown}
+use Rattle.er_store.proofs.Prelude.{Layout, HasTablesAt, Schema, Selects}
 use Rattle.std.proofs.Common.{length-append}
 use Rattle.er_store.proofs.{Meaning.{meeting_query, meetings_selected}, Refusals.meetings_refused, Crash.{survives_both, was_clean}}
 use Rattle.er_store.proofs.LoadLemmas.{all_err, kept_stands, told, then_keeps, unchanged_keeps}
@@ -11,10 +12,13 @@ use Rattle.er_store.specs.Tables as sql
 use Rattle.er_store.proofs.reading.read_meetings.Given as given
 use Rattle.er_store.proofs.reading.read_meetings.Goals as goal
 
+chosen : (l : Layout) {schema : Schema} → HasTablesAt l schema → Selects sql.read_meetings meeting_query schema
+chosen l has = selected has (λ others indexes views. meetings_selected others indexes views l)
+
 pub returns-in_err-rows-clause-refused : goal.returns-in_err-rows-clause-refused
 returns-in_err-rows-clause-refused g c clean e s stands sound =
     told c.from_residual.result c.in_err-rows.field-0.0 _ c.from_residual.ensures.1 (inr (meetings_refused _ _ _
-    (selected stands.tables meetings_selected) ((rw c.in_err-rows.was at c.query.follows.holds-at-none).err clean)))
+    (chosen stands.0 stands.1.has.tables) ((rw c.in_err-rows.was at c.query.follows.holds-at-none).err clean)))
 
 pub returns-in_err-rows-clause-kept : goal.returns-in_err-rows-clause-kept
 returns-in_err-rows-clause-kept g c clean =
@@ -59,8 +63,8 @@ returns-clause-exact g c clean e s stands sound =
     let shown : Shown sql.read_meetings [] now (state g.S.Store then) was.0 =
     (rw (c.in_ok-row.was, c.in_default.is) at (moved.ok late)) sql.read_meetings [] was.0 was.1 in
     let here = kept_stands (state g.S.Store c.args.conn.now) now e s was.3 stands in
-    meetings-read now.now e s was.0 c.loop-rows.meetings.items here sound
-    (meetings-listed _ _ (selected here.tables meetings_selected) shown) was.2
+    let l = here.0 in
+    meetings-read l now.now e s was.0 c.loop-rows.meetings.items here.1 sound (meetings-listed _ _ (chosen l here.1.has.tables) shown) was.2
 
 pub returns-in_err-row-clause-refused : goal.returns-in_err-row-clause-refused
 returns-in_err-row-clause-refused g c clean e s stands sound =
@@ -73,7 +77,7 @@ returns-in_err-row-clause-refused g c clean e s stands sound =
     let here = kept_stands old now e s was.3 stands in
     let failed : FailsToQuery sql.read_meetings [] now then c.in_err-row.field-0.0 =
     (rw c.in_err-row.was at (moved.err late)) sql.read_meetings [] was.0 was.1 in
-    let refused = meetings_refused _ _ _ (selected here.tables meetings_selected) failed in
+    let refused = meetings_refused _ _ _ (chosen here.0 here.1.has.tables) failed in
     rw (back_unread g c) (told c.from_residual-in_err-row.result c.in_err-row.field-0.0 _ c.from_residual-in_err-row.ensures.1
     (inr (refused-after old now then (λ _. ⊥) c.in_err-row.field-0.0 was.3 c.loop-rows.invariant.1 refused)))
 
@@ -114,9 +118,9 @@ returns-in_err-push_row-clause-refused g c clean e s stands sound =
     let given = (rw (c.in_ok-row.was, c.in-Some.is) at (moved.ok late)) sql.read_meetings [] was.0 was.1 in
     let same : IsUnchanged old then = unchanged_then old now then was.3 (rw c.in_ok-row.was at (moved.same late)) in
     let there = kept_stands old then e s same stands in
-    let it = selected there.tables meetings_selected in
+    let it = chosen there.0 there.1.has.tables in
     let shown = given-shown g.S.Store sql.read_meetings meeting_query held (was.0 ++ row ∷ []) it (unchanged-refl old then same) given in
-    let rows = meetings-exact then.now e s ((was.0 ++ row ∷ []) ++ shown.0) there sound (meetings-listed _ _ it shown.1) in
+    let rows = meetings-exact there.0 then.now e s ((was.0 ++ row ∷ []) ++ shown.0) there.1 sound (meetings-listed _ _ it shown.1) in
     let among = row-among meeting_columns was.0 shown.0 row (meeting_rows e) rows in
     let memory : c.in_err-push_row.field-0.0 ≡ out_of_memory =
     is_memory c.in_err-push_row.field-0.0 (λ unless. c.in_err-push_row.ensures.refused unless among.0 tt among.1) in

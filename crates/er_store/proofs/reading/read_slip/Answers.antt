@@ -1,16 +1,22 @@
 use Rattle.er_store.proofs.Prelude.{map-map, ◌≡◌, inl, inr, ℕ, List, [], ◌∷◌, map, ap, ◌∙◌, rules, IfOk-weaker, IfErr-weaker, Row, State}
-use Rattle.er_store.proofs.Prelude.{EventValue, IsSoundButForSeeds, number, named_columns, named_pairings, StandsFor, first_columns, Shown}
-use Rattle.er_store.proofs.{Meaning.slip_selected, Refusals.{slip_refused, answers}, LoadLemmas.{unchanged_keeps, all_ok, all_err, told}}
+use Rattle.er_store.proofs.Prelude.{EventValue, IsSoundButForSeeds, number, named_columns, named_pairings, StandsFor, first_columns}
+use Rattle.er_store.proofs.Prelude.{Shown, Layout, players_tree, HasTablesAt}
+use Rattle.er_store.proofs.Prelude.{Schema, SelectsWith}
+use Rattle.er_store.proofs.{Meaning.{slip_selected, slip_query}, Refusals.{slip_refused, answers}}
+use Rattle.er_store.proofs.{LoadLemmas.{unchanged_keeps, all_ok, all_err, told}}
 use Rattle.er_store.proofs.{Selecting.{commits_nothing, shows_unchanged, fails_keeping, selects}, Exact.is_memory, Joined.slip_exact}
 use Rattle.er_store.proofs.{Joined.{named_typed, named_text}, Effects.selected}
 use Rattle.er_store.specs.Tables as sql
 use Rattle.er_store.proofs.reading.read_slip.Goals as goal
 
+chosen : (k t : ℕ) (l : Layout) {schema : Schema} → HasTablesAt l schema
+    → SelectsWith (number k ∷ number t ∷ []) sql.read_slip (slip_query (players_tree l)) schema
+chosen k t l has = selected has (λ others indexes views. slip_selected others indexes views k t l)
+
 exact : (k t s : ℕ) (e : EventValue) (old new : State) {rows : List Row} → StandsFor old.now e s → IsSoundButForSeeds e
     → Shown sql.read_slip (number k ∷ number t ∷ []) old new rows → rows ≡ map named_columns (named_pairings e k t)
 exact k t s e old new {rows} stands sound h =
-    slip_exact old.now e s k t rows stands sound
-    (answers old new (selected stands.tables (λ others indexes views. slip_selected others indexes views k t)) h)
+    slip_exact stands.0 old.now e s k t rows stands.1 sound (answers old new (chosen k t stands.0 stands.1.has.tables) h)
 
 pub returns-in_err-rows-clause-kept : goal.returns-in_err-rows-clause-kept
 returns-in_err-rows-clause-kept g c clean =
@@ -24,8 +30,8 @@ returns-in_err-rows-clause-refused g c clean e s stands sound =
     let k = c.args.round in
     let t = c.args.table in
     let fails = rw (c.params-to_sql.ensures, c.params-to_sql-2.ensures) at (c.in_err-rows.ensures.err clean) in
-    told c.from_residual.result c.in_err-rows.field-0.0 _ (search rules) (inr (slip_refused (number k ∷ number t ∷ []) _ _ _
-    (selected stands.tables (λ others indexes views. slip_selected others indexes views k t)) fails))
+    told c.from_residual.result c.in_err-rows.field-0.0 _ (search rules) (inr (slip_refused (players_tree stands.0)
+    (number k ∷ number t ∷ []) _ _ _ (chosen k t stands.0 stands.1.has.tables) fails))
 
 pub returns : goal.returns
 returns g c =

@@ -1,4 +1,4 @@
-use Rattle.er_store.proofs.Prelude.{inl, inr, ◌∙◌, rules, IfOk-weaker, IfErr-weaker}
+use Rattle.er_store.proofs.Prelude.{inl, inr, ◌∙◌, rules, IfOk-weaker, IfErr-weaker, version_of}
 use Rattle.er_store.proofs.{TableLemmas.{refused, are_rows, finds_rows}, LoadLemmas.{unchanged_keeps, all_ok, all_err, told}}
 use Rattle.er_store.proofs.{Exact.is_memory, Refusals.{refused_damage, has_wrong_kind}, Selecting.{commits_nothing, shows_unchanged}}
 use Rattle.er_store.proofs.Selecting.{fails_keeping}
@@ -8,7 +8,7 @@ pub returns-in_err-rows-clause-refused : goal.returns-in_err-rows-clause-refused
 returns-in_err-rows-clause-refused g c clean e s stands sound =
     let fails = rw c.read.ensures at (c.in_err-rows.ensures.err clean) in
     told c.from_residual.result c.in_err-rows.field-0.0 _ (search rules)
-    (inr (refused g.T.FromRow.form g.T.TableRow.table c.requires _ _ _ stands.tables fails))
+    (inr (refused g.T.FromRow.form g.T.TableRow.table c.requires _ _ stands.0 _ stands.1.has.tables fails))
 
 pub returns-in_err-rows-clause-misread : goal.returns-in_err-rows-clause-misread
 returns-in_err-rows-clause-misread g c clean =
@@ -43,9 +43,10 @@ returns g c =
           (λ why never at h. has_wrong_kind form table _ _ _ _ it.begins c.deref.ensures.value shows table.place at why never h)
           c.typed_rows.ensures.refused;
       refused = λ clean e s stands sound.
-          let are = are_rows form table it _ _ (rw c.read.ensures at (c.in_ok-rows.ensures.ok clean)) e s stands sound in
-          IfErr-weaker c.typed_rows.result _ _
-          (λ why never. inl (is_memory why (λ unless. never unless (table.rows e s) (it.texts e s sound) (c.deref.ensures.value ∙ are))))
+          let are = are_rows form table it _ _ stands.0 (rw c.read.ensures at (c.in_ok-rows.ensures.ok clean)) e s stands.1 sound in
+          let version = version_of stands.0 in
+          IfErr-weaker c.typed_rows.result _ _ (λ why never. inl (is_memory why
+          (λ unless. never unless (table.rows version e s) (it.texts version e s sound) (c.deref.ensures.value ∙ are))))
           c.typed_rows.ensures.refused;
       same = λ clean.
           let shows = rw c.read.ensures at (c.in_ok-rows.ensures.ok clean) in

@@ -16,8 +16,8 @@ returns-clause-found g c clean e s stands sound =
     let mid = state g.S.Store c.read_table.new.conn in
     let here = kept_stands (state g.S.Store c.args.conn.now) mid e s (c.in-Ok.ensures.same early) stands in
     memory-fault c.tallies_of.result (λ list. list.items ≡ tallies e)
-    (c.tallies_of.ensures.event e sound (c.as_slice.ensures.value ∙ (c.in-Ok.ensures.finds early).exact e s stands sound)
-    (c.as_slice-2.ensures.value ∙ (c.in-Ok-read_table.ensures.finds clean).exact e s here sound))
+    (c.tallies_of.ensures.event e sound (c.as_slice.ensures.value ∙ (c.in-Ok.ensures.finds early).exact stands.0 e s stands.1 sound)
+    (c.as_slice-2.ensures.value ∙ (c.in-Ok-read_table.ensures.finds clean).exact here.0 e s here.1 sound))
 
 -- the two reads change nothing
 same : (g : given.Over) (c : goal.After-drop-players-2 g) → HasCleanDisk (state g.S.Store c.read_table-2.new.conn)

@@ -9,7 +9,7 @@ use Rattle.er_store.proofs.transactions.recount.Goals as goal
 pub loop-played-init : goal.loop-played-init
 loop-played-init g c =
     let old = state g.S.Store c.args.tx.now.conn.now in
-    (refl, stays_self old, λ clean e s same moves stands. record { moves = moves; stands = stands })
+    (refl, stays_self old, λ clean l e s same moves stands. record { moves = moves; stands = stands })
 
 -- what holds of all holds of one
 one_match : (event : EventValue) (items : List Match) (at : ℕ) (m : Match) → AreOf event items → at < length items → m ≡ get_or items at m
@@ -41,9 +41,9 @@ loop-played-preserved g c =
     ∙ ap (λ x. take at items ++ x ∷ []) (sym c.played-item.is) in (
       c.recount_match.ensures.same_reference ∙ so_far.0,
       stays_then so_far.1 c.recount_match.ensures.stays,
-      λ clean e s same moves stands.
-          let was = so_far.2 (was_clean c.recount_match.ensures.stays.survives clean) e s same moves stands in
-          let made = c.in_ok-recount_match.ensures.makes clean e s (set_for_all (take at items) now before) same was.stands in
+      λ clean l e s same moves stands.
+          let was = so_far.2 (was_clean c.recount_match.ensures.stays.survives clean) l e s same moves stands in
+          let made = c.in_ok-recount_match.ensures.makes clean l e s (set_for_all (take at items) now before) same was.stands in
           let numbered = numbered_too e.players c.args.event.now.players same
           c.matches_to_recount-played-items.ensures.sound.players.numbered in
           rw (
@@ -58,14 +58,14 @@ pub returns-clause-same_reference : goal.returns-clause-same_reference
 returns-clause-same_reference g c = c.loop-played.invariant.0
 
 pub returns-clause-makes : goal.returns-clause-makes
-returns-clause-makes g c clean e s same moves stands =
+returns-clause-makes g c clean l e s same moves stands =
     let items = c.matches_to_recount-played-items.result.now in
     let now = totals (after c.args.event.now c.args.change.now) in
     let before = totals c.args.event.now in
     let told = c.matches_to_recount-played-items.ensures in
     let numbered = numbered_too e.players c.args.event.now.players same told.sound.players.numbered in
     rw (← rows_agree (set_for_all items now before) now e.players numbered (λ q low. all_set items now before told.others q))
-    (rw (take_all c.loop-played.played-index items c.loop-played-test.false) at (c.loop-played.invariant.2 clean e s same moves stands))
+    (rw (take_all c.loop-played.played-index items c.loop-played-test.false) at (c.loop-played.invariant.2 clean l e s same moves stands))
 
 pub returns-clause-stays : goal.returns-clause-stays
 returns-clause-stays g c = c.loop-played.invariant.1

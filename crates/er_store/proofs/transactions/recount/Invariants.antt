@@ -1,5 +1,5 @@
 use Rattle.er_store.proofs.Prelude.{◌≡◌, ℕ, take, HasCleanDisk, state, EventValue, after, tally_rows_by, numbers, totals, StandsWith, Stays}
-use Rattle.er_store.proofs.Prelude.{Moves, BringsToWith, set_for_all}
+use Rattle.er_store.proofs.Prelude.{Moves, BringsToWith, set_for_all, Layout}
 use Rattle.er_store.proofs.transactions.recount.Given as goal
 
 abbrev pub invariant-loop-played : goal.invariant-loop-played
@@ -7,6 +7,6 @@ invariant-loop-played g l =
     let old = state g.S.Store l.fn.tx.conn.now in
     let now = state g.S.Store l.tx.conn.now in
     (l.tx.conn.ghost_name ≡ l.fn.tx.conn.ghost_name) × Stays old now
-    × (HasCleanDisk now → (e : EventValue) (s : ℕ) → numbers e.players ≡ numbers l.event.players → Moves old old
-    → StandsWith old.now e s (tally_rows_by (totals l.event) e.players) → BringsToWith old now e s (tally_rows_by
+    × (HasCleanDisk now → (at : Layout) (e : EventValue) (s : ℕ) → numbers e.players ≡ numbers l.event.players → Moves at old old
+    → StandsWith at old.now e s (tally_rows_by (totals l.event) e.players) → BringsToWith at old now e s (tally_rows_by
     (set_for_all (take l.played-index l.played-items) (totals (after l.event l.change)) (totals l.event)) e.players))

@@ -1,9 +1,13 @@
 use Rattle.er_store.proofs.Prelude.{inl, rules, subst, sym, true, ◌+◌, ◌≡◌, on_ok_weaker, IfErr-weaker, HasCleanDisk, state, after, Shows}
-use Rattle.er_store.proofs.Prelude.{KeepsOthers, IsReady}
+use Rattle.er_store.proofs.Prelude.{KeepsOthers, KeepsRest, IsReady, Layout, Old, Database}
 use Rattle.er_store.proofs.{LoadLemmas.all_err, Crash.{uncommitted_keeps, dropped_keeps, was_clean, survives_both, leaves_old, written}}
 use Rattle.er_store.proofs.Crash.{leaves_either, shows_leaves}
 use Rattle.er_store.proofs.transactions.write_tables.Given as given
 use Rattle.er_store.proofs.transactions.write_tables.Goals as goal
+
+-- there is one layout
+only_old : (l : Layout) {old new : Database} → KeepsRest l old new → KeepsOthers old new
+only_old Old keeps = keeps
 
 -- the change went well, as it did where the commit is reached
 ready : (g : given.Over) (c : goal.After-conn-2-1 g) → HasCleanDisk (state g.S.Store c.commit.new.self.0)
@@ -12,8 +16,8 @@ ready : (g : given.Over) (c : goal.After-conn-2-1 g) → HasCleanDisk (state g.S
     × KeepsOthers (state g.S.Store c.args.conn.now).now (state g.S.Store c.change_event.new.tx.conn.now).now
 ready g c late was =
     let begins = rw c.transaction-tx.ensures.begun at (c.in_ok-change_event.ensures.makes (was_clean c.commit.ensures.survives late)) in
-    let made = begins was.stands in
-    (record { sound = made.moves.sound; stands = made.stands }, made.moves.keeps)
+    let made = begins was.stands.0 was.stands.1 in
+    (record { sound = made.moves.sound; stands = (was.stands.0, made.stands) }, only_old was.stands.0 made.moves.keeps)
 
 pub returns-clause-written : goal.returns-clause-written
 returns-clause-written g c clean was =

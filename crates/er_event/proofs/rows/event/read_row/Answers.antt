@@ -18,5 +18,5 @@ returns-clause-value c =
     let phase : row.phase ≡ pos (phase_code some.phase) = omega (arith, ints, some.ensures''.value) in
     let name : row.name ≡ c.in-Ok.name = sym (named.value ∙ c.as_slice.ensures) in
     let lawful = named.lawful.0 refl in
-    read_is row _ counted.0 id version serial name rounds cut phase counted.1
+    read_is row _ 1 counted.0 id version refl (λ first. omega (arith, limits.1)) serial name rounds cut phase counted.1
     (record { name = rw (sym named.value) at lawful; rounds = (limits.0, limits.1); cut = limits.2 })

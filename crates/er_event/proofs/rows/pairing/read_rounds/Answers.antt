@@ -2,13 +2,14 @@ use Rattle.er_event.proofs.Prelude.{FitRows, keyed_rows_from, Memory, Round, Lis
 use Rattle.er_event.proofs.Prelude.{subst, sym, take, ◌++◌, ◌+◌, ◌∙◌, ◌∷◌, ◌≡◌, ◌≤◌, common_steps, All-drop, length-drop, take_more}
 use Rattle.er_event.proofs.Prelude.{take_rest}
 use Rattle.er_event.proofs.{PairingLemmas.rounds_in_turn, RowLemmas.{drop_next, next_shown, next_within, none_left, value_more}}
+use Rattle.er_share.specs.declared.TheConstants.{MAX_ROUNDS}
 use Rattle.er_event.proofs.rows.pairing.read_rounds.Goals as goal
 
 pub loop-read-init : goal.loop-read-init
 loop-read-init c =
     let none = c.new-rounds.ensures.items in (
       omega arith,
-      subst (λ (rs : List Round). length rs ≤ 9) (sym none) (omega arith),
+      subst (λ (rs : List Round). length rs ≤ MAX_ROUNDS) (sym none) (omega arith),
       ap (keyed_rows_from 1) (sym none),
       λ rs all few are. subst (λ (l : List Round). (l ≡ take (length l) rs)
           × (c.args.rows.now ≡ keyed_rows_from (length l + 1) (drop (length l) rs))) (sym none) (refl, are),
