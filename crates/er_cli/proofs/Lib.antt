@@ -6,3 +6,4 @@ mod Sending
 mod Connecting
 mod Enrolling
 mod Examples
+mod GoingOn

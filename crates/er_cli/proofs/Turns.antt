@@ -50,8 +50,8 @@ pub stood_answers : (Stood : Type 0) (old new : Standing) (request : Request) (a
     → DeskAnswers ⊤ old request answer new
 stood_answers Stood old new (Submit command) answer stood it = it
 stood_answers Stood old new Players answer stood it = it
-stood_answers Stood old new Standings answer stood (read, reads, found, e) =
-    (read, reads, (λ _. read_stood Stood _ Memory old new read stood reads found), e)
+stood_answers Stood old new Standings answer stood (read, reads, found, e, fails) =
+    (read, reads, (λ _. read_stood Stood _ Memory old new read stood reads found), e, λ _ runs. fails (stood runs) runs)
 stood_answers Stood old new (Slips round) answer stood it = it
 stood_answers Stood old new Bracket answer stood it = it
 stood_answers Stood old new (Export kind) answer stood it = it

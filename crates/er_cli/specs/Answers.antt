@@ -1,6 +1,6 @@
 -- What a desk answers to a request.
 use Rattle.std.specs.Global.{Global}
-use Rattle.std.specs.Prelude.{◌≡◌, ◌⊎◌, ℕ, List, Option, Some, None, Result, Ok, Err, IfOk, Vec}
+use Rattle.std.specs.Prelude.{◌≡◌, ◌⊎◌, ℕ, Bool, IsFalse, List, [], ◌∷◌, Option, Some, None, Result, Ok, Err, IfOk, IfErr, Vec}
 use Rattle.er_event.specs.declared.refusals.Refusal.{Refusal}
 use Rattle.er_event.specs.declared.refusals.Refusal.TheVariants.{Memory, NoSuchMatch}
 use Rattle.er_event.specs.Event.{EventValue}
@@ -10,12 +10,14 @@ use Rattle.er_rank.specs.declared.rows.Row.{Row}
 use Rattle.er_desk.specs.Desk.{Standing, Turn, ReadsRows, ShowsEvent}
 use Rattle.er_desk.specs.Headline.{AreTheStandings}
 use Rattle.er_desk.specs.Reply.{Reply}
+use Rattle.er_desk.specs.Run.{Session, session_of, no_session}
+use Rattle.er_store.specs.Fault.{IsFault}
 use Rattle.er_words.specs.declared.action.Request.{Request}
 use Rattle.er_words.specs.declared.action.Request.TheVariants.{Submit, Players, Standings, Slips, Bracket, Export}
 use Rattle.er_words.specs.declared.action.ExportKind.{ExportKind}
 use Rattle.er_words.specs.declared.action.ExportKind.TheVariants as exported
 use Rattle.er_cli.specs.declared.texts.Answer.{Answer}
-use Rattle.er_cli.specs.declared.texts.Answer.TheVariants.{Accepted, Text, Refused}
+use Rattle.er_cli.specs.declared.texts.Answer.TheVariants.{Accepted, Text, Refused, Usage}
 
 abbrev pub reply_answer : Reply → Answer
 reply_answer (Ok receipt) = Accepted receipt
@@ -56,6 +58,23 @@ DeskAnswers Stood old Players answer new = ShowsEvent Refused old ShowsPlayers a
 DeskAnswers Stood old Standings answer new =
     (read : Result (Vec Row Global) Refusal) × ReadsRows old read new
     × (Stood → IfOk read (λ rows. AreTheStandings old.event rows.items)) × IsRowsAnswer old.event read answer
+    × (Stood → IsFalse old.stopped → IfErr read IsFault)
 DeskAnswers Stood old (Slips round) answer new = ShowsEvent Refused old (ShowsSlips round) answer × (new ≡ old)
 DeskAnswers Stood old Bracket answer new = ShowsEvent Refused old ShowsBracket answer × (new ≡ old)
 DeskAnswers Stood old (Export kind) answer new = ShowsEvent Refused old (ShowsExport kind) answer × (new ≡ old)
+
+-- the reply that an answer tells, where it tells one
+abbrev pub replies_of : Answer → List Reply
+replies_of (Accepted receipt) = Ok receipt ∷ []
+replies_of (Refused why) = Err why ∷ []
+replies_of (Text text) = []
+replies_of Usage = []
+
+-- what was asked of the file: one command with its reply, or nothing
+abbrev pub session_at : Request → Answer → Bool → Session
+session_at (Submit command) answer stopped = session_of (command ∷ []) (replies_of answer) stopped
+session_at Players answer stopped = no_session
+session_at Standings answer stopped = no_session
+session_at (Slips round) answer stopped = no_session
+session_at Bracket answer stopped = no_session
+session_at (Export kind) answer stopped = no_session

@@ -16,6 +16,7 @@ use Rattle.er_desk.specs.declared.desk.Desk.{Desk}
 use Rattle.er_desk.specs.Desk.{Standing, ShowsOwn, running_at, standing, state}
 use Rattle.er_desk.specs.History.{new_point}
 use Rattle.er_desk.specs.Reply.{receipt}
+use Rattle.er_desk.specs.Asking.{Asks}
 use Rattle.er_words.specs.declared.action.Action.{Action}
 use Rattle.er_words.specs.declared.action.Action.TheVariants.{Init, Open}
 use Rattle.er_words.specs.declared.action.Task.{Task}
@@ -28,7 +29,7 @@ use Rattle.er_cli.specs.Help.{Says, Tells}
 use Rattle.er_cli.specs.Importing.{Imports}
 use Rattle.er_cli.specs.Serving.{ConnectsUpTo, PrintsServed}
 use Rattle.er_cli.specs.Setup.{init_checks}
-use Rattle.er_cli.specs.Answers.{DeskAnswers}
+use Rattle.er_cli.specs.Answers.{DeskAnswers, session_at}
 use Rattle.er_cli.specs.Closing.{IsPutAway}
 
 -- there is no event in the file, or it is damaged, or memory or the device fails
@@ -71,6 +72,7 @@ abbrev pub Does : {S : Type 0} (g : Ghosts S) → Desk S g → Task → Desk S g
 Does g desk (Ask request) last out out_then err err_then status =
     (answer : Answer)
     × DeskAnswers (HasCleanDisk (state g last) × ShowsOwn g desk) (standing desk) request answer (standing last)
+    × Asks g desk (session_at request answer (standing last).stopped) last
     × Tells answer out out_then err err_then status
 Does g desk (Import list) last out out_then err err_then status = Imports (standing desk) (standing last) out out_then err err_then status
 Does g desk (Serve port count) last out out_then err err_then status =
@@ -90,9 +92,8 @@ module _ {D : Type 0} (g : disk.Ghosts D) (out out_then err err_then : Option (L
       (λ desk. IsPutAway g desk × Tells (Accepted (receipt 0)) out out_then err err_then status)
       (λ why. Tells (Refused why) out out_then err err_then status)
 
-  -- An event was opened, one thing was done with it, and its file put away.
-  pub record OpensFor (task : Task) : Type 0 where
-    pub desk : Desk (FileStore D g) over_files
+  -- An event was opened by this desk, one thing was done with it, and its file put away.
+  pub record OpensFor (task : Task) (desk : Desk (FileStore D g) over_files) : Type 0 where
     pub last : Desk (FileStore D g) over_files
     pub opened : IsOpened over_files desk
     pub does : Does over_files desk task last out out_then err err_then status
@@ -102,4 +103,6 @@ module _ {D : Type 0} (g : disk.Ghosts D) (out out_then err err_then : Option (L
   -- What a command line does to the output and the errors, and its status. An event is opened by a desk over such files.
   abbrev pub EndsLine : Action → Type 0
   EndsLine (Init name rounds cut) = Makes name rounds cut
-  EndsLine (Open task) = ((answer : Answer) × IsNotOpened answer × Tells answer out out_then err err_then status) ⊎ OpensFor task
+  EndsLine (Open task) =
+      ((answer : Answer) × IsNotOpened answer × Tells answer out out_then err err_then status)
+      ⊎ ((desk : Desk (FileStore D g) over_files) × OpensFor task desk)

@@ -2,7 +2,9 @@ ghost use Rattle.std.specs.Prelude.{◌≡◌, ◌⊎◌, IfOk, IsFalse, MatchRe
 ghost use Rattle.sqlite.specs.State.{HasCleanDisk};
 ghost use Rattle.er_desk.specs.Desk.{ShowsEvent, ShowsOwn, standing, state};
 ghost use Rattle.er_paper.specs.Texts.{rows_text};
-ghost use Rattle.er_cli.specs.Answers.{DeskAnswers, ShowsPlayers, ShowsSlips, ShowsBracket, ShowsExport, csv_of, reply_answer, slips_answer};
+ghost use Rattle.er_cli.specs.Answers.{DeskAnswers, ShowsPlayers, ShowsSlips, ShowsBracket, ShowsExport, csv_of, reply_answer, session_at, slips_answer};
+ghost use Rattle.er_desk.specs.Asking.{Asks};
+ghost use Rattle.er_desk.specs.Run.{no_session};
 ghost use Rattle.er_words.specs.declared.action.Request.TheVariants.{Standings};
 
 use crate::texts::Answer;
@@ -72,8 +74,7 @@ fn rows_answer<S: Alter>(alloc: Global, desk: &Desk<S>, rows: &[Row]) -> Answer
 fn standings<S: Alter>(alloc: Global, desk: &mut Desk<S>) -> Answer
     ensures answers { DeskAnswers (HasCleanDisk (state S.Store desk.new)
         × ShowsOwn S.Store desk.old) (standing desk.old) Standings result (standing desk.new) }
-    ensures stands { HasCleanDisk (state S.Store desk.new) → ShowsOwn S.Store desk.old
-        → IsFalse (standing desk.new).stopped → ShowsOwn S.Store desk.new }
+    ensures asked { Asks S.Store desk.old no_session desk.new }
 {
     match desk.stored_standings(alloc) {
         Ok(rows) => rows_answer(alloc, desk, rows.as_slice()),
@@ -119,12 +120,15 @@ fn export<S: Alter>(alloc: Global, desk: &Desk<S>, kind: ExportKind) -> Answer
 }
 
 /// What a desk answers. A text leaves it as it is, but for the standings where its store has a fault: these are read.
+#[tactic(auto, using(crate::proofs::GoingOn::replies_told))]
 pub fn answer<S: Alter>(alloc: Global, desk: &mut Desk<S>, request: Request) -> Answer
     ensures answers { DeskAnswers (HasCleanDisk (state S.Store desk.new)
         × ShowsOwn S.Store desk.old) (standing desk.old) request result (standing desk.new) }
-    ensures stands { HasCleanDisk (state S.Store desk.new) → ShowsOwn S.Store desk.old
-        → IsFalse (standing desk.new).stopped → ShowsOwn S.Store desk.new }
+    ensures asked { Asks S.Store desk.old
+        (session_at request result (standing desk.new).stopped) desk.new }
 {
+    // To look at a desk asks nothing of its file: this tells the proof.
+    desk.asks_nothing();
     match request {
         Request::Submit { command } => reply_answer(desk.submit(alloc, command)),
         Request::Standings => standings(alloc, desk),

@@ -1,13 +1,18 @@
-ghost use Rattle.std.specs.Prelude.{◌≡◌, ◌⊎◌, ◌≤◌, false, IsFalse, IfErr, MatchResult};
-ghost use Rattle.sqlite.specs.Files.{over_files};
+ghost use Rattle.std.specs.Prelude.{List, ◌≡◌, ◌⊎◌, ◌≤◌, true, false, IsFalse, IfErr, MatchResult};
+ghost use Rattle.sqlite.specs.Files.{over_files, IsCleanLeft, LeavesFiles};
+ghost use Rattle.sqlite_std_file.specs.File.{IsFresh};
+ghost use Rattle.sqlite_wal.specs.Files.{image_at};
 ghost use Rattle.er_event.specs.declared.commands.TheConstants.{MAX_SERIAL};
 ghost use Rattle.er_rules.specs.Sound.{IsSound};
 ghost use Rattle.er_event.specs.Sound.{AreLimits};
-ghost use Rattle.er_desk.specs.Desk.{standing};
+ghost use Rattle.er_desk.specs.Desk.{Point, standing};
+ghost use Rattle.er_desk.specs.History.{Ended};
+ghost use Rattle.er_desk.specs.Headline.{WasLeftBy};
+ghost use Rattle.er_cli.specs.GoingOn.{GoesOn, GoesOnIfThere, OnAsk, OnAsked};
 ghost use Rattle.er_desk.specs.Reply.{receipt};
 ghost use Rattle.er_words.specs.declared.action.Action.TheVariants.{Init, Open};
 ghost use Rattle.er_words.specs.Action.{action_of};
-ghost use Rattle.er_store.specs.Fault.{IsLoadFault};
+ghost use Rattle.er_store.specs.Fault.{IsFault};
 ghost use Rattle.er_cli.specs.Closing.{IsPutAway};
 ghost use Rattle.er_cli.specs.Files.{Does, EndsLine, InitReplies, IsNew, IsNotMade, IsOpened, Makes, OpensFor, ServesClients, StandsOn};
 ghost use Rattle.er_cli.specs.Help.{Tells};
@@ -20,10 +25,11 @@ use crate::serving::serve_on;
 use crate::setup::set_up;
 use crate::texts::Answer;
 use crate::{DEVICE, say_all, tell};
+use er_desk::laws::next_sessions;
 use er_desk::{Desk, opening_refusal};
 use er_event::{Cause, Name, Receipt, Refusal};
 use er_words::{Action, Line, Task};
-use sqlite::{Alter, Connection, FileFrom, FileStore, Wary};
+use sqlite::{Alter, Connection, FileFrom, FileStore, Start};
 use sqlite_disk::Disk;
 use std::fs;
 use std::io::Write;
@@ -31,7 +37,7 @@ use std::net::{Ipv4Addr, TcpListener};
 
 /// Sees whether a file is there. One that isn't has no event, and isn't made.
 fn find_file(rt: &HostRuntime, path: &str) -> Result<(), Refusal>
-    ensures { IfErr result (λ why. (why ≡ Refusal.NoEvent) ⊎ IsLoadFault why) }
+    ensures { IfErr result (λ why. (why ≡ Refusal.NoEvent) ⊎ IsFault why) }
 {
     match fs::exists(rt, path) {
         Ok(true) => Ok(()),
@@ -65,18 +71,19 @@ fn create_once<D: Disk + Drop>(
 }
 
 /// Makes an event in a file, which is made where it isn't there.
-fn create(
+fn create<S: Start>(
     rt: &HostRuntime,
     path: &str,
     name: Name,
     rounds: u8,
     cut: u8,
-) -> Result<Desk<FileStore<FileFrom<Wary>>>, Refusal>
+    start: S,
+) -> Result<Desk<FileStore<FileFrom<S>>>, Refusal>
     requires limits { AreLimits rounds cut }
     ensures { MatchResult result (IsNew name rounds cut) IsNotMade }
 {
     let log = log_to_make(rt, path);
-    match Connection::open_from(rt, path, false, Wary) {
+    match Connection::open_from(rt, path, false, start) {
         Ok(conn) => create_once(rt, conn, log.as_ref(), name, rounds, cut),
         Err((error, left)) => {
             clear_unopened(rt, left, log.as_ref());
@@ -86,17 +93,18 @@ fn create(
 }
 
 /// Makes an event in a file, once it is sure that it may be set up so.
-fn init(
+fn init<S: Start>(
     rt: &HostRuntime,
     path: &str,
     name: &[u8],
     rounds: u8,
     cut: u8,
-) -> Result<Desk<FileStore<FileFrom<Wary>>>, Refusal>
+    start: S,
+) -> Result<Desk<FileStore<FileFrom<S>>>, Refusal>
     ensures { InitReplies over_files name.now rounds cut result }
 {
     let name = set_up(rt.alloc(), name, rounds, cut)?;
-    create(rt, path, name, rounds, cut)
+    create(rt, path, name, rounds, cut, start)
 }
 
 /// Tells that an event was made, and closes its file once that is written.
@@ -115,19 +123,20 @@ fn tell_made<D: Disk + Drop, O: Write, E: Write>(
 }
 
 /// Makes an event, and tells so or why not.
-fn make<O: Write, E: Write>(
+fn make<S: Start, O: Write, E: Write>(
     rt: &HostRuntime,
     path: &str,
     name: &[u8],
     rounds: u8,
     cut: u8,
+    start: S,
     out: &mut O,
     err: &mut E,
 ) -> u8
-    ensures { Makes ⟦<FileFrom<Wary> as Disk>⟧ (O.contents out.old) (O.contents out.new)
+    ensures { Makes ⟦<FileFrom<S> as Disk>⟧ (O.contents out.old) (O.contents out.new)
         (E.contents err.old) (E.contents err.new) result name.now rounds cut }
 {
-    match init(rt, path, name, rounds, cut) {
+    match init(rt, path, name, rounds, cut, start) {
         Ok(desk) => tell_made(desk, out, err),
         Err(why) => tell_refusal(out, err, why),
     }
@@ -184,7 +193,7 @@ fn do_and_close<D: Disk + Drop, O: Write, E: Write>(
 ) -> u8
     requires opened { IsOpened over_files desk }
     ensures { OpensFor D.Disk (O.contents out.old) (O.contents out.new) (E.contents err.old)
-        (E.contents err.new) result task }
+        (E.contents err.new) result task desk }
 {
     let status = do_task(rt, &mut desk, task, out, err);
     put_away(desk);
@@ -199,37 +208,73 @@ fn tell_refusal<O: Write, E: Write>(out: &mut O, err: &mut E, why: Refusal) -> u
     tell(out, err, &Answer::Refused(why))
 }
 
-/// Opens the event in a file for a task. The file is opened before a list is read, and before anybody is listened to.
-fn open<O: Write, E: Write>(
+/// Opens the event in a file that is there for a task. The file is opened before a list is read, and before anybody is listened to.
+fn open<S: Start, O: Write, E: Write>(
     rt: &HostRuntime,
     path: &str,
     task: Task,
+    start: S,
     out: &mut O,
     err: &mut E,
 ) -> u8
-    ensures { EndsLine ⟦<FileFrom<Wary> as Disk>⟧ (O.contents out.old) (O.contents out.new)
+    ensures ends { EndsLine ⟦<FileFrom<S> as Disk>⟧ (O.contents out.old) (O.contents out.new)
         (E.contents err.old) (E.contents err.new) result (Open task) }
+    // Of a file that a history left, the history goes on with what the desk is asked.
+    ensures goes_on { (new first : Point) (ends : List Ended)
+        → WasLeftBy (image_at S.Start) new ends first
+        → OnAsk task
+        (λ request. GoesOn ⟦<FileFrom<S> as Disk>⟧
+        (λ left. (files : _) × IsFresh true files.log × IsFresh false files.db
+        × (IsCleanLeft left → LeavesFiles files left)) new ends first
+        (O.contents out.old) (O.contents out.new) (E.contents err.old) (E.contents err.new) result
+        request) }
 {
-    if let Err(why) = find_file(rt, path) {
-        return tell_refusal(out, err, why);
-    }
+    // What a session leaves is an end of the history with that session: this tells the proof.
+    next_sessions();
     let log = log_to_make(rt, path);
-    match er_desk::open(rt, path, Wary) {
+    match er_desk::open(rt, path, start) {
         Ok(desk) => do_and_close(rt, desk, task, out, err),
         Err(fault) => tell_refusal(out, err, clear_fault(rt, fault, log.as_ref())),
     }
 }
 
 /// Does what a command line asks of its file, and gives the status to end with.
-pub fn act<O: Write, E: Write>(rt: &HostRuntime, line: Line, out: &mut O, err: &mut E) -> u8
-    ensures { EndsLine ⟦<FileFrom<Wary> as Disk>⟧ (O.contents out.old) (O.contents out.new)
+pub fn act<S: Start, O: Write, E: Write>(
+    rt: &HostRuntime,
+    line: Line,
+    start: S,
+    out: &mut O,
+    err: &mut E,
+) -> u8
+    ensures ends { EndsLine ⟦<FileFrom<S> as Disk>⟧ (O.contents out.old) (O.contents out.new)
         (E.contents err.old) (E.contents err.new) result (action_of line) }
+    // Of a file that a history left, the history goes on with what the desk is asked, or the system says that it isn't there.
+    ensures goes_on { (new first : Point) (ends : List Ended)
+        → WasLeftBy (image_at S.Start) new ends first
+        → OnAsked (action_of line)
+        (λ request. GoesOnIfThere ⟦<FileFrom<S> as Disk>⟧
+        (λ left. (files : _) × IsFresh true files.log × IsFresh false files.db
+        × (IsCleanLeft left → LeavesFiles files left)) new ends first
+        (O.contents out.old) (O.contents out.new) (E.contents err.old) (E.contents err.new) result
+        request) }
 {
     let (file, action) = line.into_parts();
     match action {
         Action::Init { name, rounds, cut } => {
-            make(rt, file.as_str(), name.as_slice(), rounds, cut, out, err)
+            make(
+                rt,
+                file.as_str(),
+                name.as_slice(),
+                rounds,
+                cut,
+                start,
+                out,
+                err,
+            )
         }
-        Action::Open { task } => open(rt, file.as_str(), task, out, err),
+        Action::Open { task } => match find_file(rt, file.as_str()) {
+            Ok(()) => open(rt, file.as_str(), task, start, out, err),
+            Err(why) => tell_refusal(out, err, why),
+        },
     }
 }

@@ -1,10 +1,17 @@
 //! Command lines over the file of an event, and scripts over one in memory: does what their words ask and prints the answers.
 #![tactic(auto)]
 
-ghost use Rattle.std.specs.Prelude.{◌≡◌, ◌⊎◌, IfOk, IfSome, OnOk, OnErr, None, map, string_bytes};
+ghost use Rattle.std.specs.Prelude.{List, ◌≡◌, ◌⊎◌, true, false, IfOk, IfSome, OnOk, OnErr, None, map, string_bytes};
 ghost use Rattle.std.specs.Io.KnownBytes.{Appends};
 ghost use Rattle.er_cli.specs.Texts.{answer_text, AppendsPart};
+ghost use Rattle.sqlite.specs.Files.{IsCleanLeft, LeavesFiles};
+ghost use Rattle.sqlite_std_file.specs.File.{IsFresh};
+ghost use Rattle.sqlite_wal.specs.Files.{image_at};
+ghost use Rattle.er_desk.specs.Desk.{Point};
+ghost use Rattle.er_desk.specs.History.{Ended};
+ghost use Rattle.er_desk.specs.Headline.{WasLeftBy};
 ghost use Rattle.er_words.specs.Action.{action_of};
+ghost use Rattle.er_cli.specs.GoingOn.{GoesOnIfThere, OnAsked};
 ghost use Rattle.er_cli.specs.Complaints.{EndsAsUsage};
 ghost use Rattle.er_cli.specs.Files.{EndsLine};
 ghost use Rattle.er_cli.specs.declared.help.TheConstants.{AWAITING};
@@ -35,7 +42,7 @@ use help::{AWAITING, say, text_for};
 use input::{InputFault, lines_of, read_script};
 use script::run_lines;
 pub use serving::serve_on;
-use sqlite::{FileFrom, Wary};
+use sqlite::{FileFrom, Start, Wary};
 use sqlite_disk::Disk;
 use std::alloc::Global;
 use std::io::{Read, Write};
@@ -187,11 +194,51 @@ pub fn run<O: Write, E: Write>(rt: &HostRuntime, words: &[String], out: &mut O, 
         ⊎ Tells (Answer.Refused Refusal.Memory) (O.contents out.old) (O.contents out.new)
         (E.contents err.old) (E.contents err.new) result) }
 {
+    run_from(rt, words, Wary, out, err)
+}
+
+/// The same over any first contents of the file, for which `S` stands. No clause ties it to the path.
+pub fn run_from<S: Start, O: Write, E: Write>(
+    rt: &HostRuntime,
+    words: &[String],
+    start: S,
+    out: &mut O,
+    err: &mut E,
+) -> u8
+    // A text that the words ask for goes to the output.
+    ensures asked { IfSome (text_for (map string_bytes words.now))
+        (λ text. Says text DONE (record { meant = O.contents out.old; other = E.contents err.old })
+        (record { meant = O.contents out.new; other = E.contents err.new }) result) }
+    // Of what is no command line, the errors get what is wrong with it, and the output stays as it is.
+    ensures unread { text_for (map string_bytes words.now) ≡ None
+        → line_of (map string_bytes words.now) ≡ None
+        → EndsAsUsage (map string_bytes words.now) (O.contents out.old) (O.contents out.new)
+        (E.contents err.old) (E.contents err.new) result }
+    // What is one is answered as the event of the file has it, with the status of that answer. Memory may be wanting to read it.
+    ensures answered { text_for (map string_bytes words.now) ≡ None
+        → IfSome (line_of (map string_bytes words.now))
+        (λ line. EndsLine ⟦<FileFrom<S> as Disk>⟧ (O.contents out.old) (O.contents out.new)
+        (E.contents err.old) (E.contents err.new) result (action_of line)
+        ⊎ Tells (Answer.Refused Refusal.Memory) (O.contents out.old) (O.contents out.new)
+        (E.contents err.old) (E.contents err.new) result) }
+    // Of a file that a history of a new event left, the history goes on with the one command that is asked, or with nothing; the answer is that
+    // of the event at its end; and in the file that is closed then the next command line finds it. The system may say that the file isn't there,
+    // and memory may be wanting to read the words: then no file is opened.
+    ensures goes_on { (new first : Point) (ends : List Ended)
+        → WasLeftBy (image_at S.Start) new ends first
+        → text_for (map string_bytes words.now) ≡ None
+        → IfSome (line_of (map string_bytes words.now)) (λ line. OnAsked (action_of line)
+        (λ request. GoesOnIfThere ⟦<FileFrom<S> as Disk>⟧
+        (λ left. (files : _) × IsFresh true files.log × IsFresh false files.db
+        × (IsCleanLeft left → LeavesFiles files left)) new ends first
+        (O.contents out.old) (O.contents out.new) (E.contents err.old) (E.contents err.new) result
+        request)) }
+{
     if let Some(text) = text_for(words) {
         return say_all(out, text, DONE);
     }
     match read_words(rt.alloc(), words) {
-        Ok(line) => act(rt, line, out, err),
+        Ok(line) => act(rt, line, start, out, err),
         Err(LineFault::Usage) => say_usage(rt.alloc(), words, out, err),
         Err(LineFault::Memory) => tell(out, err, &Answer::Refused(Refusal::Memory)),
     }

@@ -7,3 +7,4 @@ mod Adopting
 mod Slips
 mod NextSession
 mod Resting
+mod Asking

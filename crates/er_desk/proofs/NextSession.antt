@@ -1,18 +1,19 @@
 -- A session goes on from where a history has ended.
 use Rattle.std.proofs.{lemmas.Grind.common_steps, Common.{◌≡◌, List, [], ◌∷◌, ◌++◌, Result, Ok, Err, IfOk, IfErr, MatchResult, IsFalse}}
-use Rattle.std.proofs.Common.{Vec, Global, inl, refl, sym, subst, arith}
+use Rattle.std.proofs.Common.{Vec, Global, Option, None, IfSome, inl, refl, sym, subst, arith}
 use Rattle.std.proofs.Math.Logic.{∥∥₁_elim}
 use Rattle.sqlite_trees.specs.declared.store.Store.{Ghosts}
 use Rattle.sqlite_trees.specs.Props.{Trees-set}
 use Rattle.sqlite.specs.{State.HasCleanDisk, Files.{HoldsDatabase, file_state}, Tree.Trees}
 use Rattle.sqlite_wal.specs.Recovery.{Image}
 use Rattle.er_event.specs.declared.commands.Command.{Command}
-use Rattle.er_rules.specs.Sound.{IsSound}
+use Rattle.er_event.specs.Event.{EventValue}
+use Rattle.er_rules.specs.{Sound.IsSound, Step.Steps}
 use Rattle.er_store.specs.Standing.{IsStored, Leaves}
 use Rattle.er_desk.specs.{declared.desk.Desk.Desk, declared.opening.OpenFault.OpenFault, declared.opening.OpenFault.TheVariants.Unopened}
 use Rattle.er_desk.specs.{declared.opening.OpenFault.TheVariants.Refused, Reply.Reply, Desk.{Point, Standing, ShowsOwn, point_of, state}}
 use Rattle.er_desk.specs.{Desk.{standing, running_at}, Opening.OnRefused, Run.{Session, MayEnd, IsRun, IsStoredEnd, session_of, no_session}}
-use Rattle.er_desk.specs.{History.{Ended, IsHistory}, Headline.{Histories, IsEndOf, FindsAgain, LeavesEnd, NextBegins, WasLeftBy, and_then}}
+use Rattle.er_desk.specs.{History.{Ended, IsHistory, LeadsTo}, Headline.{Histories, IsEndOf, FindsAgain, LeavesEnd, NextBegins, WasLeft, WasLeftBy, and_then}}
 use Rattle.sqlite_disk.specs.declared.Disk as disk
 
 history_more : (new first : Point) (ends : List Ended) (it : Ended) → IsHistory new ends first → MayEnd first it.session it.last
@@ -23,6 +24,14 @@ history_more new first (before ∷ more) it (ended, rest) may = (ended, history_
 -- nothing was asked, and what is left is what was there
 pub quiet_end : (first : Point) (trees : Trees) → IsStored first.event first.serial trees → IsStoredEnd first no_session trees
 quiet_end first trees stored = (first, inl (record { event = refl; serial = omega arith; taken = tt }), stored)
+
+-- a session that leaves nothing in doubt ends where its acknowledged commands lead
+sure_end : (first : Point) (session : Session) (last : Point) → LeadsTo first session.kept last → session.doubt ≡ None → MayEnd first session last
+sure_end first session last leads sure = inl (record {
+  event = leads.event;
+  serial = leads.serial;
+  taken = subst (λ (o : Option Command). IfSome o (λ (c : Command). (n : EventValue) × Steps last.event c (Ok n))) (sym sure) tt;
+})
 
 module _ (law : Histories) (image : Image) (new first : Point) (ends : List Ended) (was : WasLeftBy image new ends first) where
   ends_so : (all : List Ended) (last : Point) → IsHistory new all last → IsEndOf new all last
@@ -37,6 +46,18 @@ module _ (law : Histories) (image : Image) (new first : Point) (ends : List Ende
   next_begins session trees (last, may, stored) =
       let history = history_more new first ends (record { session = session; last = last }) was.history may in
       record { last = last; history = history; is_end = ends_so (and_then ends session last) last history; stored = stored }
+
+  -- files that stand for the sure end of the session were left by the history with it
+  pub next_leaves : (session : Session) (last : Point) (left : Image) → LeadsTo first session.kept last → session.doubt ≡ None
+      → WasLeft left last → WasLeftBy left new (and_then ends session last) last
+  next_leaves session last left leads sure stored = record {
+    name = was.name;
+    limits = was.limits;
+    is_new = was.is_new;
+    set_up = was.set_up;
+    history = history_more new first ends (record { session = session; last = last }) was.history (sure_end first session last leads sure);
+    left = stored;
+  }
 
   -- nothing was asked
   pub quiet_begins : (trees : Trees) → IsStored first.event first.serial trees → NextBegins new ends no_session trees

@@ -6,7 +6,7 @@ use Rattle.sqlite_wal.specs.Recovery.{Image}
 use Rattle.sqlite_wal.specs.Reads.{AreClean}
 use Rattle.sqlite_trees.specs.View.{IsClean}
 use Rattle.sqlite_store.specs.declared.store.FileStore.{FileStore}
-use Rattle.sqlite_store.specs.FileStore.{files as store_files, log_frames, view, recovers}
+use Rattle.sqlite_store.specs.FileStore.{files as store_files, log_frames, view}
 use Rattle.sqlite.specs.declared.error.Error.{Error}
 use Rattle.sqlite.specs.{Tree.Trees, Effect.{Database}, State.{State, HasCleanDisk}, Held.{Held}}
 use Rattle.sqlite.specs.Files.{file_state, over_files, IsClosed, FailsToClose}
@@ -65,6 +65,7 @@ module _ {D : Type 0} {g : Ghosts D} (desk : Desk (FileStore D g) over_files) (c
       → IfErr closed (λ it. IsClosed conn it.1 × (IsClean (view it.1) → FailsToClose conn it.1 it.0))
       → IsClosedAs desk closed
   is_closed_as (Ok files) left ok copied usable err = record {
+    clean = λ clean. subst (λ (h : Held (FileStore D g)). HasCleanDisk (file_state h)) is (copied clean).was_clean;
     rests = λ clean shows. are_at_rest files (copied clean) shows;
     spares = (ok.0, ok.1, leaves_no_more ok.0 ok.2);
     usable = usable;
@@ -72,6 +73,7 @@ module _ {D : Type 0} {g : Ghosts D} (desk : Desk (FileStore D g) over_files) (c
     why = tt;
   }
   is_closed_as (Err it) left ok copied usable err = record {
+    clean = tt;
     rests = tt;
     spares = tt;
     usable = tt;

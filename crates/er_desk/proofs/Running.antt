@@ -26,10 +26,10 @@ accepts_of : (old new : Standing) (command : Command) (receipt : Receipt) → Tu
 accepts_of old new command receipt h1 = grind (arith, common_steps)
 
 -- a refusal leaves the event and its serial
-stays : (old new : Standing) (command : Command) (why : Refusal) → Turn old command (Err why) new → point_of new ≡ point_of old
+pub stays : (old new : Standing) (command : Command) (why : Refusal) → Turn old command (Err why) new → point_of new ≡ point_of old
 stays old new command why h1 = grind (arith, common_steps)
 
-stops_now : (old new : Standing) (command : Command) (reply : Reply) → IsFalse old.stopped → IsTrue new.stopped → Turn old command reply new
+pub stops_now : (old new : Standing) (command : Command) (reply : Reply) → IsFalse old.stopped → IsTrue new.stopped → Turn old command reply new
     → Stops old command reply new
 stops_now old new command reply runs stopped turn =
     elim (stops_of old new command reply turn stopped) [ inl was ↦ absurd (true≢false (sym was ∙ runs)) | inr stops ↦ stops ]

@@ -3,7 +3,8 @@
 --
 -- Headline says just that, in few lines, each of which a public call cites; begin there. Reply says which replies to a
 -- command are lawful, Desk what one command does to a desk, and Run what a list of them does. History is many sessions,
--- one after the other, Resuming sessions that send from one list, and Opening why a file was not opened.
+-- one after the other, Resuming sessions that send from one list, Asking what a call does to the file, Opening why a file was not opened, and
+-- Closing what it holds once it is closed.
 pub mod Reply
 pub mod Desk
 pub mod Run
@@ -12,3 +13,4 @@ pub mod History
 pub mod Resuming
 pub mod Opening
 pub mod Closing
+pub mod Asking

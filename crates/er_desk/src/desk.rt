@@ -67,6 +67,9 @@ impl<S: Alter> Desk<S> {
     ghost use Rattle.er_desk.specs.Headline.{IsEmptyFile, LeavesJust, LeavesEither, LeavesEnd, FindsAgain, RepeatsNobody, AreTheStandings};
     ghost use Rattle.er_desk.specs.History.{new_point};
     ghost use Rattle.er_desk.specs.Opening.{NamesFirstFault};
+    ghost use Rattle.std.specs.Prelude.{[], ◌∷◌};
+    ghost use Rattle.er_desk.specs.Run.{no_session};
+    ghost use Rattle.er_desk.specs.Asking.{Asks};
 
     /// Makes the tables of a new event. Its limits are checked before the file is touched. A refusal gives the connection back.
     pub fn create(
@@ -243,6 +246,7 @@ impl<S: Alter> Desk<S> {
     /// The standings of the event, by the totals and the meetings that its tables keep. It changes no table. Standings, and want of memory to work them out, leave the desk as it is.
     pub fn stored_standings(&mut self, alloc: Global) -> Result<Vec<Row>, Refusal>
         ensures turn { ReadsRows (standing self.old) result (standing self.new) }
+        ensures asked { Asks S.Store self.old no_session self.new }
         ensures waits { IsTrue (standing self.old).stopped → self.new ≡ self.old }
 
         // Where the tables stand for the event, they are its standings. Of a desk that runs, memory or the store fails else.
@@ -278,6 +282,7 @@ impl<S: Alter> Desk<S> {
     /// Reads the slip of a match. It changes no table. A slip, or no such match, leaves the desk as it is.
     pub fn slip(&mut self, alloc: Global, round: u8, table: u16) -> Result<SlipRow, Refusal>
         ensures turn { ReadsSlip (standing self.old) result (standing self.new) }
+        ensures asked { Asks S.Store self.old no_session self.new }
         ensures waits { IsTrue (standing self.old).stopped → self.new ≡ self.old }
 
         // Where the tables stand for the event, what is found is its slip. Of a desk that runs there is no such match else, or memory or the store fails.
@@ -309,6 +314,14 @@ impl<S: Alter> Desk<S> {
         let read = self.store.slip(alloc, round, table);
         self.needs_reopen = matches!(read, Err(Refusal::Memory | Refusal::Store { .. }));
         read
+    }
+
+    /// A desk that is only looked at asks nothing of its file. It is a law, with no code of its own.
+    pub fn asks_nothing(&self)
+        ensures { Asks S.Store self.now no_session self.now }
+    {
+        // What the tables stand for, a crash leaves: this tells the proof.
+        shown_is_stored(&self.store);
     }
 
     /// Whether a fault of the store is behind, so that the file is to be opened anew.
@@ -437,6 +450,9 @@ impl<S: Alter> Desk<S> {
     /// Takes a command. Where it is refused, and the store has no fault, all stays as it was.
     pub fn submit(&mut self, alloc: Global, command: Command) -> Reply
         ensures turn { Turn (standing self.old) command result (standing self.new) }
+        // What it does to the file: a session of this one command.
+        ensures asked { Asks S.Store self.old
+            (session_of (command ∷ []) (result ∷ []) (standing self.new).stopped) self.new }
         // A fault of the store stops the desk, and nothing else does. `NeedsReopen` comes exactly where it was stopped.
         ensures stops { IsTrue (standing self.new).stopped
             ↔ (IsTrue (standing self.old).stopped

@@ -2,7 +2,6 @@ use Rattle.er_cli.proofs.files.do_and_close.Goals as goal
 
 pub returns : goal.returns
 returns g c = record {
-  desk = c.args.desk;
   last = c.do_task-status.new.desk;
   opened = c.requires.opened;
   does = c.do_task-status.ensures.does;

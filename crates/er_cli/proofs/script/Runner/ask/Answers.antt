@@ -13,4 +13,4 @@ returns-in-Some-clause-acts c =
 pub returns-in-Some-clause-written : goal.returns-in-Some-clause-written
 unfolding doubt
 returns-in-Some-clause-written c runs =
-    c.answer.ensures.stands refl ((rw c.in-Some.is at c.requires) (ran_before _ _ _ _ _ c.answer.ensures.answers runs)) runs
+    c.answer.ensures.asked.stands refl ((rw c.in-Some.is at c.requires) (ran_before _ _ _ _ _ c.answer.ensures.answers runs)) runs

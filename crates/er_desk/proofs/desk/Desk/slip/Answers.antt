@@ -3,6 +3,7 @@ use Rattle.er_event.specs.declared.refusals.Refusal.{Refusal, TheVariants.{NoSuc
 use Rattle.er_store.specs.Store as tables
 use Rattle.er_desk.specs.Desk.{state, standing}
 use Rattle.er_desk.proofs.{Turns.{keeps_self, same_keeps}, Slips.{read_others, reads, still_shows}}
+use Rattle.er_desk.proofs.Asking.{reading_asks, same_asks}
 use Rattle.er_desk.proofs.desk.Desk.slip.Goals as goal
 
 pub returns-clause-turn : goal.returns-clause-turn
@@ -68,3 +69,12 @@ returns-then-self-clause-others g c clean shows is_open = keeps_self (state g.S.
 
 pub returns-then-self-clause-crash : goal.returns-then-self-clause-crash
 returns-then-self-clause-crash g c shows = c.shown_is_stored.ensures _ _ shows
+
+-- ---- the two as one record
+
+pub returns-clause-asked : goal.returns-clause-asked
+returns-clause-asked g c = reading_asks g.S.Store c.args.self.now _ (returns-clause-waits g c) refl (returns-clause-clean g c)
+    (returns-clause-stands g c) (returns-clause-others g c) (returns-clause-crash g c)
+
+pub returns-then-self-clause-asked : goal.returns-then-self-clause-asked
+returns-then-self-clause-asked g c = same_asks g.S.Store c.args.self.now (returns-then-self-clause-crash g c)

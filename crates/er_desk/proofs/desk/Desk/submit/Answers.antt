@@ -1,3 +1,4 @@
+use Rattle.er_desk.proofs.Asking.{command_crash, command_leads, command_sure, command_waits}
 use Rattle.er_desk.proofs.Turns.{turn_budget, turn_searched}
 use Rattle.er_desk.proofs.desk.Desk.submit.Goals as goal
 
@@ -47,3 +48,18 @@ returns-clause-undecided g c = c.take.ensures.undecided
 
 pub returns-clause-refused : goal.returns-clause-refused
 returns-clause-refused g c = c.take.ensures.refused
+
+pub returns-clause-asked : goal.returns-clause-asked
+returns-clause-asked g c =
+    let old = c.args.self.now in
+    let new = c.take.new.self in
+    let took = c.take.ensures in
+    record {
+      waits = command_waits g.S.Store old new c.args.command c.take.result took.turn took.waits;
+      leads = command_leads g.S.Store old new c.args.command c.take.result took.turn;
+      sure = command_sure g.S.Store old new c.args.command c.take.result took.turn;
+      clean = took.clean;
+      stands = took.stands;
+      others = took.others;
+      crash = command_crash g.S.Store old new c.args.command c.take.result took.turn took.acknowledged took.undecided took.refused;
+    }

@@ -1,0 +1,281 @@
+-- A history goes on with what a command line asks.
+use Rattle.std.proofs.{lemmas.Grind.common_steps, Common.{◌≡◌, ◌⊎◌, inl, inr, ℕ, Bool, true, false, IsTrue, IsFalse, List, [], ◌∷◌, Option, None}}
+use Rattle.std.proofs.Common.{Vec, Global, Result, MatchResult, Ok, Err, IfOk, IfErr, is_ok, refl, sym, ap, subst, ◌∙◌, arith, true≢false}
+use Rattle.sqlite.specs.{Tree.Trees, State.HasCleanDisk, Files.{HoldsDatabase, file_state, image_of, over_files}, declared.file.Leftover.Leftover}
+use Rattle.sqlite_disk.specs.declared.Disk as disk
+use Rattle.sqlite_disk.specs.declared.Files.{Files}
+use Rattle.sqlite_wal.specs.{Recovery.Image, Reads.AreClean}
+use Rattle.sqlite_store.specs.declared.store.FileStore.{FileStore}
+use Rattle.sqlite.specs.declared.error.Error.{Error}
+use Rattle.er_event.specs.{declared.commands.Command.Command, declared.commands.Receipt.Receipt, declared.refusals.Refusal.Refusal}
+use Rattle.er_event.specs.{declared.refusals.Refusal.TheVariants.{Memory, NoEvent}, Event.EventValue}
+use Rattle.er_rank.specs.declared.rows.Row.{Row}
+use Rattle.er_store.specs.{Fault.{IsFault, IsLoadFault}, Standing.{IsStored, Leaves}}
+use Rattle.er_desk.specs.{declared.desk.Desk.Desk, Desk.{Point, Standing, Turn, Reads, ShowsEvent, ShowsOwn, point_of, standing, state}}
+use Rattle.er_desk.specs.{Reply.{Reply, IsLawful}, Run.{Session, IsStoredEnd, no_session}, History.{Ended, LeadsTo}, Headline.{FindsAgain, NextBegins, WasLeftBy}}
+use Rattle.er_desk.specs.{Headline.AreTheStandings, Asking.{Asks, NextSessions}, Closing.{IsAtRest, IsClosedAs, LeavesNoMore}}
+use Rattle.sqlite_store.specs.FileStore.{files as store_files}
+use Rattle.std.proofs.Math.Logic.{∥∥₁_elim}
+use Rattle.sqlite_trees.specs.Props.{Trees-set}
+use Rattle.er_desk.specs.{declared.opening.OpenFault.OpenFault, declared.opening.OpenFault.TheVariants.Unopened as NotOpened}
+use Rattle.er_desk.specs.{declared.opening.OpenFault.TheVariants.Refused as OpenedInVain, Opening.{OnRefused, OnLeft, IsCleanFault, why_of}}
+use Rattle.er_words.specs.{declared.action.Task.Task, declared.action.Task.TheVariants.{Ask, Import, Serve}}
+use Rattle.er_words.specs.{declared.action.Request.Request, declared.action.Request.TheVariants.{Submit, Players, Standings, Slips}}
+use Rattle.er_words.specs.{declared.action.Request.TheVariants.{Bracket, Export}}
+use Rattle.er_cli.specs.{declared.texts.Answer.Answer, declared.texts.Answer.TheVariants.{Accepted, Text, Refused, Usage}, Answers.{DeskAnswers, IsRowsAnswer}}
+use Rattle.er_cli.specs.{Answers.{reply_answer, replies_of, session_at, ShowsPlayers, ShowsSlips, ShowsBracket, ShowsExport}, GoingOn.{Answered, FindsNext, IsAnswerAt, IsLeftNext, OrFault, ShowsStandings}}
+use Rattle.er_cli.specs.{GoingOn.{IsAbsent, OnAsk, OnAsked, GoesOn, GoesOnIfThere}, Files.{IsNotOpened, OpensFor}, Help.Tells}
+use Rattle.er_words.specs.{declared.action.Action.Action, declared.action.Action.TheVariants.{Init, Open}}
+
+not_found : (why : Refusal) → (why ≡ NoEvent) ⊎ IsFault why → (why ≡ NoEvent) ⊎ IsLoadFault why
+not_found why (inl none) = inl none
+not_found why (inr fault) = inr (inl fault)
+
+pub not_opened : (why : Refusal) → (why ≡ NoEvent) ⊎ IsFault why → IsNotOpened (Refused why)
+not_opened why found = (why, not_found why found, refl)
+
+pub is_absent : (why : Refusal) → (why ≡ NoEvent) ⊎ IsFault why → IsAbsent (Refused why)
+is_absent why (inl none) = inl (ap (λ (w : Refusal). Refused w) none)
+is_absent why (inr fault) = inr (why, fault, refl)
+
+pub replies_told : (reply : Reply) → replies_of (reply_answer reply) ≡ reply ∷ []
+replies_told (Ok receipt) = refl
+replies_told (Err why) = refl
+
+-- ---- the answer
+
+lawful_turn : (old new : Standing) (c : Command) (r : Reply) → Turn old c r new → IsFalse old.stopped
+    → IsLawful old.event old.serial c r
+lawful_turn old new c r h1 runs = grind (arith, common_steps)
+
+shown : (old : Standing) (Shows : EventValue → Answer → Type 0) (answer : Answer) → IsFalse old.stopped → ShowsEvent Refused old Shows answer
+    → OrFault (Shows old.event answer) answer
+shown old Shows answer runs (inl (going, inl shows)) = inl shows
+shown old Shows answer runs (inl (going, inr want)) = inr (Memory, inl refl, want)
+shown old Shows answer runs (inr (stopped, want)) = absurd (true≢false (sym stopped ∙ runs))
+
+rows_shown : (old : Standing) (read : Result (Vec Row Global) Refusal) (answer : Answer) → IfOk read (λ rows. AreTheStandings old.event rows.items)
+    → IfErr read IsFault → IsRowsAnswer old.event read answer → OrFault (ShowsStandings (point_of old) answer) answer
+rows_shown old (Ok rows) answer are fault (inl is) = inl (rows.items, are, is)
+rows_shown old (Ok rows) answer are fault (inr want) = inr (Memory, inl refl, want)
+rows_shown old (Err why) answer are fault is = inr (why, fault, is)
+
+pub answer_at : (Stood : Type 0) (old new : Standing) (request : Request) (answer : Answer) → Stood → IsFalse old.stopped
+    → DeskAnswers Stood old request answer new → IsAnswerAt (point_of old) request answer
+answer_at Stood old new (Submit command) answer stood runs (reply, turn, is) = (reply, lawful_turn old new command reply turn runs, is)
+answer_at Stood old new Players answer stood runs it = shown old ShowsPlayers answer runs it.0
+answer_at Stood old new Standings answer stood runs (read, reads, are, is, fails) =
+    rows_shown old read answer (are stood) (fails stood runs) is
+answer_at Stood old new (Slips round) answer stood runs it = shown old (ShowsSlips round) answer runs it.0
+answer_at Stood old new Bracket answer stood runs it = shown old ShowsBracket answer runs it.0
+answer_at Stood old new (Export kind) answer stood runs it = shown old (ShowsExport kind) answer runs it.0
+
+-- ---- a receipt
+
+abbrev is_submitted : Request → Bool
+is_submitted (Submit command) = true
+is_submitted Players = false
+is_submitted Standings = false
+is_submitted (Slips round) = false
+is_submitted Bracket = false
+is_submitted (Export kind) = false
+
+abbrev command_or : Command → Request → Command
+command_or other (Submit command) = command
+command_or other Players = other
+command_or other Standings = other
+command_or other (Slips round) = other
+command_or other Bracket = other
+command_or other (Export kind) = other
+
+abbrev is_accepted : Answer → Bool
+is_accepted (Accepted receipt) = true
+is_accepted (Text text) = false
+is_accepted (Refused why) = false
+is_accepted Usage = false
+
+turn_runs : (old new : Standing) (c : Command) (receipt : Receipt) → Turn old c (Ok receipt) new → IsFalse new.stopped
+turn_runs old new c receipt (inl it) = it.runs
+turn_runs old new c receipt (inr (inl it)) = absurd (true≢false (ap is_ok it.answered))
+turn_runs old new c receipt (inr (inr (inl it))) = absurd (true≢false (ap is_ok it.answered))
+turn_runs old new c receipt (inr (inr (inr it))) = absurd (true≢false (ap is_ok it.answered))
+
+abbrev pub one_kept : Command → Session
+one_kept command = record { kept = command ∷ []; doubt = None }
+
+other_kept : (request : Request) (answer : Answer) (stopped : Bool) (command : Command) → request ≡ Submit command → is_submitted request ≡ false
+    → session_at request answer stopped ≡ one_kept command
+other_kept request answer stopped command asked other = absurd (true≢false (sym (ap is_submitted asked) ∙ other))
+
+pub kept_alone : (Stood : Type 0) (old new : Standing) (request : Request) (answer : Answer) → DeskAnswers Stood old request answer new
+    → (command : Command) (receipt : Receipt) → request ≡ Submit command → answer ≡ Accepted receipt
+    → session_at request answer new.stopped ≡ one_kept command
+kept_alone Stood old new (Submit c) answer (Ok given, turn, is) command receipt asked told =
+    subst (λ (a : Answer). session_at (Submit c) a new.stopped ≡ one_kept command) (sym is)
+    (subst (λ (b : Bool). session_at (Submit c) (Accepted given) b ≡ one_kept command) (sym (turn_runs old new c given turn))
+    (ap one_kept (ap (command_or c) asked)))
+kept_alone Stood old new (Submit c) answer (Err why, turn, is) command receipt asked told =
+    absurd (true≢false (sym (ap is_accepted told) ∙ ap is_accepted is))
+kept_alone Stood old new Players answer it command receipt asked told = other_kept Players answer new.stopped command asked refl
+kept_alone Stood old new Standings answer it command receipt asked told = other_kept Standings answer new.stopped command asked refl
+kept_alone Stood old new (Slips round) answer it command receipt asked told = other_kept (Slips round) answer new.stopped command asked refl
+kept_alone Stood old new Bracket answer it command receipt asked told = other_kept Bracket answer new.stopped command asked refl
+kept_alone Stood old new (Export kind) answer it command receipt asked told = other_kept (Export kind) answer new.stopped command asked refl
+
+-- ---- a fault of the store
+
+turn_fault : (old new : Standing) (c : Command) (r : Reply) → Turn old c r new → IsFalse old.stopped → IsTrue new.stopped
+    → (why : Refusal) × IsFault why × (r ≡ Err why)
+turn_fault old new c r (inl it) runs stopped = absurd (true≢false (sym stopped ∙ it.runs))
+turn_fault old new c r (inr (inl it)) runs stopped =
+    absurd (true≢false (sym stopped ∙ (ap (λ (s : Standing). s.stopped) it.same ∙ runs)))
+turn_fault old new c r (inr (inr (inl it))) runs stopped = (it.why, it.fault, it.answered)
+turn_fault old new c r (inr (inr (inr it))) runs stopped = absurd (true≢false (sym it.was_stopped ∙ runs))
+
+still : {P : Type 0} (old new : Standing) → new ≡ old → IsFalse old.stopped → IsTrue new.stopped → P
+still old new same runs stopped = absurd (true≢false (sym stopped ∙ (ap (λ (s : Standing). s.stopped) same ∙ runs)))
+
+read_fault : (old : Standing) (read : Result (Vec Row Global) Refusal) (answer : Answer) → IfErr read IsFault → IsRowsAnswer old.event read answer
+    → (IsTrue (is_ok read) → ⊥) → OrFault ⊥ answer
+read_fault old (Ok rows) answer fault is not = absurd (not refl)
+read_fault old (Err why) answer fault is not = inr (why, fault, is)
+
+reads_stopped : {A : Type 0} (old new : Standing) (read : Result A Refusal) → Reads Memory old read new → IsFalse old.stopped
+    → IsTrue new.stopped → IsTrue (is_ok read) → ⊥
+reads_stopped old new read (inl (going, same, was)) runs stopped fine = still old new same runs stopped
+reads_stopped old new read (inr (inl (going, same, why, fault, is))) runs stopped fine = true≢false (sym fine ∙ ap is_ok is)
+reads_stopped old new read (inr (inr (was, same, is))) runs stopped fine = true≢false (sym was ∙ runs)
+
+pub doubt_fault : (Stood : Type 0) (old new : Standing) (request : Request) (answer : Answer) → Stood → IsFalse old.stopped
+    → DeskAnswers Stood old request answer new → IsTrue new.stopped → OrFault ⊥ answer
+doubt_fault Stood old new (Submit command) answer stood runs (reply, turn, is) stopped =
+    let it = turn_fault old new command reply turn runs stopped in
+    inr (it.0, it.1, is ∙ ap reply_answer it.2)
+doubt_fault Stood old new Players answer stood runs it stopped = still old new it.1 runs stopped
+doubt_fault Stood old new Standings answer stood runs (read, reads, are, is, fails) stopped =
+    read_fault old read answer (fails stood runs) is (reads_stopped old new read reads runs stopped)
+doubt_fault Stood old new (Slips round) answer stood runs it stopped = still old new it.1 runs stopped
+doubt_fault Stood old new Bracket answer stood runs it stopped = still old new it.1 runs stopped
+doubt_fault Stood old new (Export kind) answer stood runs it stopped = still old new it.1 runs stopped
+
+-- ---- the file
+
+module _ (law : NextSessions) (image : Image) (new first : Point) (ends : List Ended) (was : WasLeftBy image new ends first) where
+  -- files at rest at this point are found by the next command line
+  finds_next : (session : Session) (last : Point) → LeadsTo first session.kept last → session.doubt ≡ None → (left : Image)
+      → IsAtRest left last → FindsNext new ends session last left
+  finds_next session last leads sure left rest =
+      let it = law image new first ends was in
+      record { both = it.leaves session last left leads sure rest.both; alone = it.leaves session last _ leads sure rest.alone }
+
+  module _ {D : Type 0} (d : disk.Ghosts D) where
+    module _ (desk last : Desk (FileStore D d) over_files) (request : Request) (answer : Answer)
+        (found : HasCleanDisk (state over_files desk) → FindsAgain over_files desk first)
+        (asked : Asks over_files desk (session_at request answer (standing last).stopped) last) where
+      abbrev session : Session
+      session = session_at request answer (standing last).stopped
+
+      leads_there : HasCleanDisk (state over_files last) → LeadsTo first session.kept (point_of (standing last))
+      leads_there clean =
+          subst (λ (p : Point). LeadsTo p session.kept (point_of (standing last))) (found (asked.clean clean)).found asked.leads
+
+      rests_next : (closed : Result (Files D) (Error × FileStore D d)) → IsClosedAs last closed
+          → IfOk closed (λ files. AreClean d files.log files.db → IsFalse (standing last).stopped
+          → IsLeftNext d new ends session (point_of (standing last)) files)
+      rests_next (Ok files) it = λ clean runs.
+          let was_clean = it.clean clean in
+          let rest = it.rests clean (asked.stands was_clean (found (asked.clean was_clean)).shows runs) in
+          record {
+            seen = finds_next session (point_of (standing last)) (leads_there was_clean) (asked.sure runs) (image_of d files) rest.seen;
+            left = λ left may. finds_next session (point_of (standing last)) (leads_there was_clean) (asked.sure runs) left (rest.left left may);
+          }
+      rests_next (Err why) it = tt
+
+      stays_next : (closed : Result (Files D) (Error × FileStore D d)) → IsClosedAs last closed
+          → MatchResult closed (λ files. (it : FileStore D d) × (store_files it ≡ (files.log, files.db)) × LeavesNoMore last it)
+          (λ it. LeavesNoMore last it.1)
+      stays_next (Ok files) it = it.spares
+      stays_next (Err why) it = it.fails.as_before
+
+      pub asked_goes_on : IsFalse (standing desk).stopped
+          → DeskAnswers (HasCleanDisk (state over_files last) × ShowsOwn over_files desk) (standing desk) request answer (standing last)
+          → (closed : Result (Files D) (Error × FileStore D d)) → IsClosedAs last closed → Answered d new ends first request answer
+      asked_goes_on runs answers closed put_away = record {
+        last = last;
+        next = λ clean trees may.
+            let again = found (asked.clean clean) in
+            (law image new first ends was).begins session trees
+            (subst (λ (p : Point). IsStoredEnd p session trees) again.found (asked.crash runs again.shows clean trees may));
+        lawful = λ clean.
+            let again = found (asked.clean clean) in
+            subst (λ (p : Point). IsAnswerAt p request answer) again.found
+            (answer_at _ (standing desk) (standing last) request answer (clean, again.shows) runs answers);
+        acknowledged = kept_alone _ (standing desk) (standing last) request answer answers;
+        doubt = λ clean stopped.
+            doubt_fault _ (standing desk) (standing last) request answer (clean, (found (asked.clean clean)).shows) runs answers stopped;
+        closed = closed;
+        rests = rests_next closed put_away;
+        stays = stays_next closed put_away;
+      }
+
+    pub refused_next : (why : OpenFault D d)
+        → ((db : Trees) → HoldsDatabase image db → OnRefused why (λ conn. Leaves (file_state conn) (λ trees. trees ≡ db)))
+        → OnRefused why (λ conn. Leaves (file_state conn) (NextBegins new ends no_session))
+    refused_next (NotOpened refusal left) kept = tt
+    refused_next (OpenedInVain conn refusal) kept = λ clean trees may.
+        let same : trees ≡ was.left.0 = ∥∥₁_elim was.left.1 (Trees-set _ _) (λ holds. kept was.left.0 holds clean trees may) in
+        (law image new first ends was).begins no_session trees (
+          first,
+          inl (record { event = refl; serial = omega arith; taken = tt }),
+          subst (IsStored first.event first.serial) (sym same) was.left.2,
+        )
+
+    module _ (Spares : Leftover D d → Type 0) (out out_then err err_then : Option (List ℕ)) (status : ℕ) where
+      pub task_goes_on : (task : Task) (desk : Desk (FileStore D d) over_files) → IsFalse (standing desk).stopped
+          → (HasCleanDisk (state over_files desk) → FindsAgain over_files desk first)
+          → OpensFor d out out_then err err_then status task desk
+          → OnAsk task (GoesOn d Spares new ends first out out_then err err_then status)
+      task_goes_on (Ask request) desk runs found it =
+          let (answer, answers, asked, tells) = it.does in
+          (answer, inr (asked_goes_on desk it.last request answer found asked runs answers it.put_away.0 it.put_away.1), tells)
+      task_goes_on (Import list) desk runs found it = tt
+      task_goes_on (Serve port count) desk runs found it = tt
+
+      pub unopened_goes_on : (task : Task) (fault : OpenFault D d) (why : Refusal) → why ≡ why_of fault
+          → (IsCleanFault fault → IsFault (why_of fault))
+          → ((db : Trees) → HoldsDatabase image db → OnRefused fault (λ conn. Leaves (file_state conn) (λ trees. trees ≡ db)))
+          → OnLeft fault Spares → Tells (Refused why) out out_then err err_then status
+          → OnAsk task (GoesOn d Spares new ends first out out_then err err_then status)
+      unopened_goes_on (Ask request) fault why is cause kept spared tells = (
+        Refused why,
+        inl (record {
+          fault = fault;
+          answered = ap (λ (w : Refusal). Refused w) is;
+          why = cause;
+          next = refused_next fault kept;
+          spared = spared;
+        }),
+        tells,
+      )
+      unopened_goes_on (Import list) fault why is cause kept spared tells = tt
+      unopened_goes_on (Serve port count) fault why is cause kept spared tells = tt
+
+-- the file is not there, or memory is wanting for any words
+module _ {D : Type 0} (d : disk.Ghosts D) (Spares : Leftover D d → Type 0) (new : Point) (ends : List Ended) (first : Point)
+    (out out_then err err_then : Option (List ℕ)) (status : ℕ) where
+  absent_task : (answer : Answer) → IsAbsent answer → Tells answer out out_then err err_then status → (task : Task)
+      → OnAsk task (GoesOnIfThere d Spares new ends first out out_then err err_then status)
+  absent_task answer absent tells (Ask request) = inl (answer, absent, tells)
+  absent_task answer absent tells (Import list) = tt
+  absent_task answer absent tells (Serve port count) = tt
+
+  pub absent_goes_on : (answer : Answer) → IsAbsent answer → Tells answer out out_then err err_then status → (action : Action)
+      → OnAsked action (GoesOnIfThere d Spares new ends first out out_then err err_then status)
+  absent_goes_on answer absent tells (Init name rounds cut) = tt
+  absent_goes_on answer absent tells (Open task) = absent_task answer absent tells task
+
+  pub there_goes_on : (task : Task) → OnAsk task (GoesOn d Spares new ends first out out_then err err_then status)
+      → OnAsk task (GoesOnIfThere d Spares new ends first out out_then err err_then status)
+  there_goes_on (Ask request) it = inr it
+  there_goes_on (Import list) it = tt
+  there_goes_on (Serve port count) it = tt

@@ -1,0 +1,38 @@
+use Rattle.std.proofs.Common.{◌≡◌, ◌⊎◌, inl, inr, List, Ok, Err, IsFalse, Vec, Global, is_ok, refl, sym, ap, subst, true≢false}
+use Rattle.er_event.specs.declared.refusals.Refusal.TheVariants.{Memory}
+use Rattle.er_rank.specs.declared.rows.Row.{Row}
+use Rattle.er_paper.specs.Texts.{rows_text}
+use Rattle.er_desk.specs.Desk.{Standing, ReadsRows, standing}
+use Rattle.er_cli.specs.{declared.texts.Answer.Answer, declared.texts.Answer.TheVariants.{Text, Refused}, Answers.IsRowsAnswer}
+use Rattle.er_cli.proofs.answers.standings.Goals as goal
+
+-- rows that were read were read by a desk that runs
+read_rows : (old new : Standing) (rows : Vec Row Global) (shown : List Row) (answer : Answer) → ReadsRows old (Ok rows) new
+    → shown ≡ rows.items
+    → (IsFalse new.stopped → (answer ≡ Text (rows_text new.event shown)) ⊎ (answer ≡ Refused Memory))
+    → IsRowsAnswer old.event (Ok rows) answer
+read_rows old new rows shown answer (inl (runs, same, ok)) is told =
+    subst (λ (s : Standing). (answer ≡ Text (rows_text s.event rows.items)) ⊎ (answer ≡ Refused Memory)) same
+    (subst (λ (rs : List Row). (answer ≡ Text (rows_text new.event rs)) ⊎ (answer ≡ Refused Memory)) is
+    (told (subst (λ (s : Standing). IsFalse s.stopped) (sym same) runs)))
+read_rows old new rows shown answer (inr (inl (runs, same, why, fault, e))) is told = absurd (true≢false (ap is_ok e))
+read_rows old new rows shown answer (inr (inr (stopped, same, e))) is told = absurd (true≢false (ap is_ok e))
+
+pub returns-in-Ok-clause-answers : goal.returns-in-Ok-clause-answers
+returns-in-Ok-clause-answers g c = (
+  Ok c.in-Ok.rows,
+  c.in-Ok.ensures.turn,
+  (λ stood. c.in-Ok.ensures.found stood.0 stood.1),
+  read_rows (standing c.args.desk.now) (standing c.stored_standings.new.self) c.in-Ok.rows c.as_slice.result.now c.rows_answer.result
+      c.in-Ok.ensures.turn c.as_slice.ensures.value c.rows_answer.ensures,
+  λ stood runs. tt,
+)
+
+pub returns-in-Err-clause-answers : goal.returns-in-Err-clause-answers
+returns-in-Err-clause-answers g c = (
+  Err c.in-Err.why,
+  c.in-Err.ensures.turn,
+  (λ stood. tt),
+  refl,
+  λ stood runs. c.in-Err.ensures.fails runs stood.0 stood.1,
+)

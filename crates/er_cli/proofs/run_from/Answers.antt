@@ -1,0 +1,26 @@
+use Rattle.std.proofs.Common.{inl, inr, refl, map, Option, Some, None, IfSome, string_bytes}
+use Rattle.er_words.specs.Line.{line_of}
+use Rattle.er_words.specs.Action.{action_of}
+use Rattle.er_event.specs.declared.refusals.Refusal.TheVariants.{Memory}
+use Rattle.er_cli.specs.declared.texts.Answer.TheVariants.{Refused}
+use Rattle.er_cli.proofs.GoingOn.{absent_goes_on}
+use Rattle.er_cli.proofs.run_from.Goals as goal
+
+always : {A : Type 0} (found : Option A) {P : A → Type 0} → ((x : A) → P x) → IfSome found P
+always None it = tt
+always (Some x) it = it x
+
+-- memory may be wanting for any words
+pub returns-clause-answered : goal.returns-clause-answered
+returns-clause-answered g c asked =
+    let tell = c.tell in
+    always (line_of (map string_bytes c.args.words.now)) (λ line. inr tell.ensures)
+
+pub returns-clause-goes_on : goal.returns-clause-goes_on
+returns-clause-goes_on g c new first ends was asked =
+    let tell = c.tell in
+    always (line_of (map string_bytes c.args.words.now)) (λ line.
+    absent_goes_on _ _ new ends first _ _ _ _ _ (Refused Memory) (inr (Memory, inl refl, refl)) tell.ensures (action_of line))
+
+pub returns-in-Ok-clause-goes_on : goal.returns-in-Ok-clause-goes_on
+returns-in-Ok-clause-goes_on g c new first ends was asked = rw c.in-Ok.ensures (c.act.ensures.goes_on new first ends was)
