@@ -1,4 +1,4 @@
--- The statuses, how long a script and a list may be, how long a client may take, and how long a log is that may hold something, as literals.
+-- The statuses, how long a script and a list may be, how long a client may take, and how long a log is that holds something, as literals.
 use Rattle.std.proofs.Common.{◌≡◌, refl}
 use Rattle.er_cli.specs.{declared.TheConstants.{DONE, REFUSED, USAGE, DEVICE, MEMORY}, declared.importing.TheConstants.MAX_LIST_BYTES}
 use Rattle.er_cli.specs.declared.input.TheConstants.{MAX_SCRIPT_BYTES}

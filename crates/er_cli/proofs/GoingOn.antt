@@ -12,7 +12,8 @@ use Rattle.er_event.specs.{declared.refusals.Refusal.TheVariants.{Memory, NoEven
 use Rattle.er_rank.specs.declared.rows.Row.{Row}
 use Rattle.er_store.specs.{Fault.{IsFault, IsLoadFault}, Standing.{IsStored, Leaves}}
 use Rattle.er_desk.specs.{declared.desk.Desk.Desk, Desk.{Point, Standing, Turn, Reads, ShowsEvent, ShowsOwn, point_of, standing, state}}
-use Rattle.er_desk.specs.{Reply.{Reply, IsLawful}, Run.{Session, IsStoredEnd, no_session}, History.{Ended, LeadsTo}, Headline.{FindsAgain, NextBegins, WasLeftBy}}
+use Rattle.er_desk.specs.{Reply.{Reply, IsLawful}, Run.{Session, IsStoredEnd, no_session}, History.{Ended, LeadsTo}}
+use Rattle.er_desk.specs.Headline.{FindsAgain, NextBegins, WasLeftBy}
 use Rattle.er_desk.specs.{Headline.AreTheStandings, Asking.{Asks, NextSessions}, Closing.{IsAtRest, IsClosedAs, LeavesNoMore}}
 use Rattle.sqlite_store.specs.FileStore.{files as store_files}
 use Rattle.std.proofs.Math.Logic.{∥∥₁_elim}
@@ -22,8 +23,10 @@ use Rattle.er_desk.specs.{declared.opening.OpenFault.TheVariants.Refused as Open
 use Rattle.er_words.specs.{declared.action.Task.Task, declared.action.Task.TheVariants.{Ask, Import, Serve}}
 use Rattle.er_words.specs.{declared.action.Request.Request, declared.action.Request.TheVariants.{Submit, Players, Standings, Slips}}
 use Rattle.er_words.specs.{declared.action.Request.TheVariants.{Bracket, Export}}
-use Rattle.er_cli.specs.{declared.texts.Answer.Answer, declared.texts.Answer.TheVariants.{Accepted, Text, Refused, Usage}, Answers.{DeskAnswers, IsRowsAnswer}}
-use Rattle.er_cli.specs.{Answers.{reply_answer, replies_of, session_at, ShowsPlayers, ShowsSlips, ShowsBracket, ShowsExport}, GoingOn.{Answered, FindsNext, IsAnswerAt, IsLeftNext, OrFault, ShowsStandings}}
+use Rattle.er_cli.specs.{declared.texts.Answer.Answer, declared.texts.Answer.TheVariants.{Accepted, Text, Refused, Usage}}
+use Rattle.er_cli.specs.Answers.{DeskAnswers, IsRowsAnswer}
+use Rattle.er_cli.specs.{Answers.{reply_answer, replies_of, session_at, ShowsPlayers, ShowsSlips, ShowsBracket, ShowsExport}}
+use Rattle.er_cli.specs.GoingOn.{Answered, FindsNext, IsAnswerAt, IsLeftNext, OrFault, ShowsStandings}
 use Rattle.er_cli.specs.{GoingOn.{IsAbsent, OnAsk, OnAsked, GoesOn, GoesOnIfThere}, Files.{IsNotOpened, OpensFor}, Help.Tells}
 use Rattle.er_words.specs.{declared.action.Action.Action, declared.action.Action.TheVariants.{Init, Open}}
 
@@ -48,14 +51,14 @@ lawful_turn : (old new : Standing) (c : Command) (r : Reply) → Turn old c r ne
     → IsLawful old.event old.serial c r
 lawful_turn old new c r h1 runs = grind (arith, common_steps)
 
-shown : (old : Standing) (Shows : EventValue → Answer → Type 0) (answer : Answer) → IsFalse old.stopped → ShowsEvent Refused old Shows answer
-    → OrFault (Shows old.event answer) answer
+shown : (old : Standing) (Shows : EventValue → Answer → Type 0) (answer : Answer) → IsFalse old.stopped
+    → ShowsEvent Refused old Shows answer → OrFault (Shows old.event answer) answer
 shown old Shows answer runs (inl (going, inl shows)) = inl shows
 shown old Shows answer runs (inl (going, inr want)) = inr (Memory, inl refl, want)
 shown old Shows answer runs (inr (stopped, want)) = absurd (true≢false (sym stopped ∙ runs))
 
-rows_shown : (old : Standing) (read : Result (Vec Row Global) Refusal) (answer : Answer) → IfOk read (λ rows. AreTheStandings old.event rows.items)
-    → IfErr read IsFault → IsRowsAnswer old.event read answer → OrFault (ShowsStandings (point_of old) answer) answer
+rows_shown : (old : Standing) (read : Result (Vec Row Global) Refusal) (answer : Answer)
+    → IfOk read (λ rows. AreTheStandings old.event rows.items) → IfErr read IsFault → IsRowsAnswer old.event read answer → OrFault (ShowsStandings (point_of old) answer) answer
 rows_shown old (Ok rows) answer are fault (inl is) = inl (rows.items, are, is)
 rows_shown old (Ok rows) answer are fault (inr want) = inr (Memory, inl refl, want)
 rows_shown old (Err why) answer are fault is = inr (why, fault, is)
@@ -103,8 +106,8 @@ turn_runs old new c receipt (inr (inr (inr it))) = absurd (true≢false (ap is_o
 abbrev pub one_kept : Command → Session
 one_kept command = record { kept = command ∷ []; doubt = None }
 
-other_kept : (request : Request) (answer : Answer) (stopped : Bool) (command : Command) → request ≡ Submit command → is_submitted request ≡ false
-    → session_at request answer stopped ≡ one_kept command
+other_kept : (request : Request) (answer : Answer) (stopped : Bool) (command : Command) → request ≡ Submit command
+    → is_submitted request ≡ false → session_at request answer stopped ≡ one_kept command
 other_kept request answer stopped command asked other = absurd (true≢false (sym (ap is_submitted asked) ∙ other))
 
 pub kept_alone : (Stood : Type 0) (old new : Standing) (request : Request) (answer : Answer) → DeskAnswers Stood old request answer new
@@ -135,8 +138,8 @@ turn_fault old new c r (inr (inr (inr it))) runs stopped = absurd (true≢false 
 still : {P : Type 0} (old new : Standing) → new ≡ old → IsFalse old.stopped → IsTrue new.stopped → P
 still old new same runs stopped = absurd (true≢false (sym stopped ∙ (ap (λ (s : Standing). s.stopped) same ∙ runs)))
 
-read_fault : (old : Standing) (read : Result (Vec Row Global) Refusal) (answer : Answer) → IfErr read IsFault → IsRowsAnswer old.event read answer
-    → (IsTrue (is_ok read) → ⊥) → OrFault ⊥ answer
+read_fault : (old : Standing) (read : Result (Vec Row Global) Refusal) (answer : Answer) → IfErr read IsFault
+    → IsRowsAnswer old.event read answer → (IsTrue (is_ok read) → ⊥) → OrFault ⊥ answer
 read_fault old (Ok rows) answer fault is not = absurd (not refl)
 read_fault old (Err why) answer fault is not = inr (why, fault, is)
 
@@ -187,7 +190,8 @@ module _ (law : NextSessions) (image : Image) (new first : Point) (ends : List E
           let rest = it.rests clean (asked.stands was_clean (found (asked.clean was_clean)).shows runs) in
           record {
             seen = finds_next session (point_of (standing last)) (leads_there was_clean) (asked.sure runs) (image_of d files) rest.seen;
-            left = λ left may. finds_next session (point_of (standing last)) (leads_there was_clean) (asked.sure runs) left (rest.left left may);
+            left = λ left may.
+                finds_next session (point_of (standing last)) (leads_there was_clean) (asked.sure runs) left (rest.left left may);
           }
       rests_next (Err why) it = tt
 

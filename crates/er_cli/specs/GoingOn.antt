@@ -1,6 +1,6 @@
--- A command line over the file that a history of a new event left. The history goes on with what the line asks of the desk, whenever the program
--- is stopped; the answer is that of the event at the history's end; and in the file that is closed then the next command line finds the longer
--- history.
+-- A command line over the file that a history of a new event left. The history goes on with what the line asks of the
+-- desk, whenever the program is stopped; the answer is that of the event at the history's end; and in the file that is
+-- closed then the next command line finds the longer history.
 use Rattle.std.specs.Prelude.{◌≡◌, ◌⊎◌, ℕ, IsTrue, IsFalse, List, [], ◌∷◌, Option, None, Result, IfOk, MatchResult}
 use Rattle.sqlite_disk.specs.declared.Disk as disk
 use Rattle.sqlite_disk.specs.declared.Files.{Files}
@@ -65,8 +65,8 @@ pub record FindsNext (new : Point) (ends : List Ended) (session : Session) (last
   pub alone : WasLeftBy (record image { log = [] }) new (and_then ends session last) last
 
 -- as the two read now, and as a crash may leave them
-pub record IsLeftNext {D : Type 0} (d : disk.Ghosts D) (new : Point) (ends : List Ended) (session : Session) (last : Point) (files : Files D)
-    : Type 0 where
+pub record IsLeftNext {D : Type 0} (d : disk.Ghosts D) (new : Point) (ends : List Ended) (session : Session) (last : Point)
+    (files : Files D) : Type 0 where
   pub seen : FindsNext new ends session last (image_of d files)
   pub left : (image : Image) → outcomes d files.log files.db image → FindsNext new ends session last image
 

@@ -1,8 +1,8 @@
 -- What er_cli promises: what a command line prints, where, and with which status; what a script prints; and what
 -- serving and importing do.
 --
--- Answers is what a desk answers to a line; Files is a command line over a file, Closing how it leaves that, and Help one over none. Script and
--- Input are a script and its lines, Status how it ends. Importing is a list of players, Serving the clients of a
+-- Answers is what a desk answers to a line; Files is a command line over a file, Closing how it leaves that, and Help
+-- one over none. Script and Input are a script and its lines, Status how it ends. Importing is a list of players, Serving the clients of a
 -- listener. Texts says what a writer holds after an answer, Setup what an event is set up with, and Complaints what a
 -- person is told of words that are no line. GoingOn is a command line over the file that a history left.
 pub mod Setup

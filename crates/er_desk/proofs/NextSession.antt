@@ -13,7 +13,8 @@ use Rattle.er_store.specs.Standing.{IsStored, Leaves}
 use Rattle.er_desk.specs.{declared.desk.Desk.Desk, declared.opening.OpenFault.OpenFault, declared.opening.OpenFault.TheVariants.Unopened}
 use Rattle.er_desk.specs.{declared.opening.OpenFault.TheVariants.Refused, Reply.Reply, Desk.{Point, Standing, ShowsOwn, point_of, state}}
 use Rattle.er_desk.specs.{Desk.{standing, running_at}, Opening.OnRefused, Run.{Session, MayEnd, IsRun, IsStoredEnd, session_of, no_session}}
-use Rattle.er_desk.specs.{History.{Ended, IsHistory, LeadsTo}, Headline.{Histories, IsEndOf, FindsAgain, LeavesEnd, NextBegins, WasLeft, WasLeftBy, and_then}}
+use Rattle.er_desk.specs.{History.{Ended, IsHistory, LeadsTo}, Headline.{Histories, IsEndOf, FindsAgain, LeavesEnd, NextBegins}}
+use Rattle.er_desk.specs.Headline.{WasLeft, WasLeftBy, and_then}
 use Rattle.sqlite_disk.specs.declared.Disk as disk
 
 history_more : (new first : Point) (ends : List Ended) (it : Ended) → IsHistory new ends first → MayEnd first it.session it.last
@@ -26,7 +27,8 @@ pub quiet_end : (first : Point) (trees : Trees) → IsStored first.event first.s
 quiet_end first trees stored = (first, inl (record { event = refl; serial = omega arith; taken = tt }), stored)
 
 -- a session that leaves nothing in doubt ends where its acknowledged commands lead
-sure_end : (first : Point) (session : Session) (last : Point) → LeadsTo first session.kept last → session.doubt ≡ None → MayEnd first session last
+sure_end : (first : Point) (session : Session) (last : Point) → LeadsTo first session.kept last → session.doubt ≡ None
+    → MayEnd first session last
 sure_end first session last leads sure = inl (record {
   event = leads.event;
   serial = leads.serial;

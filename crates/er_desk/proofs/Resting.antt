@@ -27,7 +27,8 @@ committed_stored s e n shows = subst (λ (d : Database). IsStored e n d.trees) s
 rests : (image : Image) (db : Trees) (point : Point) → HoldsAlone image db → IsStored point.event point.serial db → IsAtRest image point
 rests image db point holds stored = record { both = (db, holds.both, stored); alone = (db, holds.alone, stored) }
 
-module _ {D : Type 0} {g : Ghosts D} (desk : Desk (FileStore D g) over_files) (conn : Held (FileStore D g)) (is : conn ≡ tables.connection desk.store) where
+module _ {D : Type 0} {g : Ghosts D} (desk : Desk (FileStore D g) over_files) (conn : Held (FileStore D g))
+    (is : conn ≡ tables.connection desk.store) where
   are_at_rest : (files : Files D) → IsCopied conn files → ShowsOwn over_files desk → AreAtRest g files (point_of (standing desk))
   are_at_rest files copied shows =
       let own : Shows (file_state conn) desk.event desk.serial =
