@@ -15,6 +15,7 @@ import tempfile
 TOP = os.path.dirname(os.path.dirname(os.path.abspath(__file__)))
 WHOLE_EVENT, PAIRING = "stops::a_whole_event_survives_each_stop", "stops::a_pairing_survives_each_stop"
 DESK = "desks::a_desk_answers_and_is_adopted"
+CLIENTS = "sockets::clients_are_served"
 SCORE, SHORT = "requests::a_score_is_taken_once", "requests::requests_that_change_nothing_are_answered"
 # where a wrong body stands, and the tests each of which sees it
 BODIES = {
@@ -25,9 +26,12 @@ BODIES = {
     "er_desk/must-fail/goes_on_after_fault": [PAIRING],
     "er_desk/refused-by-tests/refuses_without_cause": [DESK],
     "er_slips/refused-by-tests/never_answers": [SCORE, SHORT],
+    "er_cli/refused-by-tests/waits_for_ever": [CLIENTS],
 }
+# with this one the test does not end, so that the limit of so many seconds is its refusal, as it is of no other
+ENDLESS, ENDLESS_SECONDS = "er_cli/refused-by-tests/waits_for_ever", 60
 # the modules that these tests stand in and on
-MODULES = ("desks", "helpers", "requests", "stops", "stores", "wires")
+MODULES = ("desks", "helpers", "requests", "sockets", "stops", "stores", "wires")
 SECONDS = 7200
 
 
@@ -77,10 +81,10 @@ def apply(folder, edit):
             write(file, text.replace(old, line[4:].removeprefix(" ")))
 
 
-def outcomes(room, tests):
+def outcomes(room, tests, seconds=SECONDS):
     """What each test came to, by its name. Where one failed, the line that says why is printed: a limit is no refusal."""
     keep_tests(f"{room}/crates/er_tests", tests)
-    words = ["rt", "try", "--test", "--seconds", str(SECONDS), "--steps", "1"]
+    words = ["rt", "try", "--test", "--seconds", str(seconds), "--steps", "1"]
     ran = subprocess.run(words, cwd=f"{room}/crates/er_tests", stdin=subprocess.DEVNULL, stdout=subprocess.PIPE, stderr=subprocess.STDOUT, text=True, errors="replace")
     found = {name: re.search(rf"^test {name} \.\.\. (?:.*\n)*?.*?\b(ok|FAILED)\b", ran.stdout, re.M) for name in tests}
     if not all(found.values()):
@@ -95,7 +99,7 @@ def tried(body):
     with tempfile.TemporaryDirectory() as room:
         copy_crates(room)
         apply(f"{room}/crates/{crate}", f"{TOP}/crates/{body}.edit")
-        found = outcomes(room, BODIES[body])
+        found = outcomes(room, BODIES[body], ENDLESS_SECONDS if body == ENDLESS else SECONDS)
     return [f"{body}: {test} {outcome}" for test, outcome in found.items()], sum(it != "FAILED" for it in found.values())
 
 
