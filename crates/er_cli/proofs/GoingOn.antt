@@ -1,7 +1,9 @@
 -- A history goes on with what a command line asks.
-use Rattle.std.proofs.{lemmas.Grind.common_steps, Common.{◌≡◌, ◌⊎◌, inl, inr, ℕ, Bool, true, false, IsTrue, IsFalse, List, [], ◌∷◌, Option, None}}
+use Rattle.std.proofs.lemmas.Grind.{common_steps}
+use Rattle.std.proofs.Common.{◌≡◌, ◌⊎◌, inl, inr, ℕ, Bool, true, false, IsTrue, IsFalse, List, [], ◌∷◌, Option, None}
 use Rattle.std.proofs.Common.{Vec, Global, Result, MatchResult, Ok, Err, IfOk, IfErr, is_ok, refl, sym, ap, subst, ◌∙◌, arith, true≢false}
-use Rattle.sqlite.specs.{Tree.Trees, State.HasCleanDisk, Files.{HoldsDatabase, file_state, image_of, over_files}, declared.file.Leftover.Leftover}
+use Rattle.sqlite.specs.{Tree.Trees, State.HasCleanDisk, declared.file.Leftover.Leftover}
+use Rattle.sqlite.specs.Files.{HoldsDatabase, file_state, image_of, over_files}
 use Rattle.sqlite_disk.specs.declared.Disk as disk
 use Rattle.sqlite_disk.specs.declared.Files.{Files}
 use Rattle.sqlite_wal.specs.{Recovery.Image, Reads.AreClean}
@@ -11,9 +13,11 @@ use Rattle.er_event.specs.{declared.commands.Command.Command, declared.commands.
 use Rattle.er_event.specs.{declared.refusals.Refusal.TheVariants.{Memory, NoEvent}, Event.EventValue}
 use Rattle.er_rank.specs.declared.rows.Row.{Row}
 use Rattle.er_store.specs.{Fault.{IsFault, IsLoadFault}, Standing.{IsStored, Leaves}}
-use Rattle.er_desk.specs.{declared.desk.Desk.Desk, Desk.{Point, Standing, Turn, Reads, ShowsEvent, ShowsOwn, point_of, standing, state}}
-use Rattle.er_desk.specs.{Reply.{Reply, IsLawful}, Run.{Session, IsStoredEnd, no_session}, History.{Ended, LeadsTo}}
-use Rattle.er_desk.specs.Headline.{FindsAgain, NextBegins, WasLeftBy}
+use Rattle.er_desk.specs.{declared.desk.Desk.Desk, Desk.{Point, Standing, Turn, Reads, ShowsEvent, ShowsOwn, point_of}}
+use Rattle.er_desk.specs.Desk.{standing, state, version_in}
+use Rattle.er_desk.specs.{Reply.{Reply, IsLawful, receipt}, Run.{Session, IsStoredEnd, no_session}, History.{Ended, LeadsTo}}
+use Rattle.er_desk.specs.{Headline.{FindsAgain, LeavesEnd, NextBegins, WasLeftBy}, Migrating.{MayMigrate, Migrates}}
+use Rattle.sqlite_trees.specs.declared.store.Store.{Ghosts}
 use Rattle.er_desk.specs.{Headline.AreTheStandings, Asking.{Asks, NextSessions}, Closing.{IsAtRest, IsClosedAs, LeavesNoMore}}
 use Rattle.sqlite_store.specs.FileStore.{files as store_files}
 use Rattle.std.proofs.Math.Logic.{∥∥₁_elim}
@@ -22,12 +26,12 @@ use Rattle.er_desk.specs.{declared.opening.OpenFault.OpenFault, declared.opening
 use Rattle.er_desk.specs.{declared.opening.OpenFault.TheVariants.Refused as OpenedInVain, Opening.{OnRefused, OnLeft, IsCleanFault, why_of}}
 use Rattle.er_words.specs.{declared.action.Task.Task, declared.action.Task.TheVariants.{Ask, Import, Serve}}
 use Rattle.er_words.specs.{declared.action.Request.Request, declared.action.Request.TheVariants.{Submit, Players, Standings, Slips}}
-use Rattle.er_words.specs.{declared.action.Request.TheVariants.{Bracket, Export}}
+use Rattle.er_words.specs.{declared.action.Request.TheVariants.{Bracket, Export, Migrate}}
 use Rattle.er_cli.specs.{declared.texts.Answer.Answer, declared.texts.Answer.TheVariants.{Accepted, Text, Refused, Usage}}
-use Rattle.er_cli.specs.Answers.{DeskAnswers, IsRowsAnswer}
-use Rattle.er_cli.specs.{Answers.{reply_answer, replies_of, session_at, ShowsPlayers, ShowsSlips, ShowsBracket, ShowsExport}}
-use Rattle.er_cli.specs.GoingOn.{Answered, FindsNext, IsAnswerAt, IsLeftNext, OrFault, ShowsStandings}
-use Rattle.er_cli.specs.{GoingOn.{IsAbsent, OnAsk, OnAsked, GoesOn, GoesOnIfThere}, Files.{IsNotOpened, OpensFor}, Help.Tells}
+use Rattle.er_cli.specs.Answers.{AsksFor, DeskAnswers, IfMovable, IsRowsAnswer, Moves, moved_answer}
+use Rattle.er_cli.specs.Answers.{reply_answer, replies_of, session_at, ShowsPlayers, ShowsSlips, ShowsBracket, ShowsExport}
+use Rattle.er_cli.specs.GoingOn.{Answered, FindsNext, IsAnswered, IsAnswerAt, IsFound, IsLeftNext, OrFault, ShowsStandings}
+use Rattle.er_cli.specs.{GoingOn.{IsAbsent, OnAsk, OnAsked, GoesOn, GoesOnIfThere}, Files.{IsNotOpened, OpensFor, StandsOn}, Help.Tells}
 use Rattle.er_words.specs.{declared.action.Action.Action, declared.action.Action.TheVariants.{Init, Open}}
 
 not_found : (why : Refusal) → (why ≡ NoEvent) ⊎ IsFault why → (why ≡ NoEvent) ⊎ IsLoadFault why
@@ -58,10 +62,17 @@ shown old Shows answer runs (inl (going, inr want)) = inr (Memory, inl refl, wan
 shown old Shows answer runs (inr (stopped, want)) = absurd (true≢false (sym stopped ∙ runs))
 
 rows_shown : (old : Standing) (read : Result (Vec Row Global) Refusal) (answer : Answer)
-    → IfOk read (λ rows. AreTheStandings old.event rows.items) → IfErr read IsFault → IsRowsAnswer old.event read answer → OrFault (ShowsStandings (point_of old) answer) answer
+    → IfOk read (λ rows. AreTheStandings old.event rows.items) → IfErr read IsFault → IsRowsAnswer old.event read answer
+    → OrFault (ShowsStandings (point_of old) answer) answer
 rows_shown old (Ok rows) answer are fault (inl is) = inl (rows.items, are, is)
 rows_shown old (Ok rows) answer are fault (inr want) = inr (Memory, inl refl, want)
 rows_shown old (Err why) answer are fault is = inr (why, fault, is)
+
+moved_at : (old new : Standing) (moved : Result ℕ Refusal) (version now : ℕ) (answer : Answer) → IsFalse old.stopped
+    → Migrates old version moved new now → answer ≡ moved_answer moved → OrFault (answer ≡ Accepted (receipt old.serial)) answer
+moved_at old new (Ok serial) version now answer runs it is = inl (is ∙ ap (λ (n : ℕ). Accepted (receipt n)) it.1)
+moved_at old new (Err why) version now answer runs (inl it) is = absurd (true≢false (sym it.0 ∙ runs))
+moved_at old new (Err why) version now answer runs (inr it) is = inr (why, it.2, is)
 
 pub answer_at : (Stood : Type 0) (old new : Standing) (request : Request) (answer : Answer) → Stood → IsFalse old.stopped
     → DeskAnswers Stood old request answer new → IsAnswerAt (point_of old) request answer
@@ -72,6 +83,7 @@ answer_at Stood old new Standings answer stood runs (read, reads, are, is, fails
 answer_at Stood old new (Slips round) answer stood runs it = shown old (ShowsSlips round) answer runs it.0
 answer_at Stood old new Bracket answer stood runs it = shown old ShowsBracket answer runs it.0
 answer_at Stood old new (Export kind) answer stood runs it = shown old (ShowsExport kind) answer runs it.0
+answer_at Stood old new Migrate answer stood runs (moved, version, now, it, is) = moved_at old new moved version now answer runs it is
 
 -- ---- a receipt
 
@@ -82,6 +94,7 @@ is_submitted Standings = false
 is_submitted (Slips round) = false
 is_submitted Bracket = false
 is_submitted (Export kind) = false
+is_submitted Migrate = false
 
 abbrev command_or : Command → Request → Command
 command_or other (Submit command) = command
@@ -90,6 +103,7 @@ command_or other Standings = other
 command_or other (Slips round) = other
 command_or other Bracket = other
 command_or other (Export kind) = other
+command_or other Migrate = other
 
 abbrev is_accepted : Answer → Bool
 is_accepted (Accepted receipt) = true
@@ -124,6 +138,7 @@ kept_alone Stood old new Standings answer it command receipt asked told = other_
 kept_alone Stood old new (Slips round) answer it command receipt asked told = other_kept (Slips round) answer new.stopped command asked refl
 kept_alone Stood old new Bracket answer it command receipt asked told = other_kept Bracket answer new.stopped command asked refl
 kept_alone Stood old new (Export kind) answer it command receipt asked told = other_kept (Export kind) answer new.stopped command asked refl
+kept_alone Stood old new Migrate answer it command receipt asked told = other_kept Migrate answer new.stopped command asked refl
 
 -- ---- a fault of the store
 
@@ -149,6 +164,12 @@ reads_stopped old new read (inl (going, same, was)) runs stopped fine = still ol
 reads_stopped old new read (inr (inl (going, same, why, fault, is))) runs stopped fine = true≢false (sym fine ∙ ap is_ok is)
 reads_stopped old new read (inr (inr (was, same, is))) runs stopped fine = true≢false (sym was ∙ runs)
 
+moved_fault : (old new : Standing) (moved : Result ℕ Refusal) (version now : ℕ) (answer : Answer) → IsFalse old.stopped
+    → Migrates old version moved new now → answer ≡ moved_answer moved → IsTrue new.stopped → OrFault ⊥ answer
+moved_fault old new (Ok serial) version now answer runs it is stopped = still old new it.2 runs stopped
+moved_fault old new (Err why) version now answer runs (inl it) is stopped = still old new it.2 runs stopped
+moved_fault old new (Err why) version now answer runs (inr it) is stopped = inr (why, it.2, is)
+
 pub doubt_fault : (Stood : Type 0) (old new : Standing) (request : Request) (answer : Answer) → Stood → IsFalse old.stopped
     → DeskAnswers Stood old request answer new → IsTrue new.stopped → OrFault ⊥ answer
 doubt_fault Stood old new (Submit command) answer stood runs (reply, turn, is) stopped =
@@ -160,8 +181,92 @@ doubt_fault Stood old new Standings answer stood runs (read, reads, are, is, fai
 doubt_fault Stood old new (Slips round) answer stood runs it stopped = still old new it.1 runs stopped
 doubt_fault Stood old new Bracket answer stood runs it stopped = still old new it.1 runs stopped
 doubt_fault Stood old new (Export kind) answer stood runs it stopped = still old new it.1 runs stopped
+doubt_fault Stood old new Migrate answer stood runs (moved, version, now, it, is) stopped =
+    moved_fault old new moved version now answer runs it is stopped
 
 -- ---- the file
+
+-- what a history needs to know of a request that asks this session
+record Goes {S : Type 0} (g : Ghosts S) (old : Desk S g) (session : Session) (new : Desk S g) : Type 0 where
+  leads : LeadsTo (point_of (standing old)) session.kept (point_of (standing new))
+  sure : IsFalse (standing new).stopped → session.doubt ≡ None
+  clean : HasCleanDisk (state g new) → HasCleanDisk (state g old)
+  stands : HasCleanDisk (state g new) → ShowsOwn g old → IsFalse (standing new).stopped → ShowsOwn g new
+  crash : IsFalse (standing old).stopped → ShowsOwn g old → LeavesEnd (state g new) (point_of (standing old)) session
+
+goes_asking : {S : Type 0} (g : Ghosts S) (old : Desk S g) (session : Session) (new : Desk S g) → Asks g old session new
+    → Goes g old session new
+goes_asking g old session new it =
+    record { leads = it.leads; sure = it.sure; clean = it.clean; stands = it.stands; crash = it.crash }
+
+-- a migration leaves the event and the serial
+still_there : (old new : Standing) (moved : Result ℕ Refusal) (version now : ℕ) → Migrates old version moved new now
+    → point_of new ≡ point_of old
+still_there old new (Ok serial) version now it = ap point_of it.2
+still_there old new (Err why) version now (inl it) = ap point_of it.2
+still_there old new (Err why) version now (inr it) = ap point_of it.3
+
+-- and tables of version 2 are of it then
+still_second : (old new : Standing) (moved : Result ℕ Refusal) (version now : ℕ) → Migrates old version moved new now
+    → version ≡ 2 → now ≡ 2
+still_second old new (Ok serial) version now it second = it.3
+still_second old new (Err why) version now (inl it) second = it.3 ∙ second
+still_second old new (Err why) version now (inr it) second = it.4 ∙ second
+
+-- the history stays where it is
+leads_nowhere : (first last : Point) → last ≡ first → LeadsTo first [] last
+leads_nowhere first last same = subst (λ (p : Point). LeadsTo first [] p) (sym same) (record { event = refl; serial = omega arith })
+
+ends_nowhere : (first : Point) (trees : Trees) → IsStored first.event first.serial trees → IsStoredEnd first no_session trees
+ends_nowhere first trees stored = (first, inl (record { event = refl; serial = omega arith; taken = tt }), stored)
+
+goes_moving : {S : Type 0} (g : Ghosts S) (old : Desk S g) (answer : Answer) (new : Desk S g) → Moves g old answer new → MayMigrate g old
+    → Goes g old no_session new
+goes_moving g old answer new it may = record {
+  leads = leads_nowhere _ _ (still_there (standing old) (standing new) it.turn.0 (version_in old) (version_in new) it.turn.1);
+  sure = λ runs. refl;
+  clean = it.clean;
+  stands = it.stands may;
+  crash = λ runs shows clean trees left. ends_nowhere (point_of (standing old)) trees (it.crash may shows clean trees left);
+}
+
+-- the tables stand for the event while the desk runs
+pub stands_after : {S : Type 0} (g : Ghosts S) (old new : Desk S g) (request : Request) (answer : Answer)
+    → AsksFor g old request answer new → IfMovable g old request (StandsOn g old new)
+stands_after g old new (Submit command) answer it = it.stands
+stands_after g old new Players answer it = it.stands
+stands_after g old new Standings answer it = it.stands
+stands_after g old new (Slips round) answer it = it.stands
+stands_after g old new Bracket answer it = it.stands
+stands_after g old new (Export kind) answer it = it.stands
+stands_after g old new Migrate answer it = it.stands
+
+-- tables of version 2 may always be migrated, and are of it then
+movable : {S : Type 0} (g : Ghosts S) (desk : Desk S g) (request : Request) (P : Type 0) → version_in desk ≡ 2
+    → IfMovable g desk request P → P
+movable g desk (Submit command) P second it = it
+movable g desk Players P second it = it
+movable g desk Standings P second it = it
+movable g desk (Slips round) P second it = it
+movable g desk Bracket P second it = it
+movable g desk (Export kind) P second it = it
+movable g desk Migrate P second it = it (inl second)
+
+pub stands_second : {S : Type 0} (g : Ghosts S) (old new : Desk S g) (request : Request) (answer : Answer)
+    → AsksFor g old request answer new → version_in old ≡ 2 → StandsOn g old new
+stands_second g old new request answer it second =
+    movable g old request (StandsOn g old new) second (stands_after g old new request answer it)
+
+pub stays_second : {S : Type 0} (g : Ghosts S) (old new : Desk S g) (request : Request) (answer : Answer)
+    → AsksFor g old request answer new → version_in old ≡ 2 → version_in new ≡ 2
+stays_second g old new (Submit command) answer it second = it.version ∙ second
+stays_second g old new Players answer it second = it.version ∙ second
+stays_second g old new Standings answer it second = it.version ∙ second
+stays_second g old new (Slips round) answer it second = it.version ∙ second
+stays_second g old new Bracket answer it second = it.version ∙ second
+stays_second g old new (Export kind) answer it second = it.version ∙ second
+stays_second g old new Migrate answer it second =
+    still_second (standing old) (standing new) it.turn.0 (version_in old) (version_in new) it.turn.1 second
 
 module _ (law : NextSessions) (image : Image) (new first : Point) (ends : List Ended) (was : WasLeftBy image new ends first) where
   -- files at rest at this point are found by the next command line
@@ -174,7 +279,7 @@ module _ (law : NextSessions) (image : Image) (new first : Point) (ends : List E
   module _ {D : Type 0} (d : disk.Ghosts D) where
     module _ (desk last : Desk (FileStore D d) over_files) (request : Request) (answer : Answer)
         (found : HasCleanDisk (state over_files desk) → FindsAgain over_files desk first)
-        (asked : Asks over_files desk (session_at request answer (standing last).stopped) last) where
+        (asked : Goes over_files desk (session_at request answer (standing last).stopped) last) where
       abbrev session : Session
       session = session_at request answer (standing last).stopped
 
@@ -201,7 +306,7 @@ module _ (law : NextSessions) (image : Image) (new first : Point) (ends : List E
       stays_next (Ok files) it = it.spares
       stays_next (Err why) it = it.fails.as_before
 
-      pub asked_goes_on : IsFalse (standing desk).stopped
+      asked_goes_on : IsFalse (standing desk).stopped
           → DeskAnswers (HasCleanDisk (state over_files last) × ShowsOwn over_files desk) (standing desk) request answer (standing last)
           → (closed : Result (Files D) (Error × FileStore D d)) → IsClosedAs last closed → Answered d new ends first request answer
       asked_goes_on runs answers closed put_away = record {
@@ -222,26 +327,44 @@ module _ (law : NextSessions) (image : Image) (new first : Point) (ends : List E
         stays = stays_next closed put_away;
       }
 
+    is_answered : (desk last : Desk (FileStore D d) over_files) (request : Request) (answer : Answer) → IsFound d image first desk
+        → IsFalse (standing desk).stopped → AsksFor over_files desk request answer last
+        → DeskAnswers (HasCleanDisk (state over_files last) × ShowsOwn over_files desk) (standing desk) request answer (standing last)
+        → (closed : Result (Files D) (Error × FileStore D d)) → IsClosedAs last closed → IsAnswered d image new ends first request answer
+    is_answered desk last (Submit command) answer found runs asked answers closed put_away =
+        asked_goes_on desk last (Submit command) answer found.finds (goes_asking _ _ _ _ asked) runs answers closed put_away
+    is_answered desk last Players answer found runs asked answers closed put_away =
+        asked_goes_on desk last Players answer found.finds (goes_asking _ _ _ _ asked) runs answers closed put_away
+    is_answered desk last Standings answer found runs asked answers closed put_away =
+        asked_goes_on desk last Standings answer found.finds (goes_asking _ _ _ _ asked) runs answers closed put_away
+    is_answered desk last (Slips round) answer found runs asked answers closed put_away =
+        asked_goes_on desk last (Slips round) answer found.finds (goes_asking _ _ _ _ asked) runs answers closed put_away
+    is_answered desk last Bracket answer found runs asked answers closed put_away =
+        asked_goes_on desk last Bracket answer found.finds (goes_asking _ _ _ _ asked) runs answers closed put_away
+    is_answered desk last (Export kind) answer found runs asked answers closed put_away =
+        asked_goes_on desk last (Export kind) answer found.finds (goes_asking _ _ _ _ asked) runs answers closed put_away
+    is_answered desk last Migrate answer found runs moved answers closed put_away = (
+      desk,
+      found,
+      λ may. asked_goes_on desk last Migrate answer found.finds (goes_moving _ _ _ _ moved may) runs answers closed put_away,
+    )
+
     pub refused_next : (why : OpenFault D d)
         → ((db : Trees) → HoldsDatabase image db → OnRefused why (λ conn. Leaves (file_state conn) (λ trees. trees ≡ db)))
         → OnRefused why (λ conn. Leaves (file_state conn) (NextBegins new ends no_session))
     refused_next (NotOpened refusal left) kept = tt
     refused_next (OpenedInVain conn refusal) kept = λ clean trees may.
         let same : trees ≡ was.left.0 = ∥∥₁_elim was.left.1 (Trees-set _ _) (λ holds. kept was.left.0 holds clean trees may) in
-        (law image new first ends was).begins no_session trees (
-          first,
-          inl (record { event = refl; serial = omega arith; taken = tt }),
-          subst (IsStored first.event first.serial) (sym same) was.left.2,
-        )
+        (law image new first ends was).begins no_session trees
+        (ends_nowhere first trees (subst (IsStored first.event first.serial) (sym same) was.left.2))
 
     module _ (Spares : Leftover D d → Type 0) (out out_then err err_then : Option (List ℕ)) (status : ℕ) where
       pub task_goes_on : (task : Task) (desk : Desk (FileStore D d) over_files) → IsFalse (standing desk).stopped
-          → (HasCleanDisk (state over_files desk) → FindsAgain over_files desk first)
-          → OpensFor d out out_then err err_then status task desk
-          → OnAsk task (GoesOn d Spares new ends first out out_then err err_then status)
+          → IsFound d image first desk → OpensFor d out out_then err err_then status task desk
+          → OnAsk task (GoesOn d Spares image new ends first out out_then err err_then status)
       task_goes_on (Ask request) desk runs found it =
           let (answer, answers, asked, tells) = it.does in
-          (answer, inr (asked_goes_on desk it.last request answer found asked runs answers it.put_away.0 it.put_away.1), tells)
+          (answer, inr (is_answered desk it.last request answer found runs asked answers it.put_away.0 it.put_away.1), tells)
       task_goes_on (Import list) desk runs found it = tt
       task_goes_on (Serve port count) desk runs found it = tt
 
@@ -249,7 +372,7 @@ module _ (law : NextSessions) (image : Image) (new first : Point) (ends : List E
           → (IsCleanFault fault → IsFault (why_of fault))
           → ((db : Trees) → HoldsDatabase image db → OnRefused fault (λ conn. Leaves (file_state conn) (λ trees. trees ≡ db)))
           → OnLeft fault Spares → Tells (Refused why) out out_then err err_then status
-          → OnAsk task (GoesOn d Spares new ends first out out_then err err_then status)
+          → OnAsk task (GoesOn d Spares image new ends first out out_then err err_then status)
       unopened_goes_on (Ask request) fault why is cause kept spared tells = (
         Refused why,
         inl (record {
@@ -265,21 +388,21 @@ module _ (law : NextSessions) (image : Image) (new first : Point) (ends : List E
       unopened_goes_on (Serve port count) fault why is cause kept spared tells = tt
 
 -- the file is not there, or memory is wanting for any words
-module _ {D : Type 0} (d : disk.Ghosts D) (Spares : Leftover D d → Type 0) (new : Point) (ends : List Ended) (first : Point)
+module _ {D : Type 0} (d : disk.Ghosts D) (Spares : Leftover D d → Type 0) (image : Image) (new : Point) (ends : List Ended) (first : Point)
     (out out_then err err_then : Option (List ℕ)) (status : ℕ) where
   absent_task : (answer : Answer) → IsAbsent answer → Tells answer out out_then err err_then status → (task : Task)
-      → OnAsk task (GoesOnIfThere d Spares new ends first out out_then err err_then status)
+      → OnAsk task (GoesOnIfThere d Spares image new ends first out out_then err err_then status)
   absent_task answer absent tells (Ask request) = inl (answer, absent, tells)
   absent_task answer absent tells (Import list) = tt
   absent_task answer absent tells (Serve port count) = tt
 
   pub absent_goes_on : (answer : Answer) → IsAbsent answer → Tells answer out out_then err err_then status → (action : Action)
-      → OnAsked action (GoesOnIfThere d Spares new ends first out out_then err err_then status)
+      → OnAsked action (GoesOnIfThere d Spares image new ends first out out_then err err_then status)
   absent_goes_on answer absent tells (Init name rounds cut) = tt
   absent_goes_on answer absent tells (Open task) = absent_task answer absent tells task
 
-  pub there_goes_on : (task : Task) → OnAsk task (GoesOn d Spares new ends first out out_then err err_then status)
-      → OnAsk task (GoesOnIfThere d Spares new ends first out out_then err err_then status)
+  pub there_goes_on : (task : Task) → OnAsk task (GoesOn d Spares image new ends first out out_then err err_then status)
+      → OnAsk task (GoesOnIfThere d Spares image new ends first out out_then err err_then status)
   there_goes_on (Ask request) it = inr it
   there_goes_on (Import list) it = tt
   there_goes_on (Serve port count) it = tt

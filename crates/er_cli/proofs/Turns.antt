@@ -1,11 +1,11 @@
 -- The turns of a script's lines.
-use Rattle.std.proofs.Common.{IsFalse, Option, Some, None, Result, Ok, Err, IfOk, is_ok, true≢false, refl, ap, subst, inl, inr}
+use Rattle.std.proofs.Common.{ℕ, IsFalse, Option, Some, None, Result, Ok, Err, IfOk, is_ok, true≢false, refl, ap, subst, inl, inr}
 use Rattle.std.specs.Prelude.{⊤}
 use Rattle.er_event.specs.{declared.refusals.Refusal.Refusal, declared.refusals.Refusal.TheVariants.Memory}
 use Rattle.er_event.specs.declared.commands.Command.{Command}
-use Rattle.er_desk.specs.{Desk.{Standing, Turn, Reads}, Reply.Reply}
+use Rattle.er_desk.specs.{Desk.{Standing, Turn, Reads}, Migrating.Migrates, Reply.Reply}
 use Rattle.er_words.specs.{declared.action.Request.Request, declared.action.Request.TheVariants.{Submit, Players, Standings, Slips}}
-use Rattle.er_words.specs.{declared.action.Request.TheVariants.{Bracket, Export}, declared.action.Action.Action}
+use Rattle.er_words.specs.{declared.action.Request.TheVariants.{Bracket, Export, Migrate}, declared.action.Action.Action}
 use Rattle.er_cli.specs.{declared.texts.Answer.Answer, Answers.DeskAnswers, declared.texts.Answer.TheVariants.Refused, Script.LineAnswers}
 
 -- memory may be wanting for any line, and then all stays as it is
@@ -25,6 +25,12 @@ ran_reading passing old new read (inl it) runs = it.0
 ran_reading passing old new read (inr (inl it)) runs = it.0
 ran_reading passing old new read (inr (inr it)) runs = subst (λ (s : Standing). IsFalse s.stopped) it.1 runs
 
+ran_moving : (old new : Standing) (moved : Result ℕ Refusal) (version now : ℕ) → Migrates old version moved new now → IsFalse new.stopped
+    → IsFalse old.stopped
+ran_moving old new (Ok serial) version now it runs = it.0
+ran_moving old new (Err why) version now (inl it) runs = subst (λ (s : Standing). IsFalse s.stopped) it.2 runs
+ran_moving old new (Err why) version now (inr it) runs = it.0
+
 -- a desk that no fault has stopped had none before
 pub ran_before : (Stood : Type 0) (old new : Standing) (request : Request) (answer : Answer) → DeskAnswers Stood old request answer new
     → IsFalse new.stopped → IsFalse old.stopped
@@ -34,6 +40,7 @@ ran_before Stood old new Standings answer it runs = ran_reading Memory old new i
 ran_before Stood old new (Slips round) answer it runs = subst (λ (s : Standing). IsFalse s.stopped) it.1 runs
 ran_before Stood old new Bracket answer it runs = subst (λ (s : Standing). IsFalse s.stopped) it.1 runs
 ran_before Stood old new (Export kind) answer it runs = subst (λ (s : Standing). IsFalse s.stopped) it.1 runs
+ran_before Stood old new Migrate answer (moved, version, now, it, is) runs = ran_moving old new moved version now it runs
 
 -- what is read rests on the tables of a desk that runs, and else nothing is read
 read_stood : {A : Type 0} (Stood : Type 0) (Are : A → Type 0) (passing : Refusal) (old new : Standing) (read : Result A Refusal)
@@ -55,3 +62,4 @@ stood_answers Stood old new Standings answer stood (read, reads, found, e, fails
 stood_answers Stood old new (Slips round) answer stood it = it
 stood_answers Stood old new Bracket answer stood it = it
 stood_answers Stood old new (Export kind) answer stood it = it
+stood_answers Stood old new Migrate answer stood it = it

@@ -1,19 +1,24 @@
 -- What a desk answers to a request.
 use Rattle.std.specs.Global.{Global}
 use Rattle.std.specs.Prelude.{◌≡◌, ◌⊎◌, ℕ, Bool, IsFalse, List, [], ◌∷◌, Option, Some, None, Result, Ok, Err, IfOk, IfErr, Vec}
+use Rattle.sqlite_trees.specs.declared.store.Store.{Ghosts}
+use Rattle.sqlite.specs.State.{HasCleanDisk}
 use Rattle.er_event.specs.declared.refusals.Refusal.{Refusal}
 use Rattle.er_event.specs.declared.refusals.Refusal.TheVariants.{Memory, NoSuchMatch}
 use Rattle.er_event.specs.Event.{EventValue}
 use Rattle.er_paper.specs.Texts.{players_text, rows_text, pairings_text, bracket_text}
 use Rattle.er_paper.specs.Tables.{players_csv, results_csv}
 use Rattle.er_rank.specs.declared.rows.Row.{Row}
-use Rattle.er_desk.specs.Desk.{Standing, Turn, ReadsRows, ShowsEvent}
-use Rattle.er_desk.specs.Headline.{AreTheStandings}
-use Rattle.er_desk.specs.Reply.{Reply}
+use Rattle.er_desk.specs.declared.desk.Desk.{Desk}
+use Rattle.er_desk.specs.Asking.{Asks}
+use Rattle.er_desk.specs.Desk.{Standing, Turn, ReadsRows, ShowsEvent, ShowsOwn, point_of, standing, state, version_in}
+use Rattle.er_desk.specs.Headline.{AreTheStandings, LeavesJust}
+use Rattle.er_desk.specs.Migrating.{MayMigrate, Migrates}
+use Rattle.er_desk.specs.Reply.{Reply, receipt}
 use Rattle.er_desk.specs.Run.{Session, session_of, no_session}
 use Rattle.er_store.specs.Fault.{IsFault}
 use Rattle.er_words.specs.declared.action.Request.{Request}
-use Rattle.er_words.specs.declared.action.Request.TheVariants.{Submit, Players, Standings, Slips, Bracket, Export}
+use Rattle.er_words.specs.declared.action.Request.TheVariants.{Submit, Players, Standings, Slips, Bracket, Export, Migrate}
 use Rattle.er_words.specs.declared.action.ExportKind.{ExportKind}
 use Rattle.er_words.specs.declared.action.ExportKind.TheVariants as exported
 use Rattle.er_cli.specs.declared.texts.Answer.{Answer}
@@ -22,6 +27,11 @@ use Rattle.er_cli.specs.declared.texts.Answer.TheVariants.{Accepted, Text, Refus
 abbrev pub reply_answer : Reply → Answer
 reply_answer (Ok receipt) = Accepted receipt
 reply_answer (Err why) = Refused why
+
+-- the serial, which stays, or why the tables were not moved
+abbrev pub moved_answer : Result ℕ Refusal → Answer
+moved_answer (Ok serial) = Accepted (receipt serial)
+moved_answer (Err why) = Refused why
 
 -- a round that isn't stored has no slips
 abbrev pub slips_answer : Option (List ℕ) → Answer
@@ -62,6 +72,8 @@ DeskAnswers Stood old Standings answer new =
 DeskAnswers Stood old (Slips round) answer new = ShowsEvent Refused old (ShowsSlips round) answer × (new ≡ old)
 DeskAnswers Stood old Bracket answer new = ShowsEvent Refused old ShowsBracket answer × (new ≡ old)
 DeskAnswers Stood old (Export kind) answer new = ShowsEvent Refused old (ShowsExport kind) answer × (new ≡ old)
+DeskAnswers Stood old Migrate answer new =
+    (moved : Result ℕ Refusal) × (version now : ℕ) × Migrates old version moved new now × (answer ≡ moved_answer moved)
 
 -- the reply that an answer tells, where it tells one
 abbrev pub replies_of : Answer → List Reply
@@ -78,3 +90,32 @@ session_at Standings answer stopped = no_session
 session_at (Slips round) answer stopped = no_session
 session_at Bracket answer stopped = no_session
 session_at (Export kind) answer stopped = no_session
+session_at Migrate answer stopped = no_session
+
+-- What a migration does to the file, and answers. It asks no command. What it leaves is said of tables that may be migrated.
+pub record Moves {S : Type 0} (g : Ghosts S) (old : Desk S g) (answer : Answer) (new : Desk S g) : Type 0 where
+  pub turn : (moved : Result ℕ Refusal) × Migrates (standing old) (version_in old) moved (standing new) (version_in new)
+      × (answer ≡ moved_answer moved)
+  pub clean : HasCleanDisk (state g new) → HasCleanDisk (state g old)
+  pub stands : MayMigrate g old → HasCleanDisk (state g new) → ShowsOwn g old → IsFalse (standing new).stopped → ShowsOwn g new
+  pub crash : MayMigrate g old → ShowsOwn g old → LeavesJust (state g new) (point_of (standing old))
+
+-- what a request does to the file: a session of its desk is asked, or its tables are moved
+abbrev pub AsksFor : {S : Type 0} (g : Ghosts S) → Desk S g → Request → Answer → Desk S g → Type 0
+AsksFor g old (Submit command) answer new = Asks g old (session_at (Submit command) answer (standing new).stopped) new
+AsksFor g old Players answer new = Asks g old no_session new
+AsksFor g old Standings answer new = Asks g old no_session new
+AsksFor g old (Slips round) answer new = Asks g old no_session new
+AsksFor g old Bracket answer new = Asks g old no_session new
+AsksFor g old (Export kind) answer new = Asks g old no_session new
+AsksFor g old Migrate answer new = Moves g old answer new
+
+-- this; of a migration, where the tables may be migrated
+abbrev pub IfMovable : {S : Type 0} (g : Ghosts S) → Desk S g → Request → Type 0 → Type 0
+IfMovable g desk (Submit command) P = P
+IfMovable g desk Players P = P
+IfMovable g desk Standings P = P
+IfMovable g desk (Slips round) P = P
+IfMovable g desk Bracket P = P
+IfMovable g desk (Export kind) P = P
+IfMovable g desk Migrate P = MayMigrate g desk → P

@@ -13,10 +13,9 @@ use Rattle.er_rules.specs.Sound.{IsSound}
 use Rattle.er_store.specs.Fault.{IsFault, IsLoadFault}
 use Rattle.er_store.specs.Standing.{HasTables, AreKeyed}
 use Rattle.er_desk.specs.declared.desk.Desk.{Desk}
-use Rattle.er_desk.specs.Desk.{Standing, ShowsOwn, running_at, standing, state}
+use Rattle.er_desk.specs.Desk.{Standing, ShowsOwn, running_at, standing, state, version_in}
 use Rattle.er_desk.specs.History.{new_point}
 use Rattle.er_desk.specs.Reply.{receipt}
-use Rattle.er_desk.specs.Asking.{Asks}
 use Rattle.er_words.specs.declared.action.Action.{Action}
 use Rattle.er_words.specs.declared.action.Action.TheVariants.{Init, Open}
 use Rattle.er_words.specs.declared.action.Task.{Task}
@@ -29,7 +28,7 @@ use Rattle.er_cli.specs.Help.{Says, Tells}
 use Rattle.er_cli.specs.Importing.{Imports}
 use Rattle.er_cli.specs.Serving.{ConnectsUpTo, PrintsServed}
 use Rattle.er_cli.specs.Setup.{init_checks}
-use Rattle.er_cli.specs.Answers.{DeskAnswers, session_at}
+use Rattle.er_cli.specs.Answers.{AsksFor, DeskAnswers, IfMovable}
 use Rattle.er_cli.specs.Closing.{IsPutAway}
 
 -- there is no event in the file, or it is damaged, or memory or the device fails
@@ -64,15 +63,16 @@ pub record IsOpened {S : Type 0} (g : Ghosts S) (desk : Desk S g) : Type 0 where
   pub sound : IsSound desk.event
   pub low : desk.serial ≤ MAX_SERIAL
   pub ready : IsFalse (standing desk).stopped
-  -- tables with the schema stand for it, on a clean disk
-  pub stands : HasCleanDisk (state g desk) → HasTables (state g desk).now.schema → AreKeyed (state g desk).now → ShowsOwn g desk
+  -- tables with the schema of the desk's version stand for it, on a clean disk
+  pub stands : HasCleanDisk (state g desk) → HasTables (version_in desk) (state g desk).now.schema
+      → AreKeyed (state g desk).now → ShowsOwn g desk
 
 -- what is done with an event that was opened, by its desk, and where that stands then
 abbrev pub Does : {S : Type 0} (g : Ghosts S) → Desk S g → Task → Desk S g → (out out_then err err_then : Option (List ℕ)) → ℕ → Type 0
 Does g desk (Ask request) last out out_then err err_then status =
     (answer : Answer)
     × DeskAnswers (HasCleanDisk (state g last) × ShowsOwn g desk) (standing desk) request answer (standing last)
-    × Asks g desk (session_at request answer (standing last).stopped) last
+    × AsksFor g desk request answer last
     × Tells answer out out_then err err_then status
 Does g desk (Import list) last out out_then err err_then status = Imports (standing desk) (standing last) out out_then err err_then status
 Does g desk (Serve port count) last out out_then err err_then status =
@@ -81,6 +81,12 @@ Does g desk (Serve port count) last out out_then err err_then status =
 -- while the desk runs, its tables stand for its event, where they stood for it before
 abbrev pub StandsOn : {S : Type 0} (g : Ghosts S) → Desk S g → Desk S g → Type 0
 StandsOn g old new = HasCleanDisk (state g new) → ShowsOwn g old → IsFalse (standing new).stopped → ShowsOwn g new
+
+-- of what a desk is opened for; after a migration, where the tables might be migrated
+abbrev pub StandsAfter : {S : Type 0} (g : Ghosts S) → Desk S g → Task → Desk S g → Type 0
+StandsAfter g old (Ask request) new = IfMovable g old request (StandsOn g old new)
+StandsAfter g old (Import list) new = StandsOn g old new
+StandsAfter g old (Serve port count) new = StandsOn g old new
 
 module _ {D : Type 0} (g : disk.Ghosts D) (out out_then err err_then : Option (List ℕ)) (status : ℕ) where
   -- an event was made, and its file put away; or why it was not
@@ -97,7 +103,7 @@ module _ {D : Type 0} (g : disk.Ghosts D) (out out_then err err_then : Option (L
     pub last : Desk (FileStore D g) over_files
     pub opened : IsOpened over_files desk
     pub does : Does over_files desk task last out out_then err err_then status
-    pub stands : StandsOn over_files desk last
+    pub stands : StandsAfter over_files desk task last
     pub put_away : IsPutAway g last
 
   -- What a command line does to the output and the errors, and its status. An event is opened by a desk over such files.

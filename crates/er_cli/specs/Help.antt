@@ -9,7 +9,7 @@ use Rattle.er_cli.specs.declared.texts.Answer.{Answer}
 use Rattle.er_cli.specs.declared.texts.Answer.TheVariants.{Accepted, Text, Refused, Usage}
 use Rattle.er_cli.specs.declared.TheConstants.{DONE, REFUSED, USAGE, DEVICE, MEMORY}
 use Rattle.er_cli.specs.declared.help.TheConstants.{VERSION, HELP, INIT, ENROL, IMPORT, START, PAIR, RESULT, CORRECT, DROP, CUT, PLAYOFF}
-use Rattle.er_cli.specs.declared.help.TheConstants.{STANDINGS, PLAYERS, SLIPS, BRACKET, EXPORT, SERVE}
+use Rattle.er_cli.specs.declared.help.TheConstants.{STANDINGS, PLAYERS, SLIPS, BRACKET, EXPORT, SERVE, MIGRATE}
 
 abbrev pub is_help : List ℕ → Bool
 is_help word = bytes_eq word (codes "--help") || bytes_eq word (codes "-h")
@@ -43,6 +43,7 @@ subcommand_text = text_in (
     ∷ (codes "bracket", BRACKET.now)
     ∷ (codes "export", EXPORT.now)
     ∷ (codes "serve", SERVE.now)
+    ∷ (codes "migrate", MIGRATE.now)
     ∷ [])
 
 -- the text of the subcommand, or the version, behind the name of one

@@ -11,7 +11,7 @@ use Rattle.er_event.specs.Change.{created}
 use Rattle.er_rules.specs.Commands.{first_refusal}
 use Rattle.er_store.specs.Fault.{IsFault}
 use Rattle.er_desk.specs.declared.desk.Desk.{Desk}
-use Rattle.er_desk.specs.Desk.{Standing, ShowsOwn, standing}
+use Rattle.er_desk.specs.Desk.{Standing, ShowsOwn, standing, version_in}
 use Rattle.er_words.specs.declared.action.Action.{Action}
 use Rattle.er_words.specs.declared.action.Action.TheVariants.{Init, Open}
 use Rattle.er_words.specs.declared.action.Task.TheVariants.{Ask, Import, Serve}
@@ -72,6 +72,6 @@ pub record PrintsPart (lines : List (List ℕ)) (before after : Option (List ℕ
   pub runs : RunsLines None (take count lines) answers last
   pub printed : AppendsPart before after (flat_map answer_text answers)
 
--- the tables in memory stand for the event, where no fault of the store is behind
+-- the tables in memory are of version 2, and stand for the event, where no fault of the store is behind
 abbrev pub HasOwnTables : Option (Desk MemStore over_memory) → Type 0
-HasOwnTables desk = IfSome desk (λ d. IsFalse (standing d).stopped → ShowsOwn over_memory d)
+HasOwnTables desk = IfSome desk (λ d. (version_in d ≡ 2) × (IsFalse (standing d).stopped → ShowsOwn over_memory d))

@@ -2,14 +2,14 @@ ghost use Rattle.std.specs.Prelude.{◌≡◌, ◌⊎◌, IfOk, IsFalse, MatchRe
 ghost use Rattle.sqlite.specs.State.{HasCleanDisk};
 ghost use Rattle.er_desk.specs.Desk.{ShowsEvent, ShowsOwn, standing, state};
 ghost use Rattle.er_paper.specs.Texts.{rows_text};
-ghost use Rattle.er_cli.specs.Answers.{DeskAnswers, ShowsPlayers, ShowsSlips, ShowsBracket, ShowsExport, csv_of, reply_answer, session_at, slips_answer};
+ghost use Rattle.er_cli.specs.Answers.{AsksFor, DeskAnswers, Moves, ShowsPlayers, ShowsSlips, ShowsBracket, ShowsExport, csv_of, reply_answer, slips_answer};
 ghost use Rattle.er_desk.specs.Asking.{Asks};
 ghost use Rattle.er_desk.specs.Run.{no_session};
-ghost use Rattle.er_words.specs.declared.action.Request.TheVariants.{Standings};
+ghost use Rattle.er_words.specs.declared.action.Request.TheVariants.{Standings, Migrate};
 
 use crate::texts::Answer;
 use er_desk::{Desk, Reply};
-use er_event::{Event, Items, Refusal};
+use er_event::{Event, Items, Receipt, Refusal};
 use er_paper::{bracket_text, pairings_text, players_csv, players_text, results_csv, rows_text};
 use er_rank::Row;
 use er_words::{ExportKind, Request};
@@ -119,13 +119,24 @@ fn export<S: Alter>(alloc: Global, desk: &Desk<S>, kind: ExportKind) -> Answer
     }
 }
 
+/// Moves the tables to version 2, and answers with the serial, which stays.
+fn migrate<S: Alter>(desk: &mut Desk<S>) -> Answer
+    ensures answers { DeskAnswers (HasCleanDisk (state S.Store desk.new)
+        × ShowsOwn S.Store desk.old) (standing desk.old) Migrate result (standing desk.new) }
+    ensures moved { Moves S.Store desk.old result desk.new }
+{
+    match desk.migrate() {
+        Ok(serial) => Answer::Accepted(Receipt { serial }),
+        Err(why) => Answer::Refused(why),
+    }
+}
+
 /// What a desk answers. A text leaves it as it is, but for the standings where its store has a fault: these are read.
 #[tactic(auto, using(crate::proofs::GoingOn::replies_told))]
 pub fn answer<S: Alter>(alloc: Global, desk: &mut Desk<S>, request: Request) -> Answer
     ensures answers { DeskAnswers (HasCleanDisk (state S.Store desk.new)
         × ShowsOwn S.Store desk.old) (standing desk.old) request result (standing desk.new) }
-    ensures asked { Asks S.Store desk.old
-        (session_at request result (standing desk.new).stopped) desk.new }
+    ensures asked { AsksFor S.Store desk.old request result desk.new }
 {
     // To look at a desk asks nothing of its file: this tells the proof.
     desk.asks_nothing();
@@ -136,5 +147,6 @@ pub fn answer<S: Alter>(alloc: Global, desk: &mut Desk<S>, request: Request) -> 
         Request::Slips { round } => slips(alloc, desk, round),
         Request::Bracket => bracket(alloc, desk),
         Request::Export { kind } => export(alloc, desk, kind),
+        Request::Migrate => migrate(desk),
     }
 }

@@ -14,7 +14,7 @@ ghost use Rattle.er_words.specs.declared.action.Action.TheVariants.{Init, Open};
 ghost use Rattle.er_words.specs.Action.{action_of};
 ghost use Rattle.er_store.specs.Fault.{IsFault};
 ghost use Rattle.er_cli.specs.Closing.{IsPutAway};
-ghost use Rattle.er_cli.specs.Files.{Does, EndsLine, InitReplies, IsNew, IsNotMade, IsOpened, Makes, OpensFor, ServesClients, StandsOn};
+ghost use Rattle.er_cli.specs.Files.{Does, EndsLine, InitReplies, IsNew, IsNotMade, IsOpened, Makes, OpensFor, ServesClients, StandsAfter, StandsOn};
 ghost use Rattle.er_cli.specs.Help.{Tells};
 
 use crate::answers::answer;
@@ -174,7 +174,7 @@ fn do_task<S: Alter, O: Write, E: Write>(
     requires ready { IsFalse (standing desk.old).stopped }
     ensures does { Does S.Store desk.old task desk.new (O.contents out.old) (O.contents out.new)
         (E.contents err.old) (E.contents err.new) result }
-    ensures stands { StandsOn S.Store desk.old desk.new }
+    ensures stands { StandsAfter S.Store desk.old task desk.new }
 {
     match task {
         Task::Ask { request } => tell(out, err, &answer(rt.alloc(), desk, request)),
@@ -225,7 +225,7 @@ fn open<S: Start, O: Write, E: Write>(
         → OnAsk task
         (λ request. GoesOn ⟦<FileFrom<S> as Disk>⟧
         (λ left. (files : _) × IsFresh true files.log × IsFresh false files.db
-        × (IsCleanLeft left → LeavesFiles files left)) new ends first
+        × (IsCleanLeft left → LeavesFiles files left)) (image_at S.Start) new ends first
         (O.contents out.old) (O.contents out.new) (E.contents err.old) (E.contents err.new) result
         request) }
 {
@@ -254,7 +254,7 @@ pub fn act<S: Start, O: Write, E: Write>(
         → OnAsked (action_of line)
         (λ request. GoesOnIfThere ⟦<FileFrom<S> as Disk>⟧
         (λ left. (files : _) × IsFresh true files.log × IsFresh false files.db
-        × (IsCleanLeft left → LeavesFiles files left)) new ends first
+        × (IsCleanLeft left → LeavesFiles files left)) (image_at S.Start) new ends first
         (O.contents out.old) (O.contents out.new) (E.contents err.old) (E.contents err.new) result
         request) }
 {

@@ -17,7 +17,7 @@ usage: event_reporter SUBCOMMAND FILE WORDS
 Keeps one event of a Magic Swiss tournament in FILE. What is answered `ok` is
 in the file, wherever the program is stopped.
 
-  init FILE NAME ROUNDS CUT       creates the event: 1 to 9 rounds, and a cut
+  init FILE NAME ROUNDS CUT       creates the event: 1 to 12 rounds, and a cut
                                   to 0, 2, 4 or 8 players
   enrol FILE NAME                 enrols a player, who gets the next number
   import FILE CSV                 enrols the players of a list: a CSV with the
@@ -46,6 +46,8 @@ in the file, wherever the program is stopped.
                                   those of the Swiss rounds
   serve FILE PORT COUNT           takes scores over HTTP from programs on this
                                   machine, for so many connections
+  migrate FILE                    moves the file of an older program to the
+                                  tables of this one, and never back
 
   SUBCOMMAND --help               says more of one of them
   -h, --help                      prints this text
@@ -59,8 +61,8 @@ last round, standings, or cut and a playoff for each match. Try it:
   event_reporter enrol friday.event Ana
   event_reporter players friday.event
 
-To keep a copy, copy FILE once nothing runs on it. Do so before each pair, cut
-and drop: there is no other way back from one.
+To keep a copy, copy FILE once nothing runs on it. Do so before each pair, cut,
+drop and migrate: there is no other way back from one.
 
 With no words the same commands are read as a script from standard input,
 without FILE, a line each, their words separated by one TAB. A script keeps its
@@ -109,7 +111,7 @@ that is refused keeps the players who were enrolled before. The refusals:
                       path, or init
   28 EventExists      the file has an event already: take another FILE
   29 Damaged          the file holds what no event can be: go back to a copy
-  30 BadSetup         NAME is as a player's, ROUNDS 1 to 9, CUT 0, 2, 4 or 8
+  30 BadSetup         NAME is as a player's, ROUNDS 1 to 12, CUT 0, 2, 4 or 8
 
 After 25 Store the command is in the file whole or not at all. In this order:
   1. End what has FILE open: serve, another command, an sqlite3.
@@ -130,7 +132,7 @@ Creates an event in FILE, and the file where it is not there yet. Other tables
 of the file stay.
 
   NAME    1 to 60 bytes of text, in quotes where it has spaces
-  ROUNDS  the Swiss rounds: 1 to 9
+  ROUNDS  the Swiss rounds: 1 to 12
   CUT     the players who go on to the playoff: 0 for none, 2, 4 or 8
 
 Example: event_reporter init friday.event 'Friday Night' 3 4
@@ -357,6 +359,24 @@ Refuses: 24 Memory, 25 Store, 27 NoEvent, 29 Damaged. Where it can't listen the
 status is 3.
 ";
 
+pub const MIGRATE: &str = "\
+usage: event_reporter migrate FILE
+
+Moves the event of an older program to tables of version 2, in which this
+program creates an event. It is wanted where such a file is to take what only
+the newer program can; for all else the file goes on as it is. A file of
+version 2 stays as it is.
+
+It can't be undone, and an older program then refuses the file. So copy FILE
+first, as by cp friday.event friday.copy. Wherever the command is stopped, the
+event is there whole, in the one version or in the other.
+
+Example: event_reporter migrate friday.event
+Answers `ok` and how many commands were taken so far, as before it.
+Refuses: 24 Memory, 25 Store, 27 NoEvent, 29 Damaged. 25 comes too where FILE
+has a table player2 that is not the event's, and nothing is changed then.
+";
+
 /// What a person is told where the port can't be had.
 pub const CANNOT_LISTEN: &str = "\
 event_reporter: cannot listen at this port: another program may have it, or it
@@ -424,6 +444,7 @@ pub fn subcommand_text(name: &str) -> Option<&'static str>
         "bracket" => Some(BRACKET),
         "export" => Some(EXPORT),
         "serve" => Some(SERVE),
+        "migrate" => Some(MIGRATE),
         _ => None,
     }
 }

@@ -222,15 +222,15 @@ pub fn run_from<S: Start, O: Write, E: Write>(
         ⊎ Tells (Answer.Refused Refusal.Memory) (O.contents out.old) (O.contents out.new)
         (E.contents err.old) (E.contents err.new) result) }
     // Of a file that a history of a new event left, the history goes on with the one command that is asked, or with nothing; the answer is that
-    // of the event at its end; and in the file that is closed then the next command line finds it. The system may say that the file isn't there,
-    // and memory may be wanting to read the words: then no file is opened.
+    // of the event at its end; and in the file that is closed then the next command line finds it. Or the answer is one that comes before the
+    // file is opened: that it isn't there, or that memory or the device is wanting. Then no more is said.
     ensures goes_on { (new first : Point) (ends : List Ended)
         → WasLeftBy (image_at S.Start) new ends first
         → text_for (map string_bytes words.now) ≡ None
         → IfSome (line_of (map string_bytes words.now)) (λ line. OnAsked (action_of line)
         (λ request. GoesOnIfThere ⟦<FileFrom<S> as Disk>⟧
         (λ left. (files : _) × IsFresh true files.log × IsFresh false files.db
-        × (IsCleanLeft left → LeavesFiles files left)) new ends first
+        × (IsCleanLeft left → LeavesFiles files left)) (image_at S.Start) new ends first
         (O.contents out.old) (O.contents out.new) (E.contents err.old) (E.contents err.new) result
         request)) }
 {

@@ -1,5 +1,5 @@
 -- What an opening makes of the tables that it finds.
-use Rattle.std.proofs.Common.{Option, Some, None, IfSome, ◌≡◌, ℕ, is_ok, IsTrue, sym, ap, ap₂, subst, ◌∙◌}
+use Rattle.std.proofs.Common.{Option, Some, None, IfSome, inl, inr, ◌⊎◌, ◌≡◌, ℕ, is_ok, IsTrue, sym, ap, ap₂, subst, ◌∙◌}
 use Rattle.std.proofs.Math.Logic.{∥∥₁_elim}
 use Rattle.sqlite_trees.specs.declared.store.Store.{Ghosts}
 use Rattle.sqlite_trees.specs.Props.{Trees-set}
@@ -8,7 +8,7 @@ use Rattle.sqlite.specs.{Files.HoldsDatabase, Held.{Held, state}}
 use Rattle.sqlite_wal.specs.Recovery.{Image}
 use Rattle.er_event.specs.{Event.EventValue, declared.events.parts.Parts.Parts, declared.refusals.Place.Place}
 use Rattle.er_event.specs.declared.refusals.Refusal.TheVariants.{Memory, NoEvent, Damaged}
-use Rattle.er_store.specs.{Damage.ReadsParts, Reading.KeepsTables, Standing.{StandsFor, IsStored, Shows, Leaves, ReadsEvent}}
+use Rattle.er_store.specs.{Damage.ReadsParts, Reading.KeepsTables, Standing.{StandsFor, IsStored, IsStoredIn, Shows, Leaves, ReadsEvent}}
 use Rattle.er_store.specs.declared.Store.{Store}
 use Rattle.er_desk.specs.{Desk.Point, Headline.WasLeft, Opening.NamesFirstFault}
 use Rattle.er_desk.proofs.Turns.{unchanged_keeps}
@@ -18,8 +18,20 @@ pub point_is : (point : Point) (e : EventValue) (n : ℕ) → e ≡ point.event 
     → ◌≡◌ {A = Point} (record { event = e; serial = n }) point
 point_is point e n event serial = ap₂ (λ (x : EventValue) (k : ℕ). (let p : Point = record { event = x; serial = k } in p)) event serial
 
-pub shows_as : (s : State) (e f : EventValue) (m n : ℕ) → f ≡ e → n ≡ m → Shows s e m → Shows s f n
-shows_as s e f m n event serial shows = rw (event, serial) shows
+pub shows_as : (v : ℕ) (s : State) (e f : EventValue) (m n : ℕ) → f ≡ e → n ≡ m → Shows v s e m → Shows v s f n
+shows_as v s e f m n event serial shows = rw (event, serial) shows
+
+-- what is stored in a version is stored
+pub stored_either : {v : ℕ} {e : EventValue} {n : ℕ} {trees : Trees} → IsStoredIn v e n trees → IsStored e n trees
+stored_either it = record { schema = it.schema; sound = it.sound; stands = (it.stands.layout, it.stands.stands) }
+
+pub stored_or : {v : ℕ} {e : EventValue} {n : ℕ} {trees : Trees} {P : Type 0} → P ⊎ IsStoredIn v e n trees → P ⊎ IsStored e n trees
+stored_or (inl before) = inl before
+stored_or (inr after) = inr (stored_either after)
+
+pub stored_whole : {e : EventValue} {n : ℕ} {trees : Trees} → IsStoredIn 1 e n trees ⊎ IsStoredIn 2 e n trees → IsStored e n trees
+stored_whole (inl first) = stored_either first
+stored_whole (inr second) = stored_either second
 
 -- the event's rows are read where the tables are
 pub read_whole : (db : Database) (parts : Parts) → ReadsParts db parts → ReadsEvent db.schema

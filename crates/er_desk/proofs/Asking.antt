@@ -8,7 +8,7 @@ use Rattle.sqlite.specs.{Tree.Trees, State.HasCleanDisk}
 use Rattle.er_event.specs.{declared.commands.Command.Command, Event.EventValue}
 use Rattle.er_rules.specs.Step.{Steps}
 use Rattle.er_store.specs.Standing.{KeepsOthers}
-use Rattle.er_desk.specs.{Reply.Reply, Desk.{Point, Turn, ShowsOwn, point_of, state, standing}, declared.desk.Desk.Desk}
+use Rattle.er_desk.specs.{Reply.Reply, Desk.{Point, Turn, ShowsOwn, point_of, state, standing, version_in}, declared.desk.Desk.Desk}
 use Rattle.er_desk.specs.{Headline.{LeavesJust, LeavesEither, LeavesEnd}, Run.{Session, session_of, no_session, EndsAfterKept}}
 use Rattle.er_desk.specs.{Run.{EndsWithDoubt, IsStoredEnd}, History.LeadsTo, Asking.{Asks, joined, later_doubt}}
 use Rattle.er_desk.proofs.Running.{runs_lead, session_goes_on, session_stops, stays, stops_now, keeps_more}
@@ -139,8 +139,9 @@ module _ {S : Type 0} (g : Ghosts S) (old mid new : Desk S g) (s t : Session) (o
     sure = λ runs. later_alone s.doubt t.doubt (one.sure (ran runs)) ∙ two.sure runs;
     clean = λ clean. one.clean (two.clean clean);
     stands = λ clean shows runs. two.stands clean (one.stands (two.clean clean) shows (ran runs)) runs;
-    others = λ clean shows. keeps_more g old mid new (λ stopped. (two.waits stopped).0) (one.stands (two.clean clean) shows)
+    others = λ clean shows. keeps_more g old mid new one.version (λ stopped. (two.waits stopped).0) (one.stands (two.clean clean) shows)
         (one.others (two.clean clean) shows) (two.others clean);
+    version = two.version ∙ one.version;
     crash = both_crash;
   }
 
@@ -150,15 +151,17 @@ module _ {S : Type 0} (g : Ghosts S) (old mid new : Desk S g) (s t : Session) (o
 pub reading_asks : {S : Type 0} (g : Ghosts S) (old new : Desk S g) → (IsTrue (standing old).stopped → new ≡ old)
     → point_of (standing new) ≡ point_of (standing old) → (HasCleanDisk (state g new) → HasCleanDisk (state g old))
     → (HasCleanDisk (state g new) → ShowsOwn g old → IsFalse (standing new).stopped → ShowsOwn g new)
-    → (HasCleanDisk (state g new) → ShowsOwn g old → IsTrue (state g new).is_open → KeepsOthers (state g old).now (state g new).now)
-    → (ShowsOwn g old → LeavesJust (state g new) (point_of (standing old))) → Asks g old no_session new
-reading_asks g old new waits same clean stands others crash = record {
+    → (HasCleanDisk (state g new) → ShowsOwn g old → IsTrue (state g new).is_open
+    → KeepsOthers (version_in old) (state g old).now (state g new).now)
+    → version_in new ≡ version_in old → (ShowsOwn g old → LeavesJust (state g new) (point_of (standing old))) → Asks g old no_session new
+reading_asks g old new waits same clean stands others version crash = record {
   waits = λ stopped. (waits stopped, refl);
   leads = record { event = ap (λ (p : Point). p.event) same; serial = ap (λ (p : Point). p.serial) same ∙ omega arith };
   sure = λ runs. refl;
   clean = clean;
   stands = stands;
   others = others;
+  version = version;
   crash = λ runs shows clean trees may. quiet_end (point_of (standing old)) trees (crash shows clean trees may);
 }
 
@@ -166,4 +169,4 @@ reading_asks g old new waits same clean stands others crash = record {
 pub same_asks : {S : Type 0} (g : Ghosts S) (desk : Desk S g) → (ShowsOwn g desk → LeavesJust (state g desk) (point_of (standing desk)))
     → Asks g desk no_session desk
 same_asks g desk crash = reading_asks g desk desk (λ _. refl) refl (λ clean. clean) (λ clean shows runs. shows)
-    (λ clean shows is_open. keeps_self (state g desk).now) crash
+    (λ clean shows is_open. keeps_self _ (state g desk).now) refl crash

@@ -8,3 +8,4 @@ mod Slips
 mod NextSession
 mod Resting
 mod Asking
+mod Moving

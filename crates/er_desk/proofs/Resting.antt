@@ -15,14 +15,14 @@ use Rattle.er_event.specs.Event.{EventValue}
 use Rattle.er_store.specs.Standing.{IsStored, Shows}
 use Rattle.er_store.specs.Store as tables
 use Rattle.er_desk.specs.declared.desk.Desk.{Desk}
-use Rattle.er_desk.specs.Desk.{Point, ShowsOwn, point_of, standing, state}
+use Rattle.er_desk.specs.Desk.{Point, ShowsOwn, point_of, standing, state, version_in}
 use Rattle.er_desk.specs.Headline.{LeavesJust}
 use Rattle.er_desk.specs.Closing.{IsAtRest, AreAtRest, LeavesNoMore, LosesNothing, IsClosedAs}
 
 -- the last commit is the event
-committed_stored : (s : State) (e : EventValue) (n : ℕ) → Shows s e n → IsStored e n s.committed.trees
-committed_stored s e n shows = subst (λ (d : Database). IsStored e n d.trees) shows.settled
-    (record { schema = s.now.schema; sound = shows.sound; stands = shows.stands })
+committed_stored : (v : ℕ) (s : State) (e : EventValue) (n : ℕ) → Shows v s e n → IsStored e n s.committed.trees
+committed_stored v s e n shows = subst (λ (d : Database). IsStored e n d.trees) shows.settled
+    (record { schema = s.now.schema; sound = shows.sound; stands = (shows.stands.layout, shows.stands.stands) })
 
 rests : (image : Image) (db : Trees) (point : Point) → HoldsAlone image db → IsStored point.event point.serial db → IsAtRest image point
 rests image db point holds stored = record { both = (db, holds.both, stored); alone = (db, holds.alone, stored) }
@@ -31,9 +31,9 @@ module _ {D : Type 0} {g : Ghosts D} (desk : Desk (FileStore D g) over_files) (c
     (is : conn ≡ tables.connection desk.store) where
   are_at_rest : (files : Files D) → IsCopied conn files → ShowsOwn over_files desk → AreAtRest g files (point_of (standing desk))
   are_at_rest files copied shows =
-      let own : Shows (file_state conn) desk.event desk.serial =
-      subst (λ (h : Held (FileStore D g)). Shows (file_state h) desk.event desk.serial) (sym is) shows in
-      let stored = committed_stored (file_state conn) desk.event desk.serial own in
+      let own : Shows (version_in desk) (file_state conn) desk.event desk.serial =
+      subst (λ (h : Held (FileStore D g)). Shows (version_in desk) (file_state h) desk.event desk.serial) (sym is) shows in
+      let stored = committed_stored (version_in desk) (file_state conn) desk.event desk.serial own in
       record {
         seen = rests _ _ (point_of (standing desk)) copied.seen stored;
         left = λ image may. rests image _ (point_of (standing desk)) (copied.left image may) stored;

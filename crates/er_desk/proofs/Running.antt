@@ -7,7 +7,8 @@ use Rattle.er_event.specs.{declared.commands.Command.Command, declared.commands.
 use Rattle.er_event.specs.{declared.refusals.Refusal.TheVariants.NeedsReopen, Event.EventValue}
 use Rattle.er_rules.specs.Step.{Steps, Answers}
 use Rattle.er_store.specs.{Fault.IsFault, Standing.{IsStored, Either, KeepsOthers}}
-use Rattle.er_desk.specs.{Reply.Reply, Desk.{Point, Standing, Accepts, Stops, Turn, ShowsOwn, IsStoredAfter, point_of, state, standing}}
+use Rattle.er_desk.specs.{Reply.Reply}
+use Rattle.er_desk.specs.{Desk.{Point, Standing, Accepts, Stops, Turn, ShowsOwn, IsStoredAfter, point_of, state, standing, version_in}}
 use Rattle.er_desk.specs.{Headline.{LeavesJust, LeavesEither, LeavesEnd}, declared.desk.Desk.Desk, Run.{Runs, acknowledged, tried_or}}
 use Rattle.er_desk.specs.{Run.{last_tried, Session, session_of, EndsAfterKept, EndsWithDoubt, IsStoredEnd}, History.LeadsTo}
 use Rattle.er_desk.proofs.Turns.{waits_of, stops_of, keeps_then}
@@ -29,8 +30,8 @@ accepts_of old new command receipt h1 = grind (arith, common_steps)
 pub stays : (old new : Standing) (command : Command) (why : Refusal) → Turn old command (Err why) new → point_of new ≡ point_of old
 stays old new command why h1 = grind (arith, common_steps)
 
-pub stops_now : (old new : Standing) (command : Command) (reply : Reply) → IsFalse old.stopped → IsTrue new.stopped → Turn old command reply new
-    → Stops old command reply new
+pub stops_now : (old new : Standing) (command : Command) (reply : Reply) → IsFalse old.stopped → IsTrue new.stopped
+    → Turn old command reply new → Stops old command reply new
 stops_now old new command reply runs stopped turn =
     elim (stops_of old new command reply turn stopped) [ inl was ↦ absurd (true≢false (sym was ∙ runs)) | inr stops ↦ stops ]
 
@@ -177,14 +178,17 @@ module _ {S : Type 0} {g : Ghosts S} (first old new : Desk S g) where
 
 -- other tables stay from one command to the next, also where the desk has stopped
 module _ {S : Type 0} (g : Ghosts S) (first old new : Desk S g) where
-  pub keeps_more : (IsTrue (standing old).stopped → new ≡ old) → (IsFalse (standing old).stopped → ShowsOwn g old)
-      → (IsTrue (state g old).is_open → KeepsOthers (state g first).now (state g old).now)
-      → (ShowsOwn g old → IsTrue (state g new).is_open → KeepsOthers (state g old).now (state g new).now) → IsTrue (state g new).is_open
-      → KeepsOthers (state g first).now (state g new).now
-  keeps_more waits stands before more is_open = by_stop (standing old).stopped refl
+  pub keeps_more : version_in old ≡ version_in first → (IsTrue (standing old).stopped → new ≡ old)
+      → (IsFalse (standing old).stopped → ShowsOwn g old)
+      → (IsTrue (state g old).is_open → KeepsOthers (version_in first) (state g first).now (state g old).now)
+      → (ShowsOwn g old → IsTrue (state g new).is_open → KeepsOthers (version_in old) (state g old).now (state g new).now)
+      → IsTrue (state g new).is_open → KeepsOthers (version_in first) (state g first).now (state g new).now
+  keeps_more version waits stands before more is_open = by_stop (standing old).stopped refl
     where
-      by_stop : (b : Bool) → (standing old).stopped ≡ b → KeepsOthers (state g first).now (state g new).now
-      by_stop true is = subst (λ (d : Desk S g). KeepsOthers (state g first).now (state g d).now) (sym (waits is))
+      by_stop : (b : Bool) → (standing old).stopped ≡ b → KeepsOthers (version_in first) (state g first).now (state g new).now
+      by_stop true is = subst (λ (d : Desk S g). KeepsOthers (version_in first) (state g first).now (state g d).now) (sym (waits is))
           (before (subst (λ (d : Desk S g). IsTrue (state g d).is_open) (waits is) is_open))
-      by_stop false is = let shows = stands is in keeps_then (state g first).now (state g old).now (state g new).now (before shows.is_open)
-          (more shows is_open)
+      by_stop false is =
+          let shows = stands is in
+          keeps_then (version_in first) (state g first).now (state g old).now (state g new).now (before shows.is_open)
+          (subst (λ v. KeepsOthers v (state g old).now (state g new).now) version (more shows is_open))

@@ -4,19 +4,21 @@ use Rattle.std.proofs.Common.{refl, sym, ap, subst, ◌∙◌}
 use Rattle.sqlite.specs.{Effect.{Database, IsDatabase}, State.{State, IsUnchanged}}
 use Rattle.er_event.specs.declared.refusals.Refusal.{Refusal}
 use Rattle.er_event.specs.Event.{EventValue}
-use Rattle.er_store.specs.{Fault.IsReadFault, Reading.KeepsTables, Standing.{KeepsOthers, StandsFor, Shows}}
+use Rattle.er_store.specs.{Fault.IsReadFault, Reading.KeepsTables, Standing.{KeepsOthers, StandsIn, Shows}}
 use Rattle.er_desk.specs.Desk.{Standing, Reads}
 use Rattle.er_desk.proofs.Turns.{keeps_self}
 
-keeps_same : (old new : Database) → new ≡ old → KeepsOthers old new
-keeps_same old new same = subst (KeepsOthers old) (sym same) (keeps_self old)
+keeps_same : (version : ℕ) (old new : Database) → new ≡ old → KeepsOthers version old new
+keeps_same version old new same = subst (KeepsOthers version old) (sym same) (keeps_self version old)
 
-pub read_others : {A : Type 0} (Fails : Refusal → Type 0) (read : Result A Refusal) (stopped : Bool) (old new : State)
+pub read_others : {A : Type 0} (Fails : Refusal → Type 0) (read : Result A Refusal) (stopped : Bool) (version : ℕ) (old new : State)
     → old.now ≡ old.committed → IsTrue new.is_open
     → MatchResult read (λ _. IsFalse stopped) Fails → (IsFalse stopped → IsUnchanged old new) → OnErr read (KeepsTables old new)
-    → KeepsOthers old.now new.now
-read_others Fails (Ok row) stopped old new settled is_open still same kept = keeps_same old.now new.now (same still).0.now_is
-read_others Fails (Err why) stopped old new settled is_open stops same kept = keeps_same old.now new.now (kept settled is_open).0
+    → KeepsOthers version old.now new.now
+read_others Fails (Ok row) stopped version old new settled is_open still same kept =
+    keeps_same version old.now new.now (same still).0.now_is
+read_others Fails (Err why) stopped version old new settled is_open stops same kept =
+    keeps_same version old.now new.now (kept settled is_open).0
 
 -- what is read leaves the desk as it is, or stops it
 pub reads : {A : Type 0} (passing : Refusal) (old : Standing) (is : Bool) (read : Result A Refusal) → IsFalse old.stopped
@@ -29,12 +31,12 @@ reads passing old is (Err why) runs (inr (fault, stopped)) =
     inr (inl (runs, ap (λ (b : Bool). record old { stopped = b }) stopped, why, fault, refl))
 
 -- and the tables stand for its event
-pub still_shows : (old new : State) (e : EventValue) (n : ℕ) → Shows old e n → IsUnchanged old new → Shows new e n
-still_shows old new e n shows same = record {
+pub still_shows : (v w : ℕ) (old new : State) (e : EventValue) (n : ℕ) → w ≡ v → Shows v old e n → IsUnchanged old new → Shows w new e n
+still_shows v w old new e n is shows same = record {
   is_open = same.0.is_open;
   sound = subst IsDatabase (sym same.0.now_is) shows.sound;
   settled = same.0.now_is ∙ shows.settled ∙ sym same.0.committed_is;
-  stands = subst (λ (db : Database). StandsFor db e n) (sym same.0.now_is) shows.stands;
+  stands = subst (λ (db : Database). StandsIn w db e n) (sym same.0.now_is) (subst (λ k. StandsIn k old.now e n) (sym is) shows.stands);
 }
 
 -- what is known of either outcome, of one of them

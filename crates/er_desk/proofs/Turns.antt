@@ -9,7 +9,7 @@ use Rattle.er_event.specs.{declared.refusals.Cause.Cause, declared.commands.Comm
 use Rattle.er_event.specs.{declared.refusals.Refusal.Refusal, declared.refusals.Refusal.TheVariants.{Memory, Budget, SerialFull, Store}}
 use Rattle.er_event.specs.{declared.refusals.Refusal.TheVariants.NeedsReopen, Event.EventValue}
 use Rattle.er_rules.specs.{Refusing.IsOfRules, Step.{Answers, NeedsMoreSteps}}
-use Rattle.er_store.specs.{Fault.IsFault, Reading.KeepsTables, Standing.{IsOther, KeepsOthers}, Layout.Old}
+use Rattle.er_store.specs.{Fault.IsFault, Reading.KeepsTables, Standing.{IsOther, HasTablesAt, KeepsOthers}, Layout.Layout}
 use Rattle.er_desk.specs.{Reply.{Reply, reply_to, receipt, IsDue}, Desk.{Standing, Turn, Stops, ShowsOwn, IsOwn, point_of, state, standing}}
 use Rattle.er_desk.specs.{Headline.LeavesJust, declared.desk.Desk.Desk}
 
@@ -179,24 +179,33 @@ module _ (old new : Standing) (command : Command) where
 
 -- ---- tables
 
-keeps_all : (db : Database) (tables : List Table) → AllByRecursion (λ t. IsOther Old t.tree → db.trees t.tree ≡ db.trees t.tree) tables
-keeps_all db [] = tt
-keeps_all db (t ∷ ts) = (λ _. refl, keeps_all db ts)
+keeps_all : (l : Layout) (db : Database) (tables : List Table)
+    → AllByRecursion (λ t. IsOther l t.tree → db.trees t.tree ≡ db.trees t.tree) tables
+keeps_all l db [] = tt
+keeps_all l db (t ∷ ts) = (λ _. refl, keeps_all l db ts)
 
-pub keeps_self : (db : Database) → KeepsOthers db db
-keeps_self db = record { schema = refl; rows = keeps_all db db.schema.tables }
+pub keeps_self : (version : ℕ) (db : Database) → KeepsOthers version db db
+keeps_self version db =
+    record { schema = refl; rest = λ l is has. record { schema = refl; rows = keeps_all l db db.schema.tables } }
 
-keeps_rows : (old mid new : Database) (tables : List Table)
-    → AllByRecursion (λ t. IsOther Old t.tree → mid.trees t.tree ≡ old.trees t.tree) tables
-    → AllByRecursion (λ t. IsOther Old t.tree → new.trees t.tree ≡ mid.trees t.tree) tables
-    → AllByRecursion (λ t. IsOther Old t.tree → new.trees t.tree ≡ old.trees t.tree) tables
-keeps_rows old mid new [] one two = tt
-keeps_rows old mid new (t ∷ ts) one two = (λ other. two.0 other ∙ one.0 other, keeps_rows old mid new ts one.1 two.1)
+keeps_rows : (l : Layout) (old mid new : Database) (tables : List Table)
+    → AllByRecursion (λ t. IsOther l t.tree → mid.trees t.tree ≡ old.trees t.tree) tables
+    → AllByRecursion (λ t. IsOther l t.tree → new.trees t.tree ≡ mid.trees t.tree) tables
+    → AllByRecursion (λ t. IsOther l t.tree → new.trees t.tree ≡ old.trees t.tree) tables
+keeps_rows l old mid new [] one two = tt
+keeps_rows l old mid new (t ∷ ts) one two = (λ other. two.0 other ∙ one.0 other, keeps_rows l old mid new ts one.1 two.1)
 
-pub keeps_then : (old mid new : Database) → KeepsOthers old mid → KeepsOthers mid new → KeepsOthers old new
-keeps_then old mid new one two = record {
+pub keeps_then : (version : ℕ) (old mid new : Database) → KeepsOthers version old mid → KeepsOthers version mid new
+    → KeepsOthers version old new
+keeps_then version old mid new one two = record {
   schema = two.schema ∙ one.schema;
-  rows = keeps_rows old mid new old.schema.tables one.rows (rw one.schema at two.rows);
+  rest = λ l is has.
+      let first = one.rest l is has in
+      let then = two.rest l is (subst (HasTablesAt l) (sym one.schema) has) in
+      record {
+        schema = two.schema ∙ one.schema;
+        rows = keeps_rows l old mid new old.schema.tables first.rows (rw one.schema at then.rows);
+      };
 }
 
 pub unchanged_keeps : (old new : State) → IsUnchanged old new → KeepsTables old new

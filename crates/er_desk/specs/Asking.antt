@@ -8,7 +8,7 @@ use Rattle.er_store.specs.Standing.{KeepsOthers}
 use Rattle.sqlite.specs.Tree.{Trees}
 use Rattle.sqlite_wal.specs.Recovery.{Image}
 use Rattle.er_desk.specs.declared.desk.Desk.{Desk}
-use Rattle.er_desk.specs.Desk.{Point, ShowsOwn, point_of, state, standing}
+use Rattle.er_desk.specs.Desk.{Point, ShowsOwn, point_of, state, standing, version_in}
 use Rattle.er_desk.specs.Run.{Session, IsStoredEnd, no_session}
 use Rattle.er_desk.specs.History.{Ended, LeadsTo}
 use Rattle.er_desk.specs.Headline.{LeavesEnd, NextBegins, WasLeft, WasLeftBy, and_then}
@@ -33,7 +33,9 @@ pub record Asks {S : Type 0} (g : Ghosts S) (old : Desk S g) (session : Session)
   pub clean : HasCleanDisk (state g new) → HasCleanDisk (state g old)
   pub stands : HasCleanDisk (state g new) → ShowsOwn g old → IsFalse (standing new).stopped → ShowsOwn g new
   pub others : HasCleanDisk (state g new) → ShowsOwn g old → IsTrue (state g new).is_open
-      → KeepsOthers (state g old).now (state g new).now
+      → KeepsOthers (version_in old) (state g old).now (state g new).now
+  -- in the version that they were in
+  pub version : version_in new ≡ version_in old
   -- a crash leaves an end of the session
   pub crash : IsFalse (standing old).stopped → ShowsOwn g old → LeavesEnd (state g new) (point_of (standing old)) session
 
@@ -41,8 +43,8 @@ pub record Asks {S : Type 0} (g : Ghosts S) (old : Desk S g) (session : Session)
 abbrev pub AsksThen : {S : Type 0} (g : Ghosts S) → Desk S g → Desk S g → Desk S g → Type 0
 AsksThen {S} g old mid new = (one two : Session) → Asks g old one mid → Asks g mid two new → Asks g old (joined one two) new
 
--- Of a file that a history left. It ended at a sound event. Where what is left then is an end of a session that began there, the next session
--- begins at it. Files that stand for what the session surely led to were left by the history with this session behind it.
+-- Of a file that a history left. It ended at a sound event. Where what is left then is an end of a session that began
+-- there, the next session begins at it. Files that stand for what the session surely led to were left by the history with this session behind it.
 pub record GoesOnFrom (new first : Point) (ends : List Ended) : Type 0 where
   pub sound : IsSound first.event
   pub begins : (session : Session) (trees : Trees) → IsStoredEnd first session trees → NextBegins new ends session trees

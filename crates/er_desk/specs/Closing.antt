@@ -42,7 +42,8 @@ module _ {D : Type 0} {g : Ghosts D} (desk : Desk (FileStore D g) over_files) wh
   -- How the desk's file was closed: it is at rest, or memory or the device was wanting, and nothing is lost.
   pub record IsClosedAs (closed : Result (Files D) (Error × FileStore D g)) : Type 0 where
     pub clean : IfOk closed (λ files. AreClean g files.log files.db → HasCleanDisk (state over_files desk))
-    pub rests : IfOk closed (λ files. AreClean g files.log files.db → ShowsOwn over_files desk → AreAtRest g files (point_of (standing desk)))
+    pub rests : IfOk closed (λ files. AreClean g files.log files.db → ShowsOwn over_files desk
+        → AreAtRest g files (point_of (standing desk)))
     -- and whatever the desk stood at, a fault behind it or not, these are files from which a crash leaves nothing new
     pub spares : IfOk closed (λ files. (last : FileStore D g) × (store_files last ≡ (files.log, files.db)) × LeavesNoMore last)
     -- the two may be opened again

@@ -58,9 +58,13 @@ IsStoredAfter event serial command trees = (next : EventValue) × Answers event 
 abbrev pub IsOwn : Refusal → Type 0
 IsOwn why = (why ≡ Memory) ⊎ (why ≡ SerialFull) ⊎ IsOfRules why
 
--- its tables stand for its event and its serial, with nothing pending
+-- the version that its tables are of
+abbrev pub version_in : {S : Type 0} {g : Ghosts S} → Desk S g → ℕ
+version_in desk = store.version_in desk.store
+
+-- its tables stand for its event and its serial, in that version, with nothing pending
 abbrev pub ShowsOwn : {S : Type 0} (g : Ghosts S) → Desk S g → Type 0
-ShowsOwn g desk = tables.Shows (state g desk) desk.event desk.serial
+ShowsOwn g desk = tables.Shows (version_in desk) (state g desk) desk.event desk.serial
 
 module _ (old : Standing) (command : Command) (reply : Reply) (new : Standing) where
   -- the command is accepted

@@ -25,7 +25,7 @@ use Rattle.er_desk.specs.declared.opening.OpenFault.TheVariants.{Unopened, Refus
 -- the tables are read as those of an event whose playoff has other seeds than its standings
 abbrev pub HasOtherSeeds : Database → Type 0
 HasOtherSeeds db =
-    (event : EventValue) × (serial : ℕ) × ReadsParts db (parts_of 1 event serial) × ReadsTallies db (tally_rows event)
+    (event : EventValue) × (serial : ℕ) × (version : ℕ) × ReadsParts db (parts_of version event serial) × ReadsTallies db (tally_rows event)
     × IsSoundButForSeeds event × (HasSeeds event → ⊥)
 
 -- this table is the first at fault, where seeds are looked at last

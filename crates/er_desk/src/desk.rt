@@ -47,7 +47,7 @@ pub struct Desk<S: Alter> {
 }
 
 impl<S: Alter> Desk<S> {
-    ghost use Rattle.std.specs.Prelude.{◌≡◌, ◌⊎◌, ◌+◌, ◌<◌, ◌≤◌, ◌↔◌, ℕ, true, false, Err, IfOk, IfErr, OnOk, OnErr, IsErrAnd, MatchResult, IsTrue, IsFalse};
+    ghost use Rattle.std.specs.Prelude.{◌≡◌, ◌⊎◌, ◌+◌, ◌<◌, ◌≤◌, ◌↔◌, ℕ, true, false, Err, IfOk, IfErr, OnOk, OnErr, IsErr, IsErrAnd, MatchResult, IsTrue, IsFalse};
     ghost use Rattle.sqlite.specs.State.{HasCleanDisk, IsUnchanged};
     ghost use Rattle.sqlite.specs.Held as sqlite;
     ghost use Rattle.er_event.specs.declared.refusals.Cause.{Cause};
@@ -61,8 +61,8 @@ impl<S: Alter> Desk<S> {
     ghost use Rattle.er_store.specs.Standing.{HasTables, AreKeyed, StandsFor, CanRead, IsStored, Leaves, Either, KeepsOthers};
     ghost use Rattle.er_store.specs.Loading.{HoldsEvent};
     ghost use Rattle.er_store.specs.Slip.{FindsSlip};
-    ghost use Rattle.er_store.specs.Reading.{KeepsTables};
-    ghost use Rattle.er_desk.specs.Desk.{Point, Turn, Stops, ReadsRows, ReadsSlip, ShowsOwn, point_of, state, standing};
+    ghost use Rattle.er_store.specs.{Migrated.IsTaken, Reading.KeepsTables};
+    ghost use Rattle.er_desk.specs.Desk.{Point, Turn, Stops, ReadsRows, ReadsSlip, ShowsOwn, point_of, state, standing, version_in};
     ghost use Rattle.er_desk.specs.Run.{Runs, IsRun, session_of};
     ghost use Rattle.er_desk.specs.Headline.{IsEmptyFile, LeavesJust, LeavesEither, LeavesEnd, FindsAgain, RepeatsNobody, AreTheStandings};
     ghost use Rattle.er_desk.specs.History.{new_point};
@@ -70,6 +70,7 @@ impl<S: Alter> Desk<S> {
     ghost use Rattle.std.specs.Prelude.{[], ◌∷◌};
     ghost use Rattle.er_desk.specs.Run.{no_session};
     ghost use Rattle.er_desk.specs.Asking.{Asks};
+    ghost use Rattle.er_desk.specs.Migrating.{Migrates, MayMigrate};
 
     /// Makes the tables of a new event. Its limits are checked before the file is touched. A refusal gives the connection back.
     pub fn create(
@@ -84,6 +85,7 @@ impl<S: Alter> Desk<S> {
         ensures made { IfOk result (λ made. standing made
             ≡ record { event = created name rounds cut; serial = 0; stopped = false }) }
         ensures sound { IfOk result (λ made. IsSound made.event) }
+        ensures version { IfOk result (λ made. version_in made ≡ 2) }
 
         // `BadSetup` comes exactly where the limits are not met, and then the file was not touched.
         ensures within { IfOk result (λ _. AreLimits rounds cut) }
@@ -154,10 +156,10 @@ impl<S: Alter> Desk<S> {
             → IsFault e.1) }
         // Whatever the tables hold, what is found is what they show. Where they have the schema, they stand for it.
         ensures shows { IfOk result (λ it. HasCleanDisk (state S.Store it)
-            → HasTables (sqlite.state S.Store conn).now.schema
-            → HoldsEvent (sqlite.state S.Store conn).now it.event it.serial) }
+            → HasTables (version_in it) (sqlite.state S.Store conn).now.schema
+            → HoldsEvent (version_in it) (sqlite.state S.Store conn).now it.event it.serial) }
         ensures stands { IfOk result (λ it. HasCleanDisk (state S.Store it)
-            → HasTables (sqlite.state S.Store conn).now.schema
+            → HasTables (version_in it) (sqlite.state S.Store conn).now.schema
             → AreKeyed (sqlite.state S.Store conn).now → ShowsOwn S.Store it) }
 
         // `NoEvent` and a damaged table come only for the first fault. The bracket's comes too where the seeds of the playoff are not those of the standings.
@@ -264,7 +266,9 @@ impl<S: Alter> Desk<S> {
             → OnErr result (KeepsTables (state S.Store self.old) (state S.Store self.new)) }
         ensures others { HasCleanDisk (state S.Store self.new) → ShowsOwn S.Store self.old
             → IsTrue (state S.Store self.new).is_open
-            → KeepsOthers (state S.Store self.old).now (state S.Store self.new).now }
+            → KeepsOthers (version_in self.old) (state S.Store self.old).now
+            (state S.Store self.new).now }
+        ensures version { version_in self.new ≡ version_in self.old }
         ensures crash { ShowsOwn S.Store self.old
             → LeavesJust (state S.Store self.new) (point_of (standing self.old)) }
     {
@@ -301,7 +305,9 @@ impl<S: Alter> Desk<S> {
             → OnErr result (KeepsTables (state S.Store self.old) (state S.Store self.new)) }
         ensures others { HasCleanDisk (state S.Store self.new) → ShowsOwn S.Store self.old
             → IsTrue (state S.Store self.new).is_open
-            → KeepsOthers (state S.Store self.old).now (state S.Store self.new).now }
+            → KeepsOthers (version_in self.old) (state S.Store self.old).now
+            (state S.Store self.new).now }
+        ensures version { version_in self.new ≡ version_in self.old }
         ensures crash { ShowsOwn S.Store self.old
             → LeavesJust (state S.Store self.new) (point_of (standing self.old)) }
     {
@@ -322,6 +328,56 @@ impl<S: Alter> Desk<S> {
     {
         // What the tables stand for, a crash leaves: this tells the proof.
         shown_is_stored(&self.store);
+    }
+
+    /// The version in which the tables are kept, 1 or 2, where no fault of the store is behind.
+    pub fn version(&self) -> Result<u8, Refusal>
+        ensures value { IfOk result (λ version. version ≡ version_in self.now) }
+        ensures stopped { MatchResult result (λ _. IsFalse (standing self.now).stopped)
+            (λ why. IsTrue (standing self.now).stopped × (why ≡ Refusal.NeedsReopen)) }
+    {
+        if self.needs_reopen {
+            return Err(Refusal::NeedsReopen);
+        }
+        Ok(self.store.version())
+    }
+
+    /// Moves the tables to version 2, and gives the serial, which stays. A desk whose tables are of version 2 stays as it is.
+    pub fn migrate(&mut self) -> Result<u32, Refusal>
+        // The event and the serial stay. A fault of the store stops the desk, and nothing else does.
+        ensures turn { Migrates (standing self.old) (version_in self.old) result (standing self.new)
+            (version_in self.new) }
+        ensures waits { IsTrue (standing self.old).stopped ⊎ (version_in self.old ≡ 2)
+            → self.new ≡ self.old }
+
+        ensures clean { HasCleanDisk (state S.Store self.new)
+            → HasCleanDisk (state S.Store self.old) }
+        // Where the tables stand alone, they then stand for the event in version 2.
+        ensures stands { HasCleanDisk (state S.Store self.new) → ShowsOwn S.Store self.old
+            → MayMigrate S.Store self.old → IsFalse (standing self.new).stopped
+            → ShowsOwn S.Store self.new }
+        ensures kept { HasCleanDisk (state S.Store self.new)
+            → OnErr result (KeepsTables (state S.Store self.old) (state S.Store self.new)) }
+        // It is refused where the name `player2` is taken.
+        ensures taken { IsFalse (standing self.old).stopped → version_in self.old ≡ 1
+            → HasCleanDisk (state S.Store self.new) → IsTaken (state S.Store self.old).now
+            → IsErr result × (ShowsOwn S.Store self.old
+            → LeavesJust (state S.Store self.new) (point_of (standing self.old))) }
+        // At every exit a crash leaves the event and its serial, whole in version 1 or whole in version 2.
+        ensures crash { ShowsOwn S.Store self.old → MayMigrate S.Store self.old
+            → LeavesJust (state S.Store self.new) (point_of (standing self.old)) }
+    {
+        // What the tables stand for, a crash leaves: this tells the proof.
+        shown_is_stored(&self.store);
+        if self.needs_reopen {
+            return Err(Refusal::NeedsReopen);
+        }
+        if self.store.version() == 2 {
+            return Ok(self.serial);
+        }
+        let moved = self.store.migrate(&self.event, self.serial);
+        self.needs_reopen = moved.is_err();
+        moved.and(Ok(self.serial))
     }
 
     /// Whether a fault of the store is behind, so that the file is to be opened anew.
@@ -375,7 +431,9 @@ impl<S: Alter> Desk<S> {
             → OnErr result (KeepsTables (state S.Store self.old) (state S.Store self.new)) }
         ensures others { HasCleanDisk (state S.Store self.new) → ShowsOwn S.Store self.old
             → IsTrue (state S.Store self.new).is_open
-            → KeepsOthers (state S.Store self.old).now (state S.Store self.new).now }
+            → KeepsOthers (version_in self.old) (state S.Store self.old).now
+            (state S.Store self.new).now }
+        ensures version { version_in self.new ≡ version_in self.old }
         ensures acknowledged { ShowsOwn S.Store self.old
             → OnOk result (LeavesJust (state S.Store self.new) (point_of (standing self.new))) }
         ensures crash { ShowsOwn S.Store self.old
@@ -424,7 +482,9 @@ impl<S: Alter> Desk<S> {
             → OnErr result (KeepsTables (state S.Store self.old) (state S.Store self.new)) }
         ensures others { HasCleanDisk (state S.Store self.new) → ShowsOwn S.Store self.old
             → IsTrue (state S.Store self.new).is_open
-            → KeepsOthers (state S.Store self.old).now (state S.Store self.new).now }
+            → KeepsOthers (version_in self.old) (state S.Store self.old).now
+            (state S.Store self.new).now }
+        ensures version { version_in self.new ≡ version_in self.old }
 
         // With a receipt a crash leaves the event after the command, after a fault of the store the event before or after it, and else the event before it.
         ensures acknowledged { ShowsOwn S.Store self.old
@@ -480,7 +540,9 @@ impl<S: Alter> Desk<S> {
             → OnErr result (KeepsTables (state S.Store self.old) (state S.Store self.new)) }
         ensures others { HasCleanDisk (state S.Store self.new) → ShowsOwn S.Store self.old
             → IsTrue (state S.Store self.new).is_open
-            → KeepsOthers (state S.Store self.old).now (state S.Store self.new).now }
+            → KeepsOthers (version_in self.old) (state S.Store self.old).now
+            (state S.Store self.new).now }
+        ensures version { version_in self.new ≡ version_in self.old }
 
         // With a receipt a crash leaves the event after the command, after a fault of the store the event before or after it, and else the event before it.
         ensures acknowledged { ShowsOwn S.Store self.old
@@ -514,7 +576,9 @@ impl<S: Alter> Desk<S> {
             → IsFalse (standing self.new).stopped → ShowsOwn S.Store self.new }
         ensures others { HasCleanDisk (state S.Store self.new) → ShowsOwn S.Store self.old
             → IsTrue (state S.Store self.new).is_open
-            → KeepsOthers (state S.Store self.old).now (state S.Store self.new).now }
+            → KeepsOthers (version_in self.old) (state S.Store self.old).now
+            (state S.Store self.new).now }
+        ensures version { version_in self.new ≡ version_in self.old }
 
         // A crash leaves the fold of the acknowledged commands, or that with the one in doubt.
         ensures crash { IsFalse (standing self.old).stopped → ShowsOwn S.Store self.old

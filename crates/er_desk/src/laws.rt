@@ -2,6 +2,7 @@
 
 ghost use Rattle.er_desk.specs.Headline.{Histories};
 ghost use Rattle.er_desk.specs.Asking.{AsksThen, NextSessions};
+ghost use Rattle.er_desk.specs.Migrations.{MovingHistories};
 ghost use Rattle.er_desk.specs.Resuming.{Resuming};
 ghost use Rattle.er_rules.specs.Retry.{NoDoubleEffect};
 
@@ -19,6 +20,13 @@ pub fn histories()
 /// What a session leaves is an end of the history that its file came from, with the session behind it.
 pub fn next_sessions()
     ensures { NextSessions }
+{
+    histories();
+}
+
+/// Migrations among the commands change nothing of what a history comes to, and no history leads back to version 1.
+pub fn histories_with_migrations()
+    ensures { MovingHistories }
 {
     histories();
 }

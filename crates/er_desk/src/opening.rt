@@ -8,7 +8,7 @@ ghost use Rattle.er_event.specs.declared.commands.TheConstants.{MAX_SERIAL};
 ghost use Rattle.er_rules.specs.Sound.{IsSound};
 ghost use Rattle.er_store.specs.Fault.{refusal_of, IsFault, IsLoadFault};
 ghost use Rattle.er_store.specs.Standing.{HasTables, AreKeyed, Leaves};
-ghost use Rattle.er_desk.specs.Desk.{Point, ShowsOwn, state, standing};
+ghost use Rattle.er_desk.specs.Desk.{Point, ShowsOwn, state, standing, version_in};
 ghost use Rattle.er_desk.specs.Headline.{WasLeft, FindsAgain, RepeatsNobody};
 ghost use Rattle.er_desk.specs.Opening.{NamesFirstFault, SeesStill, why_of, OnRefused, WhereUnopened, OnLeft, IsCleanFault};
 
@@ -88,7 +88,8 @@ pub fn open<S: Start>(
         → FindsAgain over_files it point) (λ why. IsCleanFault why → IsFault (why_of why)) }
     // Where the tables have the schema, they stand for what is found.
     ensures stands { IfOk result (λ it. HasCleanDisk (state over_files it)
-        → HasTables (state over_files it).now.schema → AreKeyed (state over_files it).now
+        → HasTables (version_in it) (state over_files it).now.schema
+        → AreKeyed (state over_files it).now
         → ShowsOwn over_files it) }
 
     // `NoEvent` and a damaged table come only for the first fault, and never where the files were not opened.

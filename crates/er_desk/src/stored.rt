@@ -4,7 +4,7 @@ ghost use Rattle.er_event.specs.Event.{EventValue};
 ghost use Rattle.er_event.specs.Sound.{IsSoundButForSeeds};
 ghost use Rattle.er_store.specs.Fault.{IsFault, IsReadFault};
 ghost use Rattle.er_store.specs.Reading.{KeepsTables};
-ghost use Rattle.er_store.specs.Standing.{StandsFor, Leaves};
+ghost use Rattle.er_store.specs.Standing.{StandsIn, Leaves};
 ghost use Rattle.er_store.specs.Store as tables;
 ghost use Rattle.er_desk.specs.Headline.{AreTheStandings};
 
@@ -27,11 +27,13 @@ pub fn read_standings<S: Alter>(alloc: Global, store: &mut Store<S>) -> Result<V
     ensures clean { HasCleanDisk (tables.state S.Store store.new)
         → HasCleanDisk (tables.state S.Store store.old) }
     ensures found { HasCleanDisk (tables.state S.Store store.new) → (e : EventValue) (s : ℕ)
-        → StandsFor (tables.state S.Store store.old).now e s → IsSoundButForSeeds e
+        → StandsIn (tables.version_in store.old) (tables.state S.Store store.old).now e s
+        → IsSoundButForSeeds e
         → MatchResult result (λ rows. AreTheStandings e rows.items) IsFault }
     ensures same { HasCleanDisk (tables.state S.Store store.new)
         → IsFalse (tables.is_stopped store.new)
         → IsUnchanged (tables.state S.Store store.old) (tables.state S.Store store.new) }
+    ensures version { tables.version_in store.new ≡ tables.version_in store.old }
     ensures kept { HasCleanDisk (tables.state S.Store store.new)
         → OnErr result (KeepsTables (tables.state S.Store store.old)
         (tables.state S.Store store.new)) }

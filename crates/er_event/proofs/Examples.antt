@@ -12,8 +12,8 @@ use Rattle.er_event.specs.{declared.names.TheConstants.MAX_NAME_BYTES, declared.
 
 -- ---- each limit as the rules have it, so that the code's constant can't move from it
 
-pub nine_rounds : MAX_ROUNDS ≡ 9
-nine_rounds = refl
+pub twelve_rounds : MAX_ROUNDS ≡ 12
+twelve_rounds = refl
 
 pub nine_rounds_of_version_1 : MOST_OLD_ROUNDS ≡ 9
 nine_rounds_of_version_1 = refl

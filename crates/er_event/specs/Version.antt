@@ -1,10 +1,10 @@
--- Which versions of an event's tables there are, and which events tables of each can keep.
-use Rattle.std.specs.Prelude.{◌≡◌, ◌≤◌, ℕ}
+-- The two versions of an event's tables, and which events tables of each can keep.
+use Rattle.std.specs.Prelude.{◌≡◌, ◌≤◌, ◌⊎◌, ℕ}
 use Rattle.er_event.specs.declared.rows.event.TheConstants.{MOST_OLD_ROUNDS}
 use Rattle.er_event.specs.Event.{EventValue}
 
 abbrev pub IsVersion : ℕ → Type 0
-IsVersion version = version ≡ 1
+IsVersion version = (version ≡ 1) ⊎ (version ≡ 2)
 
 -- tables of this version can keep so many rounds
 abbrev pub KeepsRounds : ℕ → ℕ → Type 0

@@ -83,7 +83,7 @@ impl Model for Event {
 }
 
 impl Event {
-    /// An event with no player, whose Swiss rounds are 1 to 9, and whose playoff is of 2, 4 or 8 players, or 0 for none. It takes no memory.
+    /// An event with no player, whose Swiss rounds are 1 to 12, and whose playoff is of 2, 4 or 8 players, or 0 for none. It takes no memory.
     pub fn create(alloc: Global, name: Name, rounds: u8, cut: u8) -> Result<Event, Refusal>
         ensures value { IfOk result (λ e. e ≡ created name rounds cut) }
         ensures within { IsOk result ↔ AreLimits rounds cut }

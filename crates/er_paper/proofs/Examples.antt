@@ -89,7 +89,7 @@ abbrev row : List ℕ → List ℕ → List ℕ → List ℕ → List ℕ → Li
 row round table a b x y d = round ∷ table ∷ a ∷ b ∷ x ∷ y ∷ d ∷ []
 
 pub results_read : results_of (results_heading ∷ row (codes "1") (codes "1") (codes "4") (codes "2") (codes "2") (codes "0")
-    (codes "0") ∷ row (codes "1") (codes "0") (codes "3") (codes "0") (codes "2") (codes "0") (codes "0") ∷ row (codes "9") (codes "512")
+    (codes "0") ∷ row (codes "1") (codes "0") (codes "3") (codes "0") (codes "2") (codes "0") (codes "0") ∷ row (codes "12") (codes "512")
     (codes "512") (codes "512") [] [] [] ∷ [])
     ≡ Ok (record { round = 1; table = 1; a = 4; b = 2; score = Some (games 2 0 0) } ∷ record {
       round = 1;
@@ -97,17 +97,17 @@ pub results_read : results_of (results_heading ∷ row (codes "1") (codes "1") (
       a = 3;
       b = 0;
       score = Some (games 2 0 0);
-    } ∷ record { round = 9; table = 512; a = 512; b = 512; score = None } ∷ [])
+    } ∷ record { round = 12; table = 512; a = 512; b = 512; score = None } ∷ [])
 results_read = refl
 
 pub heading_of_players : results_of (players_heading ∷ []) ≡ Err BadHeading
 heading_of_players = refl
 
--- no lawful score, a part of one, a tenth round, round 0, table 513, player 0, and player 513 as either
+-- no lawful score, a part of one, a thirteenth round, round 0, table 513, player 0, and player 513 as either
 pub no_results : map (λ fields. results_of (results_heading ∷ fields ∷ []))
     (row (codes "1") (codes "1") (codes "4") (codes "2") (codes "2") (codes "2") (codes "0") ∷ row (codes "1") (codes "1") (codes "4")
     (codes "2") (codes "2") (codes "2") []
-    ∷ row (codes "10") (codes "1") (codes "4") (codes "2") [] [] [] ∷ row (codes "0") (codes "1") (codes "4") (codes "2") [] [] [] ∷ row
+    ∷ row (codes "13") (codes "1") (codes "4") (codes "2") [] [] [] ∷ row (codes "0") (codes "1") (codes "4") (codes "2") [] [] [] ∷ row
     (codes "1") (codes "513") (codes "4") (codes "2") [] [] []
     ∷ row (codes "1") (codes "1") (codes "0") (codes "2") [] [] [] ∷ row (codes "1") (codes "1") (codes "513") (codes "2") [] [] [] ∷ row
     (codes "1") (codes "1") (codes "4") (codes "513") [] [] [] ∷ (codes "1" ∷ []) ∷ [])

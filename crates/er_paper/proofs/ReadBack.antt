@@ -8,6 +8,7 @@ use Rattle.std.proofs.lemmas.Map.Steps.{length-le_from_distinct_below}
 use Rattle.std.specs.{List.{AllByRecursion, list_any, range_with_len}, Fmt.decimal}
 use Rattle.csv.specs.{Reading.{AreRecords, default_config, strip_bom}, Writing.{escaped, fields_text, is_blank, read_back}}
 use Rattle.csv.proofs.RoundTrip.{rows_text}
+use Rattle.er_share.specs.declared.TheConstants.{MAX_ROUNDS}
 use Rattle.er_event.specs.{declared.players.Player.Player, declared.matches.Match.Match, declared.rounds.Round.Round}
 use Rattle.er_event.specs.{declared.scores.Games.Games, Name.is_lawful_name, Round.{is_bye, numbered_from, seats}, Score.is_swiss_score}
 use Rattle.er_event.specs.{Event.EventValue, Sound.{IsRound, IsSoundButForSeeds, names, numbers}}
@@ -99,14 +100,14 @@ record IsListed (m : Match) : Type 0 where
   pub second : m.b ≤ 512
   pub lawful : IfSome m.score (λ s. IsTrue (is_swiss_score s))
 
-row_back : (round table a b : ℕ) (score : Option Games) → (1 ≤ round) × (round ≤ 9) → table ≤ 512 → (1 ≤ a) × (a ≤ 512) → b ≤ 512
+row_back : (round table a b : ℕ) (score : Option Games) → (1 ≤ round) × (round ≤ MAX_ROUNDS) → table ≤ 512 → (1 ≤ a) × (a ≤ 512) → b ≤ 512
     → IfSome score (λ s. IsTrue (is_swiss_score s))
     → result_of (decimal round ∷ decimal table ∷ decimal a ∷ decimal b ∷ score_fields score) ≡ Some
     (record { round = round; table = table; a = a; b = b; score = score })
 row_back round table a b None r t first second lawful = grind (arith, common_steps, within-decimal)
 row_back round table a b (Some s) r t first second lawful = grind (arith, common_steps, score_back, within-decimal)
 
-matches_back : (ms : List Match) (round n : ℕ) → (1 ≤ round) × (round ≤ 9) → n + length ms ≤ 513 → AllByRecursion IsListed ms
+matches_back : (ms : List Match) (round n : ℕ) → (1 ≤ round) × (round ≤ MAX_ROUNDS) → n + length ms ≤ 513 → AllByRecursion IsListed ms
     → map result_of (map (result_fields round) (numbered_from n ms)) ≡ map Some (map (line_of_match round) (numbered_from n ms))
 matches_back [] round n r few listed = refl
 matches_back (m ∷ ms) round n r few listed = grind (arith, common_steps, matches_back ms round (n + 1) r (omega arith) listed.1, row_back)
@@ -115,7 +116,7 @@ matches_back (m ∷ ms) round n r few listed = grind (arith, common_steps, match
 abbrev IsListedRound : Round → Type 0
 IsListedRound r = (length r.matches ≤ 512) × AllByRecursion IsListed r.matches
 
-rounds_back : (rounds : List Round) (k : ℕ) → 1 ≤ k → k + length rounds ≤ 10 → AllByRecursion IsListedRound rounds
+rounds_back : (rounds : List Round) (k : ℕ) → 1 ≤ k → k + length rounds ≤ MAX_ROUNDS + 1 → AllByRecursion IsListedRound rounds
     → map result_of (rounds_table k rounds) ≡ map Some (lines_of_rounds k rounds)
 rounds_back [] k low few listed = refl
 rounds_back (r ∷ later) k low few listed =
@@ -192,7 +193,7 @@ results_as event sound =
     sound.rounds.each in
     let listed = all_rounds_listed (length event.players) event.stored sound.players.few
     (recursion_from_All (λ (r : Round). IsRound (range_with_len 1 (length event.players)) r.matches) event.stored each) in
-    let few : 1 + length event.stored ≤ 10 = let fits = sound.rounds.few in let limit = sound.set_up.rounds.1 in omega arith in
+    let few : 1 + length event.stored ≤ MAX_ROUNDS + 1 = let fits = sound.rounds.few in let limit = sound.set_up.rounds.1 in omega arith in
     in_turn result_of (rounds_table 1 event.stored) (exported_results event) 1 (rounds_back event.stored 1 (omega arith) few listed)
 
 pub results_read_back : ResultsReadBack

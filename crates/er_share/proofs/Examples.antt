@@ -1,21 +1,21 @@
--- Worked examples 11, 12 and 34, computed from the definitions, and the limits.
-use Rattle.std.proofs.Common.{◌≡◌, ℕ, ◌*◌, true, [], ◌∷◌, map, replicate, refl}
+-- Worked examples 11, 12, 34 and 46, computed from the definitions, and the limits.
+use Rattle.std.proofs.Common.{◌≡◌, ℕ, ◌*◌, true, List, [], ◌∷◌, map, replicate, refl}
 use Rattle.std.specs.Ordering.{is_gt}
 use Rattle.er_share.specs.{declared.TheConstants.{MAX_ROUNDS, MAX_GAMES, BASE, WHOLE}, Fraction.{Fraction, fraction, IsSame, fraction_cmp}}
 use Rattle.er_share.specs.Fraction.{minimum_percentage, percentage, average, hundredths}
 
 -- each limit as the rules have it, so that the code's constant can't move from it
 
-pub nine_rounds : MAX_ROUNDS ≡ 9
-nine_rounds = refl
+pub twelve_rounds : MAX_ROUNDS ≡ 12
+twelve_rounds = refl
 
-pub fifty_four_games : MAX_GAMES ≡ 54
-fifty_four_games = refl
+pub seventy_two_games : MAX_GAMES ≡ 72
+seventy_two_games = refl
 
-pub parts_of_rounds : BASE ≡ 2520
+pub parts_of_rounds : BASE ≡ 27720
 parts_of_rounds = refl
 
-pub parts_of_one_whole : WHOLE ≡ 1241725151961285960320352000
+pub parts_of_one_whole : WHOLE ≡ 467695463088029758788026659430592000
 parts_of_one_whole = refl
 
 -- ---- the examples
@@ -26,22 +26,22 @@ match_win points rounds = percentage points (3 * rounds)
 abbrev game_win : ℕ → ℕ → Fraction
 game_win points games = percentage points (3 * games)
 
-pub printed_match_wins : map hundredths (match_win 16 8 ∷ match_win 7 8 ∷ match_win 10 7 ∷ match_win 9 5 ∷ match_win 0 0 ∷ [])
-    ≡ 6667 ∷ 3300 ∷ 4762 ∷ 6000 ∷ 3300 ∷ []
+pub printed_match_wins : map hundredths (match_win 16 8 ∷ match_win 7 8 ∷ match_win 10 7 ∷ match_win 9 5 ∷ match_win 0 0 ∷ match_win 36 12
+    ∷ match_win 31 12 ∷ []) ≡ 6667 ∷ 3300 ∷ 4762 ∷ 6000 ∷ 3300 ∷ 10000 ∷ 8611 ∷ []
 unfolding percentage hundredths fraction_cmp
 printed_match_wins = refl
 
 pub printed_game_wins : map hundredths (game_win 21 10 ∷ game_win 9 11 ∷ game_win 3 3 ∷ game_win 0 0 ∷ game_win 162 54 ∷ game_win 63 32
-    ∷ []) ≡ 7000 ∷ 3300 ∷ 3333 ∷ 3300 ∷ 10000 ∷ 6563 ∷ []
+    ∷ game_win 143 71 ∷ []) ≡ 7000 ∷ 3300 ∷ 3333 ∷ 3300 ∷ 10000 ∷ 6563 ∷ 6714 ∷ []
 unfolding percentage hundredths fraction_cmp
 printed_game_wins = refl
 
 -- over the common denominator
-pub a_third : IsSame (game_win 3 3) (fraction 413908383987095320106784000 WHOLE)
+pub a_third : IsSame (game_win 3 3) (fraction 155898487696009919596008886476864000 WHOLE)
 unfolding percentage fraction_cmp
 a_third = refl
 
-pub the_minimum : IsSame minimum_percentage (fraction 409769300147224366905716160 WHOLE)
+pub the_minimum : IsSame minimum_percentage (fraction 154339502819049820400048797612095360 WHOLE)
 the_minimum = refl
 
 -- two averages that print alike and differ
@@ -66,3 +66,17 @@ print_alike = refl
 pub differ : is_gt (fraction_cmp first_average second_average) ≡ true
 unfolding percentage average fraction_cmp
 differ = refl
+
+-- eleven who won all of twelve rounds, and one who won none
+pub printed_average : hundredths (average (match_win 0 12 ∷ replicate 11 (match_win 36 12))) ≡ 9442
+unfolding percentage average hundredths fraction_cmp
+printed_average = refl
+
+-- eight opponents of a player, some of whom dropped
+abbrev eight_opponents : List Fraction
+eight_opponents = match_win 12 8 ∷ match_win 21 8 ∷ match_win 4 5 ∷ match_win 10 7 ∷ match_win 18 8 ∷ match_win 16 8 ∷ match_win 13 8
+    ∷ match_win 19 8 ∷ []
+
+pub average_of_eight : hundredths (average eight_opponents) ≡ 6164
+unfolding percentage average hundredths fraction_cmp
+average_of_eight = refl

@@ -10,7 +10,7 @@ use Rattle.er_event.specs.Event.{EventValue}
 use Rattle.er_json.specs.Slip.{slip_text}
 use Rattle.er_paper.specs.Texts.{rows_text}
 use Rattle.er_rank.specs.declared.rows.Row.{Row}
-use Rattle.er_store.specs.{Fault.IsReadFault, Slip.FindsSlip, Standing.{IsOther, KeepsOthers}, Layout.Old}
+use Rattle.er_store.specs.{Fault.IsReadFault, Slip.FindsSlip, Standing.{IsOther, KeepsOthers}, Layout.Layout}
 use Rattle.sqlite_trees.specs.declared.store.Store.{Ghosts}
 use Rattle.er_desk.specs.{declared.desk.Desk.Desk, Desk.{Standing, Turn, ShowsEvent, ShowsOwn, point_of, standing, state}}
 use Rattle.er_desk.specs.Desk.{Reads, ReadsRows, ReadsSlip}
@@ -194,12 +194,14 @@ written Stood (Some xs) old new before after (WriteFault sent) (answer, wrote, d
 
 -- ---- tables that stay
 
-keeps_all : (db : Database) (tables : List Table) → AllByRecursion (λ t. IsOther Old t.tree → db.trees t.tree ≡ db.trees t.tree) tables
-keeps_all db [] = tt
-keeps_all db (t ∷ ts) = (λ _. refl, keeps_all db ts)
+keeps_all : (l : Layout) (db : Database) (tables : List Table)
+    → AllByRecursion (λ t. IsOther l t.tree → db.trees t.tree ≡ db.trees t.tree) tables
+keeps_all l db [] = tt
+keeps_all l db (t ∷ ts) = (λ _. refl, keeps_all l db ts)
 
-pub keeps_self : (db : Database) → KeepsOthers db db
-keeps_self db = record { schema = refl; rows = keeps_all db db.schema.tables }
+pub keeps_self : (version : ℕ) (db : Database) → KeepsOthers version db db
+keeps_self version db =
+    record { schema = refl; rest = λ l is has. record { schema = refl; rows = keeps_all l db db.schema.tables } }
 
 -- ---- what a crash leaves
 

@@ -2,7 +2,7 @@ ghost use Rattle.std.specs.Prelude.{◌≡◌, ◌⊎◌, Ok, IfSome, IsTrue, Is
 ghost use Rattle.sqlite.specs.State.{HasCleanDisk};
 ghost use Rattle.er_event.specs.declared.commands.Command.TheVariants as command;
 ghost use Rattle.er_store.specs.Standing.{KeepsOthers};
-ghost use Rattle.er_desk.specs.Desk.{Turn, ShowsEvent, ShowsOwn, point_of, standing, state};
+ghost use Rattle.er_desk.specs.Desk.{Turn, ShowsEvent, ShowsOwn, point_of, standing, state, version_in};
 ghost use Rattle.er_desk.specs.Headline.{LeavesJust};
 ghost use Rattle.er_paper.specs.Texts.{rows_text};
 ghost use Rattle.er_slips.specs.declared.request.asked.Asked.TheVariants as asked;
@@ -68,7 +68,8 @@ fn standings<S: Alter>(alloc: Global, desk: &mut Desk<S>) -> Answer
         → IsFalse (standing desk.new).stopped → ShowsOwn S.Store desk.new }
     ensures others { HasCleanDisk (state S.Store desk.new) → ShowsOwn S.Store desk.old
         → IsTrue (state S.Store desk.new).is_open
-        → KeepsOthers (state S.Store desk.old).now (state S.Store desk.new).now }
+        → KeepsOthers (version_in desk.old) (state S.Store desk.old).now
+        (state S.Store desk.new).now }
     ensures leaves { ShowsOwn S.Store desk.old
         → LeavesJust (state S.Store desk.old) (point_of (standing desk.old))
         → IsFalse (standing desk.new).stopped
@@ -110,7 +111,8 @@ fn slip<S: Alter>(alloc: Global, desk: &mut Desk<S>, round: u8, table: u16) -> A
         → IsFalse (standing desk.new).stopped → ShowsOwn S.Store desk.new }
     ensures others { HasCleanDisk (state S.Store desk.new) → ShowsOwn S.Store desk.old
         → IsTrue (state S.Store desk.new).is_open
-        → KeepsOthers (state S.Store desk.old).now (state S.Store desk.new).now }
+        → KeepsOthers (version_in desk.old) (state S.Store desk.old).now
+        (state S.Store desk.new).now }
     ensures leaves { ShowsOwn S.Store desk.old
         → LeavesJust (state S.Store desk.old) (point_of (standing desk.old))
         → IsFalse (standing desk.new).stopped
@@ -146,7 +148,8 @@ fn report<S: Alter>(
         → IsFalse (standing desk.new).stopped → ShowsOwn S.Store desk.new }
     ensures others { HasCleanDisk (state S.Store desk.new) → ShowsOwn S.Store desk.old
         → IsTrue (state S.Store desk.new).is_open
-        → KeepsOthers (state S.Store desk.old).now (state S.Store desk.new).now }
+        → KeepsOthers (version_in desk.old) (state S.Store desk.old).now
+        (state S.Store desk.new).now }
     ensures leaves { ShowsOwn S.Store desk.old
         → LeavesJust (state S.Store desk.old) (point_of (standing desk.old))
         → IsFalse (standing desk.new).stopped
@@ -174,7 +177,8 @@ fn answer<S: Alter>(alloc: Global, desk: &mut Desk<S>, asked: Asked) -> Answer
         → IsFalse (standing desk.new).stopped → ShowsOwn S.Store desk.new }
     ensures others { HasCleanDisk (state S.Store desk.new) → ShowsOwn S.Store desk.old
         → IsTrue (state S.Store desk.new).is_open
-        → KeepsOthers (state S.Store desk.old).now (state S.Store desk.new).now }
+        → KeepsOthers (version_in desk.old) (state S.Store desk.old).now
+        (state S.Store desk.new).now }
     ensures leaves { ShowsOwn S.Store desk.old
         → LeavesJust (state S.Store desk.old) (point_of (standing desk.old))
         → IsFalse (standing desk.new).stopped
@@ -227,7 +231,8 @@ pub fn serve_one<S: Alter, R: Read, W: Write>(
         → IsFalse (standing desk.new).stopped → ShowsOwn S.Store desk.new }
     ensures others { HasCleanDisk (state S.Store desk.new) → ShowsOwn S.Store desk.old
         → IsTrue (state S.Store desk.new).is_open
-        → KeepsOthers (state S.Store desk.old).now (state S.Store desk.new).now }
+        → KeepsOthers (version_in desk.old) (state S.Store desk.old).now
+        (state S.Store desk.new).now }
 
     // While it runs, a crash leaves just the event that it stands at.
     ensures leaves { ShowsOwn S.Store desk.old

@@ -1,6 +1,7 @@
 -- What a crash, or a step within a transaction, leaves of a change.
 use Rattle.er_store.proofs.Prelude.{common_steps, refl, ◌≡◌, ◌⊎◌, inl, inr, ℕ, true, false, IsTrue, sym, ◌∙◌, arith, Trees, State}
-use Rattle.er_store.proofs.Prelude.{HasCleanDisk, Survives, survives_then, EventValue, IsStored, Shows, IsReady, List, Result, Err}
+use Rattle.er_store.proofs.Prelude.{HasCleanDisk, Survives, survives_then, EventValue, IsStored, IsStoredIn, Shows, IsReady, List, Result}
+use Rattle.er_store.proofs.Prelude.{Err}
 use Rattle.er_store.proofs.Prelude.{true≢false, Row, Error, Held, state, Ghosts, KeepsTables, Stays}
 use Rattle.sqlite.specs.{State.{KeepsCommit, IsRolledBack, ExecutesInside}, Steps.FailsToCommit}
 use Rattle.er_store.specs.Standing.{Either}
@@ -18,33 +19,42 @@ was_clean s clean = let rises = s.clean in omega arith
 pub survives_self : (s : State) → Survives s s (λ _. ⊥)
 survives_self s = grind (arith, common_steps)
 
-pub shows_leaves : (s : State) (e : EventValue) (serial : ℕ) → Settles s → Shows s e serial → (trees : Trees) → s.may_leave trees
-    → IsStored e serial trees
-shows_leaves s e serial settles shows trees may = grind (arith, common_steps)
+pub shows_leaves_in : (v : ℕ) (s : State) (e : EventValue) (serial : ℕ) → Settles s → Shows v s e serial → (trees : Trees)
+    → s.may_leave trees → IsStoredIn v e serial trees
+shows_leaves_in v s e serial settles shows trees may = grind (arith, common_steps)
+
+-- what is stored in a version is stored
+pub stored_either : {v : ℕ} {e : EventValue} {serial : ℕ} {trees : Trees} → IsStoredIn v e serial trees → IsStored e serial trees
+stored_either it = record { schema = it.schema; sound = it.sound; stands = (it.stands.layout, it.stands.stands) }
+
+pub shows_leaves : (v : ℕ) (s : State) (e : EventValue) (serial : ℕ) → Settles s → Shows v s e serial → (trees : Trees)
+    → s.may_leave trees → IsStored e serial trees
+shows_leaves v s e serial settles shows trees may = stored_either (shows_leaves_in v s e serial settles shows trees may)
 
 pub only : {A : Type 0} → A ⊎ ⊥ → A
 only (inl a) = a
 only (inr none) = absurd none
 
-module _ {last end : State} {e : EventValue} {s : ℕ} (ready : IsReady last e s) where
+module _ {v : ℕ} {last end : State} {e : EventValue} {s : ℕ} (ready : IsReady v last e s) where
   -- once it is committed, the connection sees it
-  pub written : sqlite.Shows last end last.now last.now false → Shows end e s
+  pub written : sqlite.Shows last end last.now last.now false → Shows v end e s
   written done = grind (arith, common_steps)
 
   -- a crash leaves what it could before, or the event
   pub leaves_either : (start : State) (Before : Trees → Type 0) → ((trees : Trees) → start.may_leave trees → Before trees)
       → Survives start last (λ _. ⊥) → Survives last end (λ db. db ≡ last.now.trees)
-      → HasCleanDisk end → (trees : Trees) → end.may_leave trees → Either Before (IsStored e s) trees
+      → HasCleanDisk end → (trees : Trees) → end.may_leave trees → Either Before (IsStoredIn v e s) trees
   leaves_either start Before before quiet commits clean trees may = grind (arith, common_steps)
 
 pub survives_both : {a b c : State} → Survives a b (λ _. ⊥) → Survives b c (λ _. ⊥) → Survives a c (λ _. ⊥)
 survives_both {a} {b} {c} = survives_then a b c (λ _. ⊥) (λ _. ⊥) (λ _. ⊥) (λ _ db none. none) (λ _ db none. none)
 
 -- where nothing was committed, a crash leaves the event before the change
-pub leaves_old : (old end : State) (e : EventValue) (s : ℕ) → Settles old → Shows old e s
+pub leaves_old : (v : ℕ) (old end : State) (e : EventValue) (s : ℕ) → Settles old → Shows v old e s
     → Survives (record old { in_transaction = true }) end (λ _. ⊥) → HasCleanDisk end → (trees : Trees) → end.may_leave trees
-    → IsStored e s trees
-leaves_old old end e s settles was quiet clean trees may = shows_leaves old e s settles was trees (only (quiet.crash clean trees may))
+    → IsStoredIn v e s trees
+leaves_old v old end e s settles was quiet clean trees may =
+    shows_leaves_in v old e s settles was trees (only (quiet.crash clean trees may))
 
 -- ---- what a step within a transaction leaves of the last commit, whatever it does and however it ends
 

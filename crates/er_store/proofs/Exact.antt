@@ -3,20 +3,19 @@ use Rattle.er_store.proofs.Prelude.{event_tree, bracket_tree, tally_tree}
 use Rattle.er_store.proofs.Prelude.{Query, common_steps, ◌≡◌, ◌+◌, ◌<◌, ℕ, List, [], ◌∷◌, map, length, get_or, flat_map, refl, sym, ap, ap₂}
 use Rattle.er_store.proofs.Prelude.{subst, ◌∙◌, arith, Ordering, Bool, true, false, cond, None, ordering_then, AllByRecursion}
 use Rattle.er_store.proofs.Prelude.{IsPermutation, IsPermutation-map, All-from_recursion, recursion_from_All, Row, column, eval_all}
-use Rattle.er_store.proofs.Prelude.{IsAnswer, output, Output, overlay, Trees, Term, at_places, Layout, Old, version_of, players_tree}
+use Rattle.er_store.proofs.Prelude.{IsAnswer, output, Output, overlay, Trees, Term, at_places, Layout, Old, New, Moved, version_of}
+use Rattle.er_store.proofs.Prelude.{players_tree}
 use Rattle.er_store.proofs.Prelude.{player_shown, by_first, by_first_two, Lists, first_columns}
-use Rattle.er_store.proofs.Prelude.{table_query, all-map, value_cmp, ◌≢◌, IsTrue, filter, IsUtf8, range_with_len, IsPermutation-sym}
-use Rattle.er_store.proofs.Prelude.{IsPermutation-trans, nat_tests, Error, SqliteFailure, IsAscending, Database, one_permutation}
-use Rattle.er_store.proofs.Prelude.{BracketTable, EventTable, PlayerTable, TallyTable, EventValue, Player, Match, PlayerRow, is_lawful_name}
-use Rattle.er_store.proofs.Prelude.{numbers, names, IsSoundButForSeeds, numbered_from, event_row, player_row, player_rows, bracket_row}
+use Rattle.er_store.proofs.Prelude.{table_query, all-map, value_cmp, ◌≢◌, filter, range_with_len, IsPermutation-sym}
+use Rattle.er_store.proofs.Prelude.{IsPermutation-trans, Error, SqliteFailure, IsAscending, Database, one_permutation}
+use Rattle.er_store.proofs.Prelude.{BracketTable, EventTable, PlayerTable, TallyTable, EventValue, Player, Match}
+use Rattle.er_store.proofs.Prelude.{numbers, numbered_from, event_row, player_row, player_rows, bracket_row}
 use Rattle.er_store.proofs.Prelude.{bracket_rows, tally_row, tally_rows, stage_rows, totals, event_columns, player_columns, bracket_columns}
 use Rattle.er_store.proofs.Prelude.{tally_columns, event_places, bracket_places, tally_places, StandsAt, out_of_memory}
 use Rattle.er_store.proofs.Meaning.{columns, read_terms}
 use Rattle.std.specs.{List.Sorted.IsSorted, Prelude.All}
 use Rattle.std.proofs.{lemmas.List.Sorted.All-permutation, Common.{unwrap_or, is_lt}, Math.ListN.{get_or-map, length-map}}
-use Rattle.std.proofs.lemmas.Str.{IsUtf8-from_is_utf8}
 use Rattle.sqlite.specs.{Query.output_cmp, declared.error.ErrorCode.TheVariants.OutOfMemory}
-use Rattle.er_event.specs.declared.rows.event.EventRow.{EventRow}
 use Rattle.sqlite_keyed.proofs.ListLemmas.{map-map}
 use Rattle.er_store.proofs.Grouped.{numbered_rise, listed_by_one, listed_by_two, IsBelow, tested_rise, rises_from, bracket_rows_are}
 
@@ -110,6 +109,8 @@ sorted_by_one tree place places = record {
 -- a player, of either version
 pub sorted_players : (l : Layout) → IsShownByKeys (players_tree l) (read_terms l) (0 ∷ []) (player_shown l) by_first
 sorted_players Old = record { shows = λ r. refl; Keyed = λ o. column o.0 0 ≡ column o.1 0; keyed = λ r. refl; agrees = first_agrees }
+sorted_players New = sorted_by_one 1 0 (2 ∷ 3 ∷ 4 ∷ [])
+sorted_players Moved = sorted_by_one 9 0 (2 ∷ 3 ∷ 4 ∷ [])
 
 pub sorted_by_two : (tree first second : ℕ) (places : List ℕ)
     → IsShownByKeys tree (columns (first ∷ second ∷ places)) (first ∷ second ∷ []) (at_places (first ∷ second ∷ places)) by_first_two
@@ -205,23 +206,3 @@ bracket_exact l db e s listed stands h =
 pub is_memory : (e : Error) → ((e ≢ out_of_memory) → ⊥) → e ≡ out_of_memory
 is_memory (SqliteFailure OutOfMemory) h = refl
 is_memory e h = absurd (h (λ same. cc))
-
--- ---- the texts of a sound event are UTF-8
-
-pub lawful-utf8 : (name : List ℕ) → IsTrue (is_lawful_name name) → IsUtf8 name
-lawful-utf8 name h = IsUtf8-from_is_utf8 name (grind (arith, nat_tests))
-
-pub event_text : (version : ℕ) (e : EventValue) (s : ℕ) → IsSoundButForSeeds e
-    → All (λ (r : EventRow). IsUtf8 r.name) (event_row version e s ∷ [])
-event_text version e s sound = All-from_recursion (λ (r : EventRow). IsUtf8 r.name) (event_row version e s ∷ [])
-    (lawful-utf8 e.name sound.set_up.name, tt)
-
-player_texts : (ps : List Player) → AllByRecursion (λ name. IsTrue (is_lawful_name name)) (names ps)
-    → AllByRecursion (λ (r : PlayerRow). IsUtf8 r.name) (map player_row ps)
-player_texts [] all = tt
-player_texts (p ∷ ps) all = (lawful-utf8 p.name all.0, player_texts ps all.1)
-
-pub players_text : (e : EventValue) → IsSoundButForSeeds e → All (λ (r : PlayerRow). IsUtf8 r.name) (player_rows e)
-players_text e sound =
-    All-from_recursion (λ (r : PlayerRow). IsUtf8 r.name) (player_rows e)
-    (player_texts e.players (recursion_from_All (λ name. IsTrue (is_lawful_name name)) (names e.players) sound.players.lawful))

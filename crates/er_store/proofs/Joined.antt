@@ -1,16 +1,16 @@
 -- What the join of a slip reads of tables that stand for an event.
-use Rattle.er_store.proofs.Prelude.{pairing_tree, Layout, Old, players_tree, player_shown}
+use Rattle.er_store.proofs.Prelude.{pairing_tree, Layout, Old, New, Moved, players_tree, player_shown}
 use Rattle.er_store.proofs.Prelude.{column, is_lawful_name, is_bye, is_at, number, ◌≡◌, Bool, true, false, ◌&&◌, cond, if◌then◌else◌, List}
 use Rattle.er_store.proofs.Prelude.{[], ◌∷◌, ◌++◌, map, filter, flat_map, refl, ap, ap₂, subst, ◌∙◌, arith, list_all, IsPermutation, Binary}
 use Rattle.er_store.proofs.Prelude.{Value, Row, is_true, Env, eval_all, holds, IsAnswer, or_nulls, overlay, Trees, Compare, Eq, binary}
 use Rattle.er_store.proofs.Prelude.{Player, common_steps, ◌≢◌, ◌⊎◌, inl, inr, ℕ, suc, ◌==◌, ◌<◌, ◌≤◌, min, max, nat_lt}
 use Rattle.er_store.proofs.Prelude.{length, get_or, Result, Ok, Err, IfErr, MatchResult, Option, Some, None, option_map, option_to_list}
-use Rattle.er_store.proofs.Prelude.{All, Contains, IfSome, IsTrue, IsFalse, sym, AllByRecursion, range_with_len, IsPermutation-sym, All-nil}
-use Rattle.er_store.proofs.Prelude.{All-cons, All-from_recursion, All-weaker, recursion_from_All, nat_tests, Text, Database, filter-map}
+use Rattle.er_store.proofs.Prelude.{All, Contains, IfSome, IsTrue, IsFalse, sym, AllByRecursion, range_with_len, IsPermutation-sym}
+use Rattle.er_store.proofs.Prelude.{All-from_recursion, All-weaker, recursion_from_All, nat_tests, Text, Database, filter-map}
 use Rattle.er_store.proofs.Prelude.{IsPermutation-filter, PairingTable, PlayerTable, Match, Round, Games, SlipRow, EventValue, seats}
 use Rattle.er_store.proofs.Prelude.{match_at, pairing_row, pairing_rows, bye_score, slip_of, numbers, names, IsRound, IsSoundButForSeeds}
-use Rattle.er_store.proofs.Prelude.{IsUtf8, NamedPairing, pairing_columns, named_columns, at_places, pairing_places}
-use Rattle.er_store.proofs.Prelude.{StandsAt, Side, number_in, name_in, match_of_slip, is_swapped, named_pairing, named_pairings, IsPlayer}
+use Rattle.er_store.proofs.Prelude.{NamedPairing, pairing_columns, named_columns, at_places, pairing_places}
+use Rattle.er_store.proofs.Prelude.{StandsAt, Side, number_in, name_in, match_of_slip, named_pairing, named_pairings, IsPlayer}
 use Rattle.er_store.proofs.Prelude.{IsLawful, Refusal, Memory, Store, IsFault}
 use Rattle.std.proofs.{lemmas.List.Sorted.length_permutation, Common.AllPairs, lemmas.List.Elements.All-from_get_or}
 use Rattle.std.specs.Option.{ok_or}
@@ -19,10 +19,10 @@ use Rattle.er_event.specs.{declared.refusals.Cause.TheVariants.Refused, declared
 use Rattle.sqlite_keyed.proofs.SliceLemmas.{All-find}
 use Rattle.sqlite_trees.proofs.ListLemmas.{all_from_map}
 use Rattle.er_store.proofs.{Picking.{within, picks, picks_one, picks_none, row_of, rows_of}, Writing.one_shown, Meaning.slip_query}
-use Rattle.er_store.proofs.{Meaning.{slip_terms, score_tests}, Exact.{map-same, lawful-utf8, bare}, Setting.one_picked}
+use Rattle.er_store.proofs.{Meaning.{slip_terms, score_tests}, Exact.{map-same, bare}, Setting.one_picked}
 use Rattle.er_store.proofs.{PickingMatch.picks_table}
 use Rattle.er_store.proofs.{PickingMatch.{rows_at, Finds}, Keyed.{all_bye_last, finds, numbered_at, numbered-match, table_alone}}
-use Rattle.er_store.proofs.SlipLemmas.{cond_of, of_max, of_min, either_of}
+use Rattle.er_store.proofs.SlipLemmas.{cond_of, of_max, of_min}
 use Rattle.er_store.specs.{Rows.text_or_null, Slip.FindsSlip}
 use Rattle.er_event.specs.Slip.{name_in as name_found}
 
@@ -116,9 +116,13 @@ none_picked shown test rows all same none =
 -- what is shown of a player begins with the number and the name
 named : (l : Layout) (r : Row) → column (player_shown l r) 1 ≡ column r 2
 named Old r = refl
+named New r = refl
+named Moved r = refl
 
 picked : (l : Layout) (n : ℕ) (rows : List Row) → filter (picks n) rows ≡ filter (λ r. picks n (player_shown l r)) rows
 picked Old n rows = refl
+picked New n rows = refl
+picked Moved n rows = refl
 
 -- 0 stands for nobody
 abbrev Known : EventValue → ℕ → Type 0
@@ -331,23 +335,6 @@ slips_lawful e k t sound = rw (numbered-match e k t) ((elim (numbered_at e k t) 
 
 pub named_typed : (typed rows : List NamedPairing) → map named_columns typed ≡ map named_columns rows → typed ≡ rows
 named_typed typed rows = map-same named_columns (λ r s h. grind (arith, common_steps)) typed rows
-
-name_utf8 : (who : Side) → IfSome who IsPlayer → IfSome (name_in who) IsUtf8
-name_utf8 None h = tt
-name_utf8 (Some p) h = lawful-utf8 p.1 h.2
-
-abbrev HasText : NamedPairing → Type 0
-HasText r = IfSome r.lo_name IsUtf8 × IfSome r.hi_name IsUtf8
-
-slip_text : (slip : SlipRow) → IsLawful slip → HasText (named_pairing slip)
-slip_text slip lawful = grind (arith, common_steps, either_of, is_swapped, lawful-utf8, name_in, name_utf8)
-
-pub named_text : (e : EventValue) (k t : ℕ) → IsSoundButForSeeds e → All HasText (named_pairings e k t)
-named_text e k t sound = by_case (slip_of e k t) (slips_lawful e k t sound)
-  where
-    by_case : (o : Option SlipRow) → IfSome o IsLawful → All HasText (map named_pairing (option_to_list o))
-    by_case None lawful = All-nil HasText
-    by_case (Some slip) lawful = All-cons HasText (named_pairing slip) [] (slip_text slip lawful) (All-nil HasText)
 
 -- ---- what is found
 

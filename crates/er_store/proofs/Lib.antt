@@ -1,5 +1,6 @@
 mod Prelude
 mod Meaning
+mod Layouts
 mod Writing
 mod Effects
 mod Together
@@ -8,6 +9,7 @@ mod Sizes
 mod Setting
 mod Picking
 mod Grouped
+mod Taken
 mod Tallying
 mod PickingMatch
 mod Keyed
@@ -17,6 +19,9 @@ mod Meetings
 mod Selecting
 mod Crash
 mod Creates
+mod Clearing
+mod Migrating
+mod MovedCrash
 mod LoadLemmas
 mod Exact
 mod Refusals

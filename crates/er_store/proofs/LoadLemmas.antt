@@ -3,9 +3,9 @@ use Rattle.er_store.proofs.Prelude.{arith, common_steps, ◌≡◌, ◌⊎◌, i
 use Rattle.er_store.proofs.Prelude.{subst, ◌∙◌, Database, State, IsUnchanged, Row, Error, Place, EventValue, HasTables, StandsFor}
 use Rattle.er_store.proofs.Prelude.{out_of_memory, IsReadRefused, KeepsTables, IsFault, reading_refusal, IsNotRun, Bool, true, false, []}
 use Rattle.er_store.proofs.Prelude.{is_ok, IsOk, true≢false, Schema, CompileError, understood, ◌≢◌, ◌<◌, zero, suc, ◌∷◌, map, length}
-use Rattle.er_store.proofs.Prelude.{get_or, All, not-suc-le-zero, All-head, All-tail, AreKeyed}
+use Rattle.er_store.proofs.Prelude.{get_or, not-suc-le-zero, AreKeyed, StandsIn, StandsAt, Layout, version_of}
 use Rattle.er_store.specs.Loading.{HoldsEvent}
-use Rattle.std.proofs.Common.{OnOk, OnErr}
+use Rattle.std.proofs.Common.{OnOk, OnErr, IsErr}
 use Rattle.sqlite.specs.declared.error.Error.TheVariants.{SqlInputError, MultipleStatement}
 
 -- ---- what the four reads of a load give together
@@ -19,8 +19,9 @@ read_fault table old new e (inr (inr stopped)) = inr (ap (reading_refusal table)
 
 -- ---- what a read leaves
 
-pub kept_tables : (old new : State) → IsUnchanged old new → HasTables old.now.schema → HasTables new.now.schema
-kept_tables old new same = subst (λ (d : Database). HasTables d.schema) (sym same.0.now_is)
+pub kept_tables : (version : ℕ) (old new : State) → IsUnchanged old new → HasTables version old.now.schema
+    → HasTables version new.now.schema
+kept_tables version old new same = subst (λ (d : Database). HasTables version d.schema) (sym same.0.now_is)
 
 pub kept_stands : (old new : State) (e : EventValue) (s : ℕ) → IsUnchanged old new → StandsFor old.now e s → StandsFor new.now e s
 kept_stands old new e s same = subst (λ (d : Database). StandsFor d e s) (sym same.0.now_is)
@@ -45,6 +46,11 @@ pub all_ok : {A E : Type 0} {P : Type 0} (r : Result A E) → P → OnOk r P
 all_ok (Ok a) p = p
 all_ok (Err e) p = tt
 
+-- what can't have gone well was refused
+pub fails : {A E : Type 0} {P : Type 0} (r : Result A E) → OnOk r P → (P → ⊥) → IsErr r
+fails (Ok a) p never = absurd (never p)
+fails (Err e) p never = refl
+
 pub all_err : {A E : Type 0} {P : Type 0} (r : Result A E) → P → OnErr r P
 all_err (Ok a) p = tt
 all_err (Err e) p = p
@@ -55,9 +61,19 @@ told (Ok a) e P is p = tt
 told (Err x) e P is p = subst P (sym is) p
 
 -- tables that hold an event stand for it, where the rowids are numbers and rise
-pub stands_where : {db : Database} {e : EventValue} {s : ℕ} → HoldsEvent db e s → AreKeyed db → StandsFor db e s
-stands_where (l, has, holds) keyed =
-    (l, record { low = holds.low; keeps = holds.keeps; has = record { tables = has; rows = holds.rows; keyed = keyed } })
+pub stands_where : {v : ℕ} {db : Database} {e : EventValue} {s : ℕ} → HoldsEvent v db e s → AreKeyed db → StandsIn v db e s
+stands_where it keyed = record {
+  layout = it.layout;
+  is = it.is;
+  stands = record {
+    low = it.holds.low;
+    keeps = it.holds.keeps;
+    has = record { tables = it.tables; rows = it.holds.rows; keyed = keyed };
+  };
+}
+
+pub in_version : {l : Layout} {db : Database} {e : EventValue} {s : ℕ} → StandsAt l db e s → StandsIn (version_of l) db e s
+in_version {l} stands = record { layout = l; is = refl; stands = stands }
 
 -- ---- what a look for the event's table tells
 
@@ -84,18 +100,17 @@ schema_kept old new schema unchanged is = ap (λ (d : Database). d.schema) uncha
 
 -- ---- rows as typed rows
 
-module _ {T : Type 0} (columns : T → Row) (IsText : T → Type 0) where
+module _ {T : Type 0} (columns : T → Row) where
   -- the typed row of one of the rows
-  at_place : (typed : List T) (at : ℕ) (row : Row) → at < length (map columns typed) → All IsText typed
-      → (r : T) × (get_or (map columns typed) at row ≡ columns r) × IsText r
-  at_place [] at row below texts = absurd (not-suc-le-zero below)
-  at_place (t ∷ ts) zero row below texts = (t, refl, All-head IsText t ts texts)
-  at_place (t ∷ ts) (suc at) row below texts = at_place ts at row (omega arith) (All-tail IsText t ts texts)
+  at_place : (typed : List T) (at : ℕ) (row : Row) → at < length (map columns typed)
+      → (r : T) × (get_or (map columns typed) at row ≡ columns r)
+  at_place [] at row below = absurd (not-suc-le-zero below)
+  at_place (t ∷ ts) zero row below = (t, refl)
+  at_place (t ∷ ts) (suc at) row below = at_place ts at row (omega arith)
 
   -- where one row is refused, the rows are not those of lawful ones
   pub not_typed : (rows : List Row) (at : ℕ) (row : Row) (e : Error) → at < length rows → row ≡ get_or rows at row
-      → (e ≢ out_of_memory → (r : T) → IsText r → row ≢ columns r)
-      → e ≢ out_of_memory → (typed : List T) → All IsText typed → rows ≢ map columns typed
-  not_typed rows at row e below is refused unless typed texts are =
-      let it = at_place typed at row (subst (λ (all : List Row). at < length all) are below) texts in
-      refused unless it.0 it.2 (is ∙ ap (λ (all : List Row). get_or all at row) are ∙ it.1)
+      → (e ≢ out_of_memory → (r : T) → row ≢ columns r) → e ≢ out_of_memory → (typed : List T) → rows ≢ map columns typed
+  not_typed rows at row e below is refused unless typed are =
+      let it = at_place typed at row (subst (λ (all : List Row). at < length all) are below) in
+      refused unless it.0 (is ∙ ap (λ (all : List Row). get_or all at row) are ∙ it.1)

@@ -6,17 +6,23 @@ use Rattle.er_store.proofs.Prelude.{List, pos, false, is_ok, sym, ◌∙◌, tru
 use Rattle.er_store.proofs.Prelude.{Values, Null, Int, Binary, Index, View, Compare, Eq, Gt, ToNumeric, IsPlain, command_of, with_ours}
 use Rattle.er_store.proofs.Prelude.{CanRead, table_query, SelectsWith, Selects, number, event_places, player_places, pairing_places}
 use Rattle.er_store.proofs.Prelude.{bracket_places, tally_places, no_schema, insert_event, insert_player, insert_pairing, insert_slot}
-use Rattle.er_store.proofs.Prelude.{insert_tally, read_event, read_players, read_pairings, read_bracket, read_tallies, read_meetings}
-use Rattle.er_store.proofs.Prelude.{read_slip, understood, listing_schema, everything}
+use Rattle.er_store.proofs.Prelude.{insert_tally, read_event, read_pairings, read_bracket, read_tallies, read_meetings}
+use Rattle.er_store.proofs.Prelude.{understood, listing_schema, everything}
+use Rattle.er_store.proofs.Prelude.{insert_player2, set_dropped2, players_text, slip_text, player2_places}
 use Rattle.std.proofs.Common.{lit≤}
+use Rattle.sqlite.specs.Command.TheVariants.{Delete}
 use Rattle.sqlite.specs.{Term.{lit, op1, op2}, Query.{Join, inner, left, end}}
-use Rattle.er_store.specs.{inside.Queries.plain_query, Tables.find_event, Layout.{Layout, Old, players_tree}}
+use Rattle.er_store.specs.{inside.Queries.plain_query, Tables.{find_event, clear_players, set_version}}
+use Rattle.er_store.specs.{Layout.{Layout, Old, New, Moved, version_of, players_tree}}
 
 abbrev pub player_terms : List Term
 player_terms = col 0 0 ∷ lit Null ∷ col 0 1 ∷ col 0 2 ∷ []
 
+abbrev pub player2_terms : List Term
+player2_terms = col 0 0 ∷ lit Null ∷ col 0 1 ∷ col 0 2 ∷ col 0 3 ∷ []
+
 abbrev pub event_terms : List Term
-event_terms = lit (Int (pos 1)) ∷ lit Null ∷ lit (Int (pos 1)) ∷ col 0 0 ∷ col 0 1 ∷ col 0 2 ∷ col 0 3 ∷ col 0 4 ∷ []
+event_terms = lit (Int (pos 1)) ∷ lit Null ∷ col 0 0 ∷ col 0 1 ∷ col 0 2 ∷ col 0 3 ∷ col 0 4 ∷ col 0 5 ∷ []
 
 abbrev pub pairing_terms : List Term
 pairing_terms = lit Null ∷ col 0 0 ∷ col 0 1 ∷ col 0 2 ∷ col 0 3 ∷ col 0 4 ∷ col 0 5 ∷ col 0 6 ∷ col 0 7 ∷ col 0 8 ∷ []
@@ -35,12 +41,19 @@ event_query = plain_query (inner event_tree end) []
 abbrev pub serial_terms : List Term
 serial_terms = col 1 0 ∷ col 1 0 ∷ lit Null ∷ col 1 2 ∷ col 0 0 ∷ col 1 4 ∷ col 1 5 ∷ col 1 6 ∷ col 1 7 ∷ []
 
+-- the row with another version
+abbrev pub version_terms : List Term
+version_terms = col 1 0 ∷ col 1 0 ∷ lit Null ∷ col 0 0 ∷ col 1 3 ∷ col 1 4 ∷ col 1 5 ∷ col 1 6 ∷ col 1 7 ∷ []
+
 -- the row with another phase
 abbrev pub phase_terms : List Term
 phase_terms = col 1 0 ∷ col 1 0 ∷ lit Null ∷ col 1 2 ∷ col 1 3 ∷ col 1 4 ∷ col 1 5 ∷ col 1 6 ∷ col 0 0 ∷ []
 
 abbrev pub dropped_terms : List Term
 dropped_terms = col 1 0 ∷ col 1 0 ∷ lit Null ∷ col 1 2 ∷ lit (Int (pos 1)) ∷ []
+
+abbrev pub dropped2_terms : List Term
+dropped2_terms = col 1 0 ∷ col 1 0 ∷ lit Null ∷ col 1 2 ∷ lit (Int (pos 1)) ∷ col 1 4 ∷ []
 
 -- the rows of a table that pass these tests, by these terms
 abbrev pub rows_query : ℕ → List Term → List Term → Query
@@ -122,6 +135,16 @@ pub record OldMean (schema : Schema) : Type 0 where
   pub player : Means insert_player (Insert 1 (Values player_terms 4)) schema
   pub dropped : Means set_dropped (Update 1 (record { lets = []; body = rows_query player_tree dropped_tests dropped_terms })) schema
 
+-- of version 2, where the table stands at this place and has this tree
+pub record SecondMean (at tree : ℕ) (schema : Schema) : Type 0 where
+  pub player : Means insert_player2 (Insert at (Values player2_terms 5)) schema
+  pub dropped : Means set_dropped2 (Update at (record { lets = []; body = rows_query tree dropped_tests dropped2_terms })) schema
+
+-- and those of a migration alone
+pub record MovesMean (schema : Schema) : Type 0 where
+  pub clear : Means clear_players (Delete 1 (record { lets = []; body = table_query player_tree (col 1 0 ∷ []) [] })) schema
+  pub version : Means set_version (Update 0 (record { lets = []; body = event_query version_terms })) schema
+
 -- the columns at these places
 abbrev pub columns : List ℕ → List Term
 columns places = map (col 1) places
@@ -129,6 +152,14 @@ columns places = map (col 1) places
 -- what is read of a player
 abbrev pub read_terms : Layout → List Term
 read_terms Old = columns player_places ++ lit (Int (pos 0)) ∷ []
+read_terms New = columns player2_places
+read_terms Moved = columns player2_places
+
+-- where the table of players stands
+abbrev pub players_at : Layout → ℕ
+players_at Old = 1
+players_at New = 1
+players_at Moved = 5
 
 module _ (others : List Table) (indexes : List Index) (views : List View) where
   abbrev pub full : Layout → Schema
@@ -147,6 +178,28 @@ module _ (others : List Table) (indexes : List Index) (views : List View) where
     slot_score = record { is = refl; plain = (refl, refl) };
     totals = record { is = refl; plain = (refl, refl) };
   }
+  writes_mean New = record {
+    event = record { is = refl; plain = (refl, refl) };
+    pairing = record { is = refl; plain = (refl, refl) };
+    slot = record { is = refl; plain = (refl, refl) };
+    tally = record { is = refl; plain = (refl, refl) };
+    serial = record { is = refl; plain = (refl, refl) };
+    phase = record { is = refl; plain = (refl, refl) };
+    score = record { is = refl; plain = (refl, refl) };
+    slot_score = record { is = refl; plain = (refl, refl) };
+    totals = record { is = refl; plain = (refl, refl) };
+  }
+  writes_mean Moved = record {
+    event = record { is = refl; plain = (refl, refl) };
+    pairing = record { is = refl; plain = (refl, refl) };
+    slot = record { is = refl; plain = (refl, refl) };
+    tally = record { is = refl; plain = (refl, refl) };
+    serial = record { is = refl; plain = (refl, refl) };
+    phase = record { is = refl; plain = (refl, refl) };
+    score = record { is = refl; plain = (refl, refl) };
+    slot_score = record { is = refl; plain = (refl, refl) };
+    totals = record { is = refl; plain = (refl, refl) };
+  }
 
   pub old_mean : OldMean (full Old)
   unfolding understood everything
@@ -155,40 +208,78 @@ module _ (others : List Table) (indexes : List Index) (views : List View) where
     dropped = record { is = refl; plain = (refl, refl) };
   }
 
+  pub second_mean : (l : Layout) → version_of l ≡ 2 → SecondMean (players_at l) (players_tree l) (full l)
+  unfolding understood everything
+  second_mean Old is = absurd (cc)
+  second_mean New is = record {
+    player = record { is = refl; plain = (refl, refl) };
+    dropped = record { is = refl; plain = (refl, refl) };
+  }
+  second_mean Moved is = record {
+    player = record { is = refl; plain = (refl, refl) };
+    dropped = record { is = refl; plain = (refl, refl) };
+  }
+
+  pub moves_mean : MovesMean (full Moved)
+  unfolding understood everything
+  moves_mean = record {
+    clear = record { is = refl; plain = (refl, refl) };
+    version = record { is = refl; plain = (refl, refl) };
+  }
+
   pub event_selected : (l : Layout) → Selects read_event (table_query 0 (columns event_places) (0 ∷ [])) (full l)
   unfolding understood everything
   event_selected Old = record { names = _; is = refl; plain = (refl, refl); unlisted = refl; whole = (lit≤ tt, refl); typed = refl }
+  event_selected New = record { names = _; is = refl; plain = (refl, refl); unlisted = refl; whole = (lit≤ tt, refl); typed = refl }
+  event_selected Moved = record { names = _; is = refl; plain = (refl, refl); unlisted = refl; whole = (lit≤ tt, refl); typed = refl }
 
-  pub players_selected : (l : Layout) → Selects read_players (table_query (players_tree l) (read_terms l) (0 ∷ [])) (full l)
+  pub players_selected : (l : Layout) → Selects (players_text (version_of l)) (table_query (players_tree l) (read_terms l) (0 ∷ []))
+      (full l)
   unfolding understood everything
   players_selected Old = record { names = _; is = refl; plain = (refl, refl); unlisted = refl; whole = (lit≤ tt, refl); typed = refl }
+  players_selected New = record { names = _; is = refl; plain = (refl, refl); unlisted = refl; whole = (lit≤ tt, refl); typed = refl }
+  players_selected Moved = record { names = _; is = refl; plain = (refl, refl); unlisted = refl; whole = (lit≤ tt, refl); typed = refl }
 
   pub tallies_selected : (l : Layout) → Selects read_tallies (table_query 8 (columns tally_places) (0 ∷ [])) (full l)
   unfolding understood everything
   tallies_selected Old = record { names = _; is = refl; plain = (refl, refl); unlisted = refl; whole = (lit≤ tt, refl); typed = refl }
+  tallies_selected New = record { names = _; is = refl; plain = (refl, refl); unlisted = refl; whole = (lit≤ tt, refl); typed = refl }
+  tallies_selected Moved = record { names = _; is = refl; plain = (refl, refl); unlisted = refl; whole = (lit≤ tt, refl); typed = refl }
 
   pub pairings_selected : (l : Layout) → Selects read_pairings (table_query 3 (columns pairing_places) (1 ∷ 2 ∷ [])) (full l)
   unfolding understood everything
   pairings_selected Old = record { names = _; is = refl; plain = (refl, refl); unlisted = refl; whole = (lit≤ tt, refl); typed = refl }
+  pairings_selected New = record { names = _; is = refl; plain = (refl, refl); unlisted = refl; whole = (lit≤ tt, refl); typed = refl }
+  pairings_selected Moved = record { names = _; is = refl; plain = (refl, refl); unlisted = refl; whole = (lit≤ tt, refl); typed = refl }
 
   pub bracket_selected : (l : Layout) → Selects read_bracket (table_query 6 (columns bracket_places) (1 ∷ 2 ∷ [])) (full l)
   unfolding understood everything
   bracket_selected Old = record { names = _; is = refl; plain = (refl, refl); unlisted = refl; whole = (lit≤ tt, refl); typed = refl }
+  bracket_selected New = record { names = _; is = refl; plain = (refl, refl); unlisted = refl; whole = (lit≤ tt, refl); typed = refl }
+  bracket_selected Moved = record { names = _; is = refl; plain = (refl, refl); unlisted = refl; whole = (lit≤ tt, refl); typed = refl }
 
   pub slip_selected : (round table : ℕ) (l : Layout)
-      → SelectsWith (number round ∷ number table ∷ []) read_slip (slip_query (players_tree l)) (full l)
+      → SelectsWith (number round ∷ number table ∷ []) (slip_text (version_of l)) (slip_query (players_tree l)) (full l)
   unfolding understood everything
   slip_selected round table Old =
+      record { names = _; is = refl; plain = (refl, refl); unlisted = refl; whole = (lit≤ tt, refl); typed = refl }
+  slip_selected round table New =
+      record { names = _; is = refl; plain = (refl, refl); unlisted = refl; whole = (lit≤ tt, refl); typed = refl }
+  slip_selected round table Moved =
       record { names = _; is = refl; plain = (refl, refl); unlisted = refl; whole = (lit≤ tt, refl); typed = refl }
 
   pub meetings_selected : (l : Layout) → Selects read_meetings meeting_query (full l)
   unfolding understood everything
   meetings_selected Old = record { names = _; is = refl; plain = (refl, refl); unlisted = refl; whole = (lit≤ tt, refl); typed = refl }
+  meetings_selected New = record { names = _; is = refl; plain = (refl, refl); unlisted = refl; whole = (lit≤ tt, refl); typed = refl }
+  meetings_selected Moved = record { names = _; is = refl; plain = (refl, refl); unlisted = refl; whole = (lit≤ tt, refl); typed = refl }
 
   -- the table can be read
   pub readable : (l : Layout) → CanRead (full l)
   unfolding understood everything
   readable Old = refl
+  readable New = refl
+  readable Moved = refl
 
 -- an empty file has none
 no_event : is_ok (understood no_schema find_event) ≡ false

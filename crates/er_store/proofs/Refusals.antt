@@ -1,10 +1,10 @@
 -- Why a read of the tables is refused, and what that says of the file.
 use Rattle.er_store.proofs.Prelude.{arith, common_steps, ◌≡◌, inl, inr, ℕ, List, [], length, sym, ap, subst, ◌∙◌, refl, Row, Query}
 use Rattle.er_store.proofs.Prelude.{IsAnswer, overlay, timed, Select, Trees, Error, SqliteFailure, Null, State, IsPlain, IsReadRefused}
-use Rattle.er_store.proofs.Prelude.{Takes, Selects, SelectsWith, table_query, understood, FailsToQuery, IsNotRun, Shown, ◌≢◌, ◌⊎◌, All, map}
+use Rattle.er_store.proofs.Prelude.{Takes, Selects, SelectsWith, table_query, understood, FailsToQuery, IsNotRun, Shown, ◌≢◌, ◌⊎◌, map}
 use Rattle.er_store.proofs.Prelude.{Bool, true, false, None, Option, true≢false, Database, Command, ShowsRows, first, Refusal, Memory}
 use Rattle.er_store.proofs.Prelude.{Damaged, Place, Parts, TallyRow, out_of_memory, reading_refusal, IsRowFault, first_columns}
-use Rattle.er_store.proofs.Prelude.{begins_select, Form, Shape, Term}
+use Rattle.er_store.proofs.Prelude.{begins_select, Form, Term}
 use Rattle.sqlite.specs.{Effect.RefusesToRead, declared.error.ErrorCode.TheVariants.OperationInterrupted, State.FailsToShow}
 use Rattle.sqlite.specs.{State.{IsNoStatement, store_error}, Program.ProgramOverflows}
 use Rattle.sqlite.proofs.Callers.{reads_as}
@@ -133,14 +133,14 @@ shown_answers sql old new rows is h =
 
 -- ---- what the typed rows of a read say
 
-module _ {R : Type 0} (form : Form R) (table : Shape R) (old new : State) (rows given : List Row)
-    (is : begins_select (first table.read) ≡ true) (same : given ≡ rows) (shown : Shown table.read [] old new rows) where
-  pub may_read : (typed : List R) → map form.columns typed ≡ map (first_columns form.width) given → MayRead form table old.now typed
-  may_read typed are = (rows, shown_answers table.read old new rows is shown, are ∙ ap (map (first_columns form.width)) same)
+module _ {R : Type 0} (form : Form R) (sql : List ℕ) (old new : State) (rows given : List Row)
+    (is : begins_select (first sql) ≡ true) (same : given ≡ rows) (shown : Shown sql [] old new rows) where
+  pub may_read : (typed : List R) → map form.columns typed ≡ map (first_columns form.width) given → MayRead form sql old.now typed
+  may_read typed are = (rows, shown_answers sql old new rows is shown, are ∙ ap (map (first_columns form.width)) same)
 
   pub has_wrong_kind : (place at : Place) (e : Error)
-      → (e ≢ out_of_memory → (typed : List R) → All form.is_text typed → given ≢ map form.columns typed)
-      → reading_refusal place e ≡ Damaged at → IsMisreadAs form table old.now
+      → (e ≢ out_of_memory → (typed : List R) → given ≢ map form.columns typed)
+      → reading_refusal place e ≡ Damaged at → IsMisreadAs form sql old.now
   has_wrong_kind place at e refused h = grind (arith, common_steps, memory_never, shown_answers)
 
 -- ---- the first table at fault

@@ -4,7 +4,7 @@ use Rattle.er_store.proofs.Prelude.{Compiled, first, Schema, Row, Error, timed, 
 use Rattle.er_store.proofs.Prelude.{begins_select, read_event, read_players, read_pairings, read_bracket, read_tallies, read_meetings}
 use Rattle.er_store.proofs.Prelude.{read_slip, understood, listing_schema, CommitsShowing, Shown, FailsToQuery, IsNotRun, everything, []}
 use Rattle.er_store.proofs.Prelude.{◌∷◌, ◌++◌, map, Result, HasGiven, Held, state, Query, Trees, command_of, Ghosts, CompileError}
-use Rattle.er_store.proofs.Prelude.{IsReadRefused, Selects}
+use Rattle.er_store.proofs.Prelude.{IsReadRefused, Selects, read_players2, read_slip2, slip_text, Bool, false, ◌==◌, if◌then◌else◌}
 use Rattle.sqlite_ast.specs.declared.Statement.{Statement}
 use Rattle.sqlite_syntax.specs.declared.statement.Parsed.{Parsed}
 use Rattle.sqlite_resolve.specs.{Compile.{planned, meaning, returning, compiled, with_command}, Lowering.{Checked, and_then}}
@@ -20,15 +20,35 @@ use Rattle.sqlite_ast.specs.declared.Statement.TheVariants as written
 pub record AreSelects : Type 0 where
   pub event : begins_select (first read_event) ≡ true
   pub players : begins_select (first read_players) ≡ true
+  pub players2 : begins_select (first read_players2) ≡ true
   pub pairings : begins_select (first read_pairings) ≡ true
   pub bracket : begins_select (first read_bracket) ≡ true
   pub tallies : begins_select (first read_tallies) ≡ true
   pub meetings : begins_select (first read_meetings) ≡ true
   pub slip : begins_select (first read_slip) ≡ true
+  pub slip2 : begins_select (first read_slip2) ≡ true
 
 pub selects : AreSelects
 unfolding understood everything
-selects = record { event = refl; players = refl; pairings = refl; bracket = refl; tallies = refl; meetings = refl; slip = refl }
+selects = record {
+  event = refl;
+  players = refl;
+  players2 = refl;
+  pairings = refl;
+  bracket = refl;
+  tallies = refl;
+  meetings = refl;
+  slip = refl;
+  slip2 = refl;
+}
+
+-- of either version
+pub slip_selects : (version : ℕ) → begins_select (first (slip_text version)) ≡ true
+slip_selects version = by_version (version == 2)
+  where
+    by_version : (b : Bool) → begins_select (first (if b then read_slip2 else read_slip)) ≡ true
+    by_version true = selects.slip2
+    by_version false = selects.slip
 
 taken : (r : Checked Command) (p : Parsed) (formats : List (List ℕ)) (c : Compiled)
     → and_then (and_then (and_then r (λ k. Ok (k, None))) (λ found. Ok (formats, found))) (λ plan. Ok (with_command p plan)) ≡ Ok c

@@ -13,6 +13,8 @@ use Rattle.er_store.proofs.Prelude.{Equal, is_eq, AllByRecursion, Value, Null, v
 use Rattle.er_store.proofs.Prelude.{all_from_test, test_from_all, BracketTable, PairingTable, Games, Match, is_bye, match_at, slot_at}
 use Rattle.er_store.proofs.Prelude.{scored, with_score, with_slot_score, pairing_row, bracket_row, pairing, bracket, set_score}
 use Rattle.er_store.proofs.Prelude.{set_slot_score, pairing_columns, bracket_columns, IsKeyed}
+use Rattle.er_store.proofs.Prelude.{New, Moved, version_of, players_tree, player_shown, player2, set_dropped2, stored_player2}
+use Rattle.er_store.proofs.Exact.{bare}
 use Rattle.std.specs.Ordering.{is_lt}
 use Rattle.std.proofs.lemmas.Cmp.{tied_itself}
 use Rattle.er_event.specs.Change.{with_dropped}
@@ -21,7 +23,7 @@ use Rattle.sqlite_trees.specs.Tree.{IsTable}
 use Rattle.sqlite_trees.proofs.TreeLemmas.{later_rowids}
 use Rattle.sqlite_keyed.proofs.ListLemmas.{all-filter, ascending-filter}
 use Rattle.er_store.proofs.{Picking.{picks, is_another, picks-compares, picks_one, same_number, picks_row, AreRowsBy}, Effects.one_of}
-use Rattle.er_store.proofs.{Effects.{meant, old_meant, tally_at, pairing_at, bracket_at}}
+use Rattle.er_store.proofs.{Effects.{meant, old_meant, second_meant, second_at, tally_at, pairing_at, bracket_at}}
 use Rattle.er_store.proofs.{Meaning.{rows_query, dropped_tests, Means, score_tests}, Together.{shows_more, players_set}}
 use Rattle.er_store.proofs.{Together.{tallies_set, pairings_set, bracket_set}, Writing.{replaces, cast_int, cast_null, one_shown}}
 use Rattle.er_store.proofs.{PickingMatch.{picks_table, is_elsewhere, picks_one_table, picks_one_slot}, Adding.keyed_put}
@@ -110,6 +112,34 @@ player_dropped n {old} {new} {e} stands numbered known ran =
     (stands.has.rows PlayerTable) one.alone ran in
     players_set stands (map (dropped_at n) e.players) set.0
     (IsPermutation-trans _ _ _ set.1 (rw (same_number it.no n one.is, one.is) at one.replaced))
+
+-- what is read of a player of version 2
+second_shown : (l : Layout) → version_of l ≡ 2 → (rows all : List Row) → IsPermutation (map (player_shown l) rows) all
+    → IsPermutation (map (led (at_places (2 ∷ 3 ∷ 4 ∷ []))) rows) all
+second_shown Old is rows all same = absurd (cc)
+second_shown New is rows all same = same
+second_shown Moved is rows all same = same
+
+shown_second : (l : Layout) → version_of l ≡ 2 → (rows all : List Row) → IsPermutation (map (led (at_places (2 ∷ 3 ∷ 4 ∷ []))) rows) all
+    → IsPermutation (map (player_shown l) rows) all
+shown_second Old is rows all same = absurd (cc)
+shown_second New is rows all same = same
+shown_second Moved is rows all same = same
+
+-- a player of version 2
+pub second_dropped : (n : ℕ) (l : Layout) → version_of l ≡ 2 → {old new : State} {e : EventValue} {s : ℕ} {kept : List TallyRow}
+    → StandsWith l old.now e s kept → numbers e.players ≡ range_with_len 1 (length e.players) → Contains (numbers e.players) n
+    → Ran set_dropped2 (number n ∷ []) old new → BringsToWith l old new (with_dropped e n) s kept
+second_dropped n l is {old} {new} {e} stands numbered known ran =
+    let has = stands.has.tables in
+    let one = picks_one e.players n numbered known in
+    let it = one.it in
+    let row = stored_player2 n it.name true 0 in
+    let set = sets_number l (player2 (players_tree l)) (at_places (2 ∷ 3 ∷ 4 ∷ [])) n row (second_meant l is has).dropped has
+    (second_at l is has) (λ x other. other.1) (λ db. bare db (players_tree l)) (λ r h. let is = one.is in cc) (simp (cast_int, cast_null))
+    (second_shown l is _ _ (stands.has.rows PlayerTable)) one.alone ran in
+    players_set stands (map (dropped_at n) e.players) set.0 (shown_second l is _ _
+    (IsPermutation-trans _ _ _ set.1 (rw (same_number it.no n one.is, one.is) at one.replaced)))
 
 -- ---- what the UPDATE of one player's totals does, which a WHERE picks
 

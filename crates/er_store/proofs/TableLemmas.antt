@@ -4,47 +4,62 @@ use Rattle.er_store.proofs.Prelude.{pairing_places, bracket_places, tally_places
 use Rattle.er_store.proofs.Prelude.{Shape, Lists, IsReadRefused, first_columns, HasTablesAt, StandsAt, StandsFor, Layout, Old, version_of}
 use Rattle.er_store.proofs.Prelude.{player_shown, EventValue, IsSoundButForSeeds, Shown}
 use Rattle.er_store.proofs.Prelude.{FailsToQuery, common_steps, Result, Ok, Err, IsErrAnd, on_ok_weaker, Database, unchanged_then, Refusal}
-use Rattle.er_store.proofs.Prelude.{Damaged, Place, ReadsBefore, IsFault}
+use Rattle.er_store.proofs.Prelude.{Damaged, Place, IsFault}
+use Rattle.er_store.proofs.Prelude.{Bool, true, false, ◌==◌, if◌then◌else◌, New, Moved, Selects, table_query, begins_select, first}
+use Rattle.er_store.proofs.Prelude.{read_players, read_players2}
 use Rattle.std.proofs.lemmas.Result.{on_err_weaker}
 use Rattle.er_store.proofs.{Selecting.selects, Meaning.{event_selected, players_selected, pairings_selected, bracket_selected}}
 use Rattle.er_store.proofs.{Meaning.{tallies_selected, columns, read_terms}}
 use Rattle.er_store.proofs.{Exact.{answer_lists, sorted_by_one, sorted_by_two, sorted_players, listed_whole, event_exact}}
-use Rattle.er_store.proofs.{Exact.{players_exact, bracket_exact, tallies_exact, event_text, players_text, map-same}, Refusals.read_refused}
+use Rattle.er_store.proofs.{Exact.{players_exact, bracket_exact, tallies_exact, map-same}, Refusals.read_refused}
 use Rattle.er_store.proofs.{Refusals.{answers, may_read}, Keyed.pairings_exact, Effects.selected, Crash.survives_both}
 use Rattle.er_store.proofs.LoadLemmas.{then_keeps}
 use Rattle.er_store.specs.{inside.Lookup.{FindsRows, IsOurs, LooksUp, MissesTables}, Shape.{event_form, player_form, pairing_form}}
 use Rattle.er_store.specs.Shape.{bracket_form, tally_form, event_table, player_table, pairing_table, bracket_table, tally_table}
-use Rattle.er_store.specs.{Loading.IsListed, Damage.{IsMisread, IsFirstMisread}}
+use Rattle.er_store.specs.{Loading.IsListed, Damage.IsFirstMisread}
 
 -- ---- what the statement of a table reads
 
-module _ {R : Type 0} (form : Form R) (table : Shape R) (it : IsOurs form table) (old new : State) where
-  listed : (l : Layout) {rows : List Row} → HasTablesAt l old.now.schema → Shown table.read [] old new rows
-      → Lists table.order (map (table.shown l) (old.now.trees (table.tree l))) rows
-  listed l {rows} has h = it.lists l old.now.trees rows (answers old new (it.selects l old.now.schema has) h)
+module _ {R : Type 0} (form : Form R) (table : Shape R) (it : IsOurs form table) (version : ℕ) (old new : State) where
+  abbrev sql : List ℕ
+  sql = table.read version
 
-  pub refused : (l : Layout) (e : Error) → HasTablesAt l old.now.schema → FailsToQuery table.read [] old new e → IsReadRefused old new e
-  refused l e has = read_refused (table.tree l) (it.terms l) it.keys old new e (it.selects l old.now.schema has)
+  -- the statement is the one of how the tables lie
+  abbrev Serves : Layout → Type 0
+  Serves l = table.read (version_of l) ≡ sql
+
+  chosen : (l : Layout) → Serves l → HasTablesAt l old.now.schema
+      → Selects sql (table_query (table.tree l) (it.terms l) it.keys) old.now.schema
+  chosen l serves has =
+      subst (λ text. Selects text (table_query (table.tree l) (it.terms l) it.keys) old.now.schema) serves (it.selects l old.now.schema has)
+
+  listed : (l : Layout) → Serves l → {rows : List Row} → HasTablesAt l old.now.schema → Shown sql [] old new rows
+      → Lists table.order (map (table.shown l) (old.now.trees (table.tree l))) rows
+  listed l serves {rows} has h = it.lists l old.now.trees rows (answers old new (chosen l serves has) h)
+
+  pub refused : (l : Layout) → Serves l → (e : Error) → HasTablesAt l old.now.schema → FailsToQuery sql [] old new e
+      → IsReadRefused old new e
+  refused l serves e has = read_refused (table.tree l) (it.terms l) it.keys old new e (chosen l serves has)
 
   -- the rows are those of the event, where the tables stand for one
-  pub are_rows : (l : Layout) {rows : List Row} → Shown table.read [] old new rows → (e : EventValue) (s : ℕ) → StandsAt l old.now e s
-      → IsSoundButForSeeds e → rows ≡ map form.columns (table.rows (version_of l) e s)
-  are_rows l {rows} shows e s stands sound = it.exact l old.now e s rows stands sound (listed l stands.has.tables shows)
+  pub are_rows : (l : Layout) → Serves l → {rows : List Row} → Shown sql [] old new rows → (e : EventValue) (s : ℕ)
+      → StandsAt l old.now e s → IsSoundButForSeeds e → rows ≡ map form.columns (table.rows (version_of l) e s)
+  are_rows l serves {rows} shows e s stands sound = it.exact l old.now e s rows stands sound (listed l serves stands.has.tables shows)
 
   -- what typed rows with their columns are
-  pub finds_rows : {rows given : List Row} → Shown table.read [] old new rows → given ≡ rows
-      → (typed : List R) → map form.columns typed ≡ map (first_columns form.width) given → FindsRows form table old.now typed
+  pub finds_rows : {rows given : List Row} → Shown sql [] old new rows → given ≡ rows
+      → (typed : List R) → map form.columns typed ≡ map (first_columns form.width) given → FindsRows form table sql old.now typed
   finds_rows {rows} {given} shows same typed are = record {
-    reads = may_read form table old new rows given it.begins same shows typed are;
+    reads = may_read form sql old new rows given (it.begins version) same shows typed are;
     lists = lists;
-    exact = λ l e s stands sound.
+    exact = λ l serves e s stands sound.
         map-same form.columns it.same typed (table.rows (version_of l) e s)
-        (it.exact l old.now e s (map form.columns typed) stands sound (lists l stands.has.tables));
+        (it.exact l old.now e s (map form.columns typed) stands sound (lists l serves stands.has.tables));
   }
     where
-      lists : (l : Layout) → HasTablesAt l old.now.schema → IsListed form table l old.now typed
-      lists l has =
-          let all = listed l has shows in
+      lists : (l : Layout) → Serves l → HasTablesAt l old.now.schema → IsListed form table l old.now typed
+      lists l serves has =
+          let all = listed l serves has shows in
           let width = listed_whole table.order form.width (table.shown l) (old.now.trees (table.tree l)) rows (it.whole l) all in
           subst (Lists table.order (map (table.shown l) (old.now.trees (table.tree l))))
           (sym (are ∙ (ap (map (first_columns form.width)) same ∙ width))) all
@@ -53,7 +68,7 @@ module _ {R : Type 0} (form : Form R) (table : Shape R) (it : IsOurs form table)
 
 pub event_is_ours : IsOurs event_form event_table
 event_is_ours = record {
-  begins = selects.event;
+  begins = λ version. selects.event;
   keys = 0 ∷ [];
   terms = λ l. columns event_places;
   selects = λ l schema has. selected has (λ others indexes views. event_selected others indexes views l);
@@ -61,15 +76,20 @@ event_is_ours = record {
   whole = λ l r. refl;
   exact = λ l db e s rows stands sound. event_exact l db e s rows stands;
   same = λ r s h. grind arith;
-  texts = event_text;
 }
 
 four_shown : (l : Layout) (r : Row) → first_columns 4 (player_shown l r) ≡ player_shown l r
 four_shown Old r = refl
+four_shown New r = refl
+four_shown Moved r = refl
+
+both_select : (b : Bool) → begins_select (first (if b then read_players2 else read_players)) ≡ true
+both_select true = selects.players2
+both_select false = selects.players
 
 pub player_is_ours : IsOurs player_form player_table
 player_is_ours = record {
-  begins = selects.players;
+  begins = λ version. both_select (version == 2);
   keys = 0 ∷ [];
   terms = read_terms;
   selects = λ l schema has. selected has (λ others indexes views. players_selected others indexes views l);
@@ -77,12 +97,11 @@ player_is_ours = record {
   whole = four_shown;
   exact = λ l db e s rows stands sound. players_exact l db e s rows stands sound.players.numbered;
   same = λ r s h. grind arith;
-  texts = λ version e s. players_text e;
 }
 
 pub pairing_is_ours : IsOurs pairing_form pairing_table
 pairing_is_ours = record {
-  begins = selects.pairings;
+  begins = λ version. selects.pairings;
   keys = 1 ∷ 2 ∷ [];
   terms = λ l. columns pairing_places;
   selects = λ l schema has. selected has (λ others indexes views. pairings_selected others indexes views l);
@@ -90,12 +109,11 @@ pairing_is_ours = record {
   whole = λ l r. refl;
   exact = pairings_exact;
   same = λ r s h. grind arith;
-  texts = λ version e s sound k d below. tt;
 }
 
 pub bracket_is_ours : IsOurs bracket_form bracket_table
 bracket_is_ours = record {
-  begins = selects.bracket;
+  begins = λ version. selects.bracket;
   keys = 1 ∷ 2 ∷ [];
   terms = λ l. columns bracket_places;
   selects = λ l schema has. selected has (λ others indexes views. bracket_selected others indexes views l);
@@ -103,12 +121,11 @@ bracket_is_ours = record {
   whole = λ l r. refl;
   exact = λ l db e s rows stands sound. bracket_exact l db e s rows stands;
   same = λ r s h. grind arith;
-  texts = λ version e s sound k d below. tt;
 }
 
 pub tally_is_ours : IsOurs tally_form tally_table
 tally_is_ours = record {
-  begins = selects.tallies;
+  begins = λ version. selects.tallies;
   keys = 0 ∷ [];
   terms = λ l. columns tally_places;
   selects = λ l schema has. selected has (λ others indexes views. tallies_selected others indexes views l);
@@ -116,7 +133,6 @@ tally_is_ours = record {
   whole = λ l r. refl;
   exact = λ l db e s rows stands sound. tallies_exact l db e s rows stands sound.players.numbered;
   same = λ r s h. grind arith;
-  texts = λ version e s sound k d below. tt;
 }
 
 -- ---- one look after another
@@ -156,10 +172,10 @@ module _ {A B : Type 0} {F : Database → A → Type 0} {M : Database → Refusa
   })
 
 -- the tables before this one were read, and it was not
-pub first_misread : (table : Place) (db : Database) (why : Refusal) → ReadsBefore db table
-    → ((at : Place) → why ≡ Damaged at → (at ≡ table) × IsMisread db table)
+pub first_misread : (table : Place) {Bad : Type 0} (db : Database) (why : Refusal) → (Bad → IsFirstMisread db table)
+    → ((at : Place) → why ≡ Damaged at → (at ≡ table) × Bad)
     → ((e : EventValue) (s : ℕ) → StandsFor db e s → IsSoundButForSeeds e → IsFault why) → MissesTables db why
 first_misread table db why before misread refused = record {
-  misread = λ place h. let it = misread place h in subst (IsFirstMisread db) (sym it.0) (before, it.1);
+  misread = λ place h. let it = misread place h in subst (IsFirstMisread db) (sym it.0) (before it.1);
   refused = refused;
 }

@@ -5,12 +5,14 @@ use Rattle.er_store.proofs.Prelude.{sym, ap, subst, ◌∙◌, arith, Ordering, 
 use Rattle.er_store.proofs.Prelude.{IsPermutation-refl, IsPermutation-sym, IsPermutation-trans, IsPermutation-map, map-append, Row, Table}
 use Rattle.er_store.proofs.Prelude.{Schema, Trees, put_row, rowid, is_taken, Database, State, Place, EventTable, PlayerTable, PairingTable}
 use Rattle.er_store.proofs.Prelude.{BracketTable, TallyTable, EventValue, Phase, new_player, with_player, with_phase, player_row}
-use Rattle.er_store.proofs.Prelude.{pairing_rows_from, bracket_rows_from, Player, Round, Match, TallyRow, our_schema, player_columns}
+use Rattle.er_store.proofs.Prelude.{pairing_rows_from, bracket_rows_from, Player, Round, Match, TallyRow, player_columns}
 use Rattle.er_store.proofs.Prelude.{pairing_columns, bracket_columns, tally_columns, stored_event, stored_player, stored_tally, rows_in}
-use Rattle.er_store.proofs.Prelude.{rows_with, HasTablesAt, HasRows, StandsWith, StandsFor, IsKeyed, IsOther, KeepsRest, Goes, Puts}
+use Rattle.er_store.proofs.Prelude.{rows_with, HasTablesAt, HasRows, StandsWith, IsKeyed, IsOther, KeepsRest, Goes, Puts}
 use Rattle.er_store.proofs.Prelude.{Moves, player_shown}
 use Rattle.er_store.proofs.Prelude.{Layout, Old, version_of, players_tree, with_ours}
-use Rattle.er_event.specs.Version.{Keeps}
+use Rattle.er_event.specs.Version.{IsVersion, Keeps}
+use Rattle.er_store.proofs.Prelude.{◌==◌, if◌then◌else◌, true, inl, inr, New, Moved, StandsIn, tally_rows, made_players, tally_schema}
+use Rattle.er_store.proofs.Prelude.{player, player2, stored_player2}
 use Rattle.er_store.proofs.Prelude.{BringsToWith, CreatesAll, all_weaker, value_cmp}
 use Rattle.std.proofs.lemmas.List.Sorted.{IsPermutation-to_front, IsPermutation-middle, IsPermutation-cons}
 use Rattle.std.specs.Ordering.{match_ordering}
@@ -54,6 +56,10 @@ all_kept : (l : Layout) (tree : ℕ) (old new : Trees) (others : List Table)
     → AllByRecursion (λ (t : Table). t.tree ≢ tree → new t.tree ≡ old t.tree) (with_ours l others) → KeepsTrees l tree old new
 all_kept Old tree old new others all =
     record { event = all.0; players = all.1.0; pairings = all.1.1.0; bracket = all.1.1.1.0; tallies = all.1.1.1.1.0 }
+all_kept New tree old new others all =
+    record { event = all.0; players = all.1.0; pairings = all.1.1.0; bracket = all.1.1.1.0; tallies = all.1.1.1.1.0 }
+all_kept Moved tree old new others all =
+    record { event = all.0; players = all.1.1.1.1.1.0; pairings = all.1.1.0; bracket = all.1.1.1.0; tallies = all.1.1.1.1.0 }
 
 kept : (l : Layout) (tree : ℕ) (old new : State) → HasTablesAt l old.now.schema → Goes tree old new → (table : Place)
     → tree_of l table ≢ tree → new.now.trees (tree_of l table) ≡ old.now.trees (tree_of l table)
@@ -163,6 +169,8 @@ pub record ArePlayersApart (tree : ℕ) : Type 0 where
 
 pub players_apart : (l : Layout) → ArePlayersApart (players_tree l)
 players_apart Old = record { event = λ e. cc; pairing = λ e. cc; bracket = λ e. cc; tally = λ e. cc }
+players_apart New = record { event = λ e. cc; pairing = λ e. cc; bracket = λ e. cc; tally = λ e. cc }
+players_apart Moved = record { event = λ e. cc; pairing = λ e. cc; bracket = λ e. cc; tally = λ e. cc }
 
 module _ {l : Layout} {old new : State} {e : EventValue} {s : ℕ} {kept : List TallyRow} (stands : StandsWith l old.now e s kept) where
   -- the players' rows alone are others
@@ -243,33 +251,86 @@ pub old_player_added : {old new : State} {e : EventValue} {s : ℕ} {kept : List
     → BringsToWith Old old new (with_player e name) s kept
 old_player_added stands name = player_added stands name _ refl
 
+pub second_player_added : (l : Layout) → version_of l ≡ 2 → {old new : State} {e : EventValue} {s : ℕ} {kept : List TallyRow}
+    → StandsWith l old.now e s kept → (name : List ℕ)
+    → Puts (players_tree l) (stored_player2 (length e.players + 1) name false 0) old new
+    → BringsToWith l old new (with_player e name) s kept
+second_player_added Old is stands name = absurd (cc)
+second_player_added New is stands name = player_added stands name _ refl
+second_player_added Moved is stands name = player_added stands name _ refl
+
 -- ---- creation
 
-pub ours_has : (schema : Schema) → schema ≡ our_schema → HasTablesAt Old schema
-ours_has schema is = record { others = []; are = ap (λ s. s.tables) is; apart = tt }
+-- how the tables lie that creation makes in this version
+abbrev pub made_layout : ℕ → Layout
+made_layout version = if version == 2 then New else Old
 
-pub event_put : {old mid new : State} {e : EventValue} → IsNew e → Keeps 1 e → CreatesAll old mid
-    → Puts event_tree (stored_event 1 e 0) mid new → StandsFor new.now e 0
-event_put {mid = mid} {new} fresh keeps all put =
-    let has = ours_has mid.now.schema all.schema in
-    let at = kept Old event_tree mid new has put.goes in (
-      Old,
-      record {
+pub made_has : (version : ℕ) (schema : Schema) → schema ≡ tally_schema (made_players version) → HasTablesAt (made_layout version) schema
+made_has version schema = by_version (version == 2)
+  where
+    by_version : (b : Bool) → schema ≡ tally_schema (if b then player2 player_tree else player player_tree)
+        → HasTablesAt (if b then New else Old) schema
+    by_version true is = record { others = []; are = ap (λ s. s.tables) is; apart = tt }
+    by_version false is = record { others = []; are = ap (λ s. s.tables) is; apart = tt }
+
+pub made_version : (version : ℕ) → IsVersion version → version_of (made_layout version) ≡ version
+made_version version (inl one) = rw one refl
+made_version version (inr two) = rw two refl
+
+-- no table has a row
+record CreatesNone (l : Layout) (s : State) : Type 0 where
+  event : s.now.trees event_tree ≡ []
+  players : s.now.trees (players_tree l) ≡ []
+  pairing : s.now.trees pairing_tree ≡ []
+  bracket : s.now.trees bracket_tree ≡ []
+  tally : s.now.trees tally_tree ≡ []
+
+none_made : (version : ℕ) {players : Table} {old mid : State} → CreatesAll players old mid → CreatesNone (made_layout version) mid
+none_made version {mid = mid} all = record {
+  event = all.event;
+  players = by_version (version == 2);
+  pairing = all.pairing;
+  bracket = all.bracket;
+  tally = all.tally;
+}
+  where
+    by_version : (b : Bool) → mid.now.trees (players_tree (if b then New else Old)) ≡ []
+    by_version true = all.player
+    by_version false = all.player
+
+-- the tables of an event that is new
+new_rows : (l : Layout) {mid new : State} {e : EventValue} → IsNew e → HasTablesAt l mid.now.schema → CreatesNone l mid
+    → Puts event_tree (stored_event (version_of l) e 0) mid new → HasRows l new.now (rows_with (version_of l) e 0 (tally_rows e))
+new_rows l {mid} {new} fresh has none put =
+    let at = kept l event_tree mid new has put.goes in
+    let apart = (players_apart l).event in
+    record {
+      tables = subst (HasTablesAt l) (sym put.goes.schema) has;
+      rows = elim [
+        | EventTable ↦ rw (put.rows, none.event) (IsPermutation-refl _)
+        | PlayerTable ↦ rw (at PlayerTable apart, none.players, fresh.players) (IsPermutation-refl [])
+        | PairingTable ↦ rw (at PairingTable (λ e. cc), none.pairing, fresh.stored) (IsPermutation-refl [])
+        | BracketTable ↦ rw (at BracketTable (λ e. cc), none.bracket, fresh.bracket) (IsPermutation-refl [])
+        | TallyTable ↦ rw (at TallyTable (λ e. cc), none.tally, fresh.players) (IsPermutation-refl [])
+      ];
+      keyed = record {
+        pairings = rw (at PairingTable (λ e. cc), none.pairing) (record { rise = tt; numbers = refl });
+        bracket = rw (at BracketTable (λ e. cc), none.bracket) (record { rise = tt; numbers = refl });
+      };
+    }
+
+pub event_put : (version : ℕ) → IsVersion version → {old mid new : State} {e : EventValue} → IsNew e → Keeps version e
+    → CreatesAll (made_players version) old mid → Puts event_tree (stored_event version e 0) mid new → StandsIn version new.now e 0
+event_put version known {mid = mid} {new} {e} fresh keeps all put =
+    let l = made_layout version in
+    let is = made_version version known in
+    record {
+      layout = l;
+      is = is;
+      stands = record {
         low = omega arith;
-        keeps = keeps;
-        has = record {
-          tables = subst (HasTablesAt Old) (sym put.goes.schema) has;
-          rows = elim [
-            | EventTable ↦ rw (put.rows, all.event) (IsPermutation-refl _)
-            | PlayerTable ↦ rw (at PlayerTable (λ e. cc), all.player, fresh.players) (IsPermutation-refl [])
-            | PairingTable ↦ rw (at PairingTable (λ e. cc), all.pairing, fresh.stored) (IsPermutation-refl [])
-            | BracketTable ↦ rw (at BracketTable (λ e. cc), all.bracket, fresh.bracket) (IsPermutation-refl [])
-            | TallyTable ↦ rw (at TallyTable (λ e. cc), all.tally, fresh.players) (IsPermutation-refl [])
-          ];
-          keyed = record {
-            pairings = rw (at PairingTable (λ e. cc), all.pairing) (record { rise = tt; numbers = refl });
-            bracket = rw (at BracketTable (λ e. cc), all.bracket) (record { rise = tt; numbers = refl });
-          };
-        };
-      },
-    )
+        keeps = rw is keeps;
+        has = new_rows l {mid = mid} {new = new} fresh (made_has version mid.now.schema all.schema) (none_made version all)
+            (subst (λ v. Puts event_tree (stored_event v e 0) mid new) (sym is) put);
+      };
+    }

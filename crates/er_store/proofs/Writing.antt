@@ -4,7 +4,7 @@ use Rattle.er_store.proofs.Prelude.{inl, inr, ℕ, List, [], ◌∷◌, map, dro
 use Rattle.er_store.proofs.Prelude.{Result, sym, ap, subst, ◌∙◌, Row, Term, Table, Insert, Values, cast_row, numbered, Trees, Database}
 use Rattle.er_store.proofs.Prelude.{State, runs_as, Puts, Ran, ◌≢◌, ◌==◌, ◌++◌, ap₂, AllByRecursion, IsPermutation, ne_eqb, eval_all}
 use Rattle.er_store.proofs.Prelude.{IsAnswer, output, Output, Query, overlay, Schema, Update, is_taken, without_rowid, put_row}
-use Rattle.er_store.proofs.Prelude.{one_permutation, Layout, Old, HasTablesAt, IsOther, with_ours, Goes, all_weaker}
+use Rattle.er_store.proofs.Prelude.{one_permutation, Layout, Old, New, Moved, HasTablesAt, IsOther, with_ours, Goes, all_weaker}
 use Rattle.std.proofs.Common.{◌/◌, MatchBool}
 use Rattle.std.specs.{List.{flat_map, filter_map, cons_option}, Prelude.Option}
 use Rattle.sqlite_rules.specs.{Edit.{edit_of, Applies}, Calls.ids_of, Action.{Writes, works, work_by, work_for, deed_for, pairs}}
@@ -152,6 +152,8 @@ sets_off_nothing l schema keys tree olds news has differs =
         → AllByRecursion (λ t. AllByRecursion (Elsewhere tables tree) t.references) others
         → AllByRecursion (λ t. AllByRecursion (Elsewhere tables tree) t.references) (with_ours l others)
     ours Old tables others all = (tt, (tt, (tt, (tt, (tt, all)))))
+    ours New tables others all = (tt, (tt, (tt, (tt, (tt, all)))))
+    ours Moved tables others all = (tt, (tt, (tt, (tt, (tt, (tt, all))))))
 
 -- ---- one row gives way to another
 

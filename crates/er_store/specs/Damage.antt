@@ -1,5 +1,5 @@
 -- Which table is the first at fault, in any file.
-use Rattle.std.specs.Prelude.{◌≡◌, ◌≢◌, ◌≤◌, ◌⊎◌, ℕ, List, [], length, All, map, ⊤, Ok, Err, None}
+use Rattle.std.specs.Prelude.{◌≡◌, ◌≢◌, ◌≤◌, ◌⊎◌, ℕ, pos, Bool, if◌then◌else◌, List, [], length, map, ⊤, Ok, Err, None}
 use Rattle.sqlite.specs.Order.{Row}
 use Rattle.sqlite.specs.Clock.{timed}
 use Rattle.sqlite.specs.declared.error.Error.{Error}
@@ -14,12 +14,18 @@ use Rattle.er_event.specs.declared.refusals.Place.TheVariants.{EventTable, Playe
 use Rattle.er_event.specs.declared.events.parts.Parts.{Parts}
 use Rattle.er_event.specs.declared.rows.tally.TallyRow.{TallyRow}
 use Rattle.er_event.specs.Event.{EventValue}
-use Rattle.er_event.specs.Parts.{IsFirstFault, IsOf}
+use Rattle.er_event.specs.Parts.{IsFirstFault, IsOf, parts_of}
 use Rattle.er_event.specs.Rows.{tally_rows}
 use Rattle.er_event.specs.Sound.{IsSoundButForSeeds}
-use Rattle.er_store.specs.Shape.{Form, Shape, event_form, player_form, pairing_form, bracket_form, tally_form, event_table, player_table}
-use Rattle.er_store.specs.Shape.{pairing_table, bracket_table, tally_table}
+use Rattle.er_event.specs.declared.rows.event.EventRow.{EventRow}
+use Rattle.std.specs.List.{list_any}
+use Rattle.std.specs.Ordering.{int_eq}
+use Rattle.er_store.specs.Tables.{players_text, read_event, read_pairings, read_bracket, read_tallies}
+use Rattle.er_store.specs.Shape.{Form, event_form, player_form, pairing_form, bracket_form, tally_form}
 use Rattle.er_store.specs.Reading.{first_columns}
+use Rattle.er_store.specs.Standing.{HasTables, AreKeyed, Shows}
+use Rattle.er_store.specs.Loading.{HoldsEvent}
+use Rattle.sqlite.specs.State.{State}
 
 -- rows that the statement may answer
 pub record Answered (db : Database) (sql : List ℕ) (rows : List Row) : Type 0 where
@@ -50,51 +56,69 @@ pub record IsRefused (db : Database) (sql : List ℕ) : Type 0 where
 -- a value of another kind than its column's
 abbrev pub HasWrongKind : {R : Type 0} → Form R → Database → List ℕ → Type 0
 HasWrongKind {R} form db sql =
-    (rows : List Row) × Answered db sql rows
-    × ((typed : List R) → All form.is_text typed → rows ≢ map form.columns typed)
+    (rows : List Row) × Answered db sql rows × ((typed : List R) → rows ≢ map form.columns typed)
 
--- the reading of a table is at fault
-abbrev pub IsMisreadAs : {R : Type 0} → Form R → Shape R → Database → Type 0
-IsMisreadAs form table db = (IsUnread db table.read ⊎ IsRefused db table.read) ⊎ HasWrongKind form db table.read
+-- the reading of a table by this statement is at fault
+abbrev pub IsMisreadAs : {R : Type 0} → Form R → List ℕ → Database → Type 0
+IsMisreadAs form sql db = (IsUnread db sql ⊎ IsRefused db sql) ⊎ HasWrongKind form db sql
 
-abbrev pub IsMisread : Database → Place → Type 0
-IsMisread db EventTable = IsMisreadAs event_form event_table db
-IsMisread db PlayerTable = IsMisreadAs player_form player_table db
-IsMisread db PairingTable = IsMisreadAs pairing_form pairing_table db
-IsMisread db BracketTable = IsMisreadAs bracket_form bracket_table db
-IsMisread db TallyTable = IsMisreadAs tally_form tally_table db
-
--- the statement that reads a table may answer these rows, which have so many columns
-abbrev pub MayRead : {R : Type 0} → Form R → Shape R → Database → List R → Type 0
-MayRead form table db typed =
-    (rows : List Row) × Answered db table.read rows × (map form.columns typed ≡ map (first_columns form.width) rows)
+-- the statement may answer these rows, which have so many columns
+abbrev pub MayRead : {R : Type 0} → Form R → List ℕ → Database → List R → Type 0
+MayRead form sql db typed =
+    (rows : List Row) × Answered db sql rows × (map form.columns typed ≡ map (first_columns form.width) rows)
 
 -- and it may answer some
-abbrev pub IsRead : {R : Type 0} → Form R → Shape R → Database → Type 0
-IsRead {R} form table db = (rows : List R) × MayRead form table db rows
+abbrev pub IsRead : {R : Type 0} → Form R → List ℕ → Database → Type 0
+IsRead {R} form sql db = (rows : List R) × MayRead form sql db rows
 
--- the tables before this one are read
-abbrev pub ReadsBefore : Database → Place → Type 0
-ReadsBefore db EventTable = ⊤
-ReadsBefore db PlayerTable = IsRead event_form event_table db
-ReadsBefore db PairingTable = IsRead event_form event_table db × IsRead player_form player_table db
-ReadsBefore db BracketTable = IsRead event_form event_table db × IsRead player_form player_table db × IsRead pairing_form pairing_table db
-ReadsBefore db TallyTable =
-    IsRead event_form event_table db × IsRead player_form player_table db × IsRead pairing_form pairing_table db
-    × IsRead bracket_form bracket_table db
+-- a row of the event says version 2, so that the players are read of `player2`
+abbrev pub says_second : List EventRow → Bool
+says_second events = list_any (λ (r : EventRow). int_eq r.version (pos 2)) events
+
+abbrev pub said_version : List EventRow → ℕ
+said_version events = if says_second events then 2 else 1
+
+abbrev pub said_players : List EventRow → List ℕ
+said_players events = players_text (said_version events)
+
+-- where the event's own rows were read, these rows decide
+abbrev pub IsMisread : List EventRow → Database → Place → Type 0
+IsMisread events db EventTable = IsMisreadAs event_form read_event db
+IsMisread events db PlayerTable = IsMisreadAs player_form (said_players events) db
+IsMisread events db PairingTable = IsMisreadAs pairing_form read_pairings db
+IsMisread events db BracketTable = IsMisreadAs bracket_form read_bracket db
+IsMisread events db TallyTable = IsMisreadAs tally_form read_tallies db
+
+-- the tables between the event's and this one are read, where the event's has these rows
+abbrev pub ReadsBetween : List EventRow → Database → Place → Type 0
+ReadsBetween events db EventTable = ⊤
+ReadsBetween events db PlayerTable = ⊤
+ReadsBetween events db PairingTable = IsRead player_form (said_players events) db
+ReadsBetween events db BracketTable = IsRead player_form (said_players events) db × IsRead pairing_form read_pairings db
+ReadsBetween events db TallyTable =
+    IsRead player_form (said_players events) db × IsRead pairing_form read_pairings db × IsRead bracket_form read_bracket db
 
 pub record ReadsParts (db : Database) (parts : Parts) : Type 0 where
-  pub event : MayRead event_form event_table db parts.event
-  pub players : MayRead player_form player_table db parts.players
-  pub pairings : MayRead pairing_form pairing_table db parts.pairings
-  pub bracket : MayRead bracket_form bracket_table db parts.bracket
+  pub event : MayRead event_form read_event db parts.event
+  pub players : MayRead player_form (said_players parts.event) db parts.players
+  pub pairings : MayRead pairing_form read_pairings db parts.pairings
+  pub bracket : MayRead bracket_form read_bracket db parts.bracket
 
 abbrev pub ReadsTallies : Database → List TallyRow → Type 0
-ReadsTallies = MayRead tally_form tally_table
+ReadsTallies = MayRead tally_form read_tallies
+
+-- a table behind the event's, which is read with some rows, cannot be
+abbrev pub IsLaterMisread : Database → Place → Type 0
+IsLaterMisread db place =
+    (events : List EventRow) × MayRead event_form read_event db events × ReadsBetween events db place × IsMisread events db place
 
 -- The tables are read in this order, and this one cannot be.
 abbrev pub IsFirstMisread : Database → Place → Type 0
-IsFirstMisread db place = ReadsBefore db place × IsMisread db place
+IsFirstMisread db EventTable = IsMisreadAs event_form read_event db
+IsFirstMisread db PlayerTable = IsLaterMisread db PlayerTable
+IsFirstMisread db PairingTable = IsLaterMisread db PairingTable
+IsFirstMisread db BracketTable = IsLaterMisread db BracketTable
+IsFirstMisread db TallyTable = IsLaterMisread db TallyTable
 
 -- the first four tables are those of a sound event, and the totals are of no such event
 pub record HasOtherTotals (parts : Parts) (rows : List TallyRow) : Type 0 where
@@ -114,3 +138,11 @@ IsAtFault db place =
 -- if it is damage, this table is the first at fault
 abbrev pub IfDamaged : (Place → Type 0) → Refusal → Type 0
 IfDamaged P why = (place : Place) → why ≡ Damaged place → P place
+
+-- What is found in tables of this version, whatever they hold: it is what they show, and where the tables are ours, they
+-- stand for it, and a change can be written to them.
+pub record FindsEvent (version : ℕ) (old new : State) (e : EventValue) (serial : ℕ) : Type 0 where
+  pub parts : ReadsParts old.now (parts_of version e serial)
+  pub tallies : ReadsTallies old.now (tally_rows e)
+  pub shows : HasTables version old.now.schema → HoldsEvent version old.now e serial
+  pub stands : HasTables version old.now.schema → AreKeyed old.now → Shows version new e serial

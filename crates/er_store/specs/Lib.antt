@@ -2,10 +2,10 @@
 -- change or after it, whole.
 --
 -- Standing is the heart of it: when tables stand for an event and its serial, and what a crash may leave. Tables is the
--- schema that the five texts make, Layout how the tables lie in a file, Rows how rows show and are stored, and Store what
--- a store shows. Loading is what is
--- found in the tables, Damage which table is the first at fault in any file, Slip the slip of a match by a join.
--- Reading says what a statement that reads leaves as it was, Fault what a refusal means.
+-- schema that the texts make in either version, Layout how the tables lie in a file, Rows how rows show and are stored,
+-- and Store what a store shows. Loading is what is found in the tables, Damage which table is the first at fault in any
+-- file, Slip the slip of a match by a join, Migrated what a migration promises. Reading says what a statement that reads
+-- leaves as it was, Fault what a refusal means.
 --
 -- What private functions alone cite lies in `inside`.
 pub mod Tables
@@ -17,6 +17,7 @@ pub mod Shape
 pub mod Loading
 pub mod Fault
 pub mod Store
+pub mod Migrated
 pub mod Damage
 pub mod Slip
 pub mod inside

@@ -1,5 +1,5 @@
 -- What a load finds in the tables.
-use Rattle.std.specs.Prelude.{◌≤◌, ℕ, List, map, IsPermutation}
+use Rattle.std.specs.Prelude.{◌≡◌, ◌≤◌, ℕ, List, map, IsPermutation}
 use Rattle.sqlite.specs.Effect.{Database}
 use Rattle.er_event.specs.declared.commands.TheConstants.{MAX_SERIAL}
 use Rattle.er_event.specs.declared.refusals.Place.{Place}
@@ -36,6 +36,9 @@ pub record HoldsEventAt (layout : Layout) (db : Database) (e : EventValue) (seri
   pub sound : IsSoundButForSeeds e
   pub rows : (table : Place) → IsPermutation (rows_in layout db table) (rows_with (version_of layout) e serial (tally_rows e) table)
 
--- so they lie, and so are their rows
-abbrev pub HoldsEvent : Database → EventValue → ℕ → Type 0
-HoldsEvent db e serial = (layout : Layout) × HasTablesAt layout db.schema × HoldsEventAt layout db e serial
+-- in tables of this version, however they lie
+pub record HoldsEvent (version : ℕ) (db : Database) (e : EventValue) (serial : ℕ) : Type 0 where
+  pub layout : Layout
+  pub is : version_of layout ≡ version
+  pub tables : HasTablesAt layout db.schema
+  pub holds : HoldsEventAt layout db e serial

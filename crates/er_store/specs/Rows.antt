@@ -12,7 +12,7 @@ use Rattle.er_event.specs.Event.{EventValue}
 use Rattle.er_store.specs.declared.rows.MeetingRow.{MeetingRow}
 use Rattle.er_store.specs.declared.rows.NamedPairing.{NamedPairing}
 use Rattle.er_event.specs.Rows.{flag, phase_code}
-use Rattle.er_store.specs.Layout.{Layout, Old}
+use Rattle.er_store.specs.Layout.{Layout, Old, New, Moved}
 
 abbrev pub number : ℕ → Value
 number n = Int (pos n)
@@ -59,9 +59,14 @@ event_places = 0 ∷ 2 ∷ 3 ∷ 4 ∷ 5 ∷ 6 ∷ 7 ∷ []
 abbrev pub player_places : List ℕ
 player_places = 0 ∷ 2 ∷ 3 ∷ []
 
+abbrev pub player2_places : List ℕ
+player2_places = 0 ∷ 2 ∷ 3 ∷ 4 ∷ []
+
 -- what is read of a stored player: version 1 doesn't store when one joined, and nobody has joined late in it
 abbrev pub player_shown : Layout → Row → Row
 player_shown Old row = at_places player_places row ++ number 0 ∷ []
+player_shown New row = at_places player2_places row
+player_shown Moved row = at_places player2_places row
 
 abbrev pub pairing_places : List ℕ
 pairing_places = 1 ∷ 2 ∷ 3 ∷ 4 ∷ 5 ∷ 6 ∷ 7 ∷ 8 ∷ 9 ∷ []
@@ -80,6 +85,9 @@ stored_event version e serial =
 
 abbrev pub stored_player : ℕ → List ℕ → Bool → Row
 stored_player number name dropped = Int (pos number) ∷ Null ∷ Text name ∷ Int (flag dropped) ∷ []
+
+abbrev pub stored_player2 : ℕ → List ℕ → Bool → ℕ → Row
+stored_player2 number name dropped joined = Int (pos number) ∷ Null ∷ Text name ∷ Int (flag dropped) ∷ Int (pos joined) ∷ []
 
 abbrev pub stored_tally : TallyRow → Row
 stored_tally r = Int r.no ∷ Null ∷ Int r.points ∷ Int r.rounds ∷ Int r.gamepoints ∷ Int r.games ∷ []

@@ -1,5 +1,5 @@
 -- The five tables: how each is named and read, where its rows are, and which of them an event has.
-use Rattle.std.specs.Prelude.{ℕ, List, [], ◌∷◌, ⊤, IsUtf8}
+use Rattle.std.specs.Prelude.{ℕ, List, [], ◌∷◌}
 use Rattle.std.specs.declared.cmp.Ordering.{Ordering}
 use Rattle.sqlite.specs.Order.{Row}
 use Rattle.er_event.specs.Event.{EventValue}
@@ -12,47 +12,46 @@ use Rattle.er_event.specs.declared.rows.pairing.PairingRow.{PairingRow}
 use Rattle.er_event.specs.declared.rows.bracket.BracketRow.{BracketRow}
 use Rattle.er_event.specs.declared.rows.tally.TallyRow.{TallyRow}
 use Rattle.er_store.specs.Layout.{Layout, players_tree}
-use Rattle.er_store.specs.Tables.{event_tree, pairing_tree, bracket_tree, tally_tree, read_event, read_players, read_pairings}
+use Rattle.er_store.specs.Tables.{event_tree, pairing_tree, bracket_tree, tally_tree, read_event, players_text, read_pairings}
 use Rattle.er_store.specs.Tables.{read_bracket, read_tallies}
 use Rattle.er_store.specs.Rows.{event_columns, player_columns, pairing_columns, bracket_columns, tally_columns, at_places, event_places}
 use Rattle.er_store.specs.Rows.{player_shown, pairing_places, bracket_places, tally_places}
 use Rattle.er_store.specs.Reading.{by_first, by_first_two}
 
--- a typed row: how many columns it has, what they show, and when its texts are texts
+-- a typed row: how many columns it has, and what they show
 pub record Form (R : Type 0) : Type 1 where
   pub width : ℕ
   pub columns : R → Row
-  pub is_text : R → Type 0
 
--- a table of such rows: how a refusal names it, the statement that reads it, where its tree is, what is read of a stored
--- row, the order of its key, and the rows of an event with its serial in tables of a version
+-- a table of such rows: how a refusal names it, the statement that reads it in tables of a version, where its tree is,
+-- what is read of a stored row, the order of its key, and the rows of an event with its serial in tables of a version
 pub record Shape (R : Type 0) : Type 1 where
   pub place : Place
-  pub read : List ℕ
+  pub read : ℕ → List ℕ
   pub tree : Layout → ℕ
   pub shown : Layout → Row → Row
   pub order : Row → Row → Ordering
   pub rows : ℕ → EventValue → ℕ → List R
 
 abbrev pub event_form : Form EventRow
-event_form = record { width = 7; columns = event_columns; is_text = λ (r : EventRow). IsUtf8 r.name }
+event_form = record { width = 7; columns = event_columns }
 
 abbrev pub player_form : Form PlayerRow
-player_form = record { width = 4; columns = player_columns; is_text = λ (r : PlayerRow). IsUtf8 r.name }
+player_form = record { width = 4; columns = player_columns }
 
 abbrev pub pairing_form : Form PairingRow
-pairing_form = record { width = 9; columns = pairing_columns; is_text = λ (r : PairingRow). ⊤ }
+pairing_form = record { width = 9; columns = pairing_columns }
 
 abbrev pub bracket_form : Form BracketRow
-bracket_form = record { width = 8; columns = bracket_columns; is_text = λ (r : BracketRow). ⊤ }
+bracket_form = record { width = 8; columns = bracket_columns }
 
 abbrev pub tally_form : Form TallyRow
-tally_form = record { width = 5; columns = tally_columns; is_text = λ (r : TallyRow). ⊤ }
+tally_form = record { width = 5; columns = tally_columns }
 
 abbrev pub event_table : Shape EventRow
 event_table = record {
   place = EventTable;
-  read = read_event;
+  read = λ version. read_event;
   tree = λ layout. event_tree;
   shown = λ layout. at_places event_places;
   order = by_first;
@@ -62,7 +61,7 @@ event_table = record {
 abbrev pub player_table : Shape PlayerRow
 player_table = record {
   place = PlayerTable;
-  read = read_players;
+  read = players_text;
   tree = players_tree;
   shown = player_shown;
   order = by_first;
@@ -72,7 +71,7 @@ player_table = record {
 abbrev pub pairing_table : Shape PairingRow
 pairing_table = record {
   place = PairingTable;
-  read = read_pairings;
+  read = λ version. read_pairings;
   tree = λ layout. pairing_tree;
   shown = λ layout. at_places pairing_places;
   order = by_first_two;
@@ -82,7 +81,7 @@ pairing_table = record {
 abbrev pub bracket_table : Shape BracketRow
 bracket_table = record {
   place = BracketTable;
-  read = read_bracket;
+  read = λ version. read_bracket;
   tree = λ layout. bracket_tree;
   shown = λ layout. at_places bracket_places;
   order = by_first_two;
@@ -92,7 +91,7 @@ bracket_table = record {
 abbrev pub tally_table : Shape TallyRow
 tally_table = record {
   place = TallyTable;
-  read = read_tallies;
+  read = λ version. read_tallies;
   tree = λ layout. tally_tree;
   shown = λ layout. at_places tally_places;
   order = by_first;

@@ -1,4 +1,4 @@
--- When the tables of a database stand for an event and its serial.
+-- When the tables of a database stand for an event and its serial, in version 1 or in version 2.
 use Rattle.std.specs.Prelude.{◌≡◌, ◌≢◌, ◌≤◌, ◌⊎◌, ℕ, true, List, [], ◌∷◌, map, Some, IsTrue, IsOk, IsPermutation}
 use Rattle.sqlite.specs.Order.{Row}
 use Rattle.std.specs.List.{AllByRecursion}
@@ -21,7 +21,7 @@ use Rattle.er_event.specs.declared.rows.tally.TallyRow.{TallyRow}
 use Rattle.er_event.specs.Rows.{event_row, player_rows, pairing_rows, bracket_rows, tally_rows}
 use Rattle.er_event.specs.Version.{Keeps}
 use Rattle.er_store.specs.Tables.{event_tree, pairing_tree, bracket_tree, tally_tree, find_event, read_event}
-use Rattle.er_store.specs.Layout.{Layout, Old, version_of, players_tree, with_ours}
+use Rattle.er_store.specs.Layout.{Layout, version_of, players_tree, with_ours}
 use Rattle.er_store.specs.Rows.{event_columns, player_columns, pairing_columns, bracket_columns, tally_columns}
 use Rattle.er_store.specs.Shape.{event_table, player_table, pairing_table, bracket_table, tally_table}
 
@@ -40,9 +40,9 @@ pub record HasTablesAt (layout : Layout) (schema : Schema) : Type 0 where
   pub are : schema.tables ≡ with_ours layout others
   pub apart : AllByRecursion (λ t. AllByRecursion (LeadsElsewhere layout (with_ours layout others)) t.references) others
 
--- the tables of an event are there, however they lie
-abbrev pub HasTables : Schema → Type 0
-HasTables schema = (layout : Layout) × HasTablesAt layout schema
+-- the tables of an event are there, in one of the ways in which they lie in this version; a schema may have them in both
+abbrev pub HasTables : ℕ → Schema → Type 0
+HasTables version schema = (layout : Layout) × (version_of layout ≡ version) × HasTablesAt layout schema
 
 -- each row has a rowid of its own, and they rise
 pub record IsKeyed (rows : List Row) : Type 0 where
@@ -99,7 +99,13 @@ pub record StandsWith (layout : Layout) (db : Database) (e : EventValue) (serial
 abbrev pub StandsAt : Layout → Database → EventValue → ℕ → Type 0
 StandsAt layout db e serial = StandsWith layout db e serial (tally_rows e)
 
--- however the tables lie
+-- in tables of this version, however they lie
+pub record StandsIn (version : ℕ) (db : Database) (e : EventValue) (serial : ℕ) : Type 0 where
+  pub layout : Layout
+  pub is : version_of layout ≡ version
+  pub stands : StandsAt layout db e serial
+
+-- in either version, as the event's row says
 abbrev pub StandsFor : Database → EventValue → ℕ → Type 0
 StandsFor db e serial = (layout : Layout) × StandsAt layout db e serial
 
@@ -117,18 +123,24 @@ CanRead schema = IsOk (understood schema find_event)
 abbrev pub ReadsEvent : Schema → Type 0
 ReadsEvent schema = IsOk (understood schema read_event)
 
--- what a crash leaves stands for the event
+-- what a crash leaves stands for the event, in this version
+pub record IsStoredIn (version : ℕ) (e : EventValue) (serial : ℕ) (trees : Trees) : Type 0 where
+  pub schema : Schema
+  pub sound : IsSound schema trees
+  pub stands : StandsIn version (record { schema = schema; trees = trees }) e serial
+
+-- in either version
 pub record IsStored (e : EventValue) (serial : ℕ) (trees : Trees) : Type 0 where
   pub schema : Schema
   pub sound : IsSound schema trees
   pub stands : StandsFor (record { schema = schema; trees = trees }) e serial
 
--- the connection sees the event, with nothing pending
-pub record Shows (s : State) (e : EventValue) (serial : ℕ) : Type 0 where
+-- the connection sees the event in this version, with nothing pending
+pub record Shows (version : ℕ) (s : State) (e : EventValue) (serial : ℕ) : Type 0 where
   pub is_open : IsTrue s.is_open
   pub sound : IsDatabase s.now
   pub settled : s.now ≡ s.committed
-  pub stands : StandsFor s.now e serial
+  pub stands : StandsIn version s.now e serial
 
 -- each thing that a crash may leave
 abbrev pub Leaves : State → (Trees → Type 0) → Type 0
@@ -142,5 +154,7 @@ pub record KeepsRest (layout : Layout) (old new : Database) : Type 0 where
   pub schema : new.schema ≡ old.schema
   pub rows : AllByRecursion (λ t. IsOther layout t.tree → new.trees t.tree ≡ old.trees t.tree) old.schema.tables
 
-abbrev pub KeepsOthers : Database → Database → Type 0
-KeepsOthers = KeepsRest Old
+-- in tables of this version, however they lie; of `player` too, where a migration has left it
+pub record KeepsOthers (version : ℕ) (old new : Database) : Type 0 where
+  pub schema : new.schema ≡ old.schema
+  pub rest : (layout : Layout) → version_of layout ≡ version → HasTablesAt layout old.schema → KeepsRest layout old new

@@ -1,5 +1,5 @@
 -- What a store shows.
-use Rattle.std.specs.Prelude.{Bool}
+use Rattle.std.specs.Prelude.{ℕ, Bool}
 use Rattle.sqlite_trees.specs.declared.store.Store.{Ghosts}
 use Rattle.sqlite.specs.State.{State}
 use Rattle.sqlite.specs.Held as sqlite
@@ -13,6 +13,10 @@ connection store = store.conn
 -- what its connection shows
 abbrev pub state : {S : Type 0} (g : Ghosts S) → Store S g → State
 state g store = sqlite.state g (connection store)
+
+-- the version that it works in
+abbrev pub version_in : {S : Type 0} {g : Ghosts S} → Store S g → ℕ
+version_in store = store.version
 
 -- a fault has ended it
 abbrev pub is_stopped : {S : Type 0} {g : Ghosts S} → Store S g → Bool

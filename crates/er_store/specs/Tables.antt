@@ -1,5 +1,5 @@
--- The five tables of an event, as the texts that make them say.
-use Rattle.std.specs.Prelude.{ℕ, pos, Bool, true, false, List, [], ◌∷◌, Some, None, codes}
+-- The tables of an event in either version, as the texts that make them say.
+use Rattle.std.specs.Prelude.{ℕ, pos, ◌==◌, Bool, true, false, if◌then◌else◌, List, [], ◌∷◌, ◌++◌, Some, None, codes}
 use Rattle.sqlite.specs.declared.types.Value.TheVariants.{Null, Int}
 use Rattle.sqlite.specs.Collation.TheVariants.{Binary}
 use Rattle.sqlite.specs.Kind.{Kind}
@@ -17,6 +17,9 @@ event_text = codes "CREATE TABLE event(id INTEGER PRIMARY KEY CHECK(id = 1), ver
 
 abbrev pub player_text : List ℕ
 player_text = codes "CREATE TABLE player(no INTEGER PRIMARY KEY, name TEXT NOT NULL UNIQUE, dropped INTEGER NOT NULL)"
+
+abbrev pub player2_text : List ℕ
+player2_text = codes "CREATE TABLE player2(no INTEGER PRIMARY KEY, name TEXT NOT NULL UNIQUE, dropped INTEGER NOT NULL, joined INTEGER NOT NULL)"
 
 abbrev pub pairing_text : List ℕ
 pairing_text = codes "CREATE TABLE pairing(round INTEGER NOT NULL, tab INTEGER NOT NULL, lo INTEGER NOT NULL, hi INTEGER NOT NULL, swapped INTEGER NOT NULL, done INTEGER NOT NULL, x INTEGER NOT NULL, y INTEGER NOT NULL, d INTEGER NOT NULL, PRIMARY KEY(round, tab), UNIQUE(lo, hi), CHECK(lo < hi))"
@@ -57,6 +60,23 @@ player tree = record {
   name = codes "player";
   tree = tree;
   columns = plain (codes "no") Integer false ∷ plain (codes "name") Text true ∷ number (codes "dropped") ∷ [];
+  key = Some 0;
+  primary = 0 ∷ [];
+  uniques = (2 ∷ []) ∷ [];
+  orders = record { digits = 0 } ∷ [];
+  checks = [];
+  references = [];
+  computed = [];
+  stamps = record { places = []; terms = []; formats = [] };
+  is_counted = false;
+}
+
+abbrev pub player2 : ℕ → Table
+player2 tree = record {
+  name = codes "player2";
+  tree = tree;
+  columns =
+      plain (codes "no") Integer false ∷ plain (codes "name") Text true ∷ number (codes "dropped") ∷ number (codes "joined") ∷ [];
   key = Some 0;
   primary = 0 ∷ [];
   uniques = (2 ∷ []) ∷ [];
@@ -139,6 +159,10 @@ bracket_tree = 6
 abbrev pub tally_tree : ℕ
 tally_tree = 8
 
+-- where a migration puts the players: behind the nine trees of version 1
+abbrev pub moved_tree : ℕ
+moved_tree = 9
+
 -- the indexes that SQLite makes for the keys
 abbrev pub key : List ℕ → ℕ → ℕ → List ℕ → Index
 key name tree table columns = record {
@@ -156,50 +180,65 @@ no_schema = record { tables = []; indexes = []; views = [] }
 abbrev pub event_schema : Schema
 event_schema = record { tables = event event_tree ∷ []; indexes = []; views = [] }
 
-abbrev pub player_schema : Schema
-player_schema = record {
-  tables = event event_tree ∷ player player_tree ∷ [];
-  indexes = key (codes "sqlite_autoindex_player_1") 2 player_tree (2 ∷ []) ∷ [];
-  views = [];
-}
+-- the names of the players are a key
+abbrev pub names_key : Table → ℕ → Index
+names_key players tree = key (codes "sqlite_autoindex_" ++ players.name ++ codes "_1") tree players.tree (2 ∷ [])
 
-abbrev pub pairing_schema : Schema
-pairing_schema = record {
-  tables = event event_tree ∷ player player_tree ∷ pairing pairing_tree ∷ [];
+-- The schemas that creation goes through, with this table of players.
+abbrev pub player_schema : Table → Schema
+player_schema players = record { tables = event event_tree ∷ players ∷ []; indexes = names_key players 2 ∷ []; views = [] }
+
+abbrev pub pairing_schema : Table → Schema
+pairing_schema players = record {
+  tables = event event_tree ∷ players ∷ pairing pairing_tree ∷ [];
   indexes =
-      key (codes "sqlite_autoindex_player_1") 2 player_tree (2 ∷ [])
-      ∷ key (codes "sqlite_autoindex_pairing_1") 4 pairing_tree (1 ∷ 2 ∷ [])
+      names_key players 2 ∷ key (codes "sqlite_autoindex_pairing_1") 4 pairing_tree (1 ∷ 2 ∷ [])
       ∷ key (codes "sqlite_autoindex_pairing_2") 5 pairing_tree (3 ∷ 4 ∷ []) ∷ [];
   views = [];
 }
 
-abbrev pub bracket_schema : Schema
-bracket_schema = record {
-  tables = event event_tree ∷ player player_tree ∷ pairing pairing_tree ∷ bracket bracket_tree ∷ [];
+abbrev pub bracket_schema : Table → Schema
+bracket_schema players = record {
+  tables = event event_tree ∷ players ∷ pairing pairing_tree ∷ bracket bracket_tree ∷ [];
   indexes =
-      key (codes "sqlite_autoindex_player_1") 2 player_tree (2 ∷ [])
-      ∷ key (codes "sqlite_autoindex_pairing_1") 4 pairing_tree (1 ∷ 2 ∷ [])
+      names_key players 2 ∷ key (codes "sqlite_autoindex_pairing_1") 4 pairing_tree (1 ∷ 2 ∷ [])
       ∷ key (codes "sqlite_autoindex_pairing_2") 5 pairing_tree (3 ∷ 4 ∷ [])
       ∷ key (codes "sqlite_autoindex_bracket_1") 7 bracket_tree (1 ∷ 2 ∷ []) ∷ [];
   views = [];
 }
 
-abbrev pub our_schema : Schema
-our_schema = record {
-  tables = event event_tree ∷ player player_tree ∷ pairing pairing_tree ∷ bracket bracket_tree ∷ tally tally_tree ∷ [];
+abbrev pub tally_schema : Table → Schema
+tally_schema players = record {
+  tables = event event_tree ∷ players ∷ pairing pairing_tree ∷ bracket bracket_tree ∷ tally tally_tree ∷ [];
   indexes =
-      key (codes "sqlite_autoindex_player_1") 2 player_tree (2 ∷ [])
-      ∷ key (codes "sqlite_autoindex_pairing_1") 4 pairing_tree (1 ∷ 2 ∷ [])
+      names_key players 2 ∷ key (codes "sqlite_autoindex_pairing_1") 4 pairing_tree (1 ∷ 2 ∷ [])
       ∷ key (codes "sqlite_autoindex_pairing_2") 5 pairing_tree (3 ∷ 4 ∷ [])
       ∷ key (codes "sqlite_autoindex_bracket_1") 7 bracket_tree (1 ∷ 2 ∷ []) ∷ [];
+  views = [];
+}
+
+-- what creation makes in version 1
+abbrev pub old_schema : Schema
+old_schema = tally_schema (player player_tree)
+
+-- and what a migration makes of it
+abbrev pub moved_schema : Schema
+moved_schema = record {
+  tables =
+      event event_tree ∷ player player_tree ∷ pairing pairing_tree ∷ bracket bracket_tree ∷ tally tally_tree
+      ∷ player2 moved_tree ∷ [];
+  indexes = old_schema.indexes ++ names_key (player2 moved_tree) 10 ∷ [];
   views = [];
 }
 
 abbrev pub insert_event : List ℕ
-insert_event = codes "INSERT INTO event (id, version, serial, name, rounds, cut, phase) VALUES (1, 1, ?1, ?2, ?3, ?4, ?5)"
+insert_event = codes "INSERT INTO event (id, version, serial, name, rounds, cut, phase) VALUES (1, ?1, ?2, ?3, ?4, ?5, ?6)"
 
 abbrev pub insert_player : List ℕ
 insert_player = codes "INSERT INTO player (no, name, dropped) VALUES (?1, ?2, ?3)"
+
+abbrev pub insert_player2 : List ℕ
+insert_player2 = codes "INSERT INTO player2 (no, name, dropped, joined) VALUES (?1, ?2, ?3, ?4)"
 
 abbrev pub insert_pairing : List ℕ
 insert_pairing = codes "INSERT INTO pairing (round, tab, lo, hi, swapped, done, x, y, d) VALUES (?1, ?2, ?3, ?4, ?5, ?6, ?7, ?8, ?9)"
@@ -212,6 +251,16 @@ set_phase = codes "UPDATE event SET phase = ?1"
 
 abbrev pub set_dropped : List ℕ
 set_dropped = codes "UPDATE player SET dropped = 1 WHERE no = ?1"
+
+abbrev pub set_dropped2 : List ℕ
+set_dropped2 = codes "UPDATE player2 SET dropped = 1 WHERE no = ?1"
+
+-- of a migration alone
+abbrev pub clear_players : List ℕ
+clear_players = codes "DELETE FROM player"
+
+abbrev pub set_version : List ℕ
+set_version = codes "UPDATE event SET version = ?1"
 
 abbrev pub set_score : List ℕ
 set_score = codes "UPDATE pairing SET done = 1, x = ?3, y = ?4, d = ?5 WHERE round = ?1 AND tab = ?2"
@@ -238,6 +287,9 @@ read_event = codes "SELECT id, version, serial, name, rounds, cut, phase FROM ev
 abbrev pub read_players : List ℕ
 read_players = codes "SELECT no, name, dropped, 0 AS joined FROM player ORDER BY no"
 
+abbrev pub read_players2 : List ℕ
+read_players2 = codes "SELECT no, name, dropped, joined FROM player2 ORDER BY no"
+
 abbrev pub read_pairings : List ℕ
 read_pairings = codes "SELECT round, tab, lo, hi, swapped, done, x, y, d FROM pairing ORDER BY round, tab"
 
@@ -254,3 +306,13 @@ read_meetings = codes "SELECT p.round, p.tab, p.done, l.no, l.points, l.rounds, 
 -- the match of a round and a table, with the names of its players; a bye has none for the missing one
 abbrev pub read_slip : List ℕ
 read_slip = codes "SELECT p.round, p.tab, p.lo, p.hi, p.swapped, p.done, p.x, p.y, p.d, l.name, h.name FROM pairing AS p LEFT JOIN player AS l ON l.no = p.lo LEFT JOIN player AS h ON h.no = p.hi WHERE p.round = ?1 AND p.tab = ?2"
+
+abbrev pub read_slip2 : List ℕ
+read_slip2 = codes "SELECT p.round, p.tab, p.lo, p.hi, p.swapped, p.done, p.x, p.y, p.d, l.name, h.name FROM pairing AS p LEFT JOIN player2 AS l ON l.no = p.lo LEFT JOIN player2 AS h ON h.no = p.hi WHERE p.round = ?1 AND p.tab = ?2"
+
+-- the statements that read players, in tables of a version
+abbrev pub players_text : ℕ → List ℕ
+players_text version = if version == 2 then read_players2 else read_players
+
+abbrev pub slip_text : ℕ → List ℕ
+slip_text version = if version == 2 then read_slip2 else read_slip

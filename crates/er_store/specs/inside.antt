@@ -4,3 +4,4 @@ pub mod Totals
 pub mod Meetings
 pub mod Queries
 pub mod Lookup
+pub mod Moving

@@ -1,8 +1,11 @@
-ghost use Rattle.std.specs.Prelude.{◌≡◌, OnOk};
+ghost use Rattle.std.specs.Prelude.{◌≡◌, ℕ, [], IsErr, OnOk};
 ghost use Rattle.sqlite.specs.State.{HasCleanDisk};
 ghost use Rattle.sqlite.specs.Held.{state};
-ghost use Rattle.er_store.specs.Tables.{no_schema, event_schema, player_schema, pairing_schema, bracket_schema, our_schema};
-ghost use Rattle.er_store.specs.inside.Steps.{Stays, Creates, CreatesAll};
+ghost use Rattle.er_event.specs.Event.{EventValue};
+ghost use Rattle.er_store.specs.Tables.{player_tree, player, player2, no_schema, event_schema, player_schema, pairing_schema, bracket_schema, tally_schema};
+ghost use Rattle.er_store.specs.inside.Steps.{Stays, made_players, Creates, CreatesAll};
+ghost use Rattle.er_store.specs.inside.Moving.{MayMove, IsMoving};
+ghost use Rattle.er_store.specs.Migrated.{IsTaken};
 
 use crate::statements::run;
 use sqlite::{Alter, Error, Transaction};
@@ -25,16 +28,37 @@ fn create_event<S: Alter>(tx: &mut Transaction<'_, S>) -> Result<(), Error>
 pub const CREATE_PLAYER: &str =
     "CREATE TABLE player(no INTEGER PRIMARY KEY, name TEXT NOT NULL UNIQUE, dropped INTEGER NOT NULL)";
 
-/// Makes the table `player`.
+/// Makes the table `player` of version 1.
 fn create_player<S: Alter>(tx: &mut Transaction<'_, S>) -> Result<(), Error>
     ensures same_reference { tx.new.conn.ghost_name ≡ tx.old.conn.ghost_name }
     ensures creates { HasCleanDisk (state S.Store tx.new.conn.now)
         → (state S.Store tx.old.conn.now).now.schema ≡ event_schema
-        → OnOk result (Creates event_schema player_schema (state S.Store tx.old.conn.now)
-        (state S.Store tx.new.conn.now)) }
+        → OnOk result (Creates event_schema (player_schema (player player_tree))
+        (state S.Store tx.old.conn.now) (state S.Store tx.new.conn.now)) }
     ensures stays { Stays (state S.Store tx.old.conn.now) (state S.Store tx.new.conn.now) }
 {
     run(tx, CREATE_PLAYER, &[])
+}
+
+pub const CREATE_PLAYER2: &str =
+    "CREATE TABLE player2(no INTEGER PRIMARY KEY, name TEXT NOT NULL UNIQUE, dropped INTEGER NOT NULL, joined INTEGER NOT NULL)";
+
+/// Makes the table `player2`, in the place of `player` or behind the five tables of version 1.
+pub fn create_player2<S: Alter>(tx: &mut Transaction<'_, S>) -> Result<(), Error>
+    ensures same_reference { tx.new.conn.ghost_name ≡ tx.old.conn.ghost_name }
+    ensures creates { HasCleanDisk (state S.Store tx.new.conn.now)
+        → (state S.Store tx.old.conn.now).now.schema ≡ event_schema
+        → OnOk result (Creates event_schema (player_schema (player2 player_tree))
+        (state S.Store tx.old.conn.now) (state S.Store tx.new.conn.now)) }
+    ensures moves { HasCleanDisk (state S.Store tx.new.conn.now) → (e : EventValue) (s : ℕ)
+        → MayMove (state S.Store tx.old.conn.now) e s
+        → OnOk result (IsMoving (state S.Store tx.old.conn.now) (state S.Store tx.new.conn.now) 1 []
+        e s ((state S.Store tx.old.conn.now).now.trees player_tree)) }
+    ensures taken { HasCleanDisk (state S.Store tx.new.conn.now)
+        → IsTaken (state S.Store tx.old.conn.now).now → IsErr result }
+    ensures stays { Stays (state S.Store tx.old.conn.now) (state S.Store tx.new.conn.now) }
+{
+    run(tx, CREATE_PLAYER2, &[])
 }
 
 pub const CREATE_PAIRING: &str =
@@ -44,8 +68,10 @@ pub const CREATE_PAIRING: &str =
 fn create_pairing<S: Alter>(tx: &mut Transaction<'_, S>) -> Result<(), Error>
     ensures same_reference { tx.new.conn.ghost_name ≡ tx.old.conn.ghost_name }
     ensures creates { HasCleanDisk (state S.Store tx.new.conn.now)
-        → (state S.Store tx.old.conn.now).now.schema ≡ player_schema
-        → OnOk result (Creates player_schema pairing_schema (state S.Store tx.old.conn.now)
+        → (version : ℕ)
+        → (state S.Store tx.old.conn.now).now.schema ≡ player_schema (made_players version)
+        → OnOk result (Creates (player_schema (made_players version))
+        (pairing_schema (made_players version)) (state S.Store tx.old.conn.now)
         (state S.Store tx.new.conn.now)) }
     ensures stays { Stays (state S.Store tx.old.conn.now) (state S.Store tx.new.conn.now) }
 {
@@ -59,8 +85,10 @@ pub const CREATE_BRACKET: &str =
 fn create_bracket<S: Alter>(tx: &mut Transaction<'_, S>) -> Result<(), Error>
     ensures same_reference { tx.new.conn.ghost_name ≡ tx.old.conn.ghost_name }
     ensures creates { HasCleanDisk (state S.Store tx.new.conn.now)
-        → (state S.Store tx.old.conn.now).now.schema ≡ pairing_schema
-        → OnOk result (Creates pairing_schema bracket_schema (state S.Store tx.old.conn.now)
+        → (version : ℕ)
+        → (state S.Store tx.old.conn.now).now.schema ≡ pairing_schema (made_players version)
+        → OnOk result (Creates (pairing_schema (made_players version))
+        (bracket_schema (made_players version)) (state S.Store tx.old.conn.now)
         (state S.Store tx.new.conn.now)) }
     ensures stays { Stays (state S.Store tx.old.conn.now) (state S.Store tx.new.conn.now) }
 {
@@ -74,24 +102,43 @@ pub const CREATE_TALLY: &str =
 fn create_tally<S: Alter>(tx: &mut Transaction<'_, S>) -> Result<(), Error>
     ensures same_reference { tx.new.conn.ghost_name ≡ tx.old.conn.ghost_name }
     ensures creates { HasCleanDisk (state S.Store tx.new.conn.now)
-        → (state S.Store tx.old.conn.now).now.schema ≡ bracket_schema
-        → OnOk result (Creates bracket_schema our_schema (state S.Store tx.old.conn.now)
+        → (version : ℕ)
+        → (state S.Store tx.old.conn.now).now.schema ≡ bracket_schema (made_players version)
+        → OnOk result (Creates (bracket_schema (made_players version))
+        (tally_schema (made_players version)) (state S.Store tx.old.conn.now)
         (state S.Store tx.new.conn.now)) }
     ensures stays { Stays (state S.Store tx.old.conn.now) (state S.Store tx.new.conn.now) }
 {
     run(tx, CREATE_TALLY, &[])
 }
 
-/// Makes the five tables.
-pub fn create_all<S: Alter>(tx: &mut Transaction<'_, S>) -> Result<(), Error>
+/// Makes the table of players of this version.
+fn create_players<S: Alter>(tx: &mut Transaction<'_, S>, version: u8) -> Result<(), Error>
+    ensures same_reference { tx.new.conn.ghost_name ≡ tx.old.conn.ghost_name }
+    ensures creates { HasCleanDisk (state S.Store tx.new.conn.now)
+        → (state S.Store tx.old.conn.now).now.schema ≡ event_schema
+        → OnOk result (Creates event_schema (player_schema (made_players version))
+        (state S.Store tx.old.conn.now) (state S.Store tx.new.conn.now)) }
+    ensures stays { Stays (state S.Store tx.old.conn.now) (state S.Store tx.new.conn.now) }
+{
+    if version == 2 {
+        create_player2(tx)
+    } else {
+        create_player(tx)
+    }
+}
+
+/// Makes the five tables as this version has them.
+pub fn create_all<S: Alter>(tx: &mut Transaction<'_, S>, version: u8) -> Result<(), Error>
     ensures same_reference { tx.new.conn.ghost_name ≡ tx.old.conn.ghost_name }
     ensures creates { HasCleanDisk (state S.Store tx.new.conn.now)
         → (state S.Store tx.old.conn.now).now.schema ≡ no_schema
-        → OnOk result (CreatesAll (state S.Store tx.old.conn.now) (state S.Store tx.new.conn.now)) }
+        → OnOk result (CreatesAll (made_players version) (state S.Store tx.old.conn.now)
+        (state S.Store tx.new.conn.now)) }
     ensures stays { Stays (state S.Store tx.old.conn.now) (state S.Store tx.new.conn.now) }
 {
     create_event(tx)?;
-    create_player(tx)?;
+    create_players(tx, version)?;
     create_pairing(tx)?;
     create_bracket(tx)?;
     create_tally(tx)

@@ -12,7 +12,7 @@ use sqlite::{Alter, Connection};
 
 /// While its tables stand for an event, with nothing pending, each thing that a crash may leave stands for it.
 pub fn shown_is_stored<S: Alter>(store: &Store<S>)
-    ensures { (e : EventValue) (s : ℕ) → Shows (tables.state S.Store store.now) e s
+    ensures { (v : ℕ) (e : EventValue) (s : ℕ) → Shows v (tables.state S.Store store.now) e s
         → Leaves (tables.state S.Store store.now) (IsStored e s) }
 {}
 

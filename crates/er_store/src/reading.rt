@@ -5,7 +5,9 @@ ghost use Rattle.er_event.specs.Event.{EventValue};
 ghost use Rattle.er_event.specs.Sound.{IsSoundButForSeeds};
 ghost use Rattle.er_event.specs.declared.refusals.Place.{Place};
 ghost use Rattle.er_event.specs.declared.refusals.Refusal.{Refusal};
-ghost use Rattle.er_store.specs.Standing.{StandsFor};
+ghost use Rattle.er_store.specs.Layout.{Layout, version_of};
+ghost use Rattle.er_store.specs.Standing.{StandsFor, StandsAt, StandsIn};
+ghost use Rattle.er_store.specs.Tables.{slip_text};
 ghost use Rattle.er_store.specs.Damage.{IsMisreadAs};
 ghost use Rattle.er_store.specs.Fault.{reading_refusal, IsLoadFault};
 ghost use Rattle.er_store.specs.Reading.{out_of_memory, IsReadRefused, KeepsTables};
@@ -19,21 +21,24 @@ use er_event::{Cause, Place, Refusal};
 use sqlite::{Alter, Connection, Error, ErrorCode, params};
 use std::alloc::Global;
 
-/// The rows of a table, in the order of its key. A crash in it leaves what it could leave before.
+/// The rows of a table of this version, in the order of its key. A crash in it leaves what it could leave before.
 pub fn read_table<T: TableRow, S: Alter>(
     alloc: Global,
     conn: &mut Connection<S>,
+    version: u8,
 ) -> Result<Vec<T>, Error>
     requires { IsOurs T.form T.table }
     ensures clean { HasCleanDisk (state S.Store conn.new) → HasCleanDisk (state S.Store conn.old) }
     ensures mode { conn.old.in_transaction ≡ false → conn.new.in_transaction ≡ false }
     ensures finds { HasCleanDisk (state S.Store conn.new)
-        → IfOk result (λ rows. FindsRows T.form T.table (state S.Store conn.old).now rows.items) }
+        → IfOk result (λ rows. FindsRows T.form T.table (T.table.read version)
+        (state S.Store conn.old).now rows.items) }
     ensures misread { HasCleanDisk (state S.Store conn.new)
         → IfErr result (λ why. (at : Place) → reading_refusal T.table.place why ≡ Refusal.Damaged at
-        → IsMisreadAs T.form T.table (state S.Store conn.old).now) }
-    ensures refused { HasCleanDisk (state S.Store conn.new) → (e : EventValue) (s : ℕ)
-        → StandsFor (state S.Store conn.old).now e s → IsSoundButForSeeds e
+        → IsMisreadAs T.form (T.table.read version) (state S.Store conn.old).now) }
+    ensures refused { HasCleanDisk (state S.Store conn.new) → (l : Layout)
+        → T.table.read (version_of l) ≡ T.table.read version → (e : EventValue) (s : ℕ)
+        → StandsAt l (state S.Store conn.old).now e s → IsSoundButForSeeds e
         → IfErr result (λ why. (why ≡ out_of_memory)
         ⊎ IsReadRefused (state S.Store conn.old) (state S.Store conn.new) why) }
     ensures same { HasCleanDisk (state S.Store conn.new)
@@ -42,7 +47,7 @@ pub fn read_table<T: TableRow, S: Alter>(
         → OnErr result (KeepsTables (state S.Store conn.old) (state S.Store conn.new)) }
     ensures survives { Survives (state S.Store conn.old) (state S.Store conn.new) (λ _. ⊥) }
 {
-    let rows = conn.query_all(T::read(), &[])?;
+    let rows = conn.query_all(T::read(version), &[])?;
     typed_rows(alloc, &rows)
 }
 
@@ -80,20 +85,31 @@ pub fn read_meetings<S: Alter>(
 pub const READ_SLIP: &str =
     "SELECT p.round, p.tab, p.lo, p.hi, p.swapped, p.done, p.x, p.y, p.d, l.name, h.name FROM pairing AS p LEFT JOIN player AS l ON l.no = p.lo LEFT JOIN player AS h ON h.no = p.hi WHERE p.round = ?1 AND p.tab = ?2";
 
-/// The match of a round and a table with the names of its players. A crash in it leaves what it could leave before.
+pub const READ_SLIP2: &str =
+    "SELECT p.round, p.tab, p.lo, p.hi, p.swapped, p.done, p.x, p.y, p.d, l.name, h.name FROM pairing AS p LEFT JOIN player2 AS l ON l.no = p.lo LEFT JOIN player2 AS h ON h.no = p.hi WHERE p.round = ?1 AND p.tab = ?2";
+
+/// The statement that reads a match with the names of its players, in tables of this version.
+fn slip_text(version: u8) -> &'static str
+    ensures { result.now ≡ slip_text version }
+{
+    if version == 2 { READ_SLIP2 } else { READ_SLIP }
+}
+
+/// The match of a round and a table with the names of its players, in tables of this version. A crash in it leaves what it could leave before.
 pub fn read_slip<S: Alter>(
     alloc: Global,
     conn: &mut Connection<S>,
+    version: u8,
     round: u32,
     table: u32,
 ) -> Result<Vec<NamedPairing>, Error>
     ensures clean { HasCleanDisk (state S.Store conn.new) → HasCleanDisk (state S.Store conn.old) }
     ensures mode { conn.old.in_transaction ≡ false → conn.new.in_transaction ≡ false }
     ensures exact { HasCleanDisk (state S.Store conn.new) → (e : EventValue) (s : ℕ)
-        → StandsFor (state S.Store conn.old).now e s → IsSoundButForSeeds e
+        → StandsIn version (state S.Store conn.old).now e s → IsSoundButForSeeds e
         → IfOk result (λ rows. rows.items ≡ named_pairings e round table) }
     ensures refused { HasCleanDisk (state S.Store conn.new) → (e : EventValue) (s : ℕ)
-        → StandsFor (state S.Store conn.old).now e s → IsSoundButForSeeds e
+        → StandsIn version (state S.Store conn.old).now e s → IsSoundButForSeeds e
         → IfErr result (λ why. (why ≡ out_of_memory)
         ⊎ IsReadRefused (state S.Store conn.old) (state S.Store conn.new) why) }
     ensures same { HasCleanDisk (state S.Store conn.new)
@@ -102,7 +118,7 @@ pub fn read_slip<S: Alter>(
         → OnErr result (KeepsTables (state S.Store conn.old) (state S.Store conn.new)) }
     ensures survives { Survives (state S.Store conn.old) (state S.Store conn.new) (λ _. ⊥) }
 {
-    let rows = conn.query_all(READ_SLIP, params![round, table])?;
+    let rows = conn.query_all(slip_text(version), params![round, table])?;
     typed_rows(alloc, &rows)
 }
 

@@ -1,6 +1,6 @@
 ghost use Rattle.std.specs.List.{range_with_len};
-ghost use Rattle.std.specs.Prelude.{◌≡◌, ◌≢◌, ◌+◌, ◌<◌, ◌≤◌, ◌++◌, ◌∷◌, [], ℕ, List, All, IfOk, IfErr, OnOk, IfSome};
-ghost use Rattle.std.specs.Prelude.{Option, map, length, ⊤, IsUtf8};
+ghost use Rattle.std.specs.Prelude.{◌≡◌, ◌≢◌, ◌+◌, ◌<◌, ◌≤◌, ◌++◌, ◌∷◌, [], ℕ, List, IfOk, IfErr, OnOk};
+ghost use Rattle.std.specs.Prelude.{Option, map, length};
 ghost use Rattle.sqlite.specs.declared.types.Value.TheVariants.{Text};
 ghost use Rattle.sqlite.specs.Order.{Row, column};
 ghost use Rattle.er_event.specs.declared.rows.pairing.PairingRow.{PairingRow};
@@ -10,6 +10,7 @@ ghost use Rattle.er_store.specs.Shape.{Form, event_form, player_form, pairing_fo
 ghost use Rattle.er_store.specs.Reading.{first_columns, out_of_memory};
 
 use er_event::{BracketRow, EventRow, Items, PairingRow, PlayerRow, TallyRow};
+use sqlite::types::{FromSql, FromSqlError, ValueRef};
 use sqlite::{Error, Row as SqlRow};
 use std::alloc::Global;
 
@@ -32,13 +33,34 @@ pub struct MeetingRow {
     pub hi: TallyRow,
 }
 
+/// A text as its bytes, whatever they are: what a name may be is for the checks of rows.
+struct TextBytes {
+    bytes: Items<u8>,
+}
+
+impl FromSql for TextBytes {
+    ghost reads_as = { λ value text. value ≡ Text text.bytes };
+
+    ghost is_readable = { λ value. (bytes : List ℕ) × (value ≡ Text bytes) };
+
+    fn column_result(alloc: Global, value: ValueRef<'_>) -> Result<TextBytes, FromSqlError> {
+        match value {
+            ValueRef::Text(bytes) => {
+                let bytes = Items::from(Vec::from_slice(alloc, bytes)?);
+                Ok(TextBytes { bytes })
+            }
+            _ => Err(FromSqlError::InvalidType),
+        }
+    }
+}
+
 /// A typed row of a table.
 pub trait FromRow: Sized + Drop {
     ghost form: { Form Self };
 
     fn from_row(row: &SqlRow) -> Result<Self, Error>
         ensures value { IfOk result (λ r. form.columns r ≡ first_columns form.width row.now) }
-        ensures refused { IfErr result (λ e. e ≢ out_of_memory → (r : Self) → form.is_text r
+        ensures refused { IfErr result (λ e. e ≢ out_of_memory → (r : Self)
             → row.now ≢ form.columns r) };
 }
 
@@ -105,7 +127,7 @@ impl FromRow for TallyRow {
 }
 
 impl FromRow for MeetingRow {
-    ghost form = { record { width = 13; columns = meeting_columns; is_text = λ _. ⊤ } };
+    ghost form = { record { width = 13; columns = meeting_columns } };
 
     fn from_row(row: &SqlRow) -> Result<MeetingRow, Error> {
         Ok(MeetingRow {
@@ -119,7 +141,7 @@ impl FromRow for MeetingRow {
 }
 
 impl FromRow for NamedPairing {
-    ghost form = { record { width = 11; columns = named_columns; is_text = λ r. IfSome r.lo_name IsUtf8 × IfSome r.hi_name IsUtf8 } };
+    ghost form = { record { width = 11; columns = named_columns } };
 
     fn from_row(row: &SqlRow) -> Result<NamedPairing, Error> {
         Ok(NamedPairing {
@@ -170,12 +192,11 @@ fn tally_at(row: &SqlRow, at: usize) -> Result<TallyRow, Error>
 fn text_or_null(row: &SqlRow, at: usize) -> Result<Option<Items<u8>>, Error>
     ensures value { IfOk result (λ bytes. column row.now at ≡ text_or_null bytes) }
     ensures refused { IfErr result (λ e. e ≢ out_of_memory → at < length row.now
-        → (bytes : Option (List ℕ)) → IfSome bytes IsUtf8
-        → column row.now at ≢ text_or_null bytes) }
+        → (bytes : Option (List ℕ)) → column row.now at ≢ text_or_null bytes) }
 {
-    let text: Option<String> = row.get(at)?;
+    let text: Option<TextBytes> = row.get(at)?;
     match text {
-        Some(text) => Ok(Some(Items::from(text.into_bytes()))),
+        Some(TextBytes { bytes }) => Ok(Some(bytes)),
         None => Ok(None),
     }
 }
@@ -184,17 +205,17 @@ fn text_or_null(row: &SqlRow, at: usize) -> Result<Option<Items<u8>>, Error>
 fn bytes_of(row: &SqlRow, at: usize) -> Result<Items<u8>, Error>
     ensures value { IfOk result (λ bytes. column row.now at ≡ Text bytes) }
     ensures refused { IfErr result (λ e. e ≢ out_of_memory → at < length row.now → (bytes : List ℕ)
-        → IsUtf8 bytes → column row.now at ≢ Text bytes) }
+        → column row.now at ≢ Text bytes) }
 {
-    let text: String = row.get(at)?;
-    Ok(Items::from(text.into_bytes()))
+    let TextBytes { bytes } = row.get(at)?;
+    Ok(bytes)
 }
 
 /// Appends the row as a typed row.
 pub fn push_row<T: FromRow>(typed: &mut Vec<T>, row: &SqlRow) -> Result<(), Error>
     ensures value { OnOk result (map T.form.columns typed.new.items
         ≡ map T.form.columns typed.old.items ++ first_columns T.form.width row.now ∷ []) }
-    ensures refused { IfErr result (λ e. e ≢ out_of_memory → (r : T) → T.form.is_text r
+    ensures refused { IfErr result (λ e. e ≢ out_of_memory → (r : T)
         → row.now ≢ T.form.columns r) }
 {
     typed.push(T::from_row(row)?)?;
@@ -206,7 +227,7 @@ pub fn typed_rows<T: FromRow>(alloc: Global, rows: &[SqlRow]) -> Result<Vec<T>, 
     ensures value { IfOk result (λ typed. map T.form.columns typed.items
         ≡ map (first_columns T.form.width) rows.now) }
     ensures refused { IfErr result (λ e. e ≢ out_of_memory → (typed : List T)
-        → All T.form.is_text typed → rows.now ≢ map T.form.columns typed) }
+        → rows.now ≢ map T.form.columns typed) }
 {
     let mut typed = Vec::new(alloc);
     for row in rows {

@@ -8,7 +8,7 @@ ghost use Rattle.er_event.specs.Sound.{IsSoundButForSeeds};
 ghost use Rattle.er_store.specs.Fault.{IsFault, IsReadFault};
 ghost use Rattle.er_store.specs.Reading.{KeepsTables};
 ghost use Rattle.er_store.specs.Slip.{Side, number_in, name_in, named_pairing, IsPlayer, IsLawful};
-ghost use Rattle.er_store.specs.Standing.{StandsFor};
+ghost use Rattle.er_store.specs.Standing.{StandsIn};
 
 use crate::faults::{BAD_ROW, refusal_of};
 use crate::reading::read_slip;
@@ -58,17 +58,18 @@ fn slip_of(round: u8, table: u16, row: &NamedPairing) -> Option<SlipRow>
     })
 }
 
-/// The slip of the match at a table of a round, by one statement.
+/// The slip of the match at a table of a round, by one statement, in tables of this version.
 pub fn find_slip<S: Alter>(
     alloc: Global,
     conn: &mut Connection<S>,
+    version: u8,
     round: u8,
     table: u16,
 ) -> Result<SlipRow, Refusal>
     ensures clean { HasCleanDisk (state S.Store conn.new) → HasCleanDisk (state S.Store conn.old) }
     ensures mode { conn.old.in_transaction ≡ false → conn.new.in_transaction ≡ false }
     ensures found { HasCleanDisk (state S.Store conn.new) → (e : EventValue) (s : ℕ)
-        → StandsFor (state S.Store conn.old).now e s → IsSoundButForSeeds e
+        → StandsIn version (state S.Store conn.old).now e s → IsSoundButForSeeds e
         → MatchResult result (λ row. slip_of e round table ≡ Some row) (λ why. IsFault why
         ⊎ ((why ≡ Refusal.NoSuchMatch) × (slip_of e round table ≡ None))) }
     ensures allowed { IfOk result (λ slip. (slip.round ≡ round) × (slip.table ≡ table)
@@ -82,7 +83,7 @@ pub fn find_slip<S: Alter>(
         → OnErr result (KeepsTables (state S.Store conn.old) (state S.Store conn.new)) }
     ensures survives { Survives (state S.Store conn.old) (state S.Store conn.new) (λ _. ⊥) }
 {
-    let rows = match read_slip(alloc, conn, u32::from(round), u32::from(table)) {
+    let rows = match read_slip(alloc, conn, version, u32::from(round), u32::from(table)) {
         Ok(rows) => rows,
         Err(error) => return Err(refusal_of(error)),
     };

@@ -7,18 +7,17 @@ ghost use Rattle.er_event.specs.declared.commands.TheConstants.{MAX_SERIAL};
 ghost use Rattle.er_event.specs.declared.rows.tally.TallyRow.{TallyRow};
 ghost use Rattle.er_event.specs.Event.{EventValue};
 ghost use Rattle.er_event.specs.Sound.{numbers};
-ghost use Rattle.er_event.specs.Version.{Keeps};
 ghost use Rattle.er_event.specs.Round.{is_bye, match_at};
 ghost use Rattle.er_event.specs.Bracket.{slot_at};
 ghost use Rattle.er_event.specs.Change.{with_phase, with_dropped, with_round, with_score, with_stage, with_slot_score};
-ghost use Rattle.er_store.specs.Rows.{stored_player, stored_event};
+ghost use Rattle.er_store.specs.Rows.{stored_player, stored_player2, stored_event};
 ghost use Rattle.er_event.specs.Rows.{phase_code, pairing_row, bracket_row, tally_row, tally_rows_by};
 ghost use Rattle.er_store.specs.inside.Totals.{set_for};
 ghost use Rattle.er_event.specs.declared.totals.Totals.{Totals};
 ghost use Rattle.er_event.specs.declared.matches.Match.{Match};
 ghost use Rattle.er_store.specs.Tables.{event_tree, player_tree};
 ghost use Rattle.er_store.specs.Standing.{HasTablesAt, StandsWith};
-ghost use Rattle.er_store.specs.Layout.{Layout, Old};
+ghost use Rattle.er_store.specs.Layout.{Layout, Old, version_of, players_tree};
 ghost use Rattle.er_store.specs.inside.Steps.{Ran, Stays, Puts, BringsToWith};
 
 use er_event::{BracketRow, Event, Games, PairingRow, Phase, Score, TallyRow};
@@ -43,7 +42,7 @@ pub fn run<S: Alter>(
 
 pub const INSERT_PLAYER: &str = "INSERT INTO player (no, name, dropped) VALUES (?1, ?2, ?3)";
 
-/// Inserts one player.
+/// Inserts one player into the table of version 1.
 pub fn insert_player<S: Alter>(
     tx: &mut Transaction<'_, S>,
     number: u32,
@@ -60,32 +59,54 @@ pub fn insert_player<S: Alter>(
     run(tx, INSERT_PLAYER, params![number, name, dropped])
 }
 
-pub const INSERT_EVENT: &str =
-    "INSERT INTO event (id, version, serial, name, rounds, cut, phase) VALUES (1, 1, ?1, ?2, ?3, ?4, ?5)";
+pub const INSERT_PLAYER2: &str =
+    "INSERT INTO player2 (no, name, dropped, joined) VALUES (?1, ?2, ?3, ?4)";
 
-/// Inserts the event's row.
+/// Inserts one player into the table of version 2.
+pub fn insert_player2<S: Alter>(
+    tx: &mut Transaction<'_, S>,
+    number: u32,
+    name: &str,
+    dropped: bool,
+    joined: u32,
+) -> Result<(), Error>
+    ensures same_reference { tx.new.conn.ghost_name ≡ tx.old.conn.ghost_name }
+    ensures puts { HasCleanDisk (state S.Store tx.new.conn.now) → (l : Layout)
+        → version_of l ≡ 2 → HasTablesAt l (state S.Store tx.old.conn.now).now.schema
+        → OnOk result (Puts (players_tree l) (stored_player2 number name.now dropped joined)
+        (state S.Store tx.old.conn.now) (state S.Store tx.new.conn.now)) }
+    ensures stays { Stays (state S.Store tx.old.conn.now) (state S.Store tx.new.conn.now) }
+{
+    run(tx, INSERT_PLAYER2, params![number, name, dropped, joined])
+}
+
+pub const INSERT_EVENT: &str =
+    "INSERT INTO event (id, version, serial, name, rounds, cut, phase) VALUES (1, ?1, ?2, ?3, ?4, ?5, ?6)";
+
+/// Inserts the event's row, in tables of this version.
 pub fn insert_event<S: Alter>(
     tx: &mut Transaction<'_, S>,
+    version: u8,
     event: &Event,
     serial: u32,
 ) -> Result<(), Error>
     ensures same_reference { tx.new.conn.ghost_name ≡ tx.old.conn.ghost_name }
     ensures puts { HasCleanDisk (state S.Store tx.new.conn.now)
         → (l : Layout) → HasTablesAt l (state S.Store tx.old.conn.now).now.schema
-        → OnOk result (Puts event_tree (stored_event 1 event.now serial)
+        → OnOk result (Puts event_tree (stored_event version event.now serial)
         (state S.Store tx.old.conn.now) (state S.Store tx.new.conn.now)) }
     ensures inside { HasCleanDisk (state S.Store tx.new.conn.now)
         → OnOk result (IsTrue (state S.Store tx.new.conn.now).in_transaction) }
-    ensures keeps { Keeps 1 event.now }
     ensures stays { Stays (state S.Store tx.old.conn.now) (state S.Store tx.new.conn.now) }
 {
+    let version = u32::from(version);
     let rounds = u32::from(event.rounds());
     let cut = u32::from(event.cut());
     let phase = u32::from(event.phase().code());
     run(
         tx,
         INSERT_EVENT,
-        params![serial, event.name().as_str(), rounds, cut, phase],
+        params![version, serial, event.name().as_str(), rounds, cut, phase],
     )
 }
 
@@ -124,7 +145,7 @@ pub fn set_phase<S: Alter>(tx: &mut Transaction<'_, S>, phase: Phase) -> Result<
 
 pub const SET_DROPPED: &str = "UPDATE player SET dropped = 1 WHERE no = ?1";
 
-/// Drops the player of this number.
+/// Drops the player of this number in the table of version 1.
 pub fn set_dropped<S: Alter>(tx: &mut Transaction<'_, S>, number: u32) -> Result<(), Error>
     ensures same_reference { tx.new.conn.ghost_name ≡ tx.old.conn.ghost_name }
     ensures makes { HasCleanDisk (state S.Store tx.new.conn.now)
@@ -137,6 +158,23 @@ pub fn set_dropped<S: Alter>(tx: &mut Transaction<'_, S>, number: u32) -> Result
     ensures stays { Stays (state S.Store tx.old.conn.now) (state S.Store tx.new.conn.now) }
 {
     run(tx, SET_DROPPED, params![number])
+}
+
+pub const SET_DROPPED2: &str = "UPDATE player2 SET dropped = 1 WHERE no = ?1";
+
+/// Drops the player of this number in the table of version 2.
+pub fn set_dropped2<S: Alter>(tx: &mut Transaction<'_, S>, number: u32) -> Result<(), Error>
+    ensures same_reference { tx.new.conn.ghost_name ≡ tx.old.conn.ghost_name }
+    ensures makes { HasCleanDisk (state S.Store tx.new.conn.now)
+        → (l : Layout) → version_of l ≡ 2 → (e : EventValue) (s : ℕ) (t : List TallyRow)
+        → StandsWith l (state S.Store tx.old.conn.now).now e s t
+        → numbers e.players ≡ range_with_len 1 (length e.players)
+        → Contains (numbers e.players) number
+        → OnOk result (BringsToWith l (state S.Store tx.old.conn.now)
+        (state S.Store tx.new.conn.now) (with_dropped e number) s t) }
+    ensures stays { Stays (state S.Store tx.old.conn.now) (state S.Store tx.new.conn.now) }
+{
+    run(tx, SET_DROPPED2, params![number])
 }
 
 pub const SET_SCORE: &str =

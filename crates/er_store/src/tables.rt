@@ -12,9 +12,9 @@ pub trait TableRow: FromRow {
     fn place() -> Place
         ensures { result ≡ table.place };
 
-    /// The statement that reads the table, in the order of its key.
-    fn read() -> &'static str
-        ensures { result.now ≡ table.read };
+    /// The statement that reads the table in this version, in the order of its key.
+    fn read(version: u8) -> &'static str
+        ensures { result.now ≡ table.read version };
 }
 
 impl TableRow for EventRow {
@@ -24,7 +24,7 @@ impl TableRow for EventRow {
         Place::EventTable
     }
 
-    fn read() -> &'static str {
+    fn read(_version: u8) -> &'static str {
         "SELECT id, version, serial, name, rounds, cut, phase FROM event ORDER BY id"
     }
 }
@@ -36,8 +36,12 @@ impl TableRow for PlayerRow {
         Place::PlayerTable
     }
 
-    fn read() -> &'static str {
-        "SELECT no, name, dropped, 0 AS joined FROM player ORDER BY no"
+    fn read(version: u8) -> &'static str {
+        if version == 2 {
+            "SELECT no, name, dropped, joined FROM player2 ORDER BY no"
+        } else {
+            "SELECT no, name, dropped, 0 AS joined FROM player ORDER BY no"
+        }
     }
 }
 
@@ -48,7 +52,7 @@ impl TableRow for PairingRow {
         Place::PairingTable
     }
 
-    fn read() -> &'static str {
+    fn read(_version: u8) -> &'static str {
         "SELECT round, tab, lo, hi, swapped, done, x, y, d FROM pairing ORDER BY round, tab"
     }
 }
@@ -60,7 +64,7 @@ impl TableRow for BracketRow {
         Place::BracketTable
     }
 
-    fn read() -> &'static str {
+    fn read(_version: u8) -> &'static str {
         "SELECT stage, slot, a, b, done, x, y, d FROM bracket ORDER BY stage, slot"
     }
 }
@@ -72,7 +76,7 @@ impl TableRow for TallyRow {
         Place::TallyTable
     }
 
-    fn read() -> &'static str {
+    fn read(_version: u8) -> &'static str {
         "SELECT no, points, rounds, gamepoints, games FROM tally ORDER BY no"
     }
 }

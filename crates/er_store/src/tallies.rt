@@ -13,7 +13,7 @@ ghost use Rattle.er_event.specs.Totals.{totals};
 ghost use Rattle.er_store.specs.Fault.{IsFault, IsReadFault, IsListFault};
 ghost use Rattle.er_store.specs.inside.Meetings.{meeting_rows, open_round, is_outside, counted_rows, sides_in, sides_of};
 ghost use Rattle.er_store.specs.Reading.{KeepsTables};
-ghost use Rattle.er_store.specs.Standing.{StandsFor};
+ghost use Rattle.er_store.specs.Standing.{StandsFor, StandsIn};
 
 use crate::faults::{BAD_ROW, refusal_of};
 use crate::reading::{read_meetings, read_table};
@@ -135,15 +135,16 @@ fn meetings_of(alloc: Global, rows: &[MeetingRow]) -> Result<Vec<Meeting>, Refus
     Ok(meetings)
 }
 
-/// The tallies of the players, by number.
+/// The tallies of the players, by number, in tables of this version.
 pub fn find_tallies<S: Alter>(
     alloc: Global,
     conn: &mut Connection<S>,
+    version: u8,
 ) -> Result<Vec<Tally>, Refusal>
     ensures clean { HasCleanDisk (state S.Store conn.new) → HasCleanDisk (state S.Store conn.old) }
     ensures mode { conn.old.in_transaction ≡ false → conn.new.in_transaction ≡ false }
     ensures found { HasCleanDisk (state S.Store conn.new) → (e : EventValue) (s : ℕ)
-        → StandsFor (state S.Store conn.old).now e s → IsSoundButForSeeds e
+        → StandsIn version (state S.Store conn.old).now e s → IsSoundButForSeeds e
         → MatchResult result (λ list. list.items ≡ tallies e) IsFault }
     ensures fault { IfErr result IsReadFault }
     ensures same { HasCleanDisk (state S.Store conn.new)
@@ -152,11 +153,11 @@ pub fn find_tallies<S: Alter>(
         → OnErr result (KeepsTables (state S.Store conn.old) (state S.Store conn.new)) }
     ensures survives { Survives (state S.Store conn.old) (state S.Store conn.new) (λ _. ⊥) }
 {
-    let players = match read_table::<PlayerRow, S>(alloc, conn) {
+    let players = match read_table::<PlayerRow, S>(alloc, conn, version) {
         Ok(players) => players,
         Err(error) => return Err(refusal_of(error)),
     };
-    let rows = match read_table::<TallyRow, S>(alloc, conn) {
+    let rows = match read_table::<TallyRow, S>(alloc, conn, version) {
         Ok(rows) => rows,
         Err(error) => return Err(refusal_of(error)),
     };

@@ -7,7 +7,7 @@ ghost use Rattle.sqlite.specs.Tree.{Trees};
 ghost use Rattle.er_event.specs.declared.commands.TheConstants.{MAX_SERIAL};
 ghost use Rattle.er_event.specs.declared.rows.tally.TallyRow.{TallyRow};
 ghost use Rattle.er_event.specs.Event.{EventValue};
-ghost use Rattle.er_event.specs.Change.{after, with_round, with_stage, with_bracket, with_bracket_score, Fits};
+ghost use Rattle.er_event.specs.Change.{after, with_player, with_dropped, with_round, with_stage, with_bracket, with_bracket_score, Fits};
 ghost use Rattle.er_event.specs.Bracket.{slot_at};
 ghost use Rattle.er_event.specs.declared.players.TheConstants.{MAX_PLAYERS};
 ghost use Rattle.er_event.specs.declared.totals.Totals.{Totals};
@@ -15,19 +15,20 @@ ghost use Rattle.er_event.specs.Recounted.{AreOf};
 ghost use Rattle.er_event.specs.Rows.{tally_row, tally_rows_by};
 ghost use Rattle.er_event.specs.Sound.{numbers};
 ghost use Rattle.er_event.specs.Totals.{totals};
+ghost use Rattle.er_event.specs.Version.{IsVersion, Keeps};
 ghost use Rattle.er_store.specs.inside.Totals.{set_for, set_for_all};
 ghost use Rattle.er_event.specs.declared.matches.Match.{Match};
 ghost use Rattle.er_store.specs.inside.Steps.{IsStage};
-ghost use Rattle.er_store.specs.Tables.{no_schema};
-ghost use Rattle.er_store.specs.Layout.{Layout};
-ghost use Rattle.er_store.specs.Standing.{StandsAt, StandsWith, IsStored, IsNew, Shows, Leaves, Either, KeepsOthers, CanRead, ReadsEvent};
-ghost use Rattle.er_store.specs.inside.Steps.{Stays, Moves, BringsTo, BringsToWith, IsReady};
+ghost use Rattle.er_store.specs.Tables.{no_schema, tally_schema};
+ghost use Rattle.er_store.specs.Layout.{Layout, version_of};
+ghost use Rattle.er_store.specs.Standing.{StandsAt, StandsWith, IsStored, IsStoredIn, IsNew, Shows, Leaves, Either, KeepsOthers, CanRead, ReadsEvent};
+ghost use Rattle.er_store.specs.inside.Steps.{Stays, made_players, Moves, BringsTo, BringsToWith, IsReady};
 ghost use Rattle.er_store.specs.Reading.{KeepsTables};
 
 use crate::creation::create_all;
 use crate::statements::{
-    insert_event, insert_pairing, insert_player, insert_slot, insert_tally, set_dropped, set_phase,
-    set_score, set_serial, set_slot_score, set_tally,
+    insert_event, insert_pairing, insert_player, insert_player2, insert_slot, insert_tally,
+    set_dropped, set_dropped2, set_phase, set_score, set_serial, set_slot_score, set_tally,
 };
 use crate::tables::TableRow;
 use er_event::{
@@ -135,16 +136,59 @@ fn score_stages<S: Alter>(
     }
 }
 
+/// Inserts one player, who is there from the start, into the table of this version.
+fn add_player<S: Alter>(
+    tx: &mut Transaction<'_, S>,
+    version: u8,
+    number: u32,
+    name: &str,
+) -> Result<(), Error>
+    ensures same_reference { tx.new.conn.ghost_name ≡ tx.old.conn.ghost_name }
+    ensures makes { HasCleanDisk (state S.Store tx.new.conn.now)
+        → (l : Layout) → version_of l ≡ version → (e : EventValue) (s : ℕ) (t : List TallyRow)
+        → StandsWith l (state S.Store tx.old.conn.now).now e s t
+        → number ≡ length e.players + 1
+        → OnOk result (BringsToWith l (state S.Store tx.old.conn.now)
+        (state S.Store tx.new.conn.now) (with_player e name.now) s t) }
+    ensures stays { Stays (state S.Store tx.old.conn.now) (state S.Store tx.new.conn.now) }
+{
+    if version == 1 {
+        insert_player(tx, number, name, false)
+    } else {
+        insert_player2(tx, number, name, false, 0)
+    }
+}
+
+/// Drops the player of this number in the table of this version.
+fn drop_player<S: Alter>(tx: &mut Transaction<'_, S>, version: u8, number: u32) -> Result<(), Error>
+    ensures same_reference { tx.new.conn.ghost_name ≡ tx.old.conn.ghost_name }
+    ensures makes { HasCleanDisk (state S.Store tx.new.conn.now)
+        → (l : Layout) → version_of l ≡ version → (e : EventValue) (s : ℕ) (t : List TallyRow)
+        → StandsWith l (state S.Store tx.old.conn.now).now e s t
+        → numbers e.players ≡ range_with_len 1 (length e.players)
+        → Contains (numbers e.players) number
+        → OnOk result (BringsToWith l (state S.Store tx.old.conn.now)
+        (state S.Store tx.new.conn.now) (with_dropped e number) s t) }
+    ensures stays { Stays (state S.Store tx.old.conn.now) (state S.Store tx.new.conn.now) }
+{
+    if version == 1 {
+        set_dropped(tx, number)
+    } else {
+        set_dropped2(tx, number)
+    }
+}
+
 /// Makes the change, and leaves the totals and the serial.
 fn change_rows<S: Alter>(
     tx: &mut Transaction<'_, S>,
+    version: u8,
     event: &Event,
     change: &Change,
 ) -> Result<(), Error>
     requires fits { Fits event.now change.now }
     ensures same_reference { tx.new.conn.ghost_name ≡ tx.old.conn.ghost_name }
     ensures makes { HasCleanDisk (state S.Store tx.new.conn.now)
-        → (l : Layout) (s : ℕ) (t : List TallyRow)
+        → (l : Layout) → version_of l ≡ version → (s : ℕ) (t : List TallyRow)
         → StandsWith l (state S.Store tx.old.conn.now).now event.now s t
         → OnOk result (BringsToWith l (state S.Store tx.old.conn.now)
         (state S.Store tx.new.conn.now) (after event.now change.now) s t) }
@@ -153,9 +197,9 @@ fn change_rows<S: Alter>(
     match change {
         Change::AddPlayer { name } => {
             let number = event.players().len() as u32 + 1;
-            insert_player(tx, number, name.as_str(), false)
+            add_player(tx, version, number, name.as_str())
         }
-        Change::SetDropped { player } => set_dropped(tx, u32::from(player.get())),
+        Change::SetDropped { player } => drop_player(tx, version, u32::from(player.get())),
         Change::SetPhase { phase } => set_phase(tx, *phase),
         Change::AddRound { matches } => insert_round(tx, event, matches.as_slice()),
         Change::SetScore {
@@ -291,18 +335,20 @@ fn count_player<S: Alter>(
 /// Makes the change with the totals that come of it, and leaves the serial.
 fn change_tables<S: Alter>(
     tx: &mut Transaction<'_, S>,
+    version: u8,
     event: &Event,
     change: &Change,
 ) -> Result<(), Error>
     requires fits { Fits event.now change.now }
     ensures same_reference { tx.new.conn.ghost_name ≡ tx.old.conn.ghost_name }
-    ensures makes { HasCleanDisk (state S.Store tx.new.conn.now) → (l : Layout) (s : ℕ)
+    ensures makes { HasCleanDisk (state S.Store tx.new.conn.now)
+        → (l : Layout) → version_of l ≡ version → (s : ℕ)
         → StandsAt l (state S.Store tx.old.conn.now).now event.now s
         → OnOk result (BringsTo l (state S.Store tx.old.conn.now) (state S.Store tx.new.conn.now)
         (after event.now change.now) s) }
     ensures stays { Stays (state S.Store tx.old.conn.now) (state S.Store tx.new.conn.now) }
 {
-    change_rows(tx, event, change)?;
+    change_rows(tx, version, event, change)?;
     match change {
         Change::AddPlayer { .. } => count_player(tx, event, change),
         _ => recount(tx, event, change),
@@ -312,6 +358,7 @@ fn change_tables<S: Alter>(
 /// Makes the change, and sets the next serial.
 fn change_event<S: Alter>(
     tx: &mut Transaction<'_, S>,
+    version: u8,
     event: &Event,
     change: &Change,
     serial: u32,
@@ -320,20 +367,22 @@ fn change_event<S: Alter>(
     requires low { serial < MAX_SERIAL }
     ensures same_reference { tx.new.conn.ghost_name ≡ tx.old.conn.ghost_name }
     ensures makes { HasCleanDisk (state S.Store tx.new.conn.now)
-        → (l : Layout) → StandsAt l (state S.Store tx.old.conn.now).now event.now serial
+        → (l : Layout) → version_of l ≡ version
+        → StandsAt l (state S.Store tx.old.conn.now).now event.now serial
         → OnOk result (BringsTo l (state S.Store tx.old.conn.now) (state S.Store tx.new.conn.now)
         (after event.now change.now) (serial + 1)) }
     ensures inside { HasCleanDisk (state S.Store tx.new.conn.now)
         → OnOk result (IsTrue (state S.Store tx.new.conn.now).in_transaction) }
     ensures stays { Stays (state S.Store tx.old.conn.now) (state S.Store tx.new.conn.now) }
 {
-    change_tables(tx, event, change)?;
+    change_tables(tx, version, event, change)?;
     set_serial(tx, serial + 1)
 }
 
-/// Writes the change and the next serial in one transaction.
+/// Writes the change and the next serial in one transaction, to tables of this version.
 pub fn write_tables<S: Alter>(
     conn: &mut Connection<S>,
+    version: u8,
     event: &Event,
     change: &Change,
     serial: u32,
@@ -346,58 +395,73 @@ pub fn write_tables<S: Alter>(
     ensures kept { HasCleanDisk (state S.Store conn.new)
         → OnErr result (KeepsTables (state S.Store conn.old) (state S.Store conn.new)) }
     ensures written { HasCleanDisk (state S.Store conn.new)
-        → Shows (state S.Store conn.old) event.now serial
-        → OnOk result (Shows (state S.Store conn.new) (after event.now change.now) (serial + 1)
-        × KeepsOthers (state S.Store conn.old).now (state S.Store conn.new).now) }
+        → Shows version (state S.Store conn.old) event.now serial
+        → OnOk result (Shows version (state S.Store conn.new) (after event.now change.now)
+        (serial + 1)
+        × KeepsOthers version (state S.Store conn.old).now (state S.Store conn.new).now) }
     ensures acknowledged { HasCleanDisk (state S.Store conn.new)
-        → Shows (state S.Store conn.old) event.now serial
+        → Shows version (state S.Store conn.old) event.now serial
         → OnOk result ((trees : Trees) → (state S.Store conn.new).may_leave trees
         → IsStored (after event.now change.now) (serial + 1) trees) }
-    ensures crash { Shows (state S.Store conn.old) event.now serial
+    ensures crash { Shows version (state S.Store conn.old) event.now serial
         → Leaves (state S.Store conn.new)
         (Either (IsStored event.now serial) (IsStored (after event.now change.now) (serial + 1))) }
 {
     let mut tx = conn.transaction();
-    change_event(&mut tx, event, change, serial)?;
+    change_event(&mut tx, version, event, change, serial)?;
     tx.commit()
 }
 
-/// Makes the five tables and the event's row.
-fn make_event<S: Alter>(tx: &mut Transaction<'_, S>, event: &Event) -> Result<(), Error>
+/// Makes the five tables and the event's row in this version.
+fn make_event<S: Alter>(
+    tx: &mut Transaction<'_, S>,
+    version: u8,
+    event: &Event,
+) -> Result<(), Error>
     requires fresh { IsNew event.now }
+    requires known { IsVersion version }
+    requires keeps { Keeps version event.now }
     ensures same_reference { tx.new.conn.ghost_name ≡ tx.old.conn.ghost_name }
     ensures readies { HasCleanDisk (state S.Store tx.new.conn.now)
         → (state S.Store tx.old.conn.now).now.schema ≡ no_schema
-        → OnOk result (IsReady (state S.Store tx.new.conn.now) event.now 0) }
+        → OnOk result (IsReady version (state S.Store tx.new.conn.now) event.now 0
+        × ((state S.Store tx.new.conn.now).now.schema ≡ tally_schema (made_players version))) }
     ensures inside { HasCleanDisk (state S.Store tx.new.conn.now)
         → OnOk result (IsTrue (state S.Store tx.new.conn.now).in_transaction) }
     ensures stays { Stays (state S.Store tx.old.conn.now) (state S.Store tx.new.conn.now) }
 {
-    create_all(tx)?;
-    insert_event(tx, event, 0)
+    create_all(tx, version)?;
+    insert_event(tx, version, event, 0)
 }
 
-/// Makes the tables and the event's row in one transaction.
-pub fn create_tables<S: Alter>(conn: &mut Connection<S>, event: &Event) -> Result<(), Error>
+/// Makes the tables and the event's row in one transaction, in this version.
+pub fn create_tables<S: Alter>(
+    conn: &mut Connection<S>,
+    version: u8,
+    event: &Event,
+) -> Result<(), Error>
     requires mode { conn.old.in_transaction ≡ false }
     requires fresh { IsNew event.now }
+    requires known { IsVersion version }
+    requires keeps { Keeps version event.now }
     ensures mode { conn.new.in_transaction ≡ false }
     ensures clean { HasCleanDisk (state S.Store conn.new) → HasCleanDisk (state S.Store conn.old) }
     ensures kept { HasCleanDisk (state S.Store conn.new)
         → OnErr result (KeepsTables (state S.Store conn.old) (state S.Store conn.new)) }
     ensures created { HasCleanDisk (state S.Store conn.new)
         → (state S.Store conn.old).now.schema ≡ no_schema
-        → OnOk result (Shows (state S.Store conn.new) event.now 0) }
+        → OnOk result (Shows version (state S.Store conn.new) event.now 0
+        × ((state S.Store conn.new).now.schema ≡ tally_schema (made_players version))) }
     ensures acknowledged { HasCleanDisk (state S.Store conn.new)
         → (state S.Store conn.old).now.schema ≡ no_schema
         → OnOk result ((trees : Trees) → (state S.Store conn.new).may_leave trees
-        → IsStored event.now 0 trees) }
+        → IsStoredIn version event.now 0 trees) }
     ensures crash { (state S.Store conn.old).now.schema ≡ no_schema
         → Leaves (state S.Store conn.new)
-        (Either (state S.Store conn.old).may_leave (IsStored event.now 0)) }
+        (Either (state S.Store conn.old).may_leave (IsStoredIn version event.now 0)) }
 {
     let mut tx = conn.transaction();
-    make_event(&mut tx, event)?;
+    make_event(&mut tx, version, event)?;
     tx.commit()
 }
 
@@ -429,7 +493,7 @@ pub fn reads_event<S: Alter>(conn: &mut Connection<S>) -> Result<bool, Error>
         → OnErr result (KeepsTables (state S.Store conn.old) (state S.Store conn.new)) }
     ensures survives { Survives (state S.Store conn.old) (state S.Store conn.new) (λ _. ⊥) }
 {
-    can_run(conn, EventRow::read())
+    can_run(conn, EventRow::read(1))
 }
 
 pub const FIND_EVENT: &str = "SELECT 1 FROM event";

@@ -11,7 +11,7 @@ use Rattle.er_words.specs.declared.action.ExportKind.{ExportKind}
 use Rattle.er_words.specs.declared.action.ExportKind.TheVariants as kind
 use Rattle.er_words.specs.declared.line.Line.{Line}
 use Rattle.er_words.specs.declared.line.Line.TheVariants.{Init, Enrol, Import, Start, Pair, Result as Report, Correct, Drop, Cut, Playoff}
-use Rattle.er_words.specs.declared.line.Line.TheVariants.{Standings, Players, Slips, Bracket, Export, Serve}
+use Rattle.er_words.specs.declared.line.Line.TheVariants.{Standings, Players, Slips, Bracket, Export, Serve, Migrate}
 
 abbrev pub file_of : Line → List ℕ
 file_of (Init file name rounds cut) = file
@@ -30,12 +30,13 @@ file_of (Slips file round) = file
 file_of (Bracket file) = file
 file_of (Export file kind) = file
 file_of (Serve file port count) = file
+file_of (Migrate file) = file
 
 -- the desk of the event is asked
 abbrev pub asked : Request → Action
 asked request = action.Open (task.Ask request)
 
--- an event is made, gets a command or a list of names, is shown, or served to clients
+-- an event is made, gets a command or a list of names, is shown, served to clients, or has its tables moved
 abbrev pub action_of : Line → Action
 action_of (Init file name rounds cut) = action.Init name rounds cut
 action_of (Enrol file name) = asked (request.Submit (command.Enrol name))
@@ -53,6 +54,7 @@ action_of (Slips file round) = asked (request.Slips round)
 action_of (Bracket file) = asked request.Bracket
 action_of (Export file kind) = asked (request.Export kind)
 action_of (Serve file port count) = action.Open (task.Serve port count)
+action_of (Migrate file) = asked request.Migrate
 
 -- the kind of list that a word names
 abbrev pub kind_of : List ℕ → Option ExportKind

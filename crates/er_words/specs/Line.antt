@@ -7,7 +7,7 @@ use Rattle.er_words.specs.declared.line.LineFault.{LineFault}
 use Rattle.er_words.specs.declared.line.LineFault.TheVariants.{Usage, Memory}
 use Rattle.er_words.specs.declared.line.Line.{Line}
 use Rattle.er_words.specs.declared.line.Line.TheVariants.{Init, Enrol, Import, Start, Pair, Result as Report, Correct, Drop, Cut, Playoff}
-use Rattle.er_words.specs.declared.line.Line.TheVariants.{Standings, Players, Slips, Bracket, Export, Serve}
+use Rattle.er_words.specs.declared.line.Line.TheVariants.{Standings, Players, Slips, Bracket, Export, Serve, Migrate}
 use Rattle.er_values.specs.Values.{number_below, count_of, seed_of, both, report_of, slot_report_of}
 use Rattle.er_words.specs.Action.{kind_of}
 
@@ -92,6 +92,10 @@ abbrev pub serve_of : List (List ℕ) → Option Line
 serve_of (file ∷ port ∷ count ∷ []) = option_map (λ it. Serve file it.0 it.1) (both (number_below 65536 port) (count_of count))
 serve_of _ = None
 
+-- `migrate FILE`
+abbrev pub migrate_of : List (List ℕ) → Option Line
+migrate_of words = option_map Migrate (lone_file words)
+
 -- a subcommand: its name, and the line that the words after it are
 abbrev pub Subcommand : Type 0
 Subcommand = List ℕ × (List (List ℕ) → Option Line)
@@ -114,6 +118,7 @@ subcommands =
     ∷ (codes "bracket", bracket_of)
     ∷ (codes "export", export_of)
     ∷ (codes "serve", serve_of)
+    ∷ (codes "migrate", migrate_of)
     ∷ []
 
 -- the line of the subcommand that has this name

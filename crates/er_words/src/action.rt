@@ -45,6 +45,8 @@ pub enum Request {
     Bracket,
     /// To give a list as CSV.
     Export { kind: ExportKind },
+    /// To move its tables to version 2.
+    Migrate,
 }
 
 /// Which list is given as CSV.

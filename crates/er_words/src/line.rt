@@ -1,5 +1,5 @@
 ghost use Rattle.std.specs.Prelude.{◌≡◌, map, string_bytes};
-ghost use Rattle.er_words.specs.Line.{Reads, lone_file, init_of, enrol_of, import_of, start_of, pair_of, result_of, correct_of, drop_of, cut_of, playoff_of, standings_of, players_of, slips_of, bracket_of, export_of, serve_of, subcommands, line_by, line_of};
+ghost use Rattle.er_words.specs.Line.{Reads, lone_file, init_of, enrol_of, import_of, start_of, pair_of, result_of, correct_of, drop_of, cut_of, playoff_of, standings_of, players_of, slips_of, bracket_of, export_of, serve_of, migrate_of, subcommands, line_by, line_of};
 
 use crate::action::{Action, ExportKind, Request, Task, kind_of};
 use crate::paths::FilePath;
@@ -81,6 +81,9 @@ pub enum Line {
         file: FilePath,
         port: u16,
         count: u32,
+    },
+    Migrate {
+        file: FilePath,
     },
 }
 
@@ -167,6 +170,7 @@ impl Line {
             Line::Serve { file, port, count } => {
                 (file, Action::from(Task::Serve { port, count }))
             }
+            Line::Migrate { file } => (file, Action::from(Request::Migrate)),
         }
     }
 }
@@ -390,6 +394,14 @@ fn read_serve(alloc: Global, words: &[&str]) -> Result<Line, LineFault>
     })
 }
 
+fn read_migrate(alloc: Global, words: &[&str]) -> Result<Line, LineFault>
+    ensures { Reads (migrate_of (map (λ word. word.now) words.now)) result }
+{
+    Ok(Line::Migrate {
+        file: lone_file(alloc, words)?,
+    })
+}
+
 /// The line of the subcommand that has this name.
 fn read_named(alloc: Global, name: &str, words: &[&str]) -> Result<Line, LineFault>
     ensures { Reads (line_by subcommands name.now (map (λ word. word.now) words.now)) result }
@@ -411,6 +423,7 @@ fn read_named(alloc: Global, name: &str, words: &[&str]) -> Result<Line, LineFau
         "bracket" => read_bracket(alloc, words),
         "export" => read_export(alloc, words),
         "serve" => read_serve(alloc, words),
+        "migrate" => read_migrate(alloc, words),
         _ => Err(LineFault::Usage),
     }
 }

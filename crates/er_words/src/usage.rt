@@ -68,7 +68,7 @@ fn kinds_of(name: &str) -> Option<&'static [Kind]>
         "slips" => Some(&[Kind::Text, Kind::SmallNumber]),
         "export" => Some(&[Kind::Text, Kind::ListKind]),
         "serve" => Some(&[Kind::Text, Kind::Number, Kind::Count]),
-        "start" | "cut" | "standings" | "players" | "bracket" => Some(&[Kind::Text]),
+        "start" | "cut" | "standings" | "players" | "bracket" | "migrate" => Some(&[Kind::Text]),
         _ => None,
     }
 }

@@ -10,7 +10,7 @@ use clap::{Arg, ArgMatches, Command, Error};
 use std::alloc::{AllocError, Global};
 
 /// The names of the subcommands.
-static SUBCOMMANDS: [&str; 16] = [
+static SUBCOMMANDS: [&str; 17] = [
     "init",
     "enrol",
     "import",
@@ -27,6 +27,7 @@ static SUBCOMMANDS: [&str; 16] = [
     "bracket",
     "export",
     "serve",
+    "migrate",
 ];
 
 /// Whether a word asks for an option. There are none.
@@ -50,7 +51,7 @@ fn is_subcommand(word: &str) -> bool
     SUBCOMMANDS.contains(&word)
 }
 
-/// A parser that knows this subcommand alone, since one of all sixteen takes most of a line's time. It takes any number of words, which are
+/// A parser that knows this subcommand alone, since one of all seventeen takes most of a line's time. It takes any number of words, which are
 /// counted and read elsewhere.
 fn command<'a>(alloc: Global, name: &'a str) -> Result<Command<'a>, AllocError>
     ensures { IfOk result (λ made. app_of made ≡ program name.entry.now) }

@@ -20,7 +20,7 @@ pub returns-clause-goes_on : goal.returns-clause-goes_on
 returns-clause-goes_on g c new first ends was asked =
     let tell = c.tell in
     always (line_of (map string_bytes c.args.words.now)) (λ line.
-    absent_goes_on _ _ new ends first _ _ _ _ _ (Refused Memory) (inr (Memory, inl refl, refl)) tell.ensures (action_of line))
+    absent_goes_on _ _ _ new ends first _ _ _ _ _ (Refused Memory) (inr (Memory, inl refl, refl)) tell.ensures (action_of line))
 
 pub returns-in-Ok-clause-goes_on : goal.returns-in-Ok-clause-goes_on
 returns-in-Ok-clause-goes_on g c new first ends was asked = rw c.in-Ok.ensures (c.act.ensures.goes_on new first ends was)

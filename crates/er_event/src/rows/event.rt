@@ -5,6 +5,8 @@ ghost use Rattle.er_event.specs.declared.events.Phase.{Phase};
 ghost use Rattle.er_event.specs.Event.{EventValue};
 ghost use Rattle.er_event.specs.Parts.{IsEventRow};
 ghost use Rattle.er_event.specs.Rows.{phase_code};
+ghost use Rattle.er_event.specs.Version.{IsVersion, KeepsRounds};
+ghost use Rattle.er_share.specs.declared.TheConstants.{MAX_ROUNDS};
 ghost use Rattle.er_event.specs.inside.Reading.{IsSetUpAs};
 
 use crate::commands::MAX_SERIAL;
@@ -12,6 +14,7 @@ use crate::events::{PartsFault, Phase, is_setup};
 use crate::items::Items;
 use crate::names::Name;
 use crate::refusals::Place;
+use er_share::MAX_ROUNDS;
 
 /// The row of the table `event`.
 #[derive(Drop)]
@@ -66,6 +69,21 @@ fn is_serial(value: i64) -> bool
     u32::try_from(value).is_ok_and(|serial| serial <= MAX_SERIAL)
 }
 
+/// How many rounds tables of this version keep, if it is one.
+fn most_rounds(version: i64) -> Option<u8>
+    ensures value { IfSome result (λ most. (v : ℕ) × (version ≡ pos v) × IsVersion v
+        × ((rounds : ℕ) → rounds ≤ most → KeepsRounds v rounds)) }
+    ensures exact { (v : ℕ) (rounds : ℕ) → IsVersion v → version ≡ pos v → rounds ≤ MAX_ROUNDS
+        → KeepsRounds v rounds → IfSome result (λ most. rounds ≤ most) }
+    ensures none { IsNone result → (v : ℕ) → IsVersion v → version ≢ pos v }
+{
+    match version {
+        1 => Some(MOST_OLD_ROUNDS),
+        2 => Some(MAX_ROUNDS),
+        _ => None,
+    }
+}
+
 /// What the row says, where an event may have it.
 fn read_row(row: &EventRow) -> Result<Setup, PartsFault>
     ensures value { IfOk result (λ setup. (e : EventValue) → IsSetUpAs setup e
@@ -73,9 +91,12 @@ fn read_row(row: &EventRow) -> Result<Setup, PartsFault>
     ensures damaged { (place : Place) → result ≡ Err (PartsFault.Damaged place)
         → (place ≡ Place.EventTable) × ((e : EventValue) → IsEventRow (row.now ∷ []) e → ⊥) }
 {
-    if row.id != 1 || row.version != 1 || !is_serial(row.serial) {
+    if row.id != 1 || !is_serial(row.serial) {
         return Err(DAMAGED);
     }
+    let Some(most) = most_rounds(row.version) else {
+        return Err(DAMAGED);
+    };
     let (Some(rounds), Some(cut), Some(phase)) = (
         small_of(row.rounds),
         small_of(row.cut),
@@ -87,6 +108,9 @@ fn read_row(row: &EventRow) -> Result<Setup, PartsFault>
         return Err(DAMAGED);
     };
     if !is_setup(rounds, cut) {
+        return Err(DAMAGED);
+    }
+    if rounds > most {
         return Err(DAMAGED);
     }
     Ok(Setup {

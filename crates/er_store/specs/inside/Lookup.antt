@@ -1,5 +1,5 @@
 -- What a look at the tables finds, and what it leaves.
-use Rattle.std.specs.Prelude.{◌≡◌, ℕ, Bool, true, false, List, [], All, map, Result, Ok, Err, IfOk, IfErr, OnOk, OnErr}
+use Rattle.std.specs.Prelude.{◌≡◌, ◌≤◌, ℕ, Bool, true, false, List, [], map, Result, Ok, Err, IfOk, IfErr, OnOk, OnErr}
 use Rattle.sqlite_ast.specs.declared.Statement.{Statement}
 use Rattle.sqlite_ast.specs.declared.Statement.TheVariants as written
 use Rattle.sqlite_syntax.specs.declared.statement.Parsed.{Parsed}
@@ -15,6 +15,8 @@ use Rattle.sqlite.specs.State.{State, HasCleanDisk, Survives, IsUnchanged}
 use Rattle.er_event.specs.Event.{EventValue}
 use Rattle.er_event.specs.Parts.{parts_of}
 use Rattle.er_event.specs.Sound.{IsSoundButForSeeds}
+use Rattle.er_event.specs.Version.{IsVersion, Keeps}
+use Rattle.er_event.specs.declared.commands.TheConstants.{MAX_SERIAL}
 use Rattle.er_event.specs.declared.events.parts.Parts.{Parts}
 use Rattle.er_event.specs.declared.refusals.Refusal.{Refusal}
 use Rattle.er_event.specs.declared.refusals.Refusal.TheVariants.{Damaged}
@@ -26,7 +28,8 @@ use Rattle.er_store.specs.Shape.{Form, Shape, tally_form, tally_table}
 use Rattle.er_store.specs.Reading.{Lists, first_columns, KeepsTables}
 use Rattle.er_store.specs.Standing.{HasTablesAt, StandsAt, StandsFor}
 use Rattle.er_store.specs.Loading.{IsListed, ListsParts}
-use Rattle.er_store.specs.Damage.{IsMisreadAs, MayRead, ReadsParts, IsFirstMisread, IfDamaged}
+use Rattle.er_store.specs.Damage.{IsMisreadAs, MayRead, ReadsParts, IsFirstMisread, IfDamaged, said_version}
+use Rattle.er_store.specs.Tables.{read_tallies}
 use Rattle.er_store.specs.Fault.{IsFault, IsLoadFault}
 use Rattle.er_store.specs.inside.Queries.{table_query, Selects}
 
@@ -42,11 +45,11 @@ begins_select (Err e) = false
 -- What is true of each of the five: its statement is a SELECT that lists its rows by its key, and the rows of an event
 -- are told by what they show.
 pub record IsOurs {R : Type 0} (form : Form R) (table : Shape R) : Type 0 where
-  pub begins : begins_select (first table.read) ≡ true
+  pub begins : (version : ℕ) → begins_select (first (table.read version)) ≡ true
   pub keys : List ℕ
   pub terms : Layout → List Term
   pub selects : (l : Layout) (schema : Schema) → HasTablesAt l schema
-      → Selects table.read (table_query (table.tree l) (terms l) keys) schema
+      → Selects (table.read (version_of l)) (table_query (table.tree l) (terms l) keys) schema
   pub lists : (l : Layout) (trees : Trees) (rows : List Row)
       → IsAnswer (table_query (table.tree l) (terms l) keys) (overlay trees []) [] rows
       → Lists table.order (map (table.shown l) (trees (table.tree l))) rows
@@ -54,7 +57,6 @@ pub record IsOurs {R : Type 0} (form : Form R) (table : Shape R) : Type 0 where
   pub exact : (l : Layout) (db : Database) (e : EventValue) (s : ℕ) (rows : List Row) → StandsAt l db e s → IsSoundButForSeeds e
       → Lists table.order (map (table.shown l) (db.trees (table.tree l))) rows → rows ≡ map form.columns (table.rows (version_of l) e s)
   pub same : (r s : R) → form.columns r ≡ form.columns s → r ≡ s
-  pub texts : (version : ℕ) (e : EventValue) (s : ℕ) → IsSoundButForSeeds e → All form.is_text (table.rows version e s)
 
 -- what is found is of the database before; whatever is answered, a crash leaves what it could before
 pub record LooksUp {A : Type 0} (Finds : Database → A → Type 0) (Misses : Database → Refusal → Type 0)
@@ -68,26 +70,37 @@ pub record LooksUp {A : Type 0} (Finds : Database → A → Type 0) (Misses : Da
   pub kept : HasCleanDisk new → OnErr result (KeepsTables old new)
   pub survives : Survives old new (λ _. ⊥)
 
--- the rows of a table: as SQL alone says, as the tables list them, and as the event has them
-pub record FindsRows {R : Type 0} (form : Form R) (table : Shape R) (db : Database) (rows : List R) : Type 0 where
-  pub reads : MayRead form table db rows
-  pub lists : (l : Layout) → HasTablesAt l db.schema → IsListed form table l db rows
-  pub exact : (l : Layout) (e : EventValue) (s : ℕ) → StandsAt l db e s → IsSoundButForSeeds e → rows ≡ table.rows (version_of l) e s
+-- The rows of a table, read by this statement: as SQL alone says, and where it is the statement of how the tables lie, as
+-- they list them, and as the event has them.
+pub record FindsRows {R : Type 0} (form : Form R) (table : Shape R) (sql : List ℕ) (db : Database) (rows : List R) : Type 0 where
+  pub reads : MayRead form sql db rows
+  pub lists : (l : Layout) → table.read (version_of l) ≡ sql → HasTablesAt l db.schema → IsListed form table l db rows
+  pub exact : (l : Layout) → table.read (version_of l) ≡ sql → (e : EventValue) (s : ℕ) → StandsAt l db e s → IsSoundButForSeeds e
+      → rows ≡ table.rows (version_of l) e s
 
 -- where the tables stand, memory or the device; and damage is of this table
-pub record MissesRows {R : Type 0} (form : Form R) (table : Shape R) (db : Database) (why : Refusal) : Type 0 where
-  pub misread : (at : Place) → why ≡ Damaged at → (at ≡ table.place) × IsMisreadAs form table db
-  pub refused : (e : EventValue) (s : ℕ) → StandsFor db e s → IsSoundButForSeeds e → IsFault why
+pub record MissesRows {R : Type 0} (form : Form R) (table : Shape R) (sql : List ℕ) (db : Database) (why : Refusal) : Type 0 where
+  pub misread : (at : Place) → why ≡ Damaged at → (at ≡ table.place) × IsMisreadAs form sql db
+  pub refused : (l : Layout) → table.read (version_of l) ≡ sql → (e : EventValue) (s : ℕ) → StandsAt l db e s → IsSoundButForSeeds e
+      → IsFault why
 
 -- the rows of the four tables that an event is made of
 pub record FindsParts (db : Database) (parts : Parts) : Type 0 where
   pub reads : ReadsParts db parts
-  pub lists : (l : Layout) → HasTablesAt l db.schema → ListsParts l db parts
+  pub lists : (l : Layout) → said_version parts.event ≡ version_of l → HasTablesAt l db.schema → ListsParts l db parts
   pub exact : (l : Layout) (e : EventValue) (s : ℕ) → StandsAt l db e s → IsSoundButForSeeds e → parts ≡ parts_of (version_of l) e s
+
+-- the rows are those of this sound event and serial, in tables of this version, which keep it
+pub record IsWhole (parts : Parts) (e : EventValue) (serial version : ℕ) : Type 0 where
+  pub known : IsVersion version
+  pub keeps : Keeps version e
+  pub low : serial ≤ MAX_SERIAL
+  pub are : parts ≡ parts_of version e serial
+  pub sound : IsSoundButForSeeds e
 
 -- those of all five
 abbrev pub FindsTables : Database → Parts × List TallyRow → Type 0
-FindsTables db it = FindsParts db it.0 × FindsRows tally_form tally_table db it.1
+FindsTables db it = FindsParts db it.0 × FindsRows tally_form tally_table read_tallies db it.1
 
 -- where the tables stand, memory or the device; and damage is of the first table that is misread
 pub record MissesTables (db : Database) (why : Refusal) : Type 0 where

@@ -1,5 +1,5 @@
 -- What one statement does within a transaction.
-use Rattle.std.specs.Prelude.{◌≡◌, ◌≢◌, ◌<◌, ◌≤◌, ℕ, Ok, true, false, List, [], length, IsTrue}
+use Rattle.std.specs.Prelude.{◌≡◌, ◌≢◌, ◌<◌, ◌≤◌, ℕ, ◌==◌, if◌then◌else◌, Ok, true, false, List, [], length, IsTrue}
 use Rattle.std.specs.List.{AllByRecursion}
 use Rattle.sqlite.specs.Tree.{put_row}
 use Rattle.sqlite.specs.Schema.{Schema}
@@ -12,8 +12,9 @@ use Rattle.er_event.specs.declared.matches.Match.{Match}
 use Rattle.er_event.specs.declared.rows.tally.TallyRow.{TallyRow}
 use Rattle.er_event.specs.Event.{EventValue}
 use Rattle.er_event.specs.Rows.{tally_rows}
-use Rattle.er_store.specs.Tables.{event_tree, player_tree, pairing_tree, bracket_tree, tally_tree, our_schema}
-use Rattle.er_store.specs.Standing.{StandsWith, StandsFor, KeepsRest}
+use Rattle.er_store.specs.Tables.{event_tree, player_tree, pairing_tree, bracket_tree, tally_tree, tally_schema, player, player2}
+use Rattle.sqlite.specs.Table.{Table}
+use Rattle.er_store.specs.Standing.{StandsWith, StandsIn, KeepsRest}
 use Rattle.er_store.specs.Layout.{Layout}
 
 -- the statement went well, within a transaction
@@ -57,14 +58,18 @@ pub record BringsToWith (layout : Layout) (old new : State) (e : EventValue) (se
 abbrev pub BringsTo : Layout → State → State → EventValue → ℕ → Type 0
 BringsTo layout old new e serial = BringsToWith layout old new e serial (tally_rows e)
 
--- only the commit is left: the tables stand for the event
-pub record IsReady (s : State) (e : EventValue) (serial : ℕ) : Type 0 where
+-- only the commit is left: the tables stand for the event in this version
+pub record IsReady (version : ℕ) (s : State) (e : EventValue) (serial : ℕ) : Type 0 where
   pub sound : IsDatabase s.now
-  pub stands : StandsFor s.now e serial
+  pub stands : StandsIn version s.now e serial
 
 -- a stage of the playoff: at most four matches, and at least one
 abbrev pub IsStage : List Match → Type 0
 IsStage matches = (0 < length matches) × (length matches ≤ 4)
+
+-- the table of players that creation makes in this version
+abbrev pub made_players : ℕ → Table
+made_players version = if version == 2 then player2 player_tree else player player_tree
 
 -- A table was made, with no row. The rows of the other tables stay.
 pub record Creates (before after : Schema) (old new : State) : Type 0 where
@@ -75,12 +80,12 @@ pub record Creates (before after : Schema) (old new : State) : Type 0 where
   pub empty : new.now.trees (next_tree before) ≡ []
   pub others : KeepsRows before.tables old.now.trees new.now.trees
 
--- the five tables were made in an empty schema
-pub record CreatesAll (old new : State) : Type 0 where
+-- the five tables were made in an empty schema, with this table of players
+pub record CreatesAll (players : Table) (old new : State) : Type 0 where
   pub was : IsTrue old.in_transaction
   pub shows : Shows old new new.now old.committed true
   pub sound : IsDatabase new.now
-  pub schema : new.now.schema ≡ our_schema
+  pub schema : new.now.schema ≡ tally_schema players
   pub event : new.now.trees event_tree ≡ []
   pub player : new.now.trees player_tree ≡ []
   pub pairing : new.now.trees pairing_tree ≡ []

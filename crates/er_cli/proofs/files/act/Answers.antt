@@ -13,7 +13,7 @@ returns-in-Init-clause-ends g c = rw (sym (ap (λ (parts : List ℕ × Action). 
 pub returns-in-Ok-clause-goes_on : goal.returns-in-Ok-clause-goes_on
 returns-in-Ok-clause-goes_on g c new first ends was =
     rw (sym (ap (λ (parts : List ℕ × Action). parts.1) c.into_parts-file.ensures), c.in-Open.is) (
-    there_goes_on _ _ new ends first _ _ _ _ _ c.in-Open.task (c.open.ensures.goes_on new first ends was)
+    there_goes_on _ _ _ new ends first _ _ _ _ _ c.in-Open.task (c.open.ensures.goes_on new first ends was)
     )
 
 pub returns-in-Err-clause-ends : goal.returns-in-Err-clause-ends
@@ -24,6 +24,6 @@ returns-in-Err-clause-ends g c = rw (sym (ap (λ (parts : List ℕ × Action). p
 pub returns-in-Err-clause-goes_on : goal.returns-in-Err-clause-goes_on
 returns-in-Err-clause-goes_on g c new first ends was =
     rw (sym (ap (λ (parts : List ℕ × Action). parts.1) c.into_parts-file.ensures), c.in-Open.is) (
-    absent_goes_on _ _ new ends first _ _ _ _ _ (Refused c.in-Err.why) (is_absent c.in-Err.why c.in-Err.ensures) c.tell_refusal.ensures
+    absent_goes_on _ _ _ new ends first _ _ _ _ _ (Refused c.in-Err.why) (is_absent c.in-Err.why c.in-Err.ensures) c.tell_refusal.ensures
     (Open c.in-Open.task)
     )

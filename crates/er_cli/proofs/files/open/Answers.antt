@@ -31,4 +31,5 @@ returns-in-Ok-clause-goes_on g c new first ends was =
     let law = c.next_sessions.ensures in
     let image = image_at g.S.Start in
     task_goes_on law image new first ends was _ _ _ _ _ _ _ c.args.task c.in-Ok.desk c.in-Ok.ensures.ready
-    (c.in-Ok.ensures.found first was.left (law image new first ends was).sound) c.do_and_close.ensures
+    (record { finds = c.in-Ok.ensures.found first was.left (law image new first ends was).sound; sees = c.in-Ok.ensures.kept })
+    c.do_and_close.ensures

@@ -1,7 +1,7 @@
 use Rattle.std.proofs.Common.{inl, inr, sym, subst, ◌∙◌}
 use Rattle.sqlite.specs.{Effect.Database, Files.{over_files, file_state}}
 use Rattle.er_store.specs.Standing.{HasTables, AreKeyed}
-use Rattle.er_desk.specs.{Desk.state, Opening.NamesFirstFault}
+use Rattle.er_desk.specs.{Desk.{state, version_in}, Opening.NamesFirstFault}
 use Rattle.er_desk.proofs.Adopting.{if_left, opened_stands, sees_unchanged, sees_kept}
 use Rattle.er_desk.proofs.opening.open.Goals as goal
 
@@ -25,7 +25,8 @@ returns-in-Ok-adopt-clause-kept g c db holds clean is_open =
 pub returns-in-Ok-adopt-clause-stands : goal.returns-in-Ok-adopt-clause-stands
 returns-in-Ok-adopt-clause-stands g c clean has keyed =
     let same = c.in-Ok-adopt.ensures.same clean in
-    c.in-Ok-adopt.ensures.stands clean (subst (λ (d : Database). HasTables d.schema) same.0.now_is has) (subst AreKeyed same.0.now_is keyed)
+    c.in-Ok-adopt.ensures.stands clean (subst (λ (d : Database). HasTables (version_in c.in-Ok-adopt.desk) d.schema) same.0.now_is has)
+    (subst AreKeyed same.0.now_is keyed)
 
 pub returns-in-Err-adopt-clause-found : goal.returns-in-Err-adopt-clause-found
 returns-in-Err-adopt-clause-found g c point was sound clean =

@@ -3,14 +3,14 @@ use Rattle.std.proofs.lemmas.Result.{err_from_is_err_and}
 use Rattle.sqlite.specs.State.{State, HasCleanDisk, IsUnchanged}
 use Rattle.er_event.specs.Event.{EventValue}
 use Rattle.er_rank.specs.Meeting.{AreListsOf}
-use Rattle.er_store.specs.{Reading.KeepsTables, Standing.{StandsFor, Leaves}}
+use Rattle.er_store.specs.{Reading.KeepsTables, Standing.{StandsFor, StandsIn, Leaves}}
 use Rattle.sqlite.specs.Held as sqlite
 use Rattle.er_store.specs.Store as store
 use Rattle.er_desk.proofs.Turns.{unchanged_keeps}
 use Rattle.er_desk.proofs.stored.read_standings.Goals as goal
 
-still_stands : (old new : State) (e : EventValue) (s : _) → IsUnchanged old new → StandsFor old.now e s → StandsFor new.now e s
-still_stands old new e s same = subst (λ db. StandsFor db e s) (sym same.0.now_is)
+still_stands : (v : _) (old new : State) (e : EventValue) (s : _) → IsUnchanged old new → StandsIn v old.now e s → StandsFor new.now e s
+still_stands v old new e s same stands = subst (λ db. StandsFor db e s) (sym same.0.now_is) (stands.layout, stands.stands)
 
 unchanged_then : (old mid new : State) → IsUnchanged old mid → IsUnchanged mid new → IsUnchanged old new
 unchanged_then old mid new one two = (
@@ -61,7 +61,8 @@ pub returns-in_err-meetings-clause-found : goal.returns-in_err-meetings-clause-f
 returns-in_err-meetings-clause-found g c clean e s stands sound =
     let early = c.meetings.ensures.clean clean in
     let running : IsFalse (store.is_stopped c.tallies.new.self) = c.in_ok-tallies.ensures.stops c.requires.running in
-    let here = still_stands (store.state g.S.Store c.args.store.now) (store.state g.S.Store c.tallies.new.self) e s
+    let here = still_stands (store.version_in c.args.store.now) (store.state g.S.Store c.args.store.now)
+    (store.state g.S.Store c.tallies.new.self) e s
     (c.in_ok-tallies.ensures.same early) stands in
     let p = err_from_is_err_and c.from_residual-in_err-meetings.result c.from_residual-in_err-meetings.ensures.1 in
     rw (p.1, p.2) (c.in_err-meetings.ensures.found running clean e s here sound)
@@ -181,7 +182,8 @@ returns-then-not-branch-clause-found g c clean e s stands sound =
     subst (λ h. HasCleanDisk (sqlite.state g.S.Store h)) c.stop.ensures.same clean in
     let early = c.meetings.ensures.clean late in
     let running : IsFalse (store.is_stopped c.tallies.new.self) = c.in_ok-tallies.ensures.stops c.requires.running in
-    let here = still_stands (store.state g.S.Store c.args.store.now) (store.state g.S.Store c.tallies.new.self) e s
+    let here = still_stands (store.version_in c.args.store.now) (store.state g.S.Store c.args.store.now)
+    (store.state g.S.Store c.tallies.new.self) e s
     (c.in_ok-tallies.ensures.same early) stands in
     let are : AreListsOf e c.as_slice.result.now c.as_slice-2.result.now = record {
       sound = sound;
@@ -201,7 +203,8 @@ pub returns-clause-found : goal.returns-clause-found
 returns-clause-found g c clean e s stands sound =
     let early = c.meetings.ensures.clean clean in
     let running : IsFalse (store.is_stopped c.tallies.new.self) = c.in_ok-tallies.ensures.stops c.requires.running in
-    let here = still_stands (store.state g.S.Store c.args.store.now) (store.state g.S.Store c.tallies.new.self) e s
+    let here = still_stands (store.version_in c.args.store.now) (store.state g.S.Store c.args.store.now)
+    (store.state g.S.Store c.tallies.new.self) e s
     (c.in_ok-tallies.ensures.same early) stands in
     let are : AreListsOf e c.as_slice-3.result.now c.as_slice-4.result.now = record {
       sound = sound;

@@ -45,6 +45,6 @@ returns-in-Pairings g c =
       waits = λ stopped. refl;
       clean = λ clean. clean;
       stands = λ clean shows runs. shows;
-      others = λ clean shows is_open. keeps_self _;
+      others = λ clean shows is_open. keeps_self _ _;
       leaves = λ shows leaves runs. leaves;
     }

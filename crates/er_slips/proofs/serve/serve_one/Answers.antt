@@ -17,7 +17,7 @@ pub returns-in-Err-Refused-clause-written : goal.returns-in-Err-Refused-clause-w
 returns-in-Err-Refused-clause-written g c = written _ _ _ _ _ _ _ (returns-in-Err-Refused-clause-ends g c)
 
 pub returns-in-Err-Refused-clause-others : goal.returns-in-Err-Refused-clause-others
-returns-in-Err-Refused-clause-others g c = λ clean stood is_open. keeps_self _
+returns-in-Err-Refused-clause-others g c = λ clean stood is_open. keeps_self _ _
 
 pub returns-in-Err-Memory-clause-ends : goal.returns-in-Err-Memory-clause-ends
 returns-in-Err-Memory-clause-ends g c = ends-unserved _ _ _ _ _ _ _ c.refusal_answer.ensures c.deliver-in-Err-Memory.ensures
@@ -26,7 +26,7 @@ pub returns-in-Err-Memory-clause-written : goal.returns-in-Err-Memory-clause-wri
 returns-in-Err-Memory-clause-written g c = written _ _ _ _ _ _ _ (returns-in-Err-Memory-clause-ends g c)
 
 pub returns-in-Err-Memory-clause-others : goal.returns-in-Err-Memory-clause-others
-returns-in-Err-Memory-clause-others g c = λ clean stood is_open. keeps_self _
+returns-in-Err-Memory-clause-others g c = λ clean stood is_open. keeps_self _ _
 
 pub returns-in-Err-Unread-clause-ends : goal.returns-in-Err-Unread-clause-ends
 returns-in-Err-Unread-clause-ends g c = (keeps _, refl)
@@ -35,4 +35,4 @@ pub returns-in-Err-Unread-clause-written : goal.returns-in-Err-Unread-clause-wri
 returns-in-Err-Unread-clause-written g c = written-unread _ _ _ _
 
 pub returns-in-Err-Unread-clause-others : goal.returns-in-Err-Unread-clause-others
-returns-in-Err-Unread-clause-others g c = λ clean stood is_open. keeps_self _
+returns-in-Err-Unread-clause-others g c = λ clean stood is_open. keeps_self _ _

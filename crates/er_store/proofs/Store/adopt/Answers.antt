@@ -1,5 +1,6 @@
 use Rattle.er_store.proofs.Prelude.{ℕ, List, Result, Ok, Err, IsOk, refl, sym, subst, ◌∙◌, true≢false, read_event, state}
-use Rattle.er_store.proofs.Prelude.{Schema, Database, IsUnchanged, Compiled, CompileError, EventValue, HasCleanDisk, HasTables, StandsFor}
+use Rattle.er_store.proofs.Prelude.{Schema, Database, IsUnchanged, Compiled, CompileError, EventValue, HasCleanDisk, HasTablesAt, Layout}
+use Rattle.er_store.proofs.Prelude.{StandsAt, StandsIn}
 use Rattle.er_store.proofs.Prelude.{Shows, Takes, unchanged_then}
 use Rattle.sqlite.specs.Effect.{IsDatabase}
 use Rattle.er_store.specs.{Loading.HoldsEvent, Standing.ReadsEvent}
@@ -12,8 +13,8 @@ takes_ok : (n : ℕ) (sql : List ℕ) (r : Result Compiled CompileError) → Tak
 takes_ok n sql (Ok c) takes = refl
 takes_ok n sql (Err e) takes = absurd takes
 
-reads_ours : (schema : Schema) → HasTables schema → ReadsEvent schema
-reads_ours schema (l, has) = at_ours schema has ReadsEvent
+reads_ours : (l : Layout) (schema : Schema) → HasTablesAt l schema → ReadsEvent schema
+reads_ours l schema has = at_ours schema has ReadsEvent
     (takes_ok 0 read_event _ (event_selected has.others schema.indexes schema.views l).whole)
 
 -- the first look leaves what it saw
@@ -23,9 +24,9 @@ same g c clean = (c.in-Ok-true.ensures.found (c.load_tables.ensures.clean clean)
 
 -- a connection that saw the last commit, and sees the same
 shown : (g : given.Over) (c : goal.After-result-1 g) → HasCleanDisk (state g.S.Store c.load_tables.new.conn)
-    → IsUnchanged (state g.S.Store c.reads_event.new.conn) (state g.S.Store c.load_tables.new.conn) → (e : EventValue) (s : ℕ)
-    → StandsFor (state g.S.Store c.args.conn).now e s → Shows (state g.S.Store c.load_tables.new.conn) e s
-shown g c clean second e s stands =
+    → IsUnchanged (state g.S.Store c.reads_event.new.conn) (state g.S.Store c.load_tables.new.conn) → (v : ℕ) (e : EventValue) (s : ℕ)
+    → StandsIn v (state g.S.Store c.args.conn).now e s → Shows v (state g.S.Store c.load_tables.new.conn) e s
+shown g c clean second v e s stands =
     let first = same g c clean in
     let seen = c.sees_last_commit.ensures c.requires.mode first.0.was_open in
     let nows = second.0.now_is ∙ first.0.now_is in
@@ -33,35 +34,44 @@ shown g c clean second e s stands =
       is_open = second.0.is_open;
       sound = subst IsDatabase (sym nows) seen.1;
       settled = nows ∙ seen.0 ∙ sym (second.0.committed_is ∙ first.0.committed_is);
-      stands = subst (λ (d : Database). StandsFor d e s) (sym nows) stands;
+      stands = subst (λ (d : Database). StandsIn v d e s) (sym nows) stands;
     }
 
 pub returns-in-Ok-false-clause-found : goal.returns-in-Ok-false-clause-found
 returns-in-Ok-false-clause-found g c e s stands sound clean =
     let found = (c.in-Ok-false.ensures.found clean).0 in
-    let has : HasTables (state g.S.Store c.args.conn).now.schema = (stands.0, stands.1.has.tables) in
-    absurd (true≢false (sym (found.1 (reads_ours (state g.S.Store c.args.conn).now.schema has)) ∙ c.in-Ok-false.field-0-test))
+    let reads = reads_ours stands.0 (state g.S.Store c.args.conn).now.schema stands.1.has.tables in
+    absurd (true≢false (sym (found.1 reads) ∙ c.in-Ok-false.field-0-test))
 
 pub returns-in-Err-load_tables-clause-found : goal.returns-in-Err-load_tables-clause-found
 returns-in-Err-load_tables-clause-found g c e s stands sound clean =
     let same = (c.in-Ok-true.ensures.found (c.load_tables.ensures.clean clean)).1 in
-    c.in-Err-load_tables.ensures.found clean e s (kept_stands _ _ e s same stands) sound
+    let here = kept_stands _ _ e s same stands in
+    c.in-Err-load_tables.ensures.found clean here.0 e s here.1 sound
 
 pub returns-in-Ok-clause-found : goal.returns-in-Ok-clause-found
 returns-in-Ok-clause-found g c e s stands sound clean =
-    let found = c.in-Ok.ensures.found clean e s (kept_stands _ _ e s (same g c clean) stands) sound in
-    (found.0, found.1, shown g c clean (c.in-Ok.ensures.same clean) e s stands)
+    let at = subst (λ (d : Database). StandsAt stands.0 d e s) (sym (same g c clean).0.now_is) stands.1 in
+    let found = c.in-Ok.ensures.found clean stands.0 e s at sound in
+    let here : StandsIn c.in-Ok.version (state g.S.Store c.args.conn).now e s =
+    record { layout = stands.0; is = sym found.2; stands = stands.1 } in
+    (found.0, found.1, shown g c clean (c.in-Ok.ensures.same clean) c.in-Ok.version e s here)
+
+pub returns-in-Ok-clause-version : goal.returns-in-Ok-clause-version
+returns-in-Ok-clause-version g c clean e s v stands sound =
+    let at = subst (λ (d : Database). StandsAt stands.layout d e s) (sym (same g c clean).0.now_is) stands.stands in
+    (c.in-Ok.ensures.found clean stands.layout e s at sound).2 ∙ stands.is
 
 pub returns-in-Ok-clause-stands : goal.returns-in-Ok-clause-stands
 returns-in-Ok-clause-stands g c clean has keyed =
     let first = same g c clean in
-    let shows = subst (λ (db : Database). HoldsEvent db c.in-Ok.event c.in-Ok.serial) first.0.now_is
-    (c.in-Ok.ensures.shows clean (kept_tables _ _ first has)) in
-    shown g c clean (c.in-Ok.ensures.same clean) _ _ (stands_where shows keyed)
+    let shows = subst (λ (db : Database). HoldsEvent c.in-Ok.version db c.in-Ok.event c.in-Ok.serial) first.0.now_is
+    (c.in-Ok.ensures.shows clean (kept_tables _ _ _ first has)) in
+    shown g c clean (c.in-Ok.ensures.same clean) _ _ _ (stands_where shows keyed)
 
 pub returns-in-Ok-clause-leaves : goal.returns-in-Ok-clause-leaves
 returns-in-Ok-clause-leaves g c clean e s stands sound =
-    shows_leaves (state g.S.Store c.load_tables.new.conn) e s
+    shows_leaves c.in-Ok.version (state g.S.Store c.load_tables.new.conn) e s
     (λ db is_open may. g.met.S.Store.settled c.load_tables.new.conn.store db is_open may)
     (returns-in-Ok-clause-found g c e s stands sound clean).2
 
@@ -79,8 +89,8 @@ returns-in-Ok-clause-reads g c clean = rw (same g c clean).0.now_is at (c.in-Ok.
 pub returns-in-Ok-clause-shows : goal.returns-in-Ok-clause-shows
 returns-in-Ok-clause-shows g c clean has =
     let first = same g c clean in
-    subst (λ (db : Database). HoldsEvent db c.in-Ok.event c.in-Ok.serial) first.0.now_is
-    (c.in-Ok.ensures.shows clean (kept_tables _ _ first has))
+    subst (λ (db : Database). HoldsEvent c.in-Ok.version db c.in-Ok.event c.in-Ok.serial) first.0.now_is
+    (c.in-Ok.ensures.shows clean (kept_tables _ _ _ first has))
 
 pub returns-in-Ok-clause-same : goal.returns-in-Ok-clause-same
 returns-in-Ok-clause-same g c clean = unchanged_then _ _ _ (same g c clean) (c.in-Ok.ensures.same clean)

@@ -1,28 +1,31 @@
-use Rattle.er_store.proofs.Prelude.{state, inl, inr, rules, sym, ◌∙◌, IfOk-weaker, IfErr-weaker, IsFault, refl, ◌≡◌, ◌≤◌, ℕ, List, Layout}
-use Rattle.er_store.proofs.Prelude.{Old, version_of, HasTablesAt, Database, Parts, EventValue, IsSoundButForSeeds, TallyRow, tally_rows}
-use Rattle.er_event.specs.{Parts.{IsOf, parts_of}, Version.Keeps}
-use Rattle.er_store.specs.Loading.{HoldsEvent, ListsParts, ListsTallies}
+use Rattle.er_store.proofs.Prelude.{state, inl, inr, rules, sym, ◌∙◌, IfOk-weaker, IfErr-weaker, IsFault, refl, ap, subst, ◌≡◌, ℕ, List}
+use Rattle.er_store.proofs.Prelude.{version_of, HasTables, Database, Parts, EventValue, TallyRow, tally_rows}
+use Rattle.er_event.specs.Parts.{IsOf}
+use Rattle.er_store.specs.{Loading.{HoldsEvent, ListsTallies}, Damage.said_version, inside.Lookup.{IsWhole, FindsParts}}
+use Rattle.er_store.proofs.Layouts.{said_is, known_layout}
 use Rattle.std.proofs.lemmas.Result.{MatchResult-from_both}
 use Rattle.er_store.specs.{Damage.{IsAtFault, IfDamaged}, Fault.IsLoadFault}
 use Rattle.er_store.proofs.{Refusals.first_of, LoadLemmas.{unchanged_keeps, all_ok, all_err, told}, Loaded.{no_row_fault, shows_event}}
 use Rattle.er_store.proofs.loading.load_tables.Goals as goal
 
--- version 1 is the only one
-old_keeps : (l : Layout) (e : EventValue) → Keeps (version_of l) e → Keeps 1 e
-old_keeps Old e keeps = keeps
-
-first_version : (l : Layout) (parts : Parts) (e : EventValue) (s : ℕ) → parts ≡ parts_of (version_of l) e s → parts ≡ parts_of 1 e s
-first_version Old parts e s are = are
-
-shown : (l : Layout) {db : Database} {parts : Parts} {rows : List TallyRow} → HasTablesAt l db.schema → (e : EventValue) (s : ℕ)
-    → s ≤ 999999 → Keeps 1 e → IsSoundButForSeeds e → parts ≡ parts_of 1 e s → ListsParts l db parts → rows ≡ tally_rows e
-    → ListsTallies l db rows → HoldsEvent db e s
-shown Old {db} {parts} {rows} has e s low keeps sound are lists counted totals =
-    (Old, has, shows_event Old db parts e s low keeps sound are lists rows counted totals)
+-- what is found, where the tables are of the version that their row says
+holds : {db : Database} {parts : Parts} {rows : List TallyRow} {e : EventValue} {s v : ℕ} (has : HasTables v db.schema)
+    → IsWhole parts e s v
+    → FindsParts db parts → rows ≡ tally_rows e → ListsTallies has.0 db rows → HoldsEvent v db e s
+holds {db} {parts} {rows} {e} {s} {v} (l, is, has) whole finds counted totals =
+    let here = subst (IsWhole parts e s) (sym is) whole in
+    let says : said_version parts.event ≡ version_of l =
+    ap (λ (p : Parts). said_version p.event) here.are ∙ said_is (version_of l) here.known e s in
+    record {
+      layout = l;
+      is = is;
+      tables = has;
+      holds = shows_event l db parts e s here.low here.keeps here.sound here.are (finds.lists l says has) rows counted totals;
+    }
 
 pub returns-in_err-parts-clause-found : goal.returns-in_err-parts-clause-found
-returns-in_err-parts-clause-found g c clean e s stands sound =
-    let why : IsFault c.in_err-parts.field-0.0 = (c.in_err-parts.ensures.looks.misses clean).refused e s stands sound in
+returns-in_err-parts-clause-found g c clean l e s stands sound =
+    let why : IsFault c.in_err-parts.field-0.0 = (c.in_err-parts.ensures.looks.misses clean).refused e s (l, stands) sound in
     search (rules, why)
 
 pub returns-in_err-parts-clause-first : goal.returns-in_err-parts-clause-first
@@ -55,29 +58,35 @@ returns g c =
     record {
       clean = looks.clean;
       mode = search rules;
-      low = IfOk-weaker c.counted_event_of.result _ _ (λ it read. read.2) made.value;
-      sound = IfOk-weaker c.counted_event_of.result _ _ (λ it read. read.4) made.value;
-      shows = λ clean has.
+      low = IfOk-weaker c.counted_event_of.result _ _ (λ it read. read.0.low) made.value;
+      sound = IfOk-weaker c.counted_event_of.result _ _ (λ it read. read.0.sound) made.value;
+      known = IfOk-weaker c.counted_event_of.result _ _ (λ it read. read.0.known) made.value;
+      shows = λ clean.
           let finds = looks.finds clean in
-          IfOk-weaker c.counted_event_of.result _ _
-          (λ it read. shown has.0 has.1 it.0 it.1 read.2 read.3 read.4 read.0 (finds.0.lists has.0 has.1)
-          (sym c.as_slice.ensures ∙ read.1) (finds.1.lists has.0 has.1)) made.value;
-      found = λ clean e s stands sound.
+          IfOk-weaker c.counted_event_of.result _ _ (λ it read has.
+          holds has read.0 finds.0 (sym c.as_slice.ensures ∙ read.1) (finds.1.lists has.0 refl has.2)) made.value;
+      found = λ clean l e s stands sound.
           let finds = looks.finds clean in
-          let are = first_version stands.0 parts e s (finds.0.exact stands.0 e s stands.1 sound) in
-          let keeps = old_keeps stands.0 e stands.1.keeps in
-          let counted = c.as_slice.ensures ∙ finds.1.exact stands.0 e s stands.1 sound in
-          let it : IsOf parts e = record { version = 1; known = refl; keeps = keeps; serial = s; low = stands.1.low; are = are } in
-          MatchResult-from_both c.counted_event_of.result _ _ (made.only e s stands.1.low keeps are counted sound)
+          let counted = c.as_slice.ensures ∙ finds.1.exact l refl e s stands sound in
+          let it : IsWhole parts e s (version_of l) = record {
+            known = known_layout l;
+            keeps = stands.keeps;
+            low = stands.low;
+            are = finds.0.exact l e s stands sound;
+            sound = sound;
+          } in
+          let of : IsOf parts e =
+          record { version = version_of l; known = it.known; keeps = it.keeps; serial = s; low = it.low; are = it.are } in
+          MatchResult-from_both c.counted_event_of.result _ _ (made.only (version_of l) e s it counted)
           (IfErr-weaker c.counted_event_of.result _ _ (λ why refused. elim refused [
             | inl memory ↦ inl memory
-            | inr damaged ↦ absurd (no_row_fault parts e it sound c.as_slice.result.now counted damaged.0 damaged.2)
+            | inr damaged ↦ absurd (no_row_fault parts e of sound c.as_slice.result.now counted damaged.0 damaged.2)
           ]) made.refused);
       fault = search rules;
       reads = λ clean.
           let finds = looks.finds clean in
           IfOk-weaker c.counted_event_of.result _ _ (λ it read.
-          (rw read.0 at finds.0.reads, rw (sym c.as_slice.ensures ∙ read.1) at finds.1.reads)) made.value;
+          (rw read.0.are at finds.0.reads, rw (sym c.as_slice.ensures ∙ read.1) at finds.1.reads)) made.value;
       first = λ clean.
           let finds = looks.finds clean in
           IfErr-weaker c.counted_event_of.result _ _ (λ why refused place h.

@@ -1,6 +1,10 @@
-use Rattle.er_store.proofs.Prelude.{rules, EventTable, PlayerTable, PairingTable, BracketTable}
-use Rattle.er_store.proofs.TableLemmas.{event_is_ours, player_is_ours, pairing_is_ours, bracket_is_ours, looks_then, found_as, missed_as}
-use Rattle.er_store.proofs.TableLemmas.{first_misread}
+use Rattle.er_store.proofs.Prelude.{rules, refl, ap, sym, ◌∙◌, ◌≡◌, EventTable, PlayerTable, PairingTable, BracketTable, players_text}
+use Rattle.er_store.proofs.Prelude.{List, Layout}
+use Rattle.er_store.proofs.Prelude.{version_of, Database, EventValue, IsSoundButForSeeds, StandsAt, ℕ, read_event}
+use Rattle.er_event.specs.declared.rows.event.EventRow.{EventRow}
+use Rattle.er_store.specs.{Damage.said_version, inside.Lookup.FindsRows, Shape.{event_form, event_table}}
+use Rattle.er_store.proofs.{Layouts.{said_is, known_layout}, TableLemmas.{event_is_ours, player_is_ours, pairing_is_ours, bracket_is_ours}}
+use Rattle.er_store.proofs.TableLemmas.{looks_then, found_as, missed_as, first_misread}
 use Rattle.er_store.proofs.loading.read_parts.Goals as goal
 
 pub load_rows-requires : goal.load_rows-requires
@@ -15,47 +19,65 @@ load_rows-requires-3 g c = pairing_is_ours
 pub load_rows-requires-4 : goal.load_rows-requires-4
 load_rows-requires-4 g c = bracket_is_ours
 
+-- where the tables stand, the rows of the event say which version they are of
+said : {db : Database} {events : List EventRow} → FindsRows event_form event_table read_event db events
+    → (l : Layout) (e : EventValue) (s : ℕ)
+    → StandsAt l db e s → IsSoundButForSeeds e → said_version events ≡ version_of l
+said {events = events} event l e s stands sound =
+    ap said_version (event.exact l refl e s stands sound) ∙ said_is (version_of l) (known_layout l) e s
+
 pub returns-in_err-event-clause-looks : goal.returns-in_err-event-clause-looks
 returns-in_err-event-clause-looks g c =
     let look = c.in_err-event.ensures.looks in
-    missed_as (search rules) (λ db miss. first_misread EventTable db c.in_err-event.field-0.0 tt miss.misread miss.refused) look
+    missed_as (search rules) (λ db miss. first_misread EventTable db c.in_err-event.field-0.0 (λ bad. bad) miss.misread
+    (λ e s stands sound. miss.refused stands.0 refl e s stands.1 sound)) look
 
 pub returns-in_err-players-clause-looks : goal.returns-in_err-players-clause-looks
 returns-in_err-players-clause-looks g c =
-    let look = looks_then c.in_ok-event.ensures.looks c.in_err-players.ensures.looks in
+    let look = looks_then c.in_ok-event.ensures.looks
+    (rw (c.said_version-version.ensures, c.as_slice.ensures) at c.in_err-players.ensures.looks) in
     missed_as (search rules) (λ db miss. first_misread PlayerTable db c.in_err-players.field-0.0
-    (c.in_ok-event.event, miss.0.reads) miss.1.misread miss.1.refused) look
+    (λ bad. (c.in_ok-event.event, miss.0.reads, tt, bad)) miss.1.misread
+    (λ e s stands sound. miss.1.refused stands.0 (ap players_text (sym (said miss.0 stands.0 e s stands.1 sound))) e s stands.1 sound)) look
 
 pub returns-in_err-pairings-clause-looks : goal.returns-in_err-pairings-clause-looks
 returns-in_err-pairings-clause-looks g c =
-    let look = looks_then c.in_ok-event.ensures.looks (looks_then c.in_ok-players.ensures.looks c.in_err-pairings.ensures.looks) in
+    let look = looks_then c.in_ok-event.ensures.looks (looks_then
+    (rw (c.said_version-version.ensures, c.as_slice.ensures) at c.in_ok-players.ensures.looks) c.in_err-pairings.ensures.looks) in
     missed_as (search rules) (λ db miss. first_misread PairingTable db c.in_err-pairings.field-0.0
-    ((c.in_ok-event.event, miss.0.reads), (c.in_ok-players.players, miss.1.0.reads)) miss.1.1.misread miss.1.1.refused) look
+    (λ bad. (c.in_ok-event.event, miss.0.reads, (c.in_ok-players.players, miss.1.0.reads), bad)) miss.1.1.misread
+    (λ e s stands sound. miss.1.1.refused stands.0 refl e s stands.1 sound)) look
 
 pub returns-in_err-bracket-clause-looks : goal.returns-in_err-bracket-clause-looks
 returns-in_err-bracket-clause-looks g c =
-    let look = looks_then c.in_ok-event.ensures.looks
-    (looks_then c.in_ok-players.ensures.looks (looks_then c.in_ok-pairings.ensures.looks c.in_err-bracket.ensures.looks)) in
+    let look = looks_then c.in_ok-event.ensures.looks (looks_then
+    (rw (c.said_version-version.ensures, c.as_slice.ensures) at c.in_ok-players.ensures.looks)
+    (looks_then c.in_ok-pairings.ensures.looks c.in_err-bracket.ensures.looks)) in
     missed_as (search rules) (λ db miss. first_misread BracketTable db c.in_err-bracket.field-0.0
-    ((c.in_ok-event.event, miss.0.reads), (c.in_ok-players.players, miss.1.0.reads), (c.in_ok-pairings.pairings, miss.1.1.0.reads))
-    miss.1.1.1.misread miss.1.1.1.refused) look
+    (λ bad. (
+      c.in_ok-event.event,
+      miss.0.reads,
+      ((c.in_ok-players.players, miss.1.0.reads), (c.in_ok-pairings.pairings, miss.1.1.0.reads)),
+      bad,
+    )) miss.1.1.1.misread (λ e s stands sound. miss.1.1.1.refused stands.0 refl e s stands.1 sound)) look
 
 pub returns-clause-looks : goal.returns-clause-looks
 returns-clause-looks g c =
-    let look = looks_then c.in_ok-event.ensures.looks
-    (looks_then c.in_ok-players.ensures.looks (looks_then c.in_ok-pairings.ensures.looks c.in_ok-bracket.ensures.looks)) in
+    let look = looks_then c.in_ok-event.ensures.looks (looks_then
+    (rw (c.said_version-version.ensures, c.as_slice.ensures) at c.in_ok-players.ensures.looks)
+    (looks_then c.in_ok-pairings.ensures.looks c.in_ok-bracket.ensures.looks)) in
     found_as (λ db it. record {
       reads = record { event = it.0.reads; players = it.1.0.reads; pairings = it.1.1.0.reads; bracket = it.1.1.1.reads };
-      lists = λ l has. record {
-        event = it.0.lists l has;
-        players = it.1.0.lists l has;
-        pairings = it.1.1.0.lists l has;
-        bracket = it.1.1.1.lists l has;
+      lists = λ l is has. record {
+        event = it.0.lists l refl has;
+        players = it.1.0.lists l (ap players_text (sym is)) has;
+        pairings = it.1.1.0.lists l refl has;
+        bracket = it.1.1.1.lists l refl has;
       };
       exact = λ l e s stands sound.
-          let event = it.0.exact l e s stands sound in
-          let players = it.1.0.exact l e s stands sound in
-          let pairings = it.1.1.0.exact l e s stands sound in
-          let bracket = it.1.1.1.exact l e s stands sound in
+          let event = it.0.exact l refl e s stands sound in
+          let players = it.1.0.exact l (ap players_text (sym (said it.0 l e s stands sound))) e s stands sound in
+          let pairings = it.1.1.0.exact l refl e s stands sound in
+          let bracket = it.1.1.1.exact l refl e s stands sound in
           cc;
     }) look

@@ -1,4 +1,4 @@
-use Rattle.er_store.proofs.Prelude.{rules, TallyTable, ReadsBefore}
+use Rattle.er_store.proofs.Prelude.{rules, refl, TallyTable}
 use Rattle.er_store.proofs.TableLemmas.{tally_is_ours, looks_then, found_as, missed_as, first_misread}
 use Rattle.er_store.proofs.loading.read_tables.Goals as goal
 
@@ -15,9 +15,12 @@ returns-in_err-tallies-clause-looks g c =
     let look = looks_then c.in_ok-parts.ensures.looks c.in_err-tallies.ensures.looks in
     missed_as (search rules) (λ db miss.
     let reads = miss.0.reads in
-    let before : ReadsBefore db TallyTable =
-    ((parts.event, reads.event), (parts.players, reads.players), (parts.pairings, reads.pairings), (parts.bracket, reads.bracket)) in
-    first_misread TallyTable db why before miss.1.misread miss.1.refused) look
+    first_misread TallyTable db why (λ bad. (
+      parts.event,
+      reads.event,
+      ((parts.players, reads.players), (parts.pairings, reads.pairings), (parts.bracket, reads.bracket)),
+      bad,
+    )) miss.1.misread (λ e s stands sound. miss.1.refused stands.0 refl e s stands.1 sound)) look
 
 pub returns-clause-looks : goal.returns-clause-looks
 returns-clause-looks g c = found_as (λ db it. it) (looks_then c.in_ok-parts.ensures.looks c.in_ok-tallies.ensures.looks)

@@ -123,7 +123,7 @@ returns-in_err-push_row-clause-refused g c clean e s stands sound =
     let rows = meetings-exact there.0 then.now e s ((was.0 ++ row ∷ []) ++ shown.0) there.1 sound (meetings-listed _ _ it shown.1) in
     let among = row-among meeting_columns was.0 shown.0 row (meeting_rows e) rows in
     let memory : c.in_err-push_row.field-0.0 ≡ out_of_memory =
-    is_memory c.in_err-push_row.field-0.0 (λ unless. c.in_err-push_row.ensures.refused unless among.0 tt among.1) in
+    is_memory c.in_err-push_row.field-0.0 (λ unless. c.in_err-push_row.ensures.refused unless among.0 among.1) in
     let why : (c.in_err-push_row.field-0.0 ≡ out_of_memory) ⊎ IsReadRefused old then c.in_err-push_row.field-0.0 = inl memory in
     rw (back_unpushed g c) (told c.from_residual-in_err-push_row.result c.in_err-push_row.field-0.0 _
     c.from_residual-in_err-push_row.ensures.1 why)

@@ -1,37 +1,47 @@
 use Rattle.er_store.proofs.Prelude.{map-map, ◌≡◌, inl, inr, ℕ, List, [], ◌∷◌, map, ap, ◌∙◌, rules, IfOk-weaker, IfErr-weaker, Row, State}
-use Rattle.er_store.proofs.Prelude.{EventValue, IsSoundButForSeeds, number, named_columns, named_pairings, StandsFor, first_columns}
+use Rattle.er_store.proofs.Prelude.{EventValue, IsSoundButForSeeds, number, named_columns, named_pairings, first_columns}
 use Rattle.er_store.proofs.Prelude.{Shown, Layout, players_tree, HasTablesAt}
 use Rattle.er_store.proofs.Prelude.{Schema, SelectsWith}
 use Rattle.er_store.proofs.{Meaning.{slip_selected, slip_query}, Refusals.{slip_refused, answers}}
 use Rattle.er_store.proofs.{LoadLemmas.{unchanged_keeps, all_ok, all_err, told}}
-use Rattle.er_store.proofs.{Selecting.{commits_nothing, shows_unchanged, fails_keeping, selects}, Exact.is_memory, Joined.slip_exact}
-use Rattle.er_store.proofs.{Joined.{named_typed, named_text}, Effects.selected}
-use Rattle.er_store.specs.Tables as sql
+use Rattle.er_store.proofs.{Selecting.{commits_nothing, shows_unchanged, fails_keeping, slip_selects}, Exact.is_memory, Joined.slip_exact}
+use Rattle.er_store.proofs.{Joined.named_typed, Effects.selected}
+use Rattle.er_store.proofs.Prelude.{StandsIn, Database, slip_text, version_of, subst}
 use Rattle.er_store.proofs.reading.read_slip.Goals as goal
 
 chosen : (k t : ℕ) (l : Layout) {schema : Schema} → HasTablesAt l schema
-    → SelectsWith (number k ∷ number t ∷ []) sql.read_slip (slip_query (players_tree l)) schema
+    → SelectsWith (number k ∷ number t ∷ []) (slip_text (version_of l)) (slip_query (players_tree l)) schema
 chosen k t l has = selected has (λ others indexes views. slip_selected others indexes views k t l)
 
-exact : (k t s : ℕ) (e : EventValue) (old new : State) {rows : List Row} → StandsFor old.now e s → IsSoundButForSeeds e
-    → Shown sql.read_slip (number k ∷ number t ∷ []) old new rows → rows ≡ map named_columns (named_pairings e k t)
-exact k t s e old new {rows} stands sound h =
-    slip_exact stands.0 old.now e s k t rows stands.1 sound (answers old new (chosen k t stands.0 stands.1.has.tables) h)
+-- in tables of this version
+chosen_in : (k t v s : ℕ) (e : EventValue) (db : Database) (stands : StandsIn v db e s)
+    → SelectsWith (number k ∷ number t ∷ []) (slip_text v) (slip_query (players_tree stands.layout)) db.schema
+chosen_in k t v s e db stands =
+    subst (λ version. SelectsWith (number k ∷ number t ∷ []) (slip_text version)
+    (slip_query (players_tree stands.layout)) db.schema) stands.is
+    (chosen k t stands.layout stands.stands.has.tables)
+
+exact : (k t v s : ℕ) (e : EventValue) (old new : State) {rows : List Row} → StandsIn v old.now e s → IsSoundButForSeeds e
+    → Shown (slip_text v) (number k ∷ number t ∷ []) old new rows → rows ≡ map named_columns (named_pairings e k t)
+exact k t v s e old new {rows} stands sound h =
+    slip_exact stands.layout old.now e s k t rows stands.stands sound (answers old new (chosen_in k t v s e old.now stands) h)
 
 pub returns-in_err-rows-clause-kept : goal.returns-in_err-rows-clause-kept
 returns-in_err-rows-clause-kept g c clean =
-    all_err c.from_residual.result (fails_keeping _ _ _ _ _ selects.slip (c.in_err-rows.ensures.err clean))
+    all_err c.from_residual.result (fails_keeping _ _ _ _ _ (slip_selects c.args.version)
+    (rw c.slip_text.ensures at (c.in_err-rows.ensures.err clean)))
 
 pub returns-in_err-rows-clause-survives : goal.returns-in_err-rows-clause-survives
-returns-in_err-rows-clause-survives g c = commits_nothing _ _ selects.slip c.query_all.ensures.survives
+returns-in_err-rows-clause-survives g c = commits_nothing _ _ (slip_selects c.args.version)
+    (rw c.slip_text.ensures at c.query_all.ensures.survives)
 
 pub returns-in_err-rows-clause-refused : goal.returns-in_err-rows-clause-refused
 returns-in_err-rows-clause-refused g c clean e s stands sound =
     let k = c.args.round in
     let t = c.args.table in
-    let fails = rw (c.params-to_sql.ensures, c.params-to_sql-2.ensures) at (c.in_err-rows.ensures.err clean) in
-    told c.from_residual.result c.in_err-rows.field-0.0 _ (search rules) (inr (slip_refused (players_tree stands.0)
-    (number k ∷ number t ∷ []) _ _ _ (chosen k t stands.0 stands.1.has.tables) fails))
+    let fails = rw (c.slip_text.ensures, c.params-to_sql.ensures, c.params-to_sql-2.ensures) at (c.in_err-rows.ensures.err clean) in
+    told c.from_residual.result c.in_err-rows.field-0.0 _ (search rules) (inr (slip_refused (players_tree stands.layout)
+    (number k ∷ number t ∷ []) _ _ _ (chosen_in k t c.args.version s e _ stands) fails))
 
 pub returns : goal.returns
 returns g c =
@@ -42,19 +52,21 @@ returns g c =
       mode = search rules;
       exact = λ clean e s stands sound.
           let named = named_pairings e k t in
-          let are = exact k t s e _ _ stands sound
-          (rw (c.params-to_sql.ensures, c.params-to_sql-2.ensures) at (c.in_ok-rows.ensures.ok clean)) in
+          let are = exact k t c.args.version s e _ _ stands sound
+          (rw (c.slip_text.ensures, c.params-to_sql.ensures, c.params-to_sql-2.ensures) at (c.in_ok-rows.ensures.ok clean)) in
           IfOk-weaker c.typed_rows.result _ _ (λ typed is. named_typed typed.items named
           (is ∙ ap (map (first_columns 11)) (c.deref.ensures.value ∙ are)
           ∙ map-map (first_columns 11) named_columns named)) c.typed_rows.ensures.value;
       refused = λ clean e s stands sound.
-          let are = exact k t s e _ _ stands sound
-          (rw (c.params-to_sql.ensures, c.params-to_sql-2.ensures) at (c.in_ok-rows.ensures.ok clean)) in
+          let are = exact k t c.args.version s e _ _ stands sound
+          (rw (c.slip_text.ensures, c.params-to_sql.ensures, c.params-to_sql-2.ensures) at (c.in_ok-rows.ensures.ok clean)) in
           IfErr-weaker c.typed_rows.result _ _ (λ why never. inl (is_memory why
-          (λ unless. never unless (named_pairings e k t) (named_text e k t sound) (c.deref.ensures.value ∙ are))))
+          (λ unless. never unless (named_pairings e k t) (c.deref.ensures.value ∙ are))))
           c.typed_rows.ensures.refused;
-      same = λ clean. all_ok c.typed_rows.result (shows_unchanged _ _ _ selects.slip (c.in_ok-rows.ensures.ok clean));
+      same = λ clean. all_ok c.typed_rows.result (shows_unchanged _ _ _ (slip_selects c.args.version)
+          (rw c.slip_text.ensures at (c.in_ok-rows.ensures.ok clean)));
       kept = λ clean. all_err c.typed_rows.result
-          (unchanged_keeps _ _ (shows_unchanged _ _ _ selects.slip (c.in_ok-rows.ensures.ok clean)));
-      survives = commits_nothing _ _ selects.slip c.query_all.ensures.survives;
+          (unchanged_keeps _ _ (shows_unchanged _ _ _ (slip_selects c.args.version)
+          (rw c.slip_text.ensures at (c.in_ok-rows.ensures.ok clean))));
+      survives = commits_nothing _ _ (slip_selects c.args.version) (rw c.slip_text.ensures at c.query_all.ensures.survives);
     }

@@ -5,54 +5,57 @@ use Rattle.er_store.proofs.Selecting.{fails_keeping}
 use Rattle.er_store.proofs.reading.read_table.Goals as goal
 
 pub returns-in_err-rows-clause-refused : goal.returns-in_err-rows-clause-refused
-returns-in_err-rows-clause-refused g c clean e s stands sound =
+returns-in_err-rows-clause-refused g c clean l serves e s stands sound =
     let fails = rw c.read.ensures at (c.in_err-rows.ensures.err clean) in
     told c.from_residual.result c.in_err-rows.field-0.0 _ (search rules)
-    (inr (refused g.T.FromRow.form g.T.TableRow.table c.requires _ _ stands.0 _ stands.1.has.tables fails))
+    (inr (refused g.T.FromRow.form g.T.TableRow.table c.requires c.args.version _ _ l serves _ stands.has.tables fails))
 
 pub returns-in_err-rows-clause-misread : goal.returns-in_err-rows-clause-misread
 returns-in_err-rows-clause-misread g c clean =
     let table = g.T.TableRow.table in
     let fails = rw c.read.ensures at (c.in_err-rows.ensures.err clean) in
     told c.from_residual.result c.in_err-rows.field-0.0 _ (search rules)
-    (λ at h. inl (refused_damage table.place at table.read _ _ c.in_err-rows.field-0.0 c.requires.begins fails h))
+    (λ at h. inl (refused_damage table.place at (table.read c.args.version) _ _ c.in_err-rows.field-0.0
+    (c.requires.begins c.args.version) fails h))
 
 pub returns-in_err-rows-clause-kept : goal.returns-in_err-rows-clause-kept
 returns-in_err-rows-clause-kept g c clean =
     let fails = rw c.read.ensures at (c.in_err-rows.ensures.err clean) in
-    all_err c.from_residual.result (fails_keeping _ _ _ _ _ c.requires.begins fails)
+    all_err c.from_residual.result (fails_keeping _ _ _ _ _ (c.requires.begins c.args.version) fails)
 
 pub returns-in_err-rows-clause-survives : goal.returns-in_err-rows-clause-survives
-returns-in_err-rows-clause-survives g c = commits_nothing _ _ c.requires.begins (rw c.read.ensures at c.query_all.ensures.survives)
+returns-in_err-rows-clause-survives g c = commits_nothing _ _ (c.requires.begins c.args.version)
+    (rw c.read.ensures at c.query_all.ensures.survives)
 
 pub returns : goal.returns
 returns g c =
     let form = g.T.FromRow.form in
     let table = g.T.TableRow.table in
     let it = c.requires in
+    let version = c.args.version in
+    let begins = it.begins version in
     record {
       clean = search rules;
       mode = search rules;
       finds = λ clean.
           let shows = rw c.read.ensures at (c.in_ok-rows.ensures.ok clean) in
-          IfOk-weaker c.typed_rows.result _ _ (λ typed. finds_rows form table it _ _ shows c.deref.ensures.value typed.items)
+          IfOk-weaker c.typed_rows.result _ _ (λ typed. finds_rows form table it version _ _ shows c.deref.ensures.value typed.items)
           c.typed_rows.ensures.value;
       misread = λ clean.
           let shows = rw c.read.ensures at (c.in_ok-rows.ensures.ok clean) in
           IfErr-weaker c.typed_rows.result _ _
-          (λ why never at h. has_wrong_kind form table _ _ _ _ it.begins c.deref.ensures.value shows table.place at why never h)
+          (λ why never at h. has_wrong_kind form (table.read version) _ _ _ _ begins c.deref.ensures.value shows table.place at why never h)
           c.typed_rows.ensures.refused;
-      refused = λ clean e s stands sound.
-          let are = are_rows form table it _ _ stands.0 (rw c.read.ensures at (c.in_ok-rows.ensures.ok clean)) e s stands.1 sound in
-          let version = version_of stands.0 in
+      refused = λ clean l serves e s stands sound.
+          let are = are_rows form table it version _ _ l serves (rw c.read.ensures at (c.in_ok-rows.ensures.ok clean)) e s stands sound in
           IfErr-weaker c.typed_rows.result _ _ (λ why never. inl (is_memory why
-          (λ unless. never unless (table.rows version e s) (it.texts version e s sound) (c.deref.ensures.value ∙ are))))
+          (λ unless. never unless (table.rows (version_of l) e s) (c.deref.ensures.value ∙ are))))
           c.typed_rows.ensures.refused;
       same = λ clean.
           let shows = rw c.read.ensures at (c.in_ok-rows.ensures.ok clean) in
-          all_ok c.typed_rows.result (shows_unchanged _ _ _ it.begins shows);
+          all_ok c.typed_rows.result (shows_unchanged _ _ _ begins shows);
       kept = λ clean.
           let shows = rw c.read.ensures at (c.in_ok-rows.ensures.ok clean) in
-          all_err c.typed_rows.result (unchanged_keeps _ _ (shows_unchanged _ _ _ it.begins shows));
-      survives = commits_nothing _ _ it.begins (rw c.read.ensures at c.query_all.ensures.survives);
+          all_err c.typed_rows.result (unchanged_keeps _ _ (shows_unchanged _ _ _ begins shows));
+      survives = commits_nothing _ _ begins (rw c.read.ensures at c.query_all.ensures.survives);
     }

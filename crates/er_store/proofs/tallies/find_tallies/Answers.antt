@@ -1,5 +1,6 @@
-use Rattle.er_store.proofs.Prelude.{◌≡◌, ◌∙◌, state, tallies, unchanged_then, IsUnchanged, HasCleanDisk}
-use Rattle.er_store.proofs.{LoadLemmas.{kept_stands, all_ok, all_err, unchanged_keeps, then_keeps}, Tallying.memory-fault}
+use Rattle.er_store.proofs.Prelude.{◌≡◌, ◌∙◌, state, tallies, unchanged_then, IsUnchanged, HasCleanDisk, subst, sym, ap, refl, Database}
+use Rattle.er_store.proofs.Prelude.{StandsAt, players_text}
+use Rattle.er_store.proofs.{LoadLemmas.{all_ok, all_err, unchanged_keeps, then_keeps}, Tallying.memory-fault}
 use Rattle.er_store.proofs.{TableLemmas.{player_is_ours, tally_is_ours}, Crash.{survives_both}}
 use Rattle.er_store.proofs.tallies.find_tallies.Given as given
 use Rattle.er_store.proofs.tallies.find_tallies.Goals as goal
@@ -13,11 +14,12 @@ read_table-requires-2 g c = tally_is_ours
 pub returns-clause-found : goal.returns-clause-found
 returns-clause-found g c clean e s stands sound =
     let early = c.read_table-2.ensures.clean clean in
-    let mid = state g.S.Store c.read_table.new.conn in
-    let here = kept_stands (state g.S.Store c.args.conn.now) mid e s (c.in-Ok.ensures.same early) stands in
+    let l = stands.layout in
+    let here = subst (λ (d : Database). StandsAt l d e s) (sym (c.in-Ok.ensures.same early).0.now_is) stands.stands in
     memory-fault c.tallies_of.result (λ list. list.items ≡ tallies e)
-    (c.tallies_of.ensures.event e sound (c.as_slice.ensures.value ∙ (c.in-Ok.ensures.finds early).exact stands.0 e s stands.1 sound)
-    (c.as_slice-2.ensures.value ∙ (c.in-Ok-read_table.ensures.finds clean).exact here.0 e s here.1 sound))
+    (c.tallies_of.ensures.event e sound (c.as_slice.ensures.value ∙ (c.in-Ok.ensures.finds early).exact l
+    (ap players_text stands.is) e s stands.stands sound)
+    (c.as_slice-2.ensures.value ∙ (c.in-Ok-read_table.ensures.finds clean).exact l refl e s here sound))
 
 -- the two reads change nothing
 same : (g : given.Over) (c : goal.After-drop-players-2 g) → HasCleanDisk (state g.S.Store c.read_table-2.new.conn)

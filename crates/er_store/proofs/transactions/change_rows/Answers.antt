@@ -1,28 +1,28 @@
 use Rattle.er_store.proofs.Prelude.{after, with_player, ◌≡◌, List, Option, Some, None, IfSome, option_map, sym, ap, subst, ◌∙◌}
-use Rattle.er_store.proofs.Prelude.{rules, on_ok_weaker, SetDropped, Match, IsStage, Old}
+use Rattle.er_store.proofs.Prelude.{rules, SetDropped, Match, IsStage, length, ◌+◌}
 use Rattle.std.proofs.Common.{Bor}
 use Rattle.er_event.specs.{Change.Fits, declared.changes.Change.TheVariants.SetScore}
-use Rattle.er_store.proofs.{Picking.numbered_before, Together.{old_player_added, makes_then}, Crash.{stays_then, was_clean}, Sizes.next_is}
+use Rattle.er_store.proofs.{Picking.numbered_before, Together.makes_then, Crash.{stays_then, was_clean}, Sizes.next_is}
 use Rattle.er_store.proofs.transactions.change_rows.Goals as goal
 
 pub returns-in-AddPlayer-clause-makes : goal.returns-in-AddPlayer-clause-makes
-returns-in-AddPlayer-clause-makes g c clean Old s rows stands =
+returns-in-AddPlayer-clause-makes g c clean l version s rows stands =
     let e = c.args.event.now in
     let is : with_player e c.as_str.result.now ≡ after e c.args.change.now = ap (with_player e) c.as_str.ensures.value
     ∙ sym (ap (after e) c.in-AddPlayer.is) in
-    rw (← is) (on_ok_weaker c.insert_player.result (old_player_added stands c.as_str.result.now)
-    (rw c.players.ensures.value at (c.insert_player.ensures.puts clean stands.has.tables)))
+    rw (← is) (c.add_player.ensures.makes clean l version e s rows stands (ap (λ ps. length ps + 1) c.players.ensures.value))
 
 pub returns-in-SetDropped-clause-makes : goal.returns-in-SetDropped-clause-makes
-returns-in-SetDropped-clause-makes g c clean Old s rows stands =
+returns-in-SetDropped-clause-makes g c clean l version s rows stands =
     let e = c.args.event.now in
     let number = c.from.result in
     let is : SetDropped number ≡ c.args.change.now = ap SetDropped (c.from.ensures ∙ c.get.ensures.value) ∙ sym c.in-SetDropped.is in
     let fits : Fits e (SetDropped number) = rw (← is) at c.requires.fits in
-    rw (← is) (c.set_dropped.ensures.makes clean e s rows stands (numbered_before number e.players fits.sound.players.numbered) fits.named)
+    let numbered = numbered_before number e.players fits.sound.players.numbered in
+    rw (← is) (c.drop_player.ensures.makes clean l version e s rows stands numbered fits.named)
 
 pub returns-in-SetScore-clause-makes : goal.returns-in-SetScore-clause-makes
-returns-in-SetScore-clause-makes g c clean l s rows stands =
+returns-in-SetScore-clause-makes g c clean l version s rows stands =
     let e = c.args.event.now in
     let is : SetScore c.from-in-SetScore.result c.from-in-SetScore-2.result c.in-SetScore.score ≡ c.args.change.now = search rules in
     let fits : Fits e (SetScore c.from-in-SetScore.result c.from-in-SetScore-2.result c.in-SetScore.score) = rw (← is) at c.requires.fits in
@@ -42,7 +42,7 @@ score_stages-requires-clause-few g c =
     led c.as_ref.result it.next c.as_ref.ensures.value (next_is e it.stage it.slot it.score it.next it.finished fits.sound)
 
 pub returns-in_ok-set_phase-in-SetBracketScore-clause-makes : goal.returns-in_ok-set_phase-in-SetBracketScore-clause-makes
-returns-in_ok-set_phase-in-SetBracketScore-clause-makes g c clean l s rows stands =
+returns-in_ok-set_phase-in-SetBracketScore-clause-makes g c clean l version s rows stands =
     let e = c.args.event.now in
     let it = c.in-SetBracketScore in
     let one = c.in_ok-score_stages-in-SetBracketScore.ensures.makes
@@ -51,7 +51,7 @@ returns-in_ok-set_phase-in-SetBracketScore-clause-makes g c clean l s rows stand
     rw (it.is, c.if-finished.true, ← c.as_ref.ensures.value) (makes_then one two)
 
 pub returns-else-finished-clause-makes : goal.returns-else-finished-clause-makes
-returns-else-finished-clause-makes g c clean l s rows stands =
+returns-else-finished-clause-makes g c clean l version s rows stands =
     rw (c.in-SetBracketScore.is, c.if-finished.false, ← c.as_ref.ensures.value)
     (c.in_ok-score_stages-in-SetBracketScore.ensures.makes clean l s rows stands)
 

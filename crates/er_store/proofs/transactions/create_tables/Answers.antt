@@ -1,11 +1,15 @@
 use Rattle.er_store.proofs.Prelude.{rules, true, ◌≡◌, on_ok_weaker, IfErr-weaker, State, HasCleanDisk, state, no_schema, IsReady}
-use Rattle.er_store.proofs.{LoadLemmas.all_err, Crash.{uncommitted_keeps, dropped_keeps, was_clean, written, leaves_either, shows_leaves}}
+use Rattle.er_store.proofs.Prelude.{Database, tally_schema, made_players, ap, ◌∙◌}
+use Rattle.er_store.proofs.{LoadLemmas.all_err}
+use Rattle.er_store.proofs.{Crash.{uncommitted_keeps, dropped_keeps, was_clean, written, leaves_either, shows_leaves_in}}
 use Rattle.er_store.proofs.transactions.create_tables.Given as given
 use Rattle.er_store.proofs.transactions.create_tables.Goals as goal
 
 -- the tables were made, as they were where the commit is reached
 ready : (g : given.Over) (c : goal.After-conn-2-1 g) → HasCleanDisk (state g.S.Store c.commit.new.self.0)
-    → (state g.S.Store c.args.conn.now).now.schema ≡ no_schema → IsReady (state g.S.Store c.make_event.new.tx.conn.now) c.args.event.now 0
+    → (state g.S.Store c.args.conn.now).now.schema ≡ no_schema
+    → IsReady c.args.version (state g.S.Store c.make_event.new.tx.conn.now) c.args.event.now 0
+    × ((state g.S.Store c.make_event.new.tx.conn.now).now.schema ≡ tally_schema (made_players c.args.version))
 ready g c late none =
     let readies = rw c.transaction-tx.ensures.begun at (c.in_ok-make_event.ensures.readies (was_clean c.commit.ensures.survives late)) in
     readies none
@@ -14,19 +18,22 @@ pub returns-clause-created : goal.returns-clause-created
 returns-clause-created g c clean none =
     let same : c.commit.new.self.0 ≡ c.conn-2-1.given.0 = search rules in
     let late = rw (← same) at clean in
-    rw (← same) (on_ok_weaker c.commit.result (λ done. written (ready g c late none) done.1) (c.commit.ensures.ok late))
+    rw (← same) (on_ok_weaker c.commit.result (λ done. (
+      written (ready g c late none).0 done.1,
+      ap (λ (d : Database). d.schema) done.1.now_is ∙ (ready g c late none).1,
+    )) (c.commit.ensures.ok late))
 
 pub returns-clause-acknowledged : goal.returns-clause-acknowledged
 returns-clause-acknowledged g c clean none =
-    on_ok_weaker c.commit.result (λ shown. shows_leaves (state g.S.Store c.conn-2-1.given.0) _ _
-    (λ db is_open may. g.met.S.Store.settled c.conn-2-1.given.0.store db is_open may) shown) (returns-clause-created g c clean none)
+    on_ok_weaker c.commit.result (λ shown. shows_leaves_in c.args.version (state g.S.Store c.conn-2-1.given.0) _ _
+    (λ db is_open may. g.met.S.Store.settled c.conn-2-1.given.0.store db is_open may) shown.0) (returns-clause-created g c clean none)
 
 pub returns-clause-crash : goal.returns-clause-crash
 returns-clause-crash g c none clean trees may =
     let start : State = record (state g.S.Store c.args.conn.now) { in_transaction = true } in
     let same : c.commit.new.self.0 ≡ c.conn-2-1.given.0 = search rules in
     let late = rw (← same) at clean in
-    leaves_either (ready g c late none) start start.may_leave (λ db left. left)
+    leaves_either (ready g c late none).0 start start.may_leave (λ db left. left)
     (rw c.transaction-tx.ensures.begun at c.make_event.ensures.stays.survives) c.commit.ensures.survives late trees (rw (← same) at may)
 
 -- a refusal leaves the tables as they were

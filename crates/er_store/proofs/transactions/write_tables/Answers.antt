@@ -1,23 +1,33 @@
 use Rattle.er_store.proofs.Prelude.{inl, rules, subst, sym, true, ◌+◌, ◌≡◌, on_ok_weaker, IfErr-weaker, HasCleanDisk, state, after, Shows}
-use Rattle.er_store.proofs.Prelude.{KeepsOthers, KeepsRest, IsReady, Layout, Old, Database}
+use Rattle.er_store.proofs.Prelude.{KeepsOthers, KeepsRest, IsReady, Layout, version_of, HasTablesAt, Database, inr, ◌⊎◌, ℕ, EventValue}
+use Rattle.er_store.proofs.Prelude.{Trees, IsStored, IsStoredIn}
+use Rattle.er_store.proofs.Layouts.{one_layout}
 use Rattle.er_store.proofs.{LoadLemmas.all_err, Crash.{uncommitted_keeps, dropped_keeps, was_clean, survives_both, leaves_old, written}}
-use Rattle.er_store.proofs.Crash.{leaves_either, shows_leaves}
+use Rattle.er_store.proofs.Crash.{leaves_either, shows_leaves, stored_either}
 use Rattle.er_store.proofs.transactions.write_tables.Given as given
 use Rattle.er_store.proofs.transactions.write_tables.Goals as goal
 
--- there is one layout
-only_old : (l : Layout) {old new : Database} → KeepsRest l old new → KeepsOthers old new
-only_old Old keeps = keeps
+-- a schema has one layout of a version
+rest_kept : (l : Layout) {old new : Database} → HasTablesAt l old.schema → KeepsRest l old new → KeepsOthers (version_of l) old new
+rest_kept l {old} {new} has keeps = record {
+  schema = keeps.schema;
+  rest = λ m is more. subst (λ at. KeepsRest at old new) (one_layout l m (sym is) has more) keeps;
+}
 
 -- the change went well, as it did where the commit is reached
 ready : (g : given.Over) (c : goal.After-conn-2-1 g) → HasCleanDisk (state g.S.Store c.commit.new.self.0)
-    → Shows (state g.S.Store c.args.conn.now) c.args.event.now c.args.serial
-    → IsReady (state g.S.Store c.change_event.new.tx.conn.now) (after c.args.event.now c.args.change.now) (c.args.serial + 1)
-    × KeepsOthers (state g.S.Store c.args.conn.now).now (state g.S.Store c.change_event.new.tx.conn.now).now
+    → Shows c.args.version (state g.S.Store c.args.conn.now) c.args.event.now c.args.serial
+    → IsReady c.args.version (state g.S.Store c.change_event.new.tx.conn.now) (after c.args.event.now c.args.change.now) (c.args.serial + 1)
+    × KeepsOthers c.args.version (state g.S.Store c.args.conn.now).now (state g.S.Store c.change_event.new.tx.conn.now).now
 ready g c late was =
     let begins = rw c.transaction-tx.ensures.begun at (c.in_ok-change_event.ensures.makes (was_clean c.commit.ensures.survives late)) in
-    let made = begins was.stands.0 was.stands.1 in
-    (record { sound = made.moves.sound; stands = (was.stands.0, made.stands) }, only_old was.stands.0 made.moves.keeps)
+    let old = (state g.S.Store c.args.conn.now).now in
+    let new = (state g.S.Store c.change_event.new.tx.conn.now).now in
+    let at = was.stands in
+    let made = begins at.layout at.is at.stands in (
+      record { sound = made.moves.sound; stands = record { layout = at.layout; is = at.is; stands = made.stands } },
+      subst (λ v. KeepsOthers v old new) at.is (rest_kept at.layout at.stands.has.tables made.moves.keeps),
+    )
 
 pub returns-clause-written : goal.returns-clause-written
 returns-clause-written g c clean was =
@@ -25,22 +35,31 @@ returns-clause-written g c clean was =
     let same : c.commit.new.self.0 ≡ c.conn-2-1.given.0 = search rules in
     let late = rw (← same) at clean in
     let it = ready g c late was in
-    rw (← same) (on_ok_weaker c.commit.result (λ done. (written it.0 done.1, subst (KeepsOthers old.now) (sym done.1.now_is) it.1))
+    rw (← same) (on_ok_weaker c.commit.result (λ done. (
+      written it.0 done.1,
+      subst (KeepsOthers c.args.version old.now)
+          (sym done.1.now_is) it.1,
+    ))
     (c.commit.ensures.ok late))
 
 pub returns-clause-acknowledged : goal.returns-clause-acknowledged
 returns-clause-acknowledged g c clean was =
-    on_ok_weaker c.commit.result (λ shown. shows_leaves (state g.S.Store c.conn-2-1.given.0) _ _
+    on_ok_weaker c.commit.result (λ shown. shows_leaves c.args.version (state g.S.Store c.conn-2-1.given.0) _ _
     (λ db is_open may. g.met.S.Store.settled c.conn-2-1.given.0.store db is_open may) shown.0) (returns-clause-written g c clean was)
+
+in_either : {v : ℕ} {P : Type 0} {e : EventValue} {serial : ℕ} {trees : Trees} → P ⊎ IsStoredIn v e serial trees
+    → P ⊎ IsStored e serial trees
+in_either (inl before) = inl before
+in_either (inr after) = inr (stored_either after)
 
 pub returns-clause-crash : goal.returns-clause-crash
 returns-clause-crash g c was clean trees may =
     let old = state g.S.Store c.args.conn.now in
     let same : c.commit.new.self.0 ≡ c.conn-2-1.given.0 = search rules in
     let late = rw (← same) at clean in
-    leaves_either (ready g c late was).0 (record old { in_transaction = true }) _
-    (shows_leaves old _ _ (λ db is_open left. g.met.S.Store.settled c.args.conn.now.store db is_open left) was)
-    (rw c.transaction-tx.ensures.begun at c.change_event.ensures.stays.survives) c.commit.ensures.survives late trees (rw (← same) at may)
+    in_either (leaves_either (ready g c late was).0 (record old { in_transaction = true }) _
+    (shows_leaves c.args.version old _ _ (λ db is_open left. g.met.S.Store.settled c.args.conn.now.store db is_open left) was)
+    (rw c.transaction-tx.ensures.begun at c.change_event.ensures.stays.survives) c.commit.ensures.survives late trees (rw (← same) at may))
 
 -- where the change is refused, the transaction is dropped
 pub returns-in_err-change_event-clause-crash : goal.returns-in_err-change_event-clause-crash
@@ -49,8 +68,9 @@ returns-in_err-change_event-clause-crash g c was clean trees may =
     let end = c.drop-tx.new.self.0 in
     let same : end ≡ c.conn-1.given.0 = search rules in
     let quiet = survives_both (rw c.transaction-tx.ensures.begun at c.change_event.ensures.stays.survives) c.drop-tx.ensures.survives in
-    inl (leaves_old old (state g.S.Store end) _ _ (λ db is_open left. g.met.S.Store.settled c.args.conn.now.store db is_open left) was
-    quiet (rw (← same) at clean) trees (rw (← same) at may))
+    inl (stored_either (leaves_old c.args.version old (state g.S.Store end) _ _
+    (λ db is_open left. g.met.S.Store.settled c.args.conn.now.store db is_open left) was
+    quiet (rw (← same) at clean) trees (rw (← same) at may)))
 
 -- a refusal leaves the tables as they were
 pub returns-in_err-change_event-clause-kept : goal.returns-in_err-change_event-clause-kept

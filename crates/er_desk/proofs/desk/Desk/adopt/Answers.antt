@@ -101,7 +101,8 @@ returns-in-Ok-true-clause-found g c point stands sound clean =
     let found = c.in_ok-store.ensures.found point.event point.serial stands sound.but_for_seeds clean in
     record {
       found = point_is point c.in_ok-store.event c.in_ok-store.serial found.0 found.1;
-      shows = shows_as (tables.state g.S.Store c.in_ok-store.store) point.event c.in_ok-store.event point.serial c.in_ok-store.serial
+      shows = shows_as (tables.version_in c.in_ok-store.store)
+          (tables.state g.S.Store c.in_ok-store.store) point.event c.in_ok-store.event point.serial c.in_ok-store.serial
           found.0 found.1 found.2;
       leaves = λ late. c.in_ok-store.ensures.leaves late point.event point.serial stands sound.but_for_seeds;
     }
@@ -143,6 +144,7 @@ returns-in-Ok-false-clause-first g c clean =
         (
           c.in_ok-store.event,
           c.in_ok-store.serial,
+          tables.version_in c.in_ok-store.store,
           reads.0,
           reads.1,
           c.in_ok-store.ensures.sound,

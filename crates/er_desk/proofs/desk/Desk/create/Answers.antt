@@ -4,8 +4,9 @@ use Rattle.sqlite.specs.Held.{state}
 use Rattle.er_event.specs.declared.refusals.Refusal.{Refusal, TheVariants.{BadSetup, EventExists}}
 use Rattle.er_event.specs.{Event.EventValue, Change.created, Sound.IsSoundButForSeeds}
 use Rattle.er_rules.specs.Sound.{IsSound, HasSeeds}
-use Rattle.er_store.specs.{Fault.IsFault, Standing.{IsStored, Leaves, Either}}
-use Rattle.er_desk.proofs.Turns.{same_keeps, standing_same}
+use Rattle.er_store.specs.{Fault.IsFault, Standing.{IsStored, Shows, Leaves, Either}}
+use Rattle.er_store.specs.Store as tables
+use Rattle.er_desk.proofs.{Adopting.{stored_either, stored_or}, Turns.{same_keeps, standing_same}}
 use Rattle.er_desk.proofs.desk.Desk.create.Goals as goal
 
 setup_exists : BadSetup ≡ EventExists → ⊥
@@ -43,7 +44,8 @@ pub returns-in_err-store-clause-crash : goal.returns-in_err-store-clause-crash
 returns-in_err-store-clause-crash g c =
     let p = err_from_is_err_and c.from_residual.result c.from_residual.ensures.1 in
     rw (p.1, p.2) (λ none. subst (λ (e : EventValue). Leaves (state g.S.Store c.in_err-store.field-0.0.0)
-    (Either (state g.S.Store c.args.conn).may_leave (IsStored e 0))) c.in-Ok.ensures.value (c.in_err-store.ensures.crash none))
+    (Either (state g.S.Store c.args.conn).may_leave (IsStored e 0))) c.in-Ok.ensures.value
+    (λ clean trees may. stored_or (c.in_err-store.ensures.crash none clean trees may)))
 
 pub returns-in_err-store-clause-spares : goal.returns-in_err-store-clause-spares
 returns-in_err-store-clause-spares g c =
@@ -100,9 +102,11 @@ pub returns-clause-absent : goal.returns-clause-absent
 returns-clause-absent g c clean = (c.in_ok-store.ensures.absent clean).0
 
 pub returns-clause-created : goal.returns-clause-created
-returns-clause-created g c = c.in_ok-store.ensures.created
+returns-clause-created g c clean none =
+    subst (λ (v : ℕ). Shows v (tables.state g.S.Store c.in_ok-store.store) c.in-Ok.event 0) (sym c.in_ok-store.ensures.version)
+    (c.in_ok-store.ensures.created clean none)
 
 pub returns-clause-acknowledged : goal.returns-clause-acknowledged
 returns-clause-acknowledged g c none clean trees may =
     subst (λ (e : EventValue). IsStored e 0 trees) c.in-Ok.ensures.value
-    (c.in_ok-store.ensures.acknowledged clean none trees may)
+    (stored_either (c.in_ok-store.ensures.acknowledged clean none trees may))

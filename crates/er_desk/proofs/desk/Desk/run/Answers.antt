@@ -15,7 +15,8 @@ loop-command-init g c = record {
   waits = λ stopped. refl;
   clean = λ clean. clean;
   stands = λ clean shows runs. shows;
-  others = λ clean shows is_open. keeps_self (state g.S.Store c.args.self.now).now;
+  version = refl;
+  others = λ clean shows is_open. keeps_self _ (state g.S.Store c.args.self.now).now;
   crash = λ runs shows clean stopped. absurd (true≢false (sym stopped ∙ runs));
 }
 
@@ -43,14 +44,15 @@ loop-command-preserved g c =
       clean = λ clean. inv.clean (took.clean clean);
       stands = λ clean shows runs. took.stands clean
           (inv.stands (took.clean clean) shows (was_running (standing old) (standing new) cmd reply runs took.turn)) runs;
-      others = λ clean shows is_open. keeps_more g.S.Store first old new took.waits (inv.stands (took.clean clean) shows)
+      version = took.version ∙ inv.version;
+      others = λ clean shows is_open. keeps_more g.S.Store first old new inv.version took.waits (inv.stands (took.clean clean) shows)
           (inv.others (took.clean clean) shows) (took.others clean) is_open;
       crash = rw (more, pushed) (crash_more g.S.Store first old new (take at items) rs cmd reply inv.ran took.turn took.waits took.undecided
           took.clean inv.stands inv.crash);
     }
 
 pub returns-in_err-replies-clause-others : goal.returns-in_err-replies-clause-others
-returns-in_err-replies-clause-others g c clean shows is_open = keeps_self (state g.S.Store c.args.self.now).now
+returns-in_err-replies-clause-others g c clean shows is_open = keeps_self _ (state g.S.Store c.args.self.now).now
 
 pub returns : goal.returns
 returns g c =
@@ -69,8 +71,9 @@ returns g c =
       waits = inv.waits;
       clean = inv.clean;
       stands = inv.stands;
+      version = inv.version;
       others = inv.others;
       crash = λ runs shows clean trees may.
-          crash_end g.S.Store first now c.args.commands.items rs ran (c.shown_is_stored.ensures _ _) inv.stands
+          crash_end g.S.Store first now c.args.commands.items rs ran (c.shown_is_stored.ensures _ _ _) inv.stands
           (subst (λ (cs : List Command). CrashesAt g.S.Store first now cs rs) all inv.crash) runs shows clean trees may;
     }

@@ -30,7 +30,8 @@ returns-clause-clean g c = c.slip-read.ensures.clean
 pub returns-clause-stands : goal.returns-clause-stands
 returns-clause-stands g c clean shows runs =
     let desk = c.args.self.now in
-    still_shows (state g.S.Store desk) (tables.state g.S.Store c.slip-read.new.self) desk.event desk.serial shows
+    still_shows (tables.version_in desk.store) (tables.version_in c.slip-read.new.self) (state g.S.Store desk)
+    (tables.state g.S.Store c.slip-read.new.self) desk.event desk.serial c.slip-read.ensures.version shows
     (c.slip-read.ensures.same clean runs)
 
 pub returns-clause-kept : goal.returns-clause-kept
@@ -39,13 +40,14 @@ returns-clause-kept g c = c.slip-read.ensures.kept
 pub returns-clause-others : goal.returns-clause-others
 returns-clause-others g c clean shows is_open =
     let desk = c.args.self.now in
-    read_others _ c.slip-read.result (tables.is_stopped c.slip-read.new.self) (tables.state g.S.Store desk.store)
+    read_others _ c.slip-read.result (tables.is_stopped c.slip-read.new.self) (tables.version_in desk.store)
+    (tables.state g.S.Store desk.store)
     (tables.state g.S.Store c.slip-read.new.self) shows.settled is_open
     (c.slip-read.ensures.stops (sym desk.told ∙ c.if-self.false)) (c.slip-read.ensures.same clean) (c.slip-read.ensures.kept clean)
 
 pub returns-clause-crash : goal.returns-clause-crash
 returns-clause-crash g c shows clean trees may =
-    c.shown_is_stored.ensures _ _ shows (c.slip-read.ensures.clean clean) trees (c.slip-read.ensures.crash clean trees may)
+    c.shown_is_stored.ensures _ _ _ shows (c.slip-read.ensures.clean clean) trees (c.slip-read.ensures.crash clean trees may)
 
 -- ---- the desk was stopped
 
@@ -65,16 +67,16 @@ pub returns-then-self-clause-kept : goal.returns-then-self-clause-kept
 returns-then-self-clause-kept g c clean = same_keeps (state g.S.Store c.args.self.now)
 
 pub returns-then-self-clause-others : goal.returns-then-self-clause-others
-returns-then-self-clause-others g c clean shows is_open = keeps_self (state g.S.Store c.args.self.now).now
+returns-then-self-clause-others g c clean shows is_open = keeps_self _ (state g.S.Store c.args.self.now).now
 
 pub returns-then-self-clause-crash : goal.returns-then-self-clause-crash
-returns-then-self-clause-crash g c shows = c.shown_is_stored.ensures _ _ shows
+returns-then-self-clause-crash g c shows = c.shown_is_stored.ensures _ _ _ shows
 
 -- ---- the two as one record
 
 pub returns-clause-asked : goal.returns-clause-asked
 returns-clause-asked g c = reading_asks g.S.Store c.args.self.now _ (returns-clause-waits g c) refl (returns-clause-clean g c)
-    (returns-clause-stands g c) (returns-clause-others g c) (returns-clause-crash g c)
+    (returns-clause-stands g c) (returns-clause-others g c) c.slip-read.ensures.version (returns-clause-crash g c)
 
 pub returns-then-self-clause-asked : goal.returns-then-self-clause-asked
 returns-then-self-clause-asked g c = same_asks g.S.Store c.args.self.now (returns-then-self-clause-crash g c)

@@ -31,7 +31,8 @@ returns-clause-clean g c = c.read_standings-read.ensures.clean
 pub returns-clause-stands : goal.returns-clause-stands
 returns-clause-stands g c clean shows runs =
     let desk = c.args.self.now in
-    still_shows (state g.S.Store desk) (tables.state g.S.Store c.read_standings-read.new.store) desk.event desk.serial shows
+    still_shows (tables.version_in desk.store) (tables.version_in c.read_standings-read.new.store) (state g.S.Store desk)
+    (tables.state g.S.Store c.read_standings-read.new.store) desk.event desk.serial c.read_standings-read.ensures.version shows
     (c.read_standings-read.ensures.same clean runs)
 
 pub returns-clause-kept : goal.returns-clause-kept
@@ -40,13 +41,14 @@ returns-clause-kept g c = c.read_standings-read.ensures.kept
 pub returns-clause-others : goal.returns-clause-others
 returns-clause-others g c clean shows is_open =
     let desk = c.args.self.now in
-    read_others _ c.read_standings-read.result (tables.is_stopped c.read_standings-read.new.store) (tables.state g.S.Store desk.store)
+    read_others _ c.read_standings-read.result (tables.is_stopped c.read_standings-read.new.store) (tables.version_in desk.store)
+    (tables.state g.S.Store desk.store)
     (tables.state g.S.Store c.read_standings-read.new.store) shows.settled is_open
     c.read_standings-read.ensures.stops (c.read_standings-read.ensures.same clean) (c.read_standings-read.ensures.kept clean)
 
 pub returns-clause-crash : goal.returns-clause-crash
 returns-clause-crash g c shows clean trees may =
-    let read = c.read_standings-read.ensures in c.shown_is_stored.ensures _ _ shows (read.clean clean) trees (read.crash clean trees may)
+    let read = c.read_standings-read.ensures in c.shown_is_stored.ensures _ _ _ shows (read.clean clean) trees (read.crash clean trees may)
 
 -- ---- the desk was stopped
 
@@ -60,16 +62,16 @@ pub returns-then-self-clause-kept : goal.returns-then-self-clause-kept
 returns-then-self-clause-kept g c clean = same_keeps (state g.S.Store c.args.self.now)
 
 pub returns-then-self-clause-others : goal.returns-then-self-clause-others
-returns-then-self-clause-others g c clean shows is_open = keeps_self (state g.S.Store c.args.self.now).now
+returns-then-self-clause-others g c clean shows is_open = keeps_self _ (state g.S.Store c.args.self.now).now
 
 pub returns-then-self-clause-crash : goal.returns-then-self-clause-crash
-returns-then-self-clause-crash g c shows = c.shown_is_stored.ensures _ _ shows
+returns-then-self-clause-crash g c shows = c.shown_is_stored.ensures _ _ _ shows
 
 -- ---- the two as one record
 
 pub returns-clause-asked : goal.returns-clause-asked
 returns-clause-asked g c = reading_asks g.S.Store c.args.self.now _ (returns-clause-waits g c) refl (returns-clause-clean g c)
-    (returns-clause-stands g c) (returns-clause-others g c) (returns-clause-crash g c)
+    (returns-clause-stands g c) (returns-clause-others g c) c.read_standings-read.ensures.version (returns-clause-crash g c)
 
 pub returns-then-self-clause-asked : goal.returns-then-self-clause-asked
 returns-then-self-clause-asked g c = same_asks g.S.Store c.args.self.now (returns-then-self-clause-crash g c)

@@ -61,5 +61,6 @@ returns-clause-asked g c =
       clean = took.clean;
       stands = took.stands;
       others = took.others;
+      version = took.version;
       crash = command_crash g.S.Store old new c.args.command c.take.result took.turn took.acknowledged took.undecided took.refused;
     }

@@ -24,13 +24,13 @@ returns-in_err-change-clause-asks g c =
     let turn = returns-in_err-change-clause-turn g c in (turn_asks _ _ _ _ turn, waits_of _ _ _ _ turn)
 
 pub returns-in_err-change-clause-others : goal.returns-in_err-change-clause-others
-returns-in_err-change-clause-others g c clean shows is_open = keeps_self (state g.S.Store c.args.self.now).now
+returns-in_err-change-clause-others g c clean shows is_open = keeps_self _ (state g.S.Store c.args.self.now).now
 
 pub returns-in_err-change-clause-undecided : goal.returns-in_err-change-clause-undecided
-returns-in_err-change-clause-undecided g c runs shows clean trees may = inl (c.shown_is_stored.ensures _ _ shows clean trees may)
+returns-in_err-change-clause-undecided g c runs shows clean trees may = inl (c.shown_is_stored.ensures _ _ _ shows clean trees may)
 
 pub returns-in_err-change-clause-refused : goal.returns-in_err-change-clause-refused
-returns-in_err-change-clause-refused g c shows = on_error c.from_residual.result _ (λ runs. c.shown_is_stored.ensures _ _ shows)
+returns-in_err-change-clause-refused g c shows = on_error c.from_residual.result _ (λ runs. c.shown_is_stored.ensures _ _ _ shows)
 
 -- ---- all serials are given
 
@@ -52,13 +52,14 @@ returns-then-self-eq-MAX_SERIAL-clause-asks g c =
     let turn = returns-then-self-eq-MAX_SERIAL-clause-turn g c in (turn_asks _ _ _ _ turn, waits_of _ _ _ _ turn)
 
 pub returns-then-self-eq-MAX_SERIAL-clause-others : goal.returns-then-self-eq-MAX_SERIAL-clause-others
-returns-then-self-eq-MAX_SERIAL-clause-others g c clean shows is_open = keeps_self (state g.S.Store c.args.self.now).now
+returns-then-self-eq-MAX_SERIAL-clause-others g c clean shows is_open = keeps_self _ (state g.S.Store c.args.self.now).now
 
 pub returns-then-self-eq-MAX_SERIAL-clause-undecided : goal.returns-then-self-eq-MAX_SERIAL-clause-undecided
-returns-then-self-eq-MAX_SERIAL-clause-undecided g c runs shows clean trees may = inl (c.shown_is_stored.ensures _ _ shows clean trees may)
+returns-then-self-eq-MAX_SERIAL-clause-undecided g c runs shows clean trees may = inl
+    (c.shown_is_stored.ensures _ _ _ shows clean trees may)
 
 pub returns-then-self-eq-MAX_SERIAL-clause-refused : goal.returns-then-self-eq-MAX_SERIAL-clause-refused
-returns-then-self-eq-MAX_SERIAL-clause-refused g c shows runs = c.shown_is_stored.ensures _ _ shows
+returns-then-self-eq-MAX_SERIAL-clause-refused g c shows runs = c.shown_is_stored.ensures _ _ _ shows
 
 -- ---- the change is written, or not
 
@@ -99,7 +100,7 @@ returns-clause-undecided g c runs shows clean trees may =
 
 pub returns-clause-refused : goal.returns-clause-refused
 returns-clause-refused g c shows = leaves_refused g.S.Store c.args.self.now c.write.new.self c.write.result
-    (c.shown_is_stored.ensures _ _ shows) c.write.ensures.refused
+    (c.shown_is_stored.ensures _ _ _ shows) c.write.ensures.refused
 
 -- ---- the rest of what `write` says
 
@@ -172,7 +173,7 @@ pub returns-then-self-clause-kept : goal.returns-then-self-clause-kept
 returns-then-self-clause-kept g c clean = same_keeps (state g.S.Store c.args.self.now)
 
 pub returns-then-self-clause-others : goal.returns-then-self-clause-others
-returns-then-self-clause-others g c clean shows is_open = keeps_self (state g.S.Store c.args.self.now).now
+returns-then-self-clause-others g c clean shows is_open = keeps_self _ (state g.S.Store c.args.self.now).now
 
 pub returns-in_err-change-clause-same : goal.returns-in_err-change-clause-same
 returns-in_err-change-clause-same g c = on_error c.from_residual.result _ (λ runs. refl)

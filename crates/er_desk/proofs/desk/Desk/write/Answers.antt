@@ -7,10 +7,10 @@ use Rattle.er_desk.proofs.Turns.{keeps_self, standing_same}
 use Rattle.er_desk.proofs.desk.Desk.write.Goals as goal
 
 pub returns-in_err-next-clause-crash : goal.returns-in_err-next-clause-crash
-returns-in_err-next-clause-crash g c shows clean trees may = inl (c.shown_is_stored.ensures _ _ shows clean trees may)
+returns-in_err-next-clause-crash g c shows clean trees may = inl (c.shown_is_stored.ensures _ _ _ shows clean trees may)
 
 pub returns-in_err-next-clause-others : goal.returns-in_err-next-clause-others
-returns-in_err-next-clause-others g c clean shows is_open = keeps_self (state g.S.Store c.args.self.now).now
+returns-in_err-next-clause-others g c clean shows is_open = keeps_self _ (state g.S.Store c.args.self.now).now
 
 pub invariant_of-self-clause-sound : goal.invariant_of-self-clause-sound
 invariant_of-self-clause-sound g c = subst (λ (e : EventValue). ∥ IsSound e ∥₁) (sym c.in_ok-next.ensures.ok)

@@ -1,4 +1,5 @@
-use Rattle.er_event.proofs.Prelude.{phase_code, arith, pos, refl, sym, ◌∙◌, ◌≡◌}
+use Rattle.er_event.proofs.Prelude.{phase_code, arith, pos, refl, sym, ap, ◌∙◌, ◌≡◌, ◌≤◌, EventRow}
+use Rattle.er_event.specs.Rows.{event_row}
 use Rattle.std.proofs.lemmas.Int.{ints}
 use Rattle.er_event.proofs.PartsLemmas.{read_is}
 use Rattle.er_event.proofs.rows.event.read_row.Goals as goal
@@ -11,12 +12,30 @@ returns-clause-value c =
     let named = c.in-Ok.ensures in
     let limits = c.is_setup.ensures.0 c.if-not-is_setup.false in
     let id : row.id ≡ pos 1 = omega (arith, ints) in
-    let version : row.version ≡ pos 1 = omega (arith, ints) in
     let serial : row.serial ≡ pos counted.0 = omega (arith, ints, counted.2) in
     let rounds : row.rounds ≡ pos some.rounds = omega (arith, ints, some.ensures.value) in
     let cut : row.cut ≡ pos some.cut = omega (arith, ints, some.ensures'.value) in
     let phase : row.phase ≡ pos (phase_code some.phase) = omega (arith, ints, some.ensures''.value) in
     let name : row.name ≡ c.in-Ok.name = sym (named.value ∙ c.as_slice.ensures) in
     let lawful = named.lawful.0 refl in
-    read_is row _ 1 counted.0 id version refl (λ first. omega (arith, limits.1)) serial name rounds cut phase counted.1
+    let kept = c.in-Some.ensures.value in
+    let version : row.version ≡ pos kept.0 = omega (arith, ints, kept.1) in
+    read_is row _ kept.0 counted.0 id version kept.2 (kept.3 _ (omega arith)) serial name rounds cut phase counted.1
     (record { name = rw (sym named.value) at lawful; rounds = (limits.0, limits.1); cut = limits.2 })
+
+-- tables of version 1 keep no more than their rounds
+pub returns-then-rounds-most-clause-damaged : goal.returns-then-rounds-most-clause-damaged
+returns-then-rounds-most-clause-damaged c place bad = (
+  (cc),
+  λ e is.
+      let row = c.args.row.now in
+      let some = c.in-Some-Some-Some in
+      let same : row ≡ event_row is.version e is.serial = cc in
+      let said : row.version ≡ pos is.version = ap (λ (r : EventRow). r.version) same in
+      let rounds : row.rounds ≡ pos e.rounds = ap (λ (r : EventRow). r.rounds) same in
+      let read : row.rounds ≡ pos some.rounds = omega (arith, ints, some.ensures.value) in
+      let equal : some.rounds ≡ e.rounds = omega (arith, ints) in
+      let within : e.rounds ≤ c.in-Some.most
+      = c.in-Some.ensures.exact is.version e.rounds is.known (omega (arith, ints)) is.set_up.rounds.1 is.keeps in
+      absurd (omega arith),
+)

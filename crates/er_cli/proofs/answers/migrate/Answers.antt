@@ -1,0 +1,27 @@
+use Rattle.std.proofs.Common.{Ok, Err, refl}
+use Rattle.er_desk.specs.Desk.{version_in}
+use Rattle.er_cli.proofs.answers.migrate.Goals as goal
+
+pub returns-in-Ok-clause-answers : goal.returns-in-Ok-clause-answers
+returns-in-Ok-clause-answers g c =
+    (Ok c.in-Ok.serial, version_in c.args.desk.now, version_in c.migrate.new.self, c.in-Ok.ensures.turn, refl)
+
+pub returns-in-Err-clause-answers : goal.returns-in-Err-clause-answers
+returns-in-Err-clause-answers g c =
+    (Err c.in-Err.why, version_in c.args.desk.now, version_in c.migrate.new.self, c.in-Err.ensures.turn, refl)
+
+pub returns-in-Ok-clause-moved : goal.returns-in-Ok-clause-moved
+returns-in-Ok-clause-moved g c = record {
+  turn = (Ok c.in-Ok.serial, c.in-Ok.ensures.turn, refl);
+  clean = c.in-Ok.ensures.clean;
+  stands = λ may clean shows. c.in-Ok.ensures.stands clean shows may;
+  crash = λ may shows. c.in-Ok.ensures.crash shows may;
+}
+
+pub returns-in-Err-clause-moved : goal.returns-in-Err-clause-moved
+returns-in-Err-clause-moved g c = record {
+  turn = (Err c.in-Err.why, c.in-Err.ensures.turn, refl);
+  clean = c.in-Err.ensures.clean;
+  stands = λ may clean shows. c.in-Err.ensures.stands clean shows may;
+  crash = λ may shows. c.in-Err.ensures.crash shows may;
+}
