@@ -73,9 +73,9 @@ fn is_refused(alloc: Global, rounds: u8, cut: u8) -> bool {
 #[test]
 fn events_are_set_up_within_the_limits(rt: HostRuntime) -> Result<(), Fail> {
     let alloc = rt.alloc();
-    assert!(rt; is_set_up(alloc, 1, 0) && is_set_up(alloc, 9, 8));
+    assert!(rt; is_set_up(alloc, 1, 0) && is_set_up(alloc, 12, 8));
     assert!(rt; is_set_up(alloc, 3, 2) && is_set_up(alloc, 3, 4));
-    assert!(rt; is_refused(alloc, 0, 0) && is_refused(alloc, 10, 0));
+    assert!(rt; is_refused(alloc, 0, 0) && is_refused(alloc, 13, 0));
     assert!(rt; is_refused(alloc, 3, 1) && is_refused(alloc, 3, 3) && is_refused(alloc, 3, 16));
     Ok(())
 }

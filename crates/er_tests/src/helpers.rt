@@ -192,7 +192,7 @@ pub fn submit<S: Alter>(alloc: Global, desk: &mut Desk<S>, line: &str) -> Option
 }
 
 /// Whether a desk takes these commands, a line each.
-fn takes(alloc: Global, desk: &mut Desk<MemStore>, lines: &str) -> bool {
+pub fn takes(alloc: Global, desk: &mut Desk<MemStore>, lines: &str) -> bool {
     lines
         .lines()
         .all(|line| matches!(submit(alloc, desk, line), Some(Ok(_))))

@@ -11,6 +11,8 @@ mod events;
 #[cfg(test)]
 mod helpers;
 #[cfg(test)]
+mod migrations;
+#[cfg(test)]
 mod pairings;
 #[cfg(test)]
 mod requests;

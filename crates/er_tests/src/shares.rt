@@ -1,7 +1,7 @@
-ghost use Rattle.std.specs.Prelude.{IfOk};
+ghost use Rattle.std.specs.Prelude.{◌≡◌, ◌+◌, ◌≤◌, IfOk};
 ghost use Rattle.er_share.specs.Share.{IsBase};
 
-use er_share::{GameRecord, MatchRecord, Share, average, gwp, hundredths, mwp};
+use er_share::{GameRecord, MatchRecord, Mean, Share, average, gwp, hundredths, mwp};
 use std::alloc::Global;
 use std::test::Fail;
 
@@ -20,9 +20,10 @@ fn match_win_percentages(rt: HostRuntime) -> Result<(), Fail> {
     assert!(rt; is_match_percentage(16, 8, 6667) && is_match_percentage(7, 8, 3300));
     assert!(rt; is_match_percentage(10, 7, 4762) && is_match_percentage(9, 5, 6000));
     assert!(rt; is_match_percentage(0, 0, 3300));
-    assert!(rt; MatchRecord::try_new(27, 9).is_some());
+    assert!(rt; MatchRecord::try_new(36, 12).is_some());
+    assert_eq!(rt; MatchRecord::try_new(37, 12), None);
     assert_eq!(rt; MatchRecord::try_new(28, 9), None);
-    assert_eq!(rt; MatchRecord::try_new(0, 10), None);
+    assert_eq!(rt; MatchRecord::try_new(0, 13), None);
     Ok(())
 }
 
@@ -41,7 +42,34 @@ fn game_win_percentages(rt: HostRuntime) -> Result<(), Fail> {
     assert!(rt; is_game_percentage(21, 10, 7000) && is_game_percentage(9, 11, 3300));
     assert!(rt; is_game_percentage(3, 3, 3333) && is_game_percentage(0, 0, 3300));
     assert!(rt; is_game_percentage(162, 54, 10_000) && is_game_percentage(63, 32, 6563));
-    assert_eq!(rt; GameRecord::try_new(0, 55), None);
+    assert!(rt; is_game_percentage(216, 72, 10_000));
+    assert_eq!(rt; GameRecord::try_new(0, 73), None);
+    Ok(())
+}
+
+/// With three shares more, which are alike.
+fn with_three(mean: Mean, share: Share) -> Mean
+    requires room { mean.count ≤ 9 }
+    requires base { IsBase share }
+    ensures count { result.count ≡ mean.count + 3 }
+{
+    mean.with(share).with(share).with(share)
+}
+
+/// The average of eleven who won all of twelve rounds and of one who won none, as it is printed.
+fn average_of_twelve() -> Result<u32, Fail> {
+    let (all, none) = (match_win(36, 12)?, match_win(0, 12)?);
+    let three = Mean::none().with(none).with(all).with(all);
+    let nine = with_three(with_three(three, all), all);
+    Ok(hundredths(with_three(nine, all).average()))
+}
+
+/// Worked example 46.
+#[test]
+fn shares_of_twelve_rounds(rt: HostRuntime) -> Result<(), Fail> {
+    assert!(rt; is_match_percentage(36, 12, 10_000) && is_match_percentage(31, 12, 8611));
+    assert!(rt; is_game_percentage(143, 71, 6714));
+    assert_eq!(rt; average_of_twelve()?, 9442);
     Ok(())
 }
 
@@ -66,8 +94,8 @@ fn has_parts(alloc: Global, share: Share, parts: &str) -> Result<bool, Fail> {
 #[test]
 fn a_third_is_above_the_minimum(rt: HostRuntime) -> Result<(), Fail> {
     let (third, minimum) = (game_win(3, 3)?, game_win(0, 0)?);
-    assert!(rt; has_parts(rt.alloc(), third, "413908383987095320106784000")?);
-    assert!(rt; has_parts(rt.alloc(), minimum, "409769300147224366905716160")?);
+    assert!(rt; has_parts(rt.alloc(), third, "155898487696009919596008886476864000")?);
+    assert!(rt; has_parts(rt.alloc(), minimum, "154339502819049820400048797612095360")?);
     assert!(rt; third > minimum && third == third);
     Ok(())
 }
@@ -90,9 +118,9 @@ fn smaller_average() -> Result<Share, Fail> {
 fn averages_that_print_alike_differ(rt: HostRuntime) -> Result<(), Fail> {
     let (first, second) = (greater_average()?, smaller_average()?);
     assert_eq!(rt; (hundredths(first), hundredths(second)), (5265, 5265));
-    assert!(rt; has_parts(rt.alloc(), first, "653803697369386677373260000")?);
-    assert!(rt; has_parts(rt.alloc(), second, "653712447725650545248016000")?);
-    // 7165 of 13,608 parts is no multiple of 2520 parts of the whole, and can't be averaged again.
+    assert!(rt; has_parts(rt.alloc(), first, "246254996548040360208422326191960000")?);
+    assert!(rt; has_parts(rt.alloc(), second, "246220627392904555552426733403936000")?);
+    // 7165 of 13,608 parts is no multiple of 27,720 parts of the whole, and can't be averaged again.
     assert!(rt; first > second && !first.is_base());
     Ok(())
 }

@@ -5,6 +5,7 @@ ghost use Rattle.sqlite_disk.specs.Memory.{memory_is_usable};
 ghost use Rattle.sqlite_disk.specs.Fuse.{inner_of, IsFresh};
 
 use crate::helpers::{command, name, new_desk};
+use crate::migrations::old_desk;
 use crate::requests::are_unavailable;
 use crate::stores::are_same;
 use er_desk::{Desk, Reply};
@@ -87,21 +88,25 @@ enum Session {
     Next { before: usize, to: usize },
     /// It opens what so many acknowledged commands left, none where creation was not, and sends all that come after them.
     Rest { acknowledged: Option<usize> },
+    /// It opens what so many acknowledged commands left, and moves it to version 2, which counts as one more.
+    Move { before: usize },
 }
 
 impl Session {
     /// What is acknowledged where the files were not opened.
     const fn unopened(self) -> Option<usize> {
         match self {
-            Session::Next { before, to: _ } => Some(before),
+            Session::Next { before, to: _ } | Session::Move { before } => Some(before),
             Session::First { to: _ } | Session::Rest { acknowledged: _ } => None,
         }
     }
 }
 
-const FAULT: Reply = Err(Refusal::Store {
+const REFUSED: Refusal = Refusal::Store {
     cause: Cause::Refused,
-});
+};
+
+const FAULT: Reply = Err(REFUSED);
 
 /// How many receipts there are, where after them comes nothing, or one fault of the device and then that the file is to be opened anew.
 fn receipts(replies: &[Reply]) -> Option<usize> {
@@ -178,6 +183,32 @@ fn adopt_on<S: Alter>(
     }
 }
 
+/// Whether a migration was done, with this serial, or stopped by a fault of the device.
+fn is_moved<S: Alter>(alloc: Global, desk: &mut Desk<S>, serial: usize) -> Option<bool> {
+    match desk.migrate() {
+        Ok(moved) => (moved as usize == serial && desk.version() == Ok(2)).then_some(true),
+        Err(why) => (why == REFUSED && is_stopped(alloc, desk)).then_some(false),
+    }
+}
+
+/// Opens an event over a connection and moves it to version 2. The count of all that was acknowledged then, the migration among it.
+fn move_on<S: Alter>(
+    alloc: Global,
+    conn: Connection<S>,
+    before: usize,
+) -> (Option<usize>, Connection<S>)
+    requires { conn.in_transaction ≡ false }
+{
+    match Desk::adopt(alloc, conn) {
+        Ok(mut desk) => {
+            let moved = is_moved(alloc, &mut desk, before);
+            let acknowledged = moved.and_then(|done| before.checked_add(usize::from(done)));
+            (acknowledged, desk.close())
+        }
+        Err((conn, why)) => ((why == REFUSED).then_some(before), conn),
+    }
+}
+
 /// Whether this is the event that so many commands make with no stop, with its standings.
 fn is_unstopped(alloc: Global, case: Case, count: usize, event: &Event) -> Option<bool> {
     let desk = unstopped(alloc, case, count)?;
@@ -205,7 +236,7 @@ fn may_find(acknowledged: Option<usize>, serial: usize) -> bool {
     }
 }
 
-/// Whether the desk stands where it may, and the rest of the commands lead to the end.
+/// Whether the desk stands where it may, in either version, is moved to version 2, and the rest of the commands lead to the end.
 fn ends_well<S: Alter>(
     alloc: Global,
     desk: &mut Desk<S>,
@@ -213,7 +244,8 @@ fn ends_well<S: Alter>(
     acknowledged: Option<usize>,
 ) -> Option<bool> {
     let serial = desk.serial().ok()? as usize;
-    let begins_well = is_desk_unstopped(alloc, case, serial, desk)?;
+    let begins_well = is_desk_unstopped(alloc, case, serial, desk)?
+        && is_moved(alloc, desk, serial) == Some(true);
     let all = case.lines.lines().count();
     let is_sent = send(alloc, desk, case, all) == Some(all);
     let ends_well = is_desk_unstopped(alloc, case, all, desk)?;
@@ -274,6 +306,7 @@ fn run_on<S: Alter + Drop>(
         Session::First { to } => create_on(alloc, case, conn, to),
         Session::Next { before, to } => adopt_on(alloc, case, conn, before, to),
         Session::Rest { acknowledged } => goes_on_from(alloc, case, conn, acknowledged),
+        Session::Move { before } => move_on(alloc, conn, before),
     };
     (acknowledged, conn.into_store())
 }
@@ -412,17 +445,18 @@ const BRACKET: &str = " Stg Slot    A    B Score Names
 Champion 1 P1
 ";
 
-fn ends_with_its_bracket(alloc: Global) -> Option<bool> {
-    let desk = unstopped(alloc, PLAYOFF, 17)?;
+/// Whether all commands of a playoff lead to that bracket, with this serial.
+fn ends_with_its_bracket(alloc: Global, case: Case, serial: u32) -> Option<bool> {
+    let desk = unstopped(alloc, case, case.lines.lines().count())?;
     let text = bracket_text(alloc, desk.event().ok()?).ok()?;
-    Some(text.as_slice() == BRACKET.as_bytes() && desk.serial() == Ok(17))
+    Some(text.as_slice() == BRACKET.as_bytes() && desk.serial() == Ok(serial))
 }
 
 /// A stop at each call of each file, in creation and in each of 17 commands.
 #[test]
 fn a_whole_event_survives_each_stop(rt: HostRuntime) -> Result<(), Fail> {
     let alloc = rt.alloc();
-    assert_eq!(rt; ends_with_its_bracket(alloc), Some(true));
+    assert_eq!(rt; ends_with_its_bracket(alloc, PLAYOFF, 17), Some(true));
     assert!(rt; whole_event(alloc, PLAYOFF, true).is_some_and(|calls| calls > 17));
     assert!(rt; whole_event(alloc, PLAYOFF, false).is_some());
     Ok(())
@@ -563,6 +597,93 @@ fn two_stops_in_three_sessions(rt: HostRuntime) -> Result<(), Fail> {
     let alloc = rt.alloc();
     let (log, db) = (two_stops(alloc, true), two_stops(alloc, false));
     assert!(rt; log.is_some_and(|count| count > 8), "log {log:?}");
+    assert!(rt; db.is_some(), "db {db:?}");
+    Ok(())
+}
+
+/// Six players in the same playoff, whose cut is the thirteenth command.
+const CUT: Case = Case {
+    rounds: 1,
+    cut: 4,
+    lines: "\
+enrol P1
+enrol P2
+enrol P3
+enrol P4
+enrol P5
+enrol P6
+start
+pair 1
+result 1 1 2 0 0
+result 1 2 2 0 0
+result 1 3 2 0 0
+drop 2
+cut
+playoff 1 1 2 0 0
+playoff 1 2 1 2 0
+playoff 2 1 0 2 0
+",
+};
+
+/// The files of these commands in version 1, closed behind the cut.
+fn old_files(alloc: Global) -> Option<Disks> {
+    let files = Files {
+        log: Fuse::new(Memory::new(alloc), NEVER),
+        db: Fuse::new(Memory::new(alloc), NEVER),
+    };
+    let mut desk = match Connection::open_files(alloc, files, Options::new(7)) {
+        Ok(conn) => old_desk(alloc, conn, 1, 4).ok()?,
+        Err(_unopened) => return None,
+    };
+    let is_cut = send(alloc, &mut desk, CUT, 13) == Some(13) && desk.version() == Ok(1);
+    let files = desk.close().close_files().ok()?;
+    is_cut.then_some(files)
+}
+
+/// The version in which files that stop no more hold an event.
+fn version_left(alloc: Global, files: &Disks) -> Option<u8> {
+    let files = opened_again(alloc, files, NEVER, NEVER)?;
+    match Connection::open_files(alloc, files, Options::new(7)) {
+        Ok(conn) => Desk::adopt(alloc, conn).ok()?.version().ok(),
+        Err(_unopened) => None,
+    }
+}
+
+/// Whether a migration of these files ends before the stop, and is then there for good. It survives the stop, or there is no answer.
+fn migration_ends(alloc: Global, files: Disks) -> Option<bool>
+    requires { IsTrue (memory_is_usable (inner_of files.log)) × IsFresh files.log
+        × IsTrue (memory_is_usable (inner_of files.db)) × IsFresh files.db }
+{
+    let mut it = run_over(alloc, CUT, files, Session::Move { before: 13 });
+    let is_done = it.acknowledged? == 14;
+    it.acknowledged = Some(13);
+    let survives = survives(alloc, CUT, &mut it);
+    let is_kept = !is_done || version_left(alloc, &it.files) == Some(2);
+    (survives && is_kept).then_some(is_done)
+}
+
+/// Stops a migration at each call of one of these files. The count of these calls, if it survives each stop.
+fn migration(alloc: Global, files: &Disks, stops_log: bool) -> Option<u64> {
+    for calls in 0..10_000 {
+        let (log, db) = calls_of(stops_log, calls);
+        if migration_ends(alloc, opened_again(alloc, files, log, db)?)? {
+            return Some(calls);
+        }
+    }
+    None
+}
+
+/// Worked example 47.
+#[test]
+fn a_migration_survives_each_stop(rt: HostRuntime) -> Result<(), Fail> {
+    let alloc = rt.alloc();
+    assert_eq!(rt; ends_with_its_bracket(alloc, CUT, 16), Some(true));
+    let files = old_files(alloc).ok_or("no files of version 1")?;
+    let (log, db) = (
+        migration(alloc, &files, true),
+        migration(alloc, &files, false),
+    );
+    assert!(rt; log.is_some_and(|calls| calls > 2), "log {log:?}");
     assert!(rt; db.is_some(), "db {db:?}");
     Ok(())
 }

@@ -74,7 +74,7 @@ fn shows(conn: &mut Connection<MemStore>, sql: &str, want: &str) -> bool {
 }
 
 /// Whether the tables show these texts.
-fn holds(desk: Option<Desk<MemStore>>, rows: &str) -> bool {
+pub fn holds(desk: Option<Desk<MemStore>>, rows: &str) -> bool {
     match desk {
         Some(desk) => are_shown(&mut desk.close(), rows),
         None => false,
@@ -82,15 +82,15 @@ fn holds(desk: Option<Desk<MemStore>>, rows: &str) -> bool {
 }
 
 const ANA: &str = "\
-SELECT id || ' ' || version || ' ' || serial || ' ' || name || ' ' || rounds || ' ' || cut || ' ' || phase FROM event -> 1 1 1 Friday 3 0 0
-SELECT no || ' ' || name || ' ' || dropped FROM player -> 1 Ana 0
-SELECT (SELECT count(*) FROM event) || ' ' || (SELECT count(*) FROM player) || ' ' || (SELECT count(*) FROM pairing) || ' ' || (SELECT count(*) FROM bracket) -> 1 1 0 0
+SELECT id || ' ' || version || ' ' || serial || ' ' || name || ' ' || rounds || ' ' || cut || ' ' || phase FROM event -> 1 2 1 Friday 3 0 0
+SELECT no || ' ' || name || ' ' || dropped || ' ' || joined FROM player2 -> 1 Ana 0 0
+SELECT (SELECT count(*) FROM event) || ' ' || (SELECT count(*) FROM player2) || ' ' || (SELECT count(*) FROM pairing) || ' ' || (SELECT count(*) FROM bracket) -> 1 1 0 0
 ";
 
 const STARTED: &str = "\
 SELECT serial || ' ' || phase FROM event -> 4 1
-SELECT no || ' ' || name || ' ' || dropped FROM player WHERE no = 1 -> 1 Ana 0
-SELECT no || ' ' || name || ' ' || dropped FROM player WHERE no = 2 -> 2 Bo 1
+SELECT no || ' ' || name || ' ' || dropped || ' ' || joined FROM player2 WHERE no = 1 -> 1 Ana 0 0
+SELECT no || ' ' || name || ' ' || dropped || ' ' || joined FROM player2 WHERE no = 2 -> 2 Bo 1 0
 ";
 
 #[test]
@@ -105,7 +105,7 @@ fn players_phase_and_drops_are_written(rt: HostRuntime) -> Result<(), Fail> {
 /// The texts of the format, byte for byte.
 const SCHEMA: &str = "\
 SELECT sql FROM sqlite_schema WHERE name = 'event' -> CREATE TABLE event(id INTEGER PRIMARY KEY CHECK(id = 1), version INTEGER NOT NULL, serial INTEGER NOT NULL, name TEXT NOT NULL, rounds INTEGER NOT NULL, cut INTEGER NOT NULL, phase INTEGER NOT NULL)
-SELECT sql FROM sqlite_schema WHERE name = 'player' -> CREATE TABLE player(no INTEGER PRIMARY KEY, name TEXT NOT NULL UNIQUE, dropped INTEGER NOT NULL)
+SELECT sql FROM sqlite_schema WHERE name = 'player2' -> CREATE TABLE player2(no INTEGER PRIMARY KEY, name TEXT NOT NULL UNIQUE, dropped INTEGER NOT NULL, joined INTEGER NOT NULL)
 SELECT sql FROM sqlite_schema WHERE name = 'pairing' -> CREATE TABLE pairing(round INTEGER NOT NULL, tab INTEGER NOT NULL, lo INTEGER NOT NULL, hi INTEGER NOT NULL, swapped INTEGER NOT NULL, done INTEGER NOT NULL, x INTEGER NOT NULL, y INTEGER NOT NULL, d INTEGER NOT NULL, PRIMARY KEY(round, tab), UNIQUE(lo, hi), CHECK(lo < hi))
 SELECT sql FROM sqlite_schema WHERE name = 'bracket' -> CREATE TABLE bracket(stage INTEGER NOT NULL, slot INTEGER NOT NULL, a INTEGER NOT NULL, b INTEGER NOT NULL, done INTEGER NOT NULL, x INTEGER NOT NULL, y INTEGER NOT NULL, d INTEGER NOT NULL, PRIMARY KEY(stage, slot))
 SELECT sql FROM sqlite_schema WHERE name = 'tally' -> CREATE TABLE tally(no INTEGER PRIMARY KEY, points INTEGER NOT NULL, rounds INTEGER NOT NULL, gamepoints INTEGER NOT NULL, games INTEGER NOT NULL)
@@ -279,7 +279,7 @@ fn the_event_is_read_back(rt: HostRuntime) -> Result<(), Fail> {
 }
 
 /// The tables after these statements of another program, a line each.
-fn tables_after(desk: Option<Desk<MemStore>>, statements: &str) -> Option<Connection<MemStore>>
+pub fn tables_after(desk: Option<Desk<MemStore>>, statements: &str) -> Option<Connection<MemStore>>
     ensures { IfSome result (λ conn. conn.in_transaction ≡ false) }
 {
     let mut conn = desk?.close();
@@ -292,7 +292,7 @@ fn tables_after(desk: Option<Desk<MemStore>>, statements: &str) -> Option<Connec
 }
 
 /// The refusal to adopt the tables, of a store and of a desk alike.
-fn refused(alloc: Global, conn: Option<Connection<MemStore>>) -> Option<Refusal>
+pub fn refused(alloc: Global, conn: Option<Connection<MemStore>>) -> Option<Refusal>
     requires { IfSome conn (λ conn. conn.in_transaction ≡ false) }
 {
     match Store::adopt(alloc, conn?) {
@@ -336,16 +336,14 @@ fn are_damage(
 }
 
 const BROKEN_EVENTS: &str = "\
-DELETE FROM event
-UPDATE event SET version = 0
-UPDATE event SET version = 2
 UPDATE event SET serial = -1
 UPDATE event SET serial = 1000000
 UPDATE event SET name = ''
 UPDATE event SET name = 'Friday '
 UPDATE event SET name = x'ff'
+UPDATE event SET name = CAST(x'ff' AS TEXT)
 UPDATE event SET rounds = 0
-UPDATE event SET rounds = 10
+UPDATE event SET rounds = 13
 UPDATE event SET rounds = -3
 UPDATE event SET rounds = 259
 UPDATE event SET cut = 3
@@ -356,26 +354,37 @@ UPDATE event SET phase = 4
 ";
 
 const BROKEN_PLAYERS: &str = "\
-DELETE FROM player WHERE no = 1
-DELETE FROM player WHERE no = 2
-UPDATE player SET no = 0 WHERE no = 1
-UPDATE player SET no = -1 WHERE no = 1
-UPDATE player SET no = 3 WHERE no = 2
-UPDATE player SET no = 513 WHERE no = 2
-UPDATE player SET no = 65538 WHERE no = 2
-UPDATE player SET name = '' WHERE no = 2
-UPDATE player SET name = ' Bo' WHERE no = 2
-UPDATE player SET name = 'B\to' WHERE no = 2
-UPDATE player SET dropped = 2 WHERE no = 2
-UPDATE player SET dropped = -1 WHERE no = 2
-UPDATE player SET dropped = x'00' WHERE no = 2
+DELETE FROM player2 WHERE no = 1
+DELETE FROM player2 WHERE no = 2
+UPDATE player2 SET no = 0 WHERE no = 1
+UPDATE player2 SET no = -1 WHERE no = 1
+UPDATE player2 SET no = 3 WHERE no = 2
+UPDATE player2 SET no = 513 WHERE no = 2
+UPDATE player2 SET no = 65538 WHERE no = 2
+UPDATE player2 SET name = '' WHERE no = 2
+UPDATE player2 SET name = ' Bo' WHERE no = 2
+UPDATE player2 SET name = 'B\to' WHERE no = 2
+UPDATE player2 SET name = x'ff' WHERE no = 2
+UPDATE player2 SET name = CAST(x'ff' AS TEXT) WHERE no = 2
+UPDATE player2 SET dropped = 2 WHERE no = 2
+UPDATE player2 SET dropped = -1 WHERE no = 2
+UPDATE player2 SET dropped = x'00' WHERE no = 2
+UPDATE player2 SET joined = 1 WHERE no = 2
+UPDATE player2 SET joined = -1 WHERE no = 2
+UPDATE player2 SET joined = x'00' WHERE no = 2
 UPDATE event SET phase = 0
-DROP TABLE player
+DROP TABLE player2
+UPDATE event SET version = 1
+UPDATE event SET version = 0
+UPDATE event SET version = 3
+UPDATE event SET version = -1
+DELETE FROM event
 ";
 
 const DROPPED: &str = "enrol Ana\nenrol Bo\nstart\ndrop 2";
 
-/// The first table whose rows no event has is named. Without the table of the event there is none.
+/// The first table whose rows no event has is named. Without the table of the event there is none. Players are looked for in the table of version 1 where
+/// no row says version 2, and it isn't there.
 #[test]
 fn broken_events_and_players_are_damage(rt: HostRuntime) -> Result<(), Fail> {
     let alloc = rt.alloc();
