@@ -4,7 +4,7 @@ _event_reporter() {
     COMPREPLY=()
     case $COMP_CWORD,${COMP_WORDS[1]} in
         1,*)
-            mapfile -t COMPREPLY < <(compgen -W "init enrol import start pair result correct drop cut playoff players standings slips bracket export serve --help --version" -- "$word")
+            mapfile -t COMPREPLY < <(compgen -W "init enrol import start pair result correct drop cut playoff players standings slips bracket export serve migrate --help --version" -- "$word")
             ;;
         2,* | 3,import)
             mapfile -t COMPREPLY < <(compgen -f -- "$word")

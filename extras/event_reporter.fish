@@ -22,6 +22,7 @@ complete -c event_reporter -n '__event_reporter_at 1' -a slips -d 'FILE ROUND'
 complete -c event_reporter -n '__event_reporter_at 1' -a bracket -d 'FILE'
 complete -c event_reporter -n '__event_reporter_at 1' -a export -d 'FILE KIND'
 complete -c event_reporter -n '__event_reporter_at 1' -a serve -d 'FILE PORT COUNT'
+complete -c event_reporter -n '__event_reporter_at 1' -a migrate -d 'FILE'
 complete -c event_reporter -n '__event_reporter_at 2' -F
 complete -c event_reporter -n '__event_reporter_at 3; and __fish_seen_subcommand_from import' -F
 complete -c event_reporter -n '__event_reporter_at 3; and __fish_seen_subcommand_from export' -a 'players results'

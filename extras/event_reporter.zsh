@@ -18,6 +18,7 @@ subcommands=(
     'bracket:FILE'
     'export:FILE KIND'
     'serve:FILE PORT COUNT'
+    'migrate:FILE'
 )
 case $CURRENT,$words[2] in
     2,*) _describe subcommand subcommands ;;

@@ -1,9 +1,10 @@
-"""Damages files of random events, each in one way, and has the program print their standings, players and bracket. What C SQLite reads of a copy says
-what is due. A file that was damaged by SQL is answered by just the event that its rows stand for, or refused 27 or 29. Where bytes were
+"""Damages files of random events in either version, each in one way, and has the program print their standings, players and bracket. What C SQLite reads
+of a copy says what is due. A file that was damaged by SQL is answered by just the event that its rows stand for, or refused 27 or 29. Where bytes were
 damaged, a refusal 25, 27 or 29 is always lawful, and the texts of an event where its rows are read; only of a file that C SQLite
 can't read may the texts be those of another event, one that the file once held. A file that is refused keeps its bytes, but for an empty one, which
 is begun anew. A log beside it may be ended, or begun anew where nothing of it is read; one that wasn't there isn't left, and one that was stays. A
-file that is read is the event alone, without its log, then.
+file that is read is the event alone, without its log, then. An event in version 1 that is left by SQL is moved to version 2, or stays where the name of a
+table is taken.
 """
 import collections
 import concurrent.futures
@@ -20,10 +21,10 @@ import tempfile
 import damaged_bytes
 import damaged_rows
 import plain_file
-from event_files import copied, due, rows_alone, rows_of, rows_of_copy, run, words_of
+from event_files import copied, due, make_old, rows_alone, rows_of, rows_of_copy, run, words_of
 from plain_event import PLAYOFF
 from plain_log import FRAME, HEAD, committed
-from random_play import random_event
+from random_play import random_event, version_of
 from stopping import run_unclosed
 from tally import check, end
 
@@ -57,12 +58,16 @@ class Template:
         self.logged, self.closed, self.whole = (f"{folder}/{it}/e.event" for it in ("logged", "closed", "whole"))
         for file in (self.logged, self.closed, self.whole):
             os.makedirs(os.path.dirname(file))
-        names = [line.split("\t")[1] for line, _ in self.states if line.startswith("enrol\t")]
+        (begin, first), *others = self.states
+        names = [line.split("\t")[1] for line, _ in itertools.takewhile(lambda it: it[0].startswith("enrol\t"), others)]
         with open(f"{folder}/names.csv", "w", encoding="utf-8") as it:
             it.writelines(f"{line}\n" for line in ["name", *names])
-        self.send(words_of(self.states[0][0], self.logged), "ok 0")
+        if first.version == 1:
+            make_old(self.logged, first, has_log=True)
+        else:
+            self.send(words_of(begin, self.logged), "ok 0")
         self.send(["import", self.logged, f"{folder}/names.csv"], f"added {len(names)} already 0")
-        for line, event in self.states[1 + len(names) :]:
+        for line, event in others[len(names) :]:
             self.send(words_of(line, self.logged), f"ok {event.serial}")
         check("rows of an undamaged file", rows_of_copy(self.logged), rows_of(self.event))
         check("it has not closed", os.path.getsize(f"{self.logged}-wal") > HEAD + FRAME, True)
@@ -99,7 +104,7 @@ def random_states(dice, number, longest):
         if max(len(event.names), len(states) - len(event.names)) > longest:
             raise TooLong
 
-    random_event(note, dice, number)
+    random_event(note, dice, number, version=version_of(number))
     return states[: dice.randint(1, len(states))] if dice.random() < 0.3 else states
 
 
@@ -164,6 +169,14 @@ def change_of(before, after):
     return change_of_log(before.get(log, b""), after.get(log, b"")) or "none"
 
 
+def is_name_taken(file):
+    """Whether a migration can't make its table."""
+    base = sqlite3.connect(file)
+    found = base.execute("SELECT 1 FROM sqlite_schema WHERE lower(name) = 'player2'").fetchall()
+    base.close()
+    return found != []
+
+
 def name_of(answers):
     """A refusal that is lawful, an event, or what is neither."""
     if answers in REFUSALS.values():
@@ -205,6 +218,18 @@ class Damages:
             return kind.startswith("bytes: ") or kind == f"SQL: {damaged_rows.UNREAD_KIND}"
         return not due_answers and any(answers in it.held() for it in self.templates)
 
+    def migration_fault(self, file):
+        """What is wrong with the migration of an event in version 1, or None."""
+        event = plain_file.read(file)
+        if event.version == 2:
+            return None
+        answer = due(["refused 25 Store"] if is_name_taken(file) else event.migrate())
+        got = run(self.program, ["migrate", file])
+        if got != answer:
+            return f"migrate: {got}, and not {answer}"
+        found = plain_file.read(file)
+        return None if vars(found) == vars(event) else f"migrate left {vars(found)}"
+
     def tried(self, number):
         with tempfile.TemporaryDirectory() as room:
             file, template, kind = self.damage(room, number)
@@ -220,6 +245,8 @@ class Damages:
                 faults.append("C SQLite reads something else afterwards")
             if not change and due_answers and read_by_sqlite(file, shutil.copy) != due_answers:
                 faults.append("C SQLite reads something else of the file alone afterwards")
+            if not faults and name_of(answers) == "an event" and kind.startswith("SQL: ") and kind != f"SQL: {damaged_rows.UNREAD_KIND}":
+                faults += filter(None, [self.migration_fault(file)])
             return Outcome(kind, name_of(due_answers), name_of(answers), change, [f"damage {number}, {kind}: {it}" for it in faults])
 
 

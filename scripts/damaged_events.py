@@ -97,7 +97,7 @@ def other_playoff(dice, event):
 
 def other_number(dice, event):
     what = dice.choice(("rounds", "cut", "phase", "phase", "serial"))
-    setattr(event, what, dice.choice((0, 1, 2, 3, 4, 8, 9, 10, getattr(event, what) + dice.choice((-1, 1)))))
+    setattr(event, what, dice.choice((0, 1, 2, 3, 4, 8, 9, 10, 12, 13, getattr(event, what) + dice.choice((-1, 1)))))
 
 
 def other_players(dice, event):

@@ -7,9 +7,9 @@ import sqlite3
 
 from damaged_events import NAMES, NO_NAMES, changed
 from event_files import rows_of
-from plain_file import COLUMNS
+from plain_file import COLUMNS, PLAYERS, tables_of
 
-NUMBERS = (-1, 0, 1, 2, 3, 4, 8, 9, 10, 255, 256, 512, 513, 65_536, 999_999, 1_000_000, 2**31, 2**32, 2**63 - 1, -(2**31), -(2**63))
+NUMBERS = (-1, 0, 1, 2, 3, 4, 8, 9, 10, 12, 13, 255, 256, 512, 513, 65_536, 999_999, 1_000_000, 2**31, 2**32, 2**63 - 1, -(2**31), -(2**63))
 # numbers that look like the old one where their high bits are lost are among the new ones
 STEPS = (-2, -1, -1, 1, 1, 2, 256, -256, 65_536, 2**32, -(2**32), -(2**63))
 TEXTS = ("5", " 5", "5x", "1.0", "0x1", "1e2", "9223372036854775808", "x")
@@ -17,16 +17,18 @@ NO_TEXTS = (b"\xff", b"Ana\xc3", b"\xed\xa0\x80", b"\xc0\xaf", b"\xf4\x90\x80\x8
 BLOBS = (b"", b"\0", b"\1", b"Ana", b"P1", b"\xff" * 70)
 REALS = (0.0, 1.0, -1.0, 0.5, 2.5, 1e300, float("inf"), 4294967296.0)
 
+PLAYER_TRICKS = (
+    "dropped = 2 * dropped", "dropped = -dropped", "dropped = 1 - dropped", "no = no + 1", "no = no - 1", "name = name || ' '", "name = ' ' || name",
+    "name = CAST(name || x'00' AS TEXT)", "name = CAST(name || x'ff' AS TEXT)", "name = ''",
+)
 # what breaks one rule of a row, and leaves the event, the player or the match to be guessed from it
 TRICKS = {
     "event": (
-        "id = 2", "version = 2", "serial = serial + 1000000", "serial = -1 - serial", "serial = serial + 4294967296", "name = name || ' '", "phase = phase + 4",
-        "phase = phase - 4", "rounds = rounds + 256", "cut = cut + 2",
+        "id = 2", "version = 3 - version", "version = version + 2", "serial = serial + 1000000", "serial = -1 - serial", "serial = serial + 4294967296",
+        "name = name || ' '", "phase = phase + 4", "phase = phase - 4", "rounds = 10", "rounds = 13", "rounds = rounds + 256", "cut = cut + 2",
     ),
-    "player": (
-        "dropped = 2 * dropped", "dropped = -dropped", "dropped = 1 - dropped", "no = no + 1", "no = no - 1", "name = name || ' '", "name = ' ' || name",
-        "name = CAST(name || x'00' AS TEXT)", "name = ''",
-    ),
+    "player": PLAYER_TRICKS,
+    "player2": (*PLAYER_TRICKS, "joined = 1 - joined", "joined = joined - 1", "joined = joined + 256"),
     "pairing": (
         "lo = hi, hi = lo, swapped = 1 - swapped", "swapped = 2 * swapped", "swapped = -swapped", "done = 2 * done", "done = -done", "round = round + 1", "tab = tab + 1",
         "x = x + 1 - done", "y = y - 1 + done", "d = d + 1 - done", "swapped = 1 - swapped, x = y, y = x", "tab = 0", "lo = 0",
@@ -40,16 +42,16 @@ TRICKS = {
     ),
 }
 
-# what changes the file, and none of our rows; some of it can't stand in a transaction
+# what changes the file, and none of our rows; some of it can't stand in a transaction. {player} is the table of the players
 KEPT = (
     ("VACUUM",),
     ("REINDEX", "ANALYZE"),
     ("CREATE TABLE note(body TEXT)", "INSERT INTO note VALUES ('chairs')"),
     ("CREATE TABLE note(body TEXT PRIMARY KEY) WITHOUT ROWID",),
     ("CREATE TABLE note(body TEXT) STRICT", "CREATE TRIGGER noted AFTER INSERT ON note BEGIN SELECT 1; END"),
-    ("CREATE INDEX by_state ON player(dropped, name)",),
-    ("CREATE VIEW seats AS SELECT round, tab, name FROM pairing JOIN player ON no = hi",),
-    ("ALTER TABLE player ADD COLUMN club TEXT",),
+    ("CREATE INDEX by_state ON {player}(dropped, name)",),
+    ("CREATE VIEW seats AS SELECT round, tab, name FROM pairing JOIN {player} ON no = hi",),
+    ("ALTER TABLE {player} ADD COLUMN club TEXT",),
     ("PRAGMA user_version = 7", "PRAGMA application_id = 7"),
     ("PRAGMA journal_mode = DELETE",),
     ("PRAGMA journal_mode = DELETE", "PRAGMA page_size = 512", "VACUUM", "PRAGMA journal_mode = WAL"),
@@ -57,12 +59,12 @@ KEPT = (
 )
 # the same, but what the storage crate does not read: the answer may be a refusal
 UNREAD = (
-    ("CREATE TRIGGER seen AFTER INSERT ON player BEGIN UPDATE event SET serial = 7; END",),
+    ("CREATE TRIGGER seen AFTER INSERT ON {player} BEGIN UPDATE event SET serial = 7; END",),
     ("CREATE TRIGGER seen BEFORE UPDATE ON event BEGIN SELECT 1; END",),
     ("ALTER TABLE event ADD COLUMN place TEXT DEFAULT 'hall'",),
-    ("ALTER TABLE player ADD COLUMN shout TEXT GENERATED ALWAYS AS (upper(name)) VIRTUAL",),
-    ("CREATE INDEX low ON player(lower(name))",),
-    ("CREATE INDEX dropped ON player(name) WHERE dropped = 1",),
+    ("ALTER TABLE {player} ADD COLUMN shout TEXT GENERATED ALWAYS AS (upper(name)) VIRTUAL",),
+    ("CREATE INDEX low ON {player}(lower(name))",),
+    ("CREATE INDEX dropped ON {player}(name) WHERE dropped = 1",),
     ("PRAGMA auto_vacuum = FULL", "VACUUM"),
 )
 UNREAD_KIND = "what isn't read added"
@@ -77,10 +79,10 @@ def places(values):
     return ", ".join("?" * len(values))
 
 
-def any_table(dice, base):
+def any_table(dice, base, event):
     """A table that has a row, if one has."""
-    filled = [it for it in COLUMNS if base.execute(f"SELECT 1 FROM {it}").fetchone()]
-    return dice.choice(filled or list(COLUMNS))
+    tables = tables_of(event.version)
+    return dice.choice([it for it in tables if base.execute(f"SELECT 1 FROM {it}").fetchone()] or tables)
 
 
 def rowids_by_key(base, table):
@@ -112,8 +114,8 @@ def random_value(dice, old):
 # ---- damages to rows
 
 
-def set_value(dice, base, _event):
-    table = any_table(dice, base)
+def set_value(dice, base, event):
+    table = any_table(dice, base, event)
     rowid, column = any_rowid(dice, base, table), dice.choice(columns_of(table))
     old = base.execute(f"SELECT {column} FROM {table} WHERE rowid = ?", (rowid,)).fetchone()
     expression, value = random_value(dice, old[0] if old else 0)
@@ -125,9 +127,9 @@ def set_values(dice, base, event):
         set_value(dice, base, event)
 
 
-def set_column(dice, base, _event):
+def set_column(dice, base, event):
     """One value, or a step, in all rows of a table."""
-    table = any_table(dice, base)
+    table = any_table(dice, base, event)
     column = dice.choice(columns_of(table))
     if dice.random() < 0.5:
         expression, value = random_value(dice, 0)
@@ -136,15 +138,15 @@ def set_column(dice, base, _event):
         base.execute(f"UPDATE {table} SET {column} = {column} + ?", (dice.choice(STEPS),))
 
 
-def delete_rows(dice, base, _event):
-    table = any_table(dice, base)
+def delete_rows(dice, base, event):
+    table = any_table(dice, base, event)
     for _ in range(dice.choice((1, 1, 1, 2, 1000))):
         base.execute(f"DELETE FROM {table} WHERE rowid = ?", (any_rowid(dice, base, table),))
 
 
-def copy_row(dice, base, _event):
+def copy_row(dice, base, event):
     """A row once more, under another key."""
-    table = any_table(dice, base)
+    table = any_table(dice, base, event)
     columns = columns_of(table)
     rows = base.execute(f"SELECT {', '.join(columns)} FROM {table} WHERE rowid = ?", (any_rowid(dice, base, table),)).fetchall()
     row = list(rows[0]) if rows else [0] * len(columns)
@@ -153,10 +155,9 @@ def copy_row(dice, base, _event):
     base.execute(f"INSERT INTO {table}({', '.join(columns)}) VALUES ({places(row)})", row)
 
 
-def insert_row(dice, base, _event):
+def insert_row(dice, base, event):
     """A row of numbers that are near those of the event, or far from them."""
-    table = dice.choice(list(COLUMNS))
-    most = base.execute("SELECT count(*) FROM player").fetchone()[0] + 1
+    table, most = dice.choice(tables_of(event.version)), len(event.names) + 1
     row = [dice.choice(NAMES) if it == "name" else dice.choice((0, 1, 2, dice.randint(0, most), dice.choice(NUMBERS))) for it in columns_of(table)]
     base.execute(f"INSERT INTO {table}({', '.join(columns_of(table))}) VALUES ({places(row)})", row)
 
@@ -168,16 +169,30 @@ def leave(_dice, _base, _event):
 # ---- damages to tables
 
 
-def drop_table(dice, base, _event):
-    base.execute(f"DROP TABLE {dice.choice(list(COLUMNS))}")
+def drop_table(dice, base, event):
+    base.execute(f"DROP TABLE {dice.choice(tables_of(event.version))}")
 
 
-def rename(dice, base, _event):
+def rename(dice, base, event):
     """A table, or a column, or the case of its letters, which makes no other name in SQL."""
-    table = dice.choice(list(COLUMNS))
+    table = dice.choice(tables_of(event.version))
     column = dice.choice(columns_of(table))
     new = dice.choice((column + "2", "other", column.upper()))
     base.execute(f"ALTER TABLE {table} RENAME COLUMN {column} TO {new}" if dice.random() < 0.7 else f"ALTER TABLE {table} RENAME TO {table}2")
+
+
+def players_of_other_version(dice, base, event):
+    """The table that the other version has for players, with these players or without. Its version is set, or not."""
+    table, version = PLAYERS[3 - event.version], 3 - event.version
+    base.execute(f"DROP TABLE IF EXISTS {table}")
+    base.execute(f"CREATE TABLE {table}({', '.join(columns_of(table))})")
+    if dice.random() < 0.7:
+        rows = base.execute(f"SELECT no, name, dropped FROM {PLAYERS[event.version]}").fetchall()
+        joined = dice.choice(((0,), (0,), (0,), (1,)))[: version - 1]
+        for row in rows:
+            base.execute(f"INSERT INTO {table} VALUES ({places((*row, *joined))})", (*row, *joined))
+    if dice.random() < 0.7:
+        base.execute("UPDATE event SET version = ?", (version,))
 
 
 def loosen(dice, base, table):
@@ -193,14 +208,14 @@ def loosen(dice, base, table):
 
 def set_loosely(dice, base, event):
     """Tables without keys and checks, and then nothing more or one damage to rows."""
-    for table in dice.sample(list(COLUMNS), dice.choice((1, 1, 5))):
+    for table in dice.sample(tables_of(event.version), dice.choice((1, 1, 5))):
         loosen(dice, base, table)
     dice.choice((set_value, set_value, set_values, delete_rows, copy_row, insert_row, leave))(dice, base, event)
 
 
-def trick(dice, base, _event):
+def trick(dice, base, event):
     """A trick in one row, in some that follow each other, or in all."""
-    table = any_table(dice, base)
+    table = any_table(dice, base, event)
     loosen(dice, base, table)
     changes, rowids = dice.choice(TRICKS[table]), rowids_by_key(base, table)
     at = dice.randrange(len(rowids) or 1)
@@ -210,7 +225,7 @@ def trick(dice, base, _event):
 
 def put_event(dice, base, event):
     """The rows of another event, sound or not, with the totals that it comes to."""
-    for table, rows in zip(COLUMNS, rows_of(changed(dice, event))):
+    for table, rows in zip(tables_of(event.version), rows_of(changed(dice, event))):
         loosen(dice, base, table)
         base.execute(f"DELETE FROM {table}")
         for row in rows:
@@ -228,6 +243,7 @@ KINDS = {
     "a row inserted": insert_row,
     "a table dropped": drop_table,
     "a name of SQL changed": rename,
+    "players of the other version": players_of_other_version,
     "tables without keys": set_loosely,
     "a trick": trick,
     "rows of another event": put_event,
@@ -254,7 +270,7 @@ def damage(dice, file, kind, event):
     try:
         if kind in NO_TRANSACTION:
             for statement in dice.choice(NO_TRANSACTION[kind]):
-                base.execute(statement).fetchall()
+                base.execute(statement.format(player=PLAYERS[event.version])).fetchall()
         else:
             damage_by(dice, base, KINDS[kind], event)
         kept = {it: open(it, "rb").read() for it in parts if os.path.exists(it)}

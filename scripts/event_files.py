@@ -6,8 +6,16 @@ import subprocess
 import tempfile
 
 from plain_event import Event
+from plain_file import PLAYERS, tables_of
 
-TABLES = ("event", "player", "pairing", "bracket", "tally")
+# the tables of version 1, in the order in which they were made
+OLD_TABLES = (
+    "CREATE TABLE event(id INTEGER PRIMARY KEY CHECK(id = 1), version INTEGER NOT NULL, serial INTEGER NOT NULL, name TEXT NOT NULL, rounds INTEGER NOT NULL, cut INTEGER NOT NULL, phase INTEGER NOT NULL)",
+    "CREATE TABLE player(no INTEGER PRIMARY KEY, name TEXT NOT NULL UNIQUE, dropped INTEGER NOT NULL)",
+    "CREATE TABLE pairing(round INTEGER NOT NULL, tab INTEGER NOT NULL, lo INTEGER NOT NULL, hi INTEGER NOT NULL, swapped INTEGER NOT NULL, done INTEGER NOT NULL, x INTEGER NOT NULL, y INTEGER NOT NULL, d INTEGER NOT NULL, PRIMARY KEY(round, tab), UNIQUE(lo, hi), CHECK(lo < hi))",
+    "CREATE TABLE bracket(stage INTEGER NOT NULL, slot INTEGER NOT NULL, a INTEGER NOT NULL, b INTEGER NOT NULL, done INTEGER NOT NULL, x INTEGER NOT NULL, y INTEGER NOT NULL, d INTEGER NOT NULL, PRIMARY KEY(stage, slot))",
+    "CREATE TABLE tally(no INTEGER PRIMARY KEY, points INTEGER NOT NULL, rounds INTEGER NOT NULL, gamepoints INTEGER NOT NULL, games INTEGER NOT NULL)",
+)
 
 STATUSES = {24: 4, 25: 3, 26: 3}
 
@@ -31,6 +39,34 @@ def run(program, words, **how):
     return ran.returncode, ran.stdout, ran.stderr
 
 
+def make_old(file, event, others=((), ()), name="E", has_log=False):
+    """Makes the file of an event in version 1 by SQL, since no program makes one any more; with statements of another program in front and behind. It
+    has a log where it is as a program leaves it that was stopped, all of the event in it.
+    """
+    base = sqlite3.connect(file, isolation_level=None)
+    base.execute("PRAGMA journal_mode = WAL").fetchall()
+    base.execute("BEGIN")
+    for statement in (*others[0], *OLD_TABLES, *others[1]):
+        base.execute(statement)
+    for table, rows in zip(tables_of(1), rows_of(event, name)):
+        for row in rows:
+            base.execute(f"INSERT INTO {table} VALUES ({', '.join('?' * len(row))})", row)
+    base.execute("COMMIT")
+    with tempfile.TemporaryDirectory() as room:
+        copied(file, room)
+        base.close()
+        if has_log:
+            copied(f"{room}/{os.path.basename(file)}", os.path.dirname(file))
+
+
+def has_begun_old(line, answer, event, file):
+    """Whether the line begins an event in version 1. Its file is made then."""
+    is_old = event.version == 1 and line.startswith("init\t") and answer == ["ok 0"]
+    if is_old:
+        make_old(file, event)
+    return is_old
+
+
 def make_four(program, file):
     """Has the program make an event of four players, whose first round is paired."""
     enrolments = [["enrol", file, f"P{it}"] for it in range(1, 5)]
@@ -38,9 +74,9 @@ def make_four(program, file):
         run(program, words)
 
 
-def event_of_four():
+def event_of_four(version=2):
     """The same event."""
-    event = Event(3, 0)
+    event = Event(3, 0, version)
     for number in range(1, 5):
         event.enrol(f"P{number}")
     event.start()
@@ -48,13 +84,13 @@ def event_of_four():
     return event
 
 
-def play_playoff(sends):
-    """An event of six players, one round and a playoff of four, line by line, with what each is answered. Some lines are refused."""
-    event = Event(1, 4)
-    sends("init\tE\t1\t4", ["ok 0"], event)
+def play_rounds(sends, event):
+    """Six players, one round and the cut to four of them, line by line, with what each is answered. Some lines are refused."""
+    begin = f"init\tE\t{event.rounds}\t{event.cut}"
+    sends(begin, ["ok 0"], event)
     for number in range(1, 7):
         sends(f"enrol\tP{number}", event.enrol(f"P{number}"), event)
-    sends("init\tE\t1\t4", ["refused 28 EventExists"], event)
+    sends(begin, ["refused 28 EventExists"], event)
     sends("players", event.players(), event)
     sends("start", event.start(), event)
     sends(f"pair\t1\t{'0' * 64}", event.pair(1, bytes(32)), event)
@@ -64,8 +100,30 @@ def play_playoff(sends):
     sends("drop\t2", event.drop(2), event)
     sends("standings", event.standings(), event)
     sends("cut", event.end_rounds(), event)
+
+
+def play_stages(sends, event):
+    """Their playoff."""
     for stage, slot, (x, y, d) in ((1, 1, (1, 1, 0)), (1, 1, (2, 0, 0)), (1, 2, (1, 2, 0)), (2, 1, (0, 2, 0)), (2, 1, (0, 2, 0))):
         sends(f"playoff\t{stage}\t{slot}\t{x}\t{y}\t{d}", event.play(stage, slot, (x, y, d)), event)
+
+
+def play_playoff(sends):
+    """An event of one round and a playoff of four."""
+    event = Event(1, 4)
+    play_rounds(sends, event)
+    play_stages(sends, event)
+
+
+def play_migration(sends):
+    """The same, begun in version 1 and migrated behind the cut, twice."""
+    event = Event(1, 4, 1)
+    play_rounds(sends, event)
+    for _ in range(2):
+        sends("migrate", event.migrate(), event)
+        sends("standings", event.standings(), event)
+        sends("bracket", event.bracket(), event)
+    play_stages(sends, event)
 
 
 def pairing_rows(event):
@@ -80,24 +138,34 @@ def bracket_rows(event):
             yield stage, slot, a, b, int(score is not None), *(score or (0, 0, 0))
 
 
-def rows_of(event):
-    """The rows of the five tables that stand for an event named E."""
-    players = [(it, event.names[it - 1], int(it in event.dropped)) for it in event.numbers()]
-    first = (1, 1, event.serial, "E", event.rounds, event.cut, event.phase)
+def rows_of(event, name="E"):
+    """The rows of the five tables that stand for an event of this name."""
+    # nobody joins behind the start yet
+    joined = (0,) * (event.version == 2)
+    players = [(it, event.names[it - 1], int(it in event.dropped), *joined) for it in event.numbers()]
+    first = (1, event.version, event.serial, name, event.rounds, event.cut, event.phase)
     tallies = [(it, *event.totals(it)) for it in event.numbers()]
     return [first], players, sorted(pairing_rows(event)), sorted(bracket_rows(event)), tallies
 
 
+def has_table(base, name):
+    return base.execute("SELECT 1 FROM sqlite_schema WHERE name = ?", (name,)).fetchall() != []
+
+
 def rows_read(file):
-    """The rows of the five tables, or None where there is no event. The database has to be whole."""
+    """The rows of the five tables, or None where there is no event. The database has to be whole, and to have no players in the other version's table."""
     base = sqlite3.connect(file)
     try:
         whole = base.execute("PRAGMA integrity_check").fetchall()
         if whole != [("ok",)]:
             raise ValueError(f"{file}: {whole}")
-        if not base.execute("SELECT 1 FROM sqlite_schema WHERE name = 'event'").fetchall():
+        if not has_table(base, "event"):
             return None
-        return tuple(sorted(base.execute(f"SELECT * FROM {table}").fetchall()) for table in TABLES)
+        (version,) = base.execute("SELECT version FROM event").fetchone()
+        other = PLAYERS[3 - version]
+        if has_table(base, other) and (version == 1 or base.execute(f"SELECT 1 FROM {other}").fetchall()):
+            raise ValueError(f"{file}: version {version} with {other}")
+        return tuple(sorted(base.execute(f"SELECT * FROM {table}").fetchall()) for table in tables_of(version))
     finally:
         base.close()
 

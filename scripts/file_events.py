@@ -1,7 +1,8 @@
-"""Plays events by command lines on the program as it is built, one process a line, beside a plain reading of the rules: random ones, and one with a
-playoff. Compared are each answer, its stream and the exit status, and after each command the rows of the tables, as C SQLite reads them of the file
-alone, without its log. In half of the cases C SQLite opens the file itself too, and so may end the log. Of the one with a playoff the program is
-given the file alone as well, and has to print its players, standings and bracket.
+"""Plays events by command lines on the program as it is built, one process a line, beside a plain reading of the rules: random ones, and two with a
+playoff. Half of them begin in version 1, in a file made by SQL, and are migrated on the way. Compared are each answer, its stream and the exit status,
+and after each command the rows of the tables, as C SQLite reads them of the file alone, without its log. In half of the cases C SQLite opens the file
+itself too, and so may end the log. Of those with a playoff the program is given the file alone as well, and has to print its players, standings and
+bracket.
 """
 import os
 import random
@@ -9,8 +10,8 @@ import shutil
 import sys
 import tempfile
 
-from event_files import due, play_playoff, rows_alone, rows_of, rows_read, run, words_of
-from random_play import random_event
+from event_files import due, has_begun_old, play_migration, play_playoff, rows_alone, rows_of, rows_read, run, words_of
+from random_play import random_event, version_of
 
 
 class Playing:
@@ -28,7 +29,8 @@ class Playing:
 
     def play(self, line, answer, event):
         self.lines += 1
-        self.compare(line, run(self.program, words_of(line, self.file)), due(answer))
+        if not has_begun_old(line, answer, event, self.file):
+            self.compare(line, run(self.program, words_of(line, self.file)), due(answer))
         self.compare(line, rows_alone(self.file), rows_of(event))
         if self.reading.random() < 0.5:
             self.compare(line, rows_read(self.file), rows_of(event))
@@ -42,17 +44,18 @@ class Playing:
             self.compare(f"{line}, shown", shown, [due(event.players()), due(event.standings()), due(event.bracket())])
 
 
-def main(program, count, seed):
+def main(program, count, seed, most):
     dice, playing = random.Random(seed), Playing(os.path.abspath(program), random.Random(seed))
     for number in range(count):
         with tempfile.TemporaryDirectory() as folder:
             playing.begin(f"event {number}", folder)
-            random_event(playing.play, dice, number)
-    with tempfile.TemporaryDirectory() as folder:
-        playing.begin("the playoff", folder)
-        play_playoff(playing.play_and_show)
-    print(f"events in files: {count} random ones and one with a playoff, {playing.lines} command lines, {playing.wrong} wrong")
+            random_event(playing.play, dice, number, most, version_of(number))
+    for plays in (play_playoff, play_migration):
+        with tempfile.TemporaryDirectory() as folder:
+            playing.begin(plays.__name__, folder)
+            plays(playing.play_and_show)
+    print(f"events in files: {count} random ones and two with a playoff, {playing.lines} command lines, {playing.wrong} wrong")
     return 1 if playing.wrong else 0
 
 
-sys.exit(main(sys.argv[1], int(sys.argv[2]), int(sys.argv[3])))
+sys.exit(main(sys.argv[1], *map(int, sys.argv[2:])))

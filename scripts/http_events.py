@@ -1,14 +1,14 @@
 """Serves events on the program as it is built beside the plain reading of the rules: one event to each odd request of the lists, and random
 events to random and damaged requests. Compared are each whole answer and, after each run of `serve`, the rows of the file and the texts that
-command lines print. Between the runs the event goes on by command lines. A failure names the event: `http_events.py PROGRAM 0 SEED NUMBER` plays
-that one alone.
+command lines print. Between the runs the event goes on by command lines. Every second event begins in version 1, in a file made by SQL, and some of
+these are migrated. A failure names the event: `http_events.py PROGRAM 0 SEED NUMBER` plays that one alone.
 """
 import collections
 import random
 import sys
 import tempfile
 
-from event_files import due, rows_alone, rows_of, run, words_of
+from event_files import due, make_old, rows_alone, rows_of, run, words_of
 from plain_event import PLAYOFF, SWISS, Event
 from plain_http import read_of, served as served_plainly
 from random_play import random_playoff_score, random_score
@@ -27,8 +27,11 @@ class Evening:
         self.dice = random.Random(f"{seed}/{number}")
         self.lines = self.requests = self.wrong = 0
         self.statuses = collections.Counter()
-        self.event = Event(self.dice.randint(1, 5), self.dice.choice((0, 0, 2, 4)))
-        self.line(f"init\tE\t{self.event.rounds}\t{self.event.cut}", ["ok 0"])
+        self.event = Event(self.dice.randint(1, 5), self.dice.choice((0, 0, 2, 4)), 2 - number % 2)
+        if self.event.version == 1:
+            make_old(file, self.event)
+        else:
+            self.line(f"init\tE\t{self.event.rounds}\t{self.event.cut}", ["ok 0"])
         for name in self.dice.sample(NAMES, self.dice.randint(2, 9)):
             self.line(f"enrol\t{name}", self.event.enrol(name))
 
@@ -99,6 +102,8 @@ class Evening:
         if dice.random() < 0.3 and event.stored:
             score, number, place = random_score(dice), dice.randint(1, len(event.stored)), dice.randint(0, 3)
             self.line(f"correct\t{number}\t{place}\t{score[0]}\t{score[1]}\t{score[2]}", event.report(number, place, score, False))
+        if dice.random() < 0.2:
+            self.line("migrate", event.migrate())
         if dice.random() < 0.15:
             player = dice.randint(0, len(event.names))
             self.line(f"drop\t{player}", event.drop(player))

@@ -1,6 +1,7 @@
 """Stops the program by SIGKILL while it serves: behind an answer, at a random instant while a score is handed in, and in the middle of a request.
 The file then holds every score that was acknowledged, and of the one on its way all or nothing; and once a command line has run, it holds them alone,
-without its log. It is served again on the same port, and that score is sent again: it is taken, or answered with the score that is stored.
+without its log. It is served again on the same port, and that score is sent again: it is taken, or answered with the score that is stored. Every second
+event is in version 1.
 """
 import copy
 import random
@@ -8,7 +9,7 @@ import sys
 import tempfile
 import time
 
-from event_files import due, rows_alone, rows_of, rows_of_copy, run, words_of
+from event_files import due, make_old, rows_alone, rows_of, rows_of_copy, run, words_of
 from plain_event import Event
 from plain_http import served as served_plainly
 from serving import Serving, free_port, received, sent_whole
@@ -37,8 +38,11 @@ class Stops:
 
     def begin(self, file):
         self.events += 1
-        self.file, self.event, self.port = file, Event(5, 0), free_port()
-        self.line("init\tE\t5\t0", ["ok 0"])
+        self.file, self.event, self.port = file, Event(5, 0, 1 + self.events % 2), free_port()
+        if self.event.version == 1:
+            make_old(file, self.event)
+        else:
+            self.line("init\tE\t5\t0", ["ok 0"])
         for number in range(1, self.dice.randint(8, 16)):
             self.line(f"enrol\tP{number}", self.event.enrol(f"P{number}"))
         self.line("start", self.event.start())

@@ -1,10 +1,12 @@
 """A plain and slow reading of the rules (docs/RULES.md): an event, what each command is answered, and what each text shows."""
+import itertools
 from fractions import Fraction
 
 from chacha20 import words_of
 
 LEAST = Fraction(33, 100)
 BYE = (2, 0, 0)
+MOST_STEPS = 1_000_000
 ENROLLING, SWISS, PLAYOFF, FINISHED = range(4)
 
 # which seeds meet in the slots of the first stage
@@ -40,10 +42,10 @@ def printed(share):
 
 
 class Event:
-    """Rounds and stages are lists of [first, second or 0, score or None]; the bye stands last."""
+    """Rounds and stages are lists of [first, second or 0, score or None]; the bye stands last. The version is that of its tables."""
 
-    def __init__(self, rounds, cut):
-        self.rounds, self.cut, self.serial, self.phase = rounds, cut, 0, ENROLLING
+    def __init__(self, rounds, cut, version=2):
+        self.rounds, self.cut, self.version, self.serial, self.phase = rounds, cut, version, 0, ENROLLING
         self.names, self.dropped, self.stored, self.stages = [], set(), [], []
 
     def is_open(self):
@@ -83,13 +85,14 @@ class Event:
         _, _, points, games = self.totals(player)
         return max(LEAST, Fraction(points, 3 * games)) if games else LEAST
 
-    def merit(self, player):
+    def merit(self, player, match_wins, game_wins):
         opponents = [other for other, _ in self.played(player) if other]
-        return self.points(player), mean([self.match_wins(it) for it in opponents]), self.game_wins(player), mean([self.game_wins(it) for it in opponents])
+        return self.points(player), mean([match_wins[it] for it in opponents]), game_wins[player], mean([game_wins[it] for it in opponents])
 
     def merits(self):
         """What the players are ranked by, in the order of the standings."""
-        merits = {it: self.merit(it) for it in self.numbers()}
+        match_wins, game_wins = ({it: of(it) for it in self.numbers()} for of in (self.match_wins, self.game_wins))
+        merits = {it: self.merit(it, match_wins, game_wins) for it in self.numbers()}
         return {it: merits[it] for it in sorted(merits, key=lambda it: ([-value for value in merits[it]], it))}
 
     def standings(self):
@@ -124,6 +127,11 @@ class Event:
         self.serial += 1
         return [f"ok {self.serial}"]
 
+    def migrate(self):
+        """The tables of version 1 are moved to version 2. The event and its serial stay."""
+        self.version = 2
+        return [f"ok {self.serial}"]
+
     def enrol(self, name):
         if self.phase != ENROLLING:
             return ["refused 4 NotEnrolling"]
@@ -151,7 +159,10 @@ class Event:
         key = dict(zip(active, words_of(seed, len(active))))
         order = sorted(active, key=lambda it: (-self.points(it), key[it], it)) + [0] * (len(active) % 2)
         met = {frozenset(match[:2]) for matches in self.stored for match in matches}
-        pairs = earliest(order, met)
+        try:
+            pairs = earliest(order, met, itertools.count(1))
+        except OutOfSteps:
+            return ["refused 11 Budget"]
         if pairs is None:
             return ["refused 10 NoPairing"]
         self.stored.append([[a, b, None] for a, b in pairs if b] + [[a, b, BYE] for a, b in pairs if not b])
@@ -219,13 +230,19 @@ class Event:
         return self.taken()
 
 
-def earliest(order, met):
-    """The first pairing by the smaller partner that repeats nothing, or None."""
+class OutOfSteps(Exception):
+    """The search has made as many steps as it may."""
+
+
+def earliest(order, met, steps):
+    """The first pairing by the smaller partner that repeats nothing, or None. Each pair that is tried is a step."""
     if not order:
         return []
     for at in range(1, len(order)):
         if frozenset((order[0], order[at])) not in met:
-            rest = earliest(order[1:at] + order[at + 1 :], met)
+            if next(steps) > MOST_STEPS:
+                raise OutOfSteps
+            rest = earliest(order[1:at] + order[at + 1 :], met, steps)
             if rest is not None:
                 return [(order[0], order[at])] + rest
     return None

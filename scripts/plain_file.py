@@ -1,5 +1,5 @@
 """A plain reading of an event's file (docs/FORMATS.md, sections 1 and 2): of the rows of the five tables, as C SQLite gives them, the event that
-they stand for, or the first table at fault. It uses nothing of the program.
+they stand for, or the first table at fault. Tables are of version 1 or 2, as the event's row says. It uses nothing of the program.
 """
 import itertools
 import re
@@ -11,11 +11,19 @@ from plain_event import BYE, ENROLLING, FINISHED, PLAYOFF, SLOTS, SWISS, Event, 
 COLUMNS = {
     "event": ("id version serial name rounds cut phase", 1),
     "player": ("no name dropped", 1),
+    "player2": ("no name dropped joined", 1),
     "pairing": ("round tab lo hi swapped done x y d", 2),
     "bracket": ("stage slot a b done x y d", 2),
     "tally": ("no points rounds gamepoints games", 1),
 }
-LAST_SERIAL, MOST_PLAYERS, MOST_ROUNDS, LONGEST_NAME = 999_999, 512, 9, 60
+# where each version has the players, and the most rounds that it has
+PLAYERS, MOST_ROUNDS = {1: "player", 2: "player2"}, {1: 9, 2: 12}
+LAST_SERIAL, MOST_PLAYERS, LONGEST_NAME = 999_999, 512, 60
+
+
+def tables_of(version):
+    """The tables in which an event of this version stands, in the order in which they are read and checked."""
+    return "event", PLAYERS[version], "pairing", "bracket", "tally"
 
 
 class NoEvent(Exception):
@@ -90,28 +98,32 @@ def score_of(table, done, score):
 def checked_event(rows):
     need("event", len(rows) == 1, "not one row")
     number, version, serial, name, rounds, cut, phase = rows[0]
-    need("event", (number, version) == (1, 1), "id, version")
+    need("event", number == 1, "id")
+    need("event", version in MOST_ROUNDS, "version")
     need("event", 0 <= serial <= LAST_SERIAL, "serial")
     need("event", is_lawful(name), "name")
-    need("event", 1 <= rounds <= MOST_ROUNDS, "rounds")
+    need("event", 1 <= rounds <= MOST_ROUNDS[version], "rounds")
     need("event", cut in (0, *SLOTS), "cut")
     need("event", ENROLLING <= phase <= FINISHED, "phase")
-    event = Event(rounds, cut)
+    event = Event(rounds, cut, version)
     event.serial, event.phase = serial, phase
     return event
 
 
 def check_players(event, rows):
-    check_keys("player", rows)
-    need("player", [it[0] for it in rows] == list(range(1, len(rows) + 1)), "numbers")
-    need("player", len(rows) <= MOST_PLAYERS, "too many")
-    need("player", all(is_lawful(it[1]) for it in rows), "name")
-    need("player", len({it[1] for it in rows}) == len(rows), "a name comes twice")
-    need("player", all(it[2] in (0, 1) for it in rows), "dropped")
+    table = PLAYERS[event.version]
+    check_keys(table, rows)
+    need(table, [it[0] for it in rows] == list(range(1, len(rows) + 1)), "numbers")
+    need(table, len(rows) <= MOST_PLAYERS, "too many")
+    need(table, all(is_lawful(it[1]) for it in rows), "name")
+    need(table, len({it[1] for it in rows}) == len(rows), "a name comes twice")
+    need(table, all(it[2] in (0, 1) for it in rows), "dropped")
+    # nobody joins behind the start yet; only version 2 has the column
+    need(table, not any(it for row in rows for it in row[3:]), "joined")
     event.names = [it[1].decode() for it in rows]
     event.dropped = {it[0] for it in rows if it[2]}
-    need("player", event.phase != ENROLLING or not event.dropped, "one has dropped before the start")
-    need("player", event.phase == ENROLLING or len(rows) >= 2, "too few")
+    need(table, event.phase != ENROLLING or not event.dropped, "one has dropped before the start")
+    need(table, event.phase == ENROLLING or len(rows) >= 2, "too few")
 
 
 def match_of(event, row):
@@ -203,7 +215,7 @@ def check_seeds(event):
 def event_of(rows):
     """The event that the rows of the five tables stand for; the first fault is raised."""
     event = checked_event(rows["event"])
-    check_players(event, rows["player"])
+    check_players(event, rows[PLAYERS[event.version]])
     check_pairings(event, rows["pairing"])
     check_bracket(event, rows["bracket"])
     check_tallies(event, rows["tally"])
@@ -211,11 +223,17 @@ def event_of(rows):
     return event
 
 
+def version_said(rows):
+    """The version in whose tables the players are read: 2 where a row of the event says so, before any of them is checked."""
+    return 2 if any(row[1] == 2 for row in rows) else 1
+
+
 def read(file):
     """The event of a file. NoEvent or Damaged is raised where it holds none, and an error of C SQLite where that can't read it."""
     base = sqlite3.connect(file, isolation_level=None)
     base.text_factory = bytes
     try:
-        return event_of({table: rows_of_table(base, table) for table in COLUMNS})
+        tables = tables_of(version_said(rows_of_table(base, "event")))
+        return event_of({table: rows_of_table(base, table) for table in tables})
     finally:
         base.close()

@@ -1,7 +1,12 @@
 """Random events: small ones, of 2 to 11 players, in which pairings, results, corrections, drops and cuts come in any order, and whole
-ones, of 8 to 64 players, which are played from the first round to the champion, where they have a cut and enough players for it.
+ones, of 8 to 64 players, which are played from the first round to the champion, where they have a cut and enough players for it. Every fifth of these
+is a long one, of twice as many players and up to the most rounds. An event that begins in version 1 is moved to version 2 at a random place.
 """
 from plain_event import PLAYOFF, SWISS, Event
+from plain_file import MOST_ROUNDS
+
+FEWEST_LONG, FEWEST_ROUNDS_LONG = 24, 8
+
 
 def random_score(dice):
     if dice.random() < 0.8:
@@ -18,8 +23,8 @@ def random_playoff_score(dice):
 class Play:
     """An event, and `sends`: what becomes of each line and of the answer that is due to it."""
 
-    def __init__(self, sends, dice, players, rounds, cut):
-        self.sends, self.dice, self.event, self.players = sends, dice, Event(rounds, cut), players
+    def __init__(self, sends, dice, players, rounds, cut, version):
+        self.sends, self.dice, self.event, self.players = sends, dice, Event(rounds, cut, version), players
         self.send(f"init\tE\t{rounds}\t{cut}", ["ok 0"])
         for number in range(1, players + 1):
             self.send(f"enrol\tP{number}", self.event.enrol(f"P{number}"))
@@ -29,6 +34,8 @@ class Play:
 
     def send(self, line, answer):
         self.sends(line, answer, self.event)
+        if self.dice.random() < (0.03 if self.event.version == 1 else 0.003):
+            self.sends("migrate", self.event.migrate(), self.event)
 
     def standings(self):
         self.send("standings", self.event.standings())
@@ -77,15 +84,15 @@ class Play:
             self.send("enrol\tLate", self.event.enrol("Late"))
 
 
-def this_and_that(sends, dice):
+def this_and_that(sends, dice, version):
     """A small event, to which one thing after another is done, in order or not."""
-    play = Play(sends, dice, dice.randint(2, 11), dice.randint(1, 9), dice.choice((0, 0, 2, 4, 8)))
+    play = Play(sends, dice, dice.randint(2, 11), dice.randint(1, MOST_ROUNDS[version]), dice.choice((0, 0, 2, 4, 8)), version)
     for _ in range(dice.randint(1, 60)):
         what, number, is_open = dice.random(), len(play.event.stored), play.event.is_open()
         if play.event.phase != SWISS and what < 0.8:
             play.playoff()
         elif what < (0.1 if is_open else 0.6):
-            play.pair(number + 1 if dice.random() < 0.95 else dice.randrange(11))
+            play.pair(number + 1 if dice.random() < 0.95 else dice.randrange(14))
         elif what < 0.9:
             is_new = dice.random() < (0.85 if is_open else 0.2)
             number = number if is_new or dice.random() < 0.3 else dice.randint(0, number + 1)
@@ -101,9 +108,9 @@ def this_and_that(sends, dice):
     return play
 
 
-def to_the_champion(sends, dice, most):
-    """An event that is played from its first round to its end, by at most so many players."""
-    play = Play(sends, dice, dice.randint(8, most), dice.randint(1, 5), dice.choice((0, 2, 4, 8, 8)))
+def to_the_champion(sends, dice, version, players, rounds):
+    """An event of so many players and rounds that is played from its first round to its end."""
+    play = Play(sends, dice, players, rounds, dice.choice((0, 2, 4, 8, 8)), version)
     event = play.event
     for number in range(1, event.rounds + 1):
         play.pair(number)
@@ -134,7 +141,17 @@ def to_the_champion(sends, dice, most):
     return play
 
 
-def random_event(sends, dice, number, most=64):
-    """Every second event is a whole one, of at most so many players. The event at its end is given."""
-    play = to_the_champion(sends, dice, most) if number % 2 else this_and_that(sends, dice)
-    return play.event
+def random_event(sends, dice, number, most=64, version=2):
+    """Every second event is a whole one, of at most so many players, or twice as many where it is a long one. The event at its end is given."""
+    if number % 2 == 0:
+        return this_and_that(sends, dice, version).event
+    if number % 10 == 7 and most >= FEWEST_LONG:
+        players, rounds = dice.randint(FEWEST_LONG, 2 * most), dice.randint(FEWEST_ROUNDS_LONG, MOST_ROUNDS[version])
+    else:
+        players, rounds = dice.randint(8, most), dice.randint(1, 5)
+    return to_the_champion(sends, dice, version, players, rounds).event
+
+
+def version_of(number):
+    """The version in which a random event of a file begins: two of four in each."""
+    return 1 if number % 4 in (2, 3) else 2

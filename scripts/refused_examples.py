@@ -1,6 +1,7 @@
 """Refuses each growth of memory of worked examples 1, 8, 9, 14, 17, 20 and 21, one at a time: as scripts, as command lines over files, and as requests
-while the program serves, its opening among them. What is asked of each is what refused_memory.py, refused_file_memory.py and refused_http_memory.py
-ask. What is due where nothing is refused is what the worked examples show, by a plain reading of the rules.
+while the program serves, its opening among them; and of the migrations of worked example 47. What is asked of each is what refused_memory.py,
+refused_file_memory.py and refused_http_memory.py ask. What is due where nothing is refused is what the worked examples show, by a plain reading of
+the rules.
 
 A command line or a request that comes in two examples, on the same event, is tried in the first.
 """
@@ -10,7 +11,7 @@ import subprocess
 import sys
 import tempfile
 
-from event_files import copied, due, rows_of, rows_of_copy, run
+from event_files import copied, due, make_old, rows_of, rows_of_copy, run
 from plain_csv import imported, players_rows, results_rows, written
 from plain_event import Event
 from plain_http import served as served_plainly
@@ -45,6 +46,8 @@ EXAMPLES = [
     (21, 3, 0, [*PAIRED, "export\tresults"]),
     (21, 3, 0, [*THREE, "export\tresults"]),
 ]
+# in version 1 up to the migration, the first of two
+MIGRATED = (47, 1, 4, [*DONE, "cut", "migrate", "migrate"])
 
 
 def get(target):
@@ -80,8 +83,7 @@ SERVED = [
 
 def rows_of_friday(event):
     """The rows of an event that is named Friday."""
-    (number, version, serial, _, *rest), = rows_of(event)[0]
-    return [(number, version, serial, NAME, *rest)], *rows_of(event)[1:]
+    return rows_of(event, NAME)
 
 
 def answer_of(event, line):
@@ -100,7 +102,7 @@ def answer_of(event, line):
     if name in ("result", "playoff"):
         one, other, *score = numbers
         return due(event.report(one, other, tuple(score), True) if name == "result" else event.play(one, other, tuple(score)))
-    return due({"start": event.start, "drop": event.drop, "cut": event.end_rounds, "players": event.players, "standings": event.standings, "bracket": event.bracket}[name](*numbers))
+    return due(getattr(event, {"cut": "end_rounds"}.get(name, name))(*numbers))
 
 
 class Examples:
@@ -137,6 +139,18 @@ class Examples:
                 got = run(self.program, self.words(file, line))
                 assert got == answer, (number, line, got)
                 taken += (line,) if answer[1].startswith((b"ok ", b"added ")) else ()
+
+    def run_migrations(self, number, rounds, cut, lines):
+        """The migrations of an example by command lines, over a file that begins in version 1."""
+        with tempfile.TemporaryDirectory() as room:
+            file, event = f"{room}/e.event", Event(rounds, cut, 1)
+            make_old(file, event, name=NAME)
+            for line in lines:
+                answer = answer_of(event, line)
+                if line == "migrate":
+                    self.run_line(file, line, answer, event)
+                got = run(self.program, self.words(file, line))
+                assert got == answer, (number, line, got)
 
     def words(self, file, line):
         """The words of a command line. Lists lie beside the file."""
@@ -206,6 +220,7 @@ def main(program, library, jobs):
         it.run_opening(3, 0, PAIRED)
         for example in EXAMPLES:
             it.run_lines(*example)
+        it.run_migrations(*MIGRATED)
     print("\n".join(it.wrong), file=sys.stderr, end="\n" if it.wrong else "")
     count = sum(it.growths.values())
     print(f"refused memory in worked examples: {count} growths, each refused once: " + ", ".join(f"{number} by {kind}" for kind, number in it.growths.items()))

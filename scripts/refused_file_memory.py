@@ -1,7 +1,7 @@
-"""Runs command lines over a file with one growth of memory refused, each in turn. The answer is as ever, or `refused 24 Memory` with status
-4. The file then holds the event as it was, or as the command leaves it, and so where it was answered as ever. An import for which
-memory ran out has enrolled as many names as it says, or one more. What the file holds then the program shows, once nothing is refused, and behind
-that the file alone holds it, without its log.
+"""Runs command lines over a file, and a migration of one of version 1, with one growth of memory refused, each in turn. The answer is as ever, or
+`refused 24 Memory` with status 4. The file then holds the event as it was, or as the command leaves it, and so where it was answered as ever. An import
+for which memory ran out has enrolled as many names as it says, or one more. What the file holds then the program shows, once nothing is refused, and
+behind that the file alone holds it, without its log.
 
 An opening alone grows some 4,300 times, so that of a command line's growths each STRIDE-th is refused, and then each of the last 150.
 """
@@ -11,7 +11,7 @@ import subprocess
 import sys
 import tempfile
 
-from event_files import copied, rows_alone, rows_of_copy
+from event_files import copied, due, event_of_four, make_old, rows_alone, rows_of, rows_of_copy
 from plain_log import without_salts
 from refusing import no_cause_no_fault, refusing
 
@@ -118,18 +118,29 @@ class Line:
         return wrong + [it for it in each(self.fault, growths) if it]
 
 
+def lines_of(program, library, room):
+    """The command lines whose growths are refused, each over the file as those before it have left it; and a migration."""
+    file, old = f"{room}/e.event", f"{room}/old.event"
+    for words, is_tried in COMMANDS:
+        it = Line(program, library, file, words, NAMES)
+        if is_tried:
+            yield it
+        write_lists(room, NAMES)
+        it.run(file, words)
+    make_old(old, event_of_four(1))
+    it = Line(program, library, old, ["migrate"], NAMES)
+    if (it.due, it.after[0]) != (due(["ok 6"]), rows_of(event_of_four())):
+        sys.exit(f"the migration is answered {it.due}, and the file holds {it.after}")
+    yield it
+
+
 def main(program, library, stride):
     growths, wrong = 0, []
     # a command line waits for the disk most of the time
     with tempfile.TemporaryDirectory() as room, concurrent.futures.ThreadPoolExecutor(len(os.sched_getaffinity(0))) as pool:
-        file = f"{room}/e.event"
-        for words, is_tried in COMMANDS:
-            it = Line(program, library, file, words, NAMES)
-            if is_tried:
-                tried = sorted({*range(1, it.count + 1, stride), *range(max(1, it.count - LAST + 1), it.count + 1)})
-                growths, wrong = growths + len(tried), wrong + it.faults(pool.map, tried)
-            write_lists(room, NAMES)
-            it.run(file, words)
+        for it in lines_of(program, library, room):
+            tried = sorted({*range(1, it.count + 1, stride), *range(max(1, it.count - LAST + 1), it.count + 1)})
+            growths, wrong = growths + len(tried), wrong + it.faults(pool.map, tried)
     print("\n".join(wrong), file=sys.stderr, end="\n" if wrong else "")
     print(f"refused memory in a file: {growths} growths, each refused once")
     print(f"{growths - len(wrong)} passed, {len(wrong)} failed")

@@ -75,7 +75,7 @@ def run_seeds():
             check(f"seed {word}", run(script + b"pair\t1\t%s\nslips\t1\n" % word.encode()), (0, answers, b""))
 
 
-SUBCOMMANDS = "init enrol import start pair result correct drop cut playoff standings players slips bracket export serve".split()
+SUBCOMMANDS = "init enrol import start pair result correct drop cut playoff standings players slips bracket export serve migrate".split()
 
 
 def wide_lines(text):
@@ -121,6 +121,7 @@ def run_words():
         (["export", "f", "standings"], b"`standings` is no kind of list: players or results\n" + export),
         (["export", "f", "Players"], b"`Players` is no kind of list: players or results\n" + export),
         (["export", "f"], b"a word is missing at the end\n" + export),
+        (["migrate", "f", "2"], b"`2` is a word too many\n" + run(b"", ["migrate", "-h"])[1]),
         (["help"], b"`help` is no subcommand\nusage: event_reporter SUBCOMMAND FILE WORDS\nTry: event_reporter --help\n"),
         ([""], b"`` is no subcommand\nusage: event_reporter SUBCOMMAND FILE WORDS\nTry: event_reporter --help\n"),
         (["help", "--version"], b"`--version` begins with `-`, which no word may\nusage: event_reporter SUBCOMMAND FILE WORDS\nTry: event_reporter --help\n"),

@@ -25,7 +25,7 @@ def completed(*words):
 shown = subprocess.run([program, "--help"], capture_output=True, text=True, timeout=60, check=True).stdout
 listed = re.findall(r"^  ([a-z]+) (FILE(?: [A-Z]+)*)  ", shown, re.M)
 names = [name for name, _ in listed]
-check("each subcommand has its own help", [subprocess.run([program, it, "--help"], capture_output=True, timeout=60).returncode for it in names], [0] * 16)
+check("each subcommand has its own help", [subprocess.run([program, it, "--help"], capture_output=True, timeout=60).returncode for it in names], [0] * 17)
 check("man", re.findall(r'^\.BI ([a-z]+) " ([A-Z ]+)"$', text_of("1"), re.M), listed)
 version = subprocess.run([program, "--version"], capture_output=True, text=True, timeout=60, check=True).stdout.strip()
 check("man, the version", f'"{version}"' in text_of("1"), True)

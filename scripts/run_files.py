@@ -1,5 +1,6 @@
 """Runs the program as it is built on files: each transcript of a folder as command lines, one process a line; then the files that a person may
-hand in, each with a clear answer, nothing changed, and no litter beside it; and copies, as a person makes them and goes back to them.
+hand in, each with a clear answer, nothing changed, and no litter beside it; copies, as a person makes them and goes back to them; and files of
+version 1, which are migrated.
 
 An empty line of a transcript begins the next file. What a script is answered `usage` is a fault of usage here, whose text goes to the errors.
 """
@@ -14,7 +15,7 @@ import subprocess
 import sys
 import tempfile
 
-from event_files import copied, due, event_of_four, make_four, rows_alone, rows_of
+from event_files import copied, due, event_of_four, make_four, make_old, rows_alone, rows_of
 from plain_event import Event
 from plain_log import committed
 from serving import Serving, hear_interrupts, served
@@ -99,7 +100,7 @@ def run_paths(room):
     check("no such folder", run("init", f"{room}/none/e.event", "Friday", "3", "0"), refused(25, "Store"))
     check("a folder", run("players", room), refused(25, "Store"))
     check("an event in a folder", run("init", room, "Friday", "3", "0"), refused(25, "Store"))
-    check("an unlawful event", run("init", f"{room}/e.event", "Friday", "10", "0"), refused(30, "BadSetup"))
+    check("an unlawful event", run("init", f"{room}/e.event", "Friday", "13", "0"), refused(30, "BadSetup"))
     check("an unlawful event, and no file is made", os.listdir(room), [])
     for name in ("two words.event", "it's \"quoted\".event", "Zürich – 大会.event"):
         check(name, run("players", made(f"{room}/{name}")), SERVED)
@@ -156,12 +157,12 @@ INIT = ("init", "Friday", "3", "0")
 def run_litter(room):
     """A file that is refused has no log beside it that wasn't there."""
     store, no_event, damaged, exists = (refused(*it) for it in ((25, "Store"), (27, "NoEvent"), (29, "Damaged"), (28, "EventExists")))
-    reading = [("players",), ("standings",), ("enrol", "Cy"), ("export", "players"), ("serve", "0", "1"), ("import", "/dev/null")]
+    reading = [("players",), ("standings",), ("enrol", "Cy"), ("export", "players"), ("serve", "0", "1"), ("import", "/dev/null"), ("migrate",)]
     text, short = laid(room, "README.md", b"# A text\n" * 900), laid(room, "names.csv", b"name\nAna\n")
     other = by_sqlite(f"{room}/other", "CREATE TABLE note(body TEXT)")
     logged = by_sqlite(f"{room}/logged", "PRAGMA journal_mode = WAL", "CREATE TABLE note(body TEXT)")
     there = without_log(made(f"{room}/there"))
-    wrong = without_log(shutil.copy(there, f"{room}/wrong"), "UPDATE player SET no = 7 WHERE no = 2")
+    wrong = without_log(shutil.copy(there, f"{room}/wrong"), "UPDATE player2 SET no = 7 WHERE no = 2")
     cut, torn = laid(room, "cut", bytes_of(there)[:100]), laid(room, "torn", bytes_of(there)[:6000])
     for what, file, answers, commands in (
         ("a text", text, [store], [*reading, INIT]),
@@ -213,7 +214,7 @@ def run_logs(room):
                 text = laid(other, "text", b"Ana\nBo\n" * 900)
                 laid(other, "text-wal", log)
                 check_litter(f"a text beside {what}, {name}", [refused(25, "Store")], (name, text, *rest), other)
-    damaged = with_log(by_sqlite(made(f"{room}/damaged"), "UPDATE player SET no = 7 WHERE no = 2"))
+    damaged = with_log(by_sqlite(made(f"{room}/damaged"), "UPDATE player2 SET no = 7 WHERE no = 2"))
     other = with_log(by_sqlite(f"{room}/other", "PRAGMA journal_mode = WAL"))
     there = with_log(made(f"{room}/there"))
     for what, file, (name, *rest), answer in (
@@ -252,7 +253,7 @@ def run_links(room):
 def run_after_sqlite(room):
     """An event file that another program has read or written."""
     file = made(f"{room}/e.event")
-    check("read by SQLite", run("players", by_sqlite(file, "SELECT * FROM player")), SERVED)
+    check("read by SQLite", run("players", by_sqlite(file, "SELECT * FROM player2")), SERVED)
     check("with a table more", run("players", by_sqlite(file, "CREATE TABLE note(body TEXT)")), SERVED)
     check("vacuumed", run("players", by_sqlite(file, "VACUUM")), SERVED)
     check("goes on", run("start", file), (0, b"ok 3\n", b""))
@@ -505,8 +506,133 @@ def run_restoring(_room):
                     desk.shows(f"{name}, the newer one", "older/friday.event", desk.event)
 
 
+def query(file, statement):
+    base = sqlite3.connect(file)
+    found = base.execute(statement).fetchall()
+    base.close()
+    return found
+
+
+def shows(what, file, event):
+    """The program shows this event, and the file alone holds it."""
+    for name in ("players", "standings", "bracket"):
+        check(f"{what}, {name}", run(name, file), due(getattr(event, name)()))
+    check(f"{what}, the file alone", rows_alone(file), rows_of(event))
+
+
+def run_migration(room):
+    """Worked example 47: worked example 17 in tables of version 1 up to the cut, a migration, and the rest."""
+    file = f"{room}/e.event"
+    make_old(file, Event(1, 4, 1), name="Friday")
+    (lines,) = (lines for _, lines in parts_of(f"{folder}/worked.txt") if (b"cut\n", ["ok 13"]) in lines)
+    for line, answer in lines[1:]:
+        run_line(f"worked example 47, {line!r}", line, answer, file)
+        if line == b"cut\n" and answer == ["ok 13"]:
+            texts = run("standings", file), run("bracket", file)
+            check("worked example 47, before", query(file, "SELECT version, serial, (SELECT count(*) FROM player) FROM event"), [(1, 13, 6)])
+            for _ in range(2):
+                check("worked example 47, migrate", run("migrate", file), due(["ok 13"]))
+                check("worked example 47, behind it", query(file, "SELECT version, serial, (SELECT count(*) FROM player) FROM event"), [(2, 13, 0)])
+                check("worked example 47, the same texts", (run("standings", file), run("bracket", file)), texts)
+
+
+def run_versions(room):
+    """A file of version 1 goes on as it is, and is moved to version 2, whatever there is of it."""
+    for what, has_log, journal in (("closed", False, "WAL"), ("with a log", True, "WAL"), ("of another journal", False, "DELETE")):
+        file, event = f"{room}/{what}", event_of_four(1)
+        make_old(file, event, has_log=has_log)
+        if journal == "DELETE":
+            by_sqlite(file, "PRAGMA journal_mode = DELETE")
+        check(f"version 1, {what}, result", run("result", file, "1", "1", "2", "0", "0"), due(event.report(1, 1, (2, 0, 0), True)))
+        shows(f"version 1, {what}", file, event)
+        check(f"version 1, {what}, migrate", run("migrate", file), due(event.migrate()))
+        shows(f"version 1, {what}, migrated", file, event)
+        check(f"version 1, {what}, drop", run("drop", file, "3"), due(event.drop(3)))
+        check(f"version 1, {what}, result again", run("result", file, "1", "2", "0", "2", "0"), due(event.report(1, 2, (0, 2, 0), True)))
+        shows(f"version 1, {what}, goes on", file, event)
+    empty, event = f"{room}/empty", Event(9, 8, 1)
+    make_old(empty, event)
+    check("version 1, nobody, migrate", run("migrate", empty), due(event.migrate()))
+    check("version 1, nobody, enrol", run("enrol", empty, "P1"), due(event.enrol("P1")))
+    shows("version 1, nobody, migrated", empty, event)
+    full, event = f"{room}/full", Event(9, 0, 1)
+    for number in range(1, 513):
+        event.enrol(f"P{number}")
+    event.serial = 999_999
+    make_old(full, event)
+    check("version 1, 512 players and the last serial", run("migrate", full), due(["ok 999999"]))
+    event.migrate()
+    shows("version 1, 512 players, migrated", full, event)
+
+
+# what bears the name of the table that a migration makes
+TAKEN = [
+    ("a table", "CREATE TABLE player2(no INTEGER PRIMARY KEY, name TEXT NOT NULL UNIQUE, dropped INTEGER NOT NULL, joined INTEGER NOT NULL)"),
+    ("another program's table", "CREATE TABLE Player2(body TEXT)"),
+    ("a view", "CREATE VIEW player2 AS SELECT no, name, dropped, 0 AS joined FROM player"),
+    ("an index", "CREATE INDEX player2 ON player(dropped)"),
+]
+
+
+def run_taken(room):
+    """A name that is taken stops a migration. It changes nothing then, and the event goes on in version 1."""
+    for what, statement in TAKEN:
+        file, event = f"{room}/{what}", event_of_four(1)
+        make_old(file, event, others=((), (statement,)))
+        before, name = bytes_of(file), f"player2 is {what}"
+        check(f"{name}, migrate", run("migrate", file), refused(25, "Store"))
+        check(f"{name}, the file stays", bytes_of(file) == before, True)
+        for text in ("players", "standings"):
+            check(f"{name}, {text}", run(text, file), due(getattr(event, text)()))
+        check(f"{name}, it goes on", run("result", file, "1", "1", "2", "0", "0"), due(event.report(1, 1, (2, 0, 0), True)))
+        check(f"{name}, version 1", query(file, "SELECT version, serial FROM event"), [(1, event.serial)])
+        check(f"{name}, its players", query(file, "SELECT no, name, dropped FROM player ORDER BY no"), rows_of(event)[1])
+
+
+def run_among_others(room):
+    """A file with tables of another program in front and behind is migrated all the same, and these stay."""
+    note = "CREATE TABLE note(body TEXT)", "INSERT INTO note VALUES ('chairs')", "CREATE VIEW notes AS SELECT body FROM note"
+    badge = "CREATE TABLE badge(no INTEGER PRIMARY KEY, body TEXT)", "CREATE INDEX by_body ON badge(body)", "INSERT INTO badge VALUES (7, 'red')"
+    seat = "CREATE TABLE seat(no INTEGER PRIMARY KEY, row TEXT UNIQUE)", "INSERT INTO seat VALUES (1, 'A')"
+    file, event = f"{room}/e.event", event_of_four(1)
+    make_old(file, event, others=((*note, *badge), seat))
+    others = "SELECT note.body, badge.no, badge.body, seat.no, seat.row FROM note, badge, seat"
+    texts = "SELECT type, name, sql FROM sqlite_schema WHERE name NOT LIKE '%player2%'"
+    before = query(file, others), query(file, texts)
+    check("among others, before", before[0], [("chairs", 7, "red", 1, "A")])
+    check("among others, migrate", run("migrate", file), due(event.migrate()))
+    shows("among others, migrated", file, event)
+    check("among others, their tables stay", (query(file, others), query(file, texts)), before)
+    check("among others, migrate again", run("migrate", file), due(event.migrate()))
+    for table in (1, 2):
+        check("among others, result", run("result", file, "1", str(table), "2", "1", "0"), due(event.report(1, table, (2, 1, 0), True)))
+    check("among others, pair", run("pair", file, "2", "0" * 64), due(event.pair(2, bytes(32))))
+    check("among others, slips", run("slips", file, "2"), due(event.slips(2)))
+    shows("among others, goes on", file, event)
+    check("among others, their tables stay behind that", (query(file, others), query(file, texts)), before)
+
+
+def run_no_migration(room):
+    """What can't be migrated, and a disk on which it can't be written."""
+    check("migrate, no such file", run("migrate", f"{room}/none"), refused(27, "NoEvent"))
+    check("migrate, and none is made", os.listdir(room), [])
+    file, event = f"{room}/e.event", event_of_four(1)
+    make_old(file, event)
+    long = shutil.copy(file, f"{room}/long")
+    by_sqlite(long, "UPDATE event SET rounds = 10")
+    check("ten rounds in version 1", run("migrate", long), refused(29, "Damaged"))
+    check("ten rounds in version 1, it stays", query(long, "SELECT version, rounds FROM event"), [(1, 10)])
+    before = bytes_of(file)
+    check("migrate on a disk that takes nothing", run_narrowly(0, "migrate", file), refused(25, "Store"))
+    check("migrate on a disk that takes nothing, the file stays", bytes_of(file) == before, True)
+    shows("migrate on a disk that takes nothing", file, event)
+    check("migrate once there is room", run("migrate", file), due(event.migrate()))
+    shows("migrate once there is room", file, event)
+
+
 PARTS = [run_paths, run_contents, run_litter, run_empty, run_logs, run_links, run_alone, run_copies, run_restoring]
 PARTS += [run_after_sqlite, run_totals, run_locked, run_full_disk, run_rights, run_terminal]
+PARTS += [run_migration, run_versions, run_taken, run_among_others, run_no_migration]
 
 run_transcripts()
 for part in PARTS:

@@ -404,7 +404,7 @@ def run_slow_reader(room):
     file = f"{room}/e.event"
     made(file, [("init", "Friday", "3", "0"), ("enrol", names[0]), ("enrol", names[1])])
     base = sqlite3.connect(file)
-    base.executemany("INSERT INTO player VALUES (?, ?, 0)", [(it, name) for it, name in enumerate(names, 1) if it > 2])
+    base.executemany("INSERT INTO player2 VALUES (?, ?, 0, 0)", [(it, name) for it, name in enumerate(names, 1) if it > 2])
     base.executemany("INSERT INTO tally VALUES (?, 0, 0, 0, 0)", [(it,) for it in range(3, len(names) + 1)])
     base.commit()
     base.close()

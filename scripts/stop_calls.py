@@ -1,7 +1,10 @@
 """Stops the program at each call by which it changes a file, and has each such call fail once, one after the other: in the commands of an event with
-a playoff, and in random ones. Each time the file has to hold the event before the command or after it, whole, and after it where the command
-was acknowledged; the program shows that event's standings; and the command, sent again where it was not taken, is taken. A call that
+a playoff, in migrations, and in random events. Each time the file has to hold the event before the command or after it, whole, and after it where the
+command was acknowledged; the program shows that event's standings; and the command, sent again where it was not taken, is taken. A call that
 fails has the command refused with 25.
+
+A migration finds an event in version 1, which SQL has made, closed or all in its log. The file then holds that in version 1 or in version 2, and a
+migration that is sent again is answered as ever, whichever it is.
 
 A command closes its file behind the answer. Of a call there the answer knows nothing: it is whole where the program is stopped, and where the call fails
 it is as ever, with its status. Behind the command that comes next, the file without its log holds the event.
@@ -15,8 +18,9 @@ import random
 import sys
 import tempfile
 
-from event_files import copied, due, play_playoff, rows_alone, rows_left, rows_of, run, words_of
-from random_play import random_event
+from event_files import copied, due, has_begun_old, make_old, play_playoff, play_rounds, rows_alone, rows_left, rows_of, run, words_of
+from plain_event import Event
+from random_play import random_event, version_of
 from stopping import STOPS, calls_of, meddling, ways
 
 # the most players of a random event that is played to its champion
@@ -71,7 +75,7 @@ class Calls:
             shown = run(self.program, ["standings", file])
             if shown != held.standings:
                 return False, f"standings are {shown}"
-            if held is not after:
+            if held is not after or line == "migrate":
                 again = run(self.program, words)
                 if again != due(answer):
                     return False, f"sent again: {again}"
@@ -86,8 +90,16 @@ class Calls:
             f"{len(self.wrong)} wrong"
         )
 
+    def begin_old(self, event, has_log):
+        """Goes on with an event in version 1."""
+        make_old(self.file, event, has_log=has_log)
+        self.before = State(rows_of(event), due(event.standings()))
+
     def play(self, line, answer, event):
         after = State(rows_of(event), due(event.standings()))
+        if has_begun_old(line, answer, event, self.file):
+            self.before = after
+            return
         tries = self.ways(line)
         for (call, how), (is_refused, fault) in zip(tries, self.pool.map(lambda it: self.tried(line, answer, after, *it), tries)):
             (self.stops if how in STOPS else self.faults)[call.is_behind] += 1
@@ -100,21 +112,30 @@ class Calls:
         self.lines, self.before = self.lines + 1, after
 
 
+def play_migration(calls, has_log):
+    """An event of six in version 1 behind the cut to four; its migration, and another one; and the first score of its playoff."""
+    event = Event(1, 4, 1)
+    play_rounds(lambda *_: None, event)
+    calls.begin_old(event, has_log)
+    for _ in range(2):
+        calls.play("migrate", event.migrate(), event)
+    calls.play("playoff\t1\t1\t2\t0\t0", event.play(1, 1, (2, 0, 0)), event)
+
+
 def main(program, library, count, seed):
     dice = random.Random(seed)
     with concurrent.futures.ThreadPoolExecutor(len(os.sched_getaffinity(0))) as pool:
         calls = Calls(program, library, 1 if count else 4, pool)
-        for number in range(count + 1):
+        plays = [lambda: play_playoff(calls.play), lambda: play_migration(calls, False), lambda: play_migration(calls, True)]
+        plays += [lambda it=it: random_event(calls.play, dice, it, MOST, version_of(it)) for it in range(1, count + 1)]
+        for number, play in enumerate(plays, 1):
             with tempfile.TemporaryDirectory() as folder:
                 calls.begin(f"{folder}/e.event")
-                if number == 0:
-                    play_playoff(calls.play)
-                else:
-                    random_event(calls.play, dice, number, MOST)
+                play()
             if count:
-                print(f"{number + 1} events, {calls.told()}", file=sys.stderr, flush=True)
+                print(f"{number} events, {calls.told()}", file=sys.stderr, flush=True)
     print("\n".join(calls.wrong), file=sys.stderr, end="\n" if calls.wrong else "")
-    print(f"stops at each call: {count + 1} events, {calls.told()}")
+    print(f"stops at each call: {len(plays)} events, {calls.told()}")
     return 1 if calls.wrong else 0
 
 

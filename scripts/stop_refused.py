@@ -1,6 +1,7 @@
 """Stops the program at each call by which it changes a file, and has each such call fail once, where it opens a file that it refuses: an empty one, a
-text, another program's database, a damaged event, and an event over which another one is to be set up. No stop and no fault may cost the file
-anything. It is refused as before then, or takes an event where it holds none, and keeps its bytes until then; but the empty one, which is begun.
+text, another program's database, a damaged event, an event over which another one is to be set up, and one in version 1 that can't be moved to version 2,
+since the table of its players is there already. No stop and no fault may cost the file anything. It is refused as before then, or takes an event where
+it holds none, and keeps its bytes until then; but the empty one, which is begun.
 """
 import concurrent.futures
 import os
@@ -8,10 +9,10 @@ import sqlite3
 import sys
 import tempfile
 
-from event_files import copied, due, event_of_four, make_four, run
+from event_files import copied, due, event_of_four, make_four, make_old, run
 from stopping import STOPS, calls_of, meddling, ways
 
-INIT, PLAYERS = ("init", "E", "3", "0"), ("players",)
+INIT, PLAYERS, MIGRATE = ("init", "E", "3", "0"), ("players",), ("migrate",)
 STORE, NO_EVENT, EXISTS, DAMAGED = (due([f"refused {it}"]) for it in ("25 Store", "27 NoEvent", "28 EventExists", "29 Damaged"))
 
 
@@ -30,13 +31,14 @@ def laid(file, data):
 
 def kinds(program, room):
     """Files with a command that each refuses, the answer, and a command that comes behind it, with its answer."""
-    empty, text, other, damaged, there = (f"{room}/{it}" for it in ("empty", "text", "other", "damaged", "there"))
+    empty, text, other, damaged, there, taken = (f"{room}/{it}" for it in ("empty", "text", "other", "damaged", "there", "taken"))
     laid(empty, b"")
     laid(text, b"Ana\nBo\n" * 900)
     by_sqlite(other, "CREATE TABLE note(body TEXT)")
-    for file, statement in ((damaged, "UPDATE player SET no = 7 WHERE no = 2"), (there, "SELECT * FROM player")):
+    for file, statement in ((damaged, "UPDATE player2 SET no = 7 WHERE no = 2"), (there, "SELECT * FROM player2")):
         make_four(program, file)
         by_sqlite(file, statement)
+    make_old(taken, event_of_four(1), others=((), ("CREATE TABLE player2(no INTEGER PRIMARY KEY)",)))
     made, players = due(["ok 0"]), due(event_of_four().players())
     return [
         (empty, PLAYERS, NO_EVENT, INIT, made),
@@ -44,6 +46,7 @@ def kinds(program, room):
         (other, PLAYERS, NO_EVENT, INIT, made),
         (damaged, PLAYERS, DAMAGED, INIT, EXISTS),
         (there, INIT, EXISTS, PLAYERS, players),
+        (taken, MIGRATE, STORE, PLAYERS, players),
     ]
 
 

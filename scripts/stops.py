@@ -1,6 +1,6 @@
 """Stops the program at random instants of random events over files, by SIGKILL, and looks at what the file then holds: the event before the
 command or after it, whole, and after it where the command was acknowledged. Behind the commands that come next the file alone holds it, without its
-log. Then the command is sent again, if it was not taken.
+log. Then the command is sent again, if it was not taken. Half of the events begin in version 1, in files made by SQL, and are migrated on the way.
 """
 import copy
 import os
@@ -10,8 +10,8 @@ import sys
 import tempfile
 import time
 
-from event_files import due, rows_alone, rows_left, rows_of, run, words_of
-from random_play import random_event
+from event_files import due, has_begun_old, rows_alone, rows_left, rows_of, run, words_of
+from random_play import random_event, version_of
 
 
 class Stopped(Exception):
@@ -59,6 +59,9 @@ class Stops:
 
     def play(self, line, answer, event):
         words, after, texts = words_of(line, self.file), rows_of(event), self.texts_of(event)
+        if has_begun_old(line, answer, event, self.file):
+            self.before, self.texts = after, texts
+            return
         while self.dice.random() < 0.6:
             status, out = self.stop(words)
             if status != -9:
@@ -92,7 +95,7 @@ def main(program, count, seed):
         while True:
             with tempfile.TemporaryDirectory() as folder:
                 stops.begin(os.path.join(folder, "e.event"))
-                random_event(stops.play, dice, number)
+                random_event(stops.play, dice, number, version=version_of(number))
                 number += 1
     except Stopped:
         pass

@@ -40,6 +40,7 @@ def to_the_champion(players, rounds, cut):
 CASES = {
     "512 enrolments": enrolled(512, 9),
     "512 players over nine rounds": played(512, 9),
+    "256 players over twelve rounds": [*played(256, 12), "standings"],
     "standings after each result of 64 players": played(64, 9, after_each=["standings"]),
     "500 standings of 512 players, after one round": [*played(512, 1), *["standings"] * 500],
     "500 standings of 512 players, after nine rounds": [*played(512, 9), *["standings"] * 500],

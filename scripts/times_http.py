@@ -52,7 +52,7 @@ def tallies(is_open):
 def made(file, is_open):
     subprocess.run([program, "init", file, "Friday", str(ROUNDS), "0"], check=True, stdout=subprocess.DEVNULL)
     base = sqlite3.connect(file)
-    base.executemany("INSERT INTO player VALUES (?, ?, 0)", ((it, f"N{it}") for it in range(1, PLAYERS + 1)))
+    base.executemany("INSERT INTO player2 VALUES (?, ?, 0, 0)", ((it, f"N{it}") for it in range(1, PLAYERS + 1)))
     base.executemany("INSERT INTO pairing VALUES (?, ?, ?, ?, ?, ?, ?, ?, ?)", pairings(is_open))
     base.executemany("INSERT INTO tally VALUES (?, ?, ?, ?, ?)", tallies(is_open))
     base.execute("UPDATE event SET phase = 1, serial = 5000")

@@ -187,7 +187,33 @@ def of_turn(crate, bodies, turn):
     return always + [its[turn % len(its)] for its in public.values()] + [it for its in part for it in its]
 
 
-def said_of(crate, function, output, constants):
+OPEN_GOAL = re.compile(r"^note: (?:\./)?(src/\S+?\.rt):(\d+):\d+: it is not proved that .*? \(`([^`]+)`\)", re.M)
+
+
+def clause_of(goal):
+    """The clause that a goal is of, or the empty text where it is all of them."""
+    return goal.rpartition("-clause-")[2] if "-clause-" in goal else ""
+
+
+def answered_in(crate, function):
+    """The clauses of a function that its own answers are about."""
+    file = f"{proof_of(crate.folder, function)}/Answers.antt"
+    text = open(file, encoding="utf-8").read() if os.path.isfile(file) else ""
+    return {clause_of(it) for it in re.findall(r"goal\.(returns[\w-]*)", text)}
+
+
+def left_open(crate, texts, output):
+    """The functions of which a goal stayed open that no answer of theirs is about. With it a clause is refused, whatever names their answers lost."""
+    found = set()
+    for file, line, goal in OPEN_GOAL.findall(output):
+        text = texts.get(file) or open(f"{crate.folder}/{file}", encoding="utf-8").read()
+        function = function_at(crate, text, sum(len(it) for it in text.splitlines(True)[: int(line)]), file)
+        if function and goal.startswith("returns") and not answered_in(crate, function) & {"", clause_of(goal)}:
+            found.add(function)
+    return found
+
+
+def said_of(crate, function, output, constants, open_in):
     """What the check said of a function: `proved`, `refused` at a goal of its contract, or `unclear`."""
     if function == EXAMPLES:
         told = re.findall(r"^(?:\./)?proofs/Examples\.antt:\d+:\d+: error: (.*)$", output, re.M)
@@ -199,7 +225,7 @@ def said_of(crate, function, output, constants):
         return "unclear"
     if line[1].startswith(("proved", "no holes", "depends on a hole")):
         return "proved"
-    if "did not prove" in line[1]:
+    if "did not prove" in line[1] or function in open_in:
         return "refused"
     *folders, name = function.split("::")
     folder = "/".join(["proofs", *folders, rf"\+?{name}"])
@@ -207,8 +233,8 @@ def said_of(crate, function, output, constants):
     return "refused" if any(not LOST_NAME.search(it) for it in told) else "unclear"
 
 
-def verdict(crate, body, output, constants):
-    said = {said_of(crate, it, output, constants) for it in body.functions}
+def verdict(crate, body, output, constants, open_in):
+    said = {said_of(crate, it, output, constants, open_in) for it in body.functions}
     return "refused" if "refused" in said else "passed" if said == {"proved"} else "unclear"
 
 
@@ -288,7 +314,8 @@ def tried(crate, bodies, kept, has_holes=True):
             said = {taken[0].name: "unread"}
     else:
         constants = sum(EXAMPLES in it.functions for it in taken)
-        said = {it.name: verdict(crate, it, output, constants) for it in taken}
+        open_in = left_open(crate, texts, output)
+        said = {it.name: verdict(crate, it, output, constants, open_in) for it in taken}
     return said, output
 
 

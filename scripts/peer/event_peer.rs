@@ -4,8 +4,9 @@ use std::cmp::Reverse;
 use std::io::{Read, Write};
 use std::process::ExitCode;
 
-const BASE: u128 = 2520;
-const WHOLE: u128 = 3 * 164_249_358_725_037_825_439_200 * BASE;
+const MAX_ROUNDS: usize = 12;
+const BASE: u128 = 27_720;
+const WHOLE: u128 = 3 * 5_624_043_567_677_125_526_551_547_131_200 * BASE;
 const MINIMUM: u128 = WHOLE / 100 * 33;
 const MAX_STEPS: u32 = 1_000_000;
 
@@ -187,8 +188,10 @@ fn average(shares: &[u128]) -> u128 {
     if shares.is_empty() { MINIMUM } else { shares.iter().sum::<u128>() / shares.len() as u128 }
 }
 
+/// Twenty thousand wholes don't fit, so whole percent come first, and what is left behind them then.
 fn hundredths(share: u128) -> u128 {
-    (20_000 * share + WHOLE) / (2 * WHOLE)
+    let (percent, rest) = (100 * share / WHOLE, 100 * share % WHOLE);
+    100 * percent + (200 * rest + WHOLE) / (2 * WHOLE)
 }
 
 impl Event {
@@ -215,7 +218,7 @@ impl Event {
         let tallies = self.tallies();
         let wins: Vec<u128> = tallies.iter().map(|t| percentage(u128::from(t.points), u128::from(t.rounds))).collect();
         let games: Vec<u128> = tallies.iter().map(|t| percentage(u128::from(t.game_points), u128::from(t.games))).collect();
-        let mut opponents = vec![Vec::with_capacity(9); tallies.len()];
+        let mut opponents = vec![Vec::with_capacity(MAX_ROUNDS); tallies.len()];
         for m in self.lines().filter(|m| m.b != 0) {
             opponents[usize::from(m.a)].push(m.b);
             opponents[usize::from(m.b)].push(m.a);
@@ -501,7 +504,7 @@ fn answer(event: &mut Option<Event>, line: &[u8], out: &mut Vec<u8>) -> Option<R
     }
     if let ["init", name, rounds, cut] = words[..] {
         let (rounds, cut) = (number(rounds, 256)?, number(cut, 256)?);
-        if !is_lawful_name(name) || !(1..=9).contains(&rounds) || ![0, 2, 4, 8].contains(&cut) {
+        if !is_lawful_name(name) || !(1..=MAX_ROUNDS).contains(&rounds) || ![0, 2, 4, 8].contains(&cut) {
             return Some(Err(BAD_SETUP));
         }
         if event.is_some() {

@@ -9,8 +9,8 @@ import re
 import sqlite3
 import sys
 
-# over it each average of at most 9 shares is whole
-WHOLE = 3 * math.lcm(*range(1, 55)) * math.lcm(*range(1, 10))
+# over it each average of at most 12 shares is whole
+WHOLE = 3 * math.lcm(*range(1, 73)) * math.lcm(*range(1, 13))
 LEAST = WHOLE * 33 // 100
 
 base = sqlite3.connect(sys.argv[1], isolation_level=None)
@@ -27,7 +27,7 @@ def printed(value):
 
 
 def standings():
-    players = base.execute("SELECT no, name, dropped FROM player ORDER BY no").fetchall()
+    players = base.execute("SELECT no, name, dropped FROM player2 ORDER BY no").fetchall()
     rows = base.execute("SELECT round, lo, hi, swapped, done, x, y, d FROM pairing").fetchall()
     is_open = {row[0] for row in rows if not row[4]}
     total = {no: [0, 0, 0, 0] for no, _, _ in players}
