@@ -52,7 +52,7 @@ replies_told (Err why) = refl
 -- ---- the answer
 
 lawful_turn : (old new : Standing) (c : Command) (r : Reply) → Turn old c r new → IsFalse old.stopped
-    → IsLawful old.event old.serial c r
+    → IsLawful old.version old.event old.serial c r
 lawful_turn old new c r h1 runs = grind (arith, common_steps)
 
 shown : (old : Standing) (Shows : EventValue → Answer → Type 0) (answer : Answer) → IsFalse old.stopped
@@ -68,22 +68,23 @@ rows_shown old (Ok rows) answer are fault (inl is) = inl (rows.items, are, is)
 rows_shown old (Ok rows) answer are fault (inr want) = inr (Memory, inl refl, want)
 rows_shown old (Err why) answer are fault is = inr (why, fault, is)
 
-moved_at : (old new : Standing) (moved : Result ℕ Refusal) (version now : ℕ) (answer : Answer) → IsFalse old.stopped
-    → Migrates old version moved new now → answer ≡ moved_answer moved → OrFault (answer ≡ Accepted (receipt old.serial)) answer
-moved_at old new (Ok serial) version now answer runs it is = inl (is ∙ ap (λ (n : ℕ). Accepted (receipt n)) it.1)
-moved_at old new (Err why) version now answer runs (inl it) is = absurd (true≢false (sym it.0 ∙ runs))
-moved_at old new (Err why) version now answer runs (inr it) is = inr (why, it.2, is)
+moved_at : (old new : Standing) (moved : Result ℕ Refusal) (answer : Answer) → IsFalse old.stopped
+    → Migrates old moved new → answer ≡ moved_answer moved → OrFault (answer ≡ Accepted (receipt old.serial)) answer
+moved_at old new (Ok serial) answer runs it is = inl (is ∙ ap (λ (n : ℕ). Accepted (receipt n)) it.1)
+moved_at old new (Err why) answer runs (inl it) is = absurd (true≢false (sym it.0 ∙ runs))
+moved_at old new (Err why) answer runs (inr it) is = inr (why, it.2, is)
 
 pub answer_at : (Stood : Type 0) (old new : Standing) (request : Request) (answer : Answer) → Stood → IsFalse old.stopped
     → DeskAnswers Stood old request answer new → IsAnswerAt (point_of old) request answer
-answer_at Stood old new (Submit command) answer stood runs (reply, turn, is) = (reply, lawful_turn old new command reply turn runs, is)
+answer_at Stood old new (Submit command) answer stood runs (reply, turn, is) =
+    (reply, old.version, lawful_turn old new command reply turn runs, is)
 answer_at Stood old new Players answer stood runs it = shown old ShowsPlayers answer runs it.0
 answer_at Stood old new Standings answer stood runs (read, reads, are, is, fails) =
     rows_shown old read answer (are stood) (fails stood runs) is
 answer_at Stood old new (Slips round) answer stood runs it = shown old (ShowsSlips round) answer runs it.0
 answer_at Stood old new Bracket answer stood runs it = shown old ShowsBracket answer runs it.0
 answer_at Stood old new (Export kind) answer stood runs it = shown old (ShowsExport kind) answer runs it.0
-answer_at Stood old new Migrate answer stood runs (moved, version, now, it, is) = moved_at old new moved version now answer runs it is
+answer_at Stood old new Migrate answer stood runs (moved, it, is) = moved_at old new moved answer runs it is
 
 -- ---- a receipt
 
@@ -164,11 +165,12 @@ reads_stopped old new read (inl (going, same, was)) runs stopped fine = still ol
 reads_stopped old new read (inr (inl (going, same, why, fault, is))) runs stopped fine = true≢false (sym fine ∙ ap is_ok is)
 reads_stopped old new read (inr (inr (was, same, is))) runs stopped fine = true≢false (sym was ∙ runs)
 
-moved_fault : (old new : Standing) (moved : Result ℕ Refusal) (version now : ℕ) (answer : Answer) → IsFalse old.stopped
-    → Migrates old version moved new now → answer ≡ moved_answer moved → IsTrue new.stopped → OrFault ⊥ answer
-moved_fault old new (Ok serial) version now answer runs it is stopped = still old new it.2 runs stopped
-moved_fault old new (Err why) version now answer runs (inl it) is stopped = still old new it.2 runs stopped
-moved_fault old new (Err why) version now answer runs (inr it) is stopped = inr (why, it.2, is)
+moved_fault : (old new : Standing) (moved : Result ℕ Refusal) (answer : Answer) → IsFalse old.stopped
+    → Migrates old moved new → answer ≡ moved_answer moved → IsTrue new.stopped → OrFault ⊥ answer
+moved_fault old new (Ok serial) answer runs it is stopped =
+    absurd (true≢false (sym stopped ∙ (ap (λ (s : Standing). s.stopped) it.2 ∙ runs)))
+moved_fault old new (Err why) answer runs (inl it) is stopped = still old new it.2 runs stopped
+moved_fault old new (Err why) answer runs (inr it) is stopped = inr (why, it.2, is)
 
 pub doubt_fault : (Stood : Type 0) (old new : Standing) (request : Request) (answer : Answer) → Stood → IsFalse old.stopped
     → DeskAnswers Stood old request answer new → IsTrue new.stopped → OrFault ⊥ answer
@@ -181,8 +183,8 @@ doubt_fault Stood old new Standings answer stood runs (read, reads, are, is, fai
 doubt_fault Stood old new (Slips round) answer stood runs it stopped = still old new it.1 runs stopped
 doubt_fault Stood old new Bracket answer stood runs it stopped = still old new it.1 runs stopped
 doubt_fault Stood old new (Export kind) answer stood runs it stopped = still old new it.1 runs stopped
-doubt_fault Stood old new Migrate answer stood runs (moved, version, now, it, is) stopped =
-    moved_fault old new moved version now answer runs it is stopped
+doubt_fault Stood old new Migrate answer stood runs (moved, it, is) stopped =
+    moved_fault old new moved answer runs it is stopped
 
 -- ---- the file
 
@@ -200,18 +202,16 @@ goes_asking g old session new it =
     record { leads = it.leads; sure = it.sure; clean = it.clean; stands = it.stands; crash = it.crash }
 
 -- a migration leaves the event and the serial
-still_there : (old new : Standing) (moved : Result ℕ Refusal) (version now : ℕ) → Migrates old version moved new now
-    → point_of new ≡ point_of old
-still_there old new (Ok serial) version now it = ap point_of it.2
-still_there old new (Err why) version now (inl it) = ap point_of it.2
-still_there old new (Err why) version now (inr it) = ap point_of it.3
+still_there : (old new : Standing) (moved : Result ℕ Refusal) → Migrates old moved new → point_of new ≡ point_of old
+still_there old new (Ok serial) it = ap point_of it.2
+still_there old new (Err why) (inl it) = ap point_of it.2
+still_there old new (Err why) (inr it) = ap point_of it.3
 
 -- and tables of version 2 are of it then
-still_second : (old new : Standing) (moved : Result ℕ Refusal) (version now : ℕ) → Migrates old version moved new now
-    → version ≡ 2 → now ≡ 2
-still_second old new (Ok serial) version now it second = it.3
-still_second old new (Err why) version now (inl it) second = it.3 ∙ second
-still_second old new (Err why) version now (inr it) second = it.4 ∙ second
+still_second : (old new : Standing) (moved : Result ℕ Refusal) → Migrates old moved new → old.version ≡ 2 → new.version ≡ 2
+still_second old new (Ok serial) it second = ap (λ (s : Standing). s.version) it.2
+still_second old new (Err why) (inl it) second = ap (λ (s : Standing). s.version) it.2 ∙ second
+still_second old new (Err why) (inr it) second = ap (λ (s : Standing). s.version) it.3 ∙ second
 
 -- the history stays where it is
 leads_nowhere : (first last : Point) → last ≡ first → LeadsTo first [] last
@@ -223,7 +223,7 @@ ends_nowhere first trees stored = (first, inl (record { event = refl; serial = o
 goes_moving : {S : Type 0} (g : Ghosts S) (old : Desk S g) (answer : Answer) (new : Desk S g) → Moves g old answer new → MayMigrate g old
     → Goes g old no_session new
 goes_moving g old answer new it may = record {
-  leads = leads_nowhere _ _ (still_there (standing old) (standing new) it.turn.0 (version_in old) (version_in new) it.turn.1);
+  leads = leads_nowhere _ _ (still_there (standing old) (standing new) it.turn.0 it.turn.1);
   sure = λ runs. refl;
   clean = it.clean;
   stands = it.stands may;
@@ -266,7 +266,7 @@ stays_second g old new (Slips round) answer it second = it.version ∙ second
 stays_second g old new Bracket answer it second = it.version ∙ second
 stays_second g old new (Export kind) answer it second = it.version ∙ second
 stays_second g old new Migrate answer it second =
-    still_second (standing old) (standing new) it.turn.0 (version_in old) (version_in new) it.turn.1 second
+    still_second (standing old) (standing new) it.turn.0 it.turn.1 second
 
 module _ (law : NextSessions) (image : Image) (new first : Point) (ends : List Ended) (was : WasLeftBy image new ends first) where
   -- files at rest at this point are found by the next command line

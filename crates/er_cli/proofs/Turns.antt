@@ -25,11 +25,10 @@ ran_reading passing old new read (inl it) runs = it.0
 ran_reading passing old new read (inr (inl it)) runs = it.0
 ran_reading passing old new read (inr (inr it)) runs = subst (λ (s : Standing). IsFalse s.stopped) it.1 runs
 
-ran_moving : (old new : Standing) (moved : Result ℕ Refusal) (version now : ℕ) → Migrates old version moved new now → IsFalse new.stopped
-    → IsFalse old.stopped
-ran_moving old new (Ok serial) version now it runs = it.0
-ran_moving old new (Err why) version now (inl it) runs = subst (λ (s : Standing). IsFalse s.stopped) it.2 runs
-ran_moving old new (Err why) version now (inr it) runs = it.0
+ran_moving : (old new : Standing) (moved : Result ℕ Refusal) → Migrates old moved new → IsFalse new.stopped → IsFalse old.stopped
+ran_moving old new (Ok serial) it runs = it.0
+ran_moving old new (Err why) (inl it) runs = subst (λ (s : Standing). IsFalse s.stopped) it.2 runs
+ran_moving old new (Err why) (inr it) runs = it.0
 
 -- a desk that no fault has stopped had none before
 pub ran_before : (Stood : Type 0) (old new : Standing) (request : Request) (answer : Answer) → DeskAnswers Stood old request answer new
@@ -40,7 +39,7 @@ ran_before Stood old new Standings answer it runs = ran_reading Memory old new i
 ran_before Stood old new (Slips round) answer it runs = subst (λ (s : Standing). IsFalse s.stopped) it.1 runs
 ran_before Stood old new Bracket answer it runs = subst (λ (s : Standing). IsFalse s.stopped) it.1 runs
 ran_before Stood old new (Export kind) answer it runs = subst (λ (s : Standing). IsFalse s.stopped) it.1 runs
-ran_before Stood old new Migrate answer (moved, version, now, it, is) runs = ran_moving old new moved version now it runs
+ran_before Stood old new Migrate answer (moved, it, is) runs = ran_moving old new moved it runs
 
 -- what is read rests on the tables of a desk that runs, and else nothing is read
 read_stood : {A : Type 0} (Stood : Type 0) (Are : A → Type 0) (passing : Refusal) (old new : Standing) (read : Result A Refusal)

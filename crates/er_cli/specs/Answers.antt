@@ -11,7 +11,7 @@ use Rattle.er_paper.specs.Tables.{players_csv, results_csv}
 use Rattle.er_rank.specs.declared.rows.Row.{Row}
 use Rattle.er_desk.specs.declared.desk.Desk.{Desk}
 use Rattle.er_desk.specs.Asking.{Asks}
-use Rattle.er_desk.specs.Desk.{Standing, Turn, ReadsRows, ShowsEvent, ShowsOwn, point_of, standing, state, version_in}
+use Rattle.er_desk.specs.Desk.{Standing, Turn, ReadsRows, ShowsEvent, ShowsOwn, point_of, standing, state}
 use Rattle.er_desk.specs.Headline.{AreTheStandings, LeavesJust}
 use Rattle.er_desk.specs.Migrating.{MayMigrate, Migrates}
 use Rattle.er_desk.specs.Reply.{Reply, receipt}
@@ -73,7 +73,7 @@ DeskAnswers Stood old (Slips round) answer new = ShowsEvent Refused old (ShowsSl
 DeskAnswers Stood old Bracket answer new = ShowsEvent Refused old ShowsBracket answer × (new ≡ old)
 DeskAnswers Stood old (Export kind) answer new = ShowsEvent Refused old (ShowsExport kind) answer × (new ≡ old)
 DeskAnswers Stood old Migrate answer new =
-    (moved : Result ℕ Refusal) × (version now : ℕ) × Migrates old version moved new now × (answer ≡ moved_answer moved)
+    (moved : Result ℕ Refusal) × Migrates old moved new × (answer ≡ moved_answer moved)
 
 -- the reply that an answer tells, where it tells one
 abbrev pub replies_of : Answer → List Reply
@@ -94,8 +94,7 @@ session_at Migrate answer stopped = no_session
 
 -- What a migration does to the file, and answers. It asks no command. What it leaves is said of tables that may be migrated.
 pub record Moves {S : Type 0} (g : Ghosts S) (old : Desk S g) (answer : Answer) (new : Desk S g) : Type 0 where
-  pub turn : (moved : Result ℕ Refusal) × Migrates (standing old) (version_in old) moved (standing new) (version_in new)
-      × (answer ≡ moved_answer moved)
+  pub turn : (moved : Result ℕ Refusal) × Migrates (standing old) moved (standing new) × (answer ≡ moved_answer moved)
   pub clean : HasCleanDisk (state g new) → HasCleanDisk (state g old)
   pub stands : MayMigrate g old → HasCleanDisk (state g new) → ShowsOwn g old → IsFalse (standing new).stopped → ShowsOwn g new
   pub crash : MayMigrate g old → ShowsOwn g old → LeavesJust (state g new) (point_of (standing old))

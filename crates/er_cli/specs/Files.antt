@@ -41,7 +41,7 @@ IsNotMade why = (why ≡ EventExists) ⊎ IsFault why
 
 -- the desk of an event that was just made
 abbrev pub IsNew : {S : Type 0} {g : Ghosts S} → List ℕ → ℕ → ℕ → Desk S g → Type 0
-IsNew name rounds cut desk = standing desk ≡ running_at (new_point name rounds cut)
+IsNew name rounds cut desk = standing desk ≡ running_at (new_point name rounds cut) 2
 
 -- What is checked of an event that is to be made comes before any file is touched.
 abbrev pub InitReplies : {S : Type 0} (g : Ghosts S) → List ℕ → ℕ → ℕ → Result (Desk S g) Refusal → Type 0

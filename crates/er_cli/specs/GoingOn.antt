@@ -51,10 +51,11 @@ abbrev pub ShowsStandings : Point → Answer → Type 0
 ShowsStandings point answer =
     (rows : List Row) × AreTheStandings point.event rows × (answer ≡ Text (rows_text point.event rows))
 
--- what is answered at this point: to a command a lawful reply, to a migration its serial, and else a text of its event
+-- what is answered at this point: to a command a lawful reply, of tables of some version, to a migration its serial, and
+-- else a text of its event
 abbrev pub IsAnswerAt : Point → Request → Answer → Type 0
 IsAnswerAt point (Submit command) answer =
-    (reply : Reply) × IsLawful point.event point.serial command reply × (answer ≡ reply_answer reply)
+    (reply : Reply) × (version : ℕ) × IsLawful version point.event point.serial command reply × (answer ≡ reply_answer reply)
 IsAnswerAt point Players answer = OrFault (ShowsPlayers point.event answer) answer
 IsAnswerAt point Standings answer = OrFault (ShowsStandings point answer) answer
 IsAnswerAt point (Slips round) answer = OrFault (ShowsSlips round point.event answer) answer

@@ -1,5 +1,5 @@
 -- What the lines of a script are answered.
-use Rattle.std.specs.Prelude.{◌≡◌, ◌⊎◌, ⊤, ℕ, false, IsFalse, IfSome, List, [], ◌∷◌, take, flat_map, Option, Some, None, MatchOption}
+use Rattle.std.specs.Prelude.{◌≡◌, ◌⊎◌, ⊤, ℕ, IsFalse, IfSome, List, [], ◌∷◌, take, flat_map, Option, Some, None, MatchOption}
 use Rattle.std.specs.Prelude.{option_map, is_some}
 use Rattle.std.specs.Io.KnownBytes.{Appends}
 use Rattle.sqlite_trees.specs.declared.store.Store.{Ghosts}
@@ -7,11 +7,11 @@ use Rattle.sqlite_trees.specs.declared.memory.MemStore.{MemStore}
 use Rattle.sqlite.specs.Steps.{over_memory}
 use Rattle.er_event.specs.declared.refusals.Refusal.{Refusal}
 use Rattle.er_event.specs.declared.refusals.Refusal.TheVariants.{Memory, NoEvent}
-use Rattle.er_event.specs.Change.{created}
 use Rattle.er_rules.specs.Commands.{first_refusal}
 use Rattle.er_store.specs.Fault.{IsFault}
 use Rattle.er_desk.specs.declared.desk.Desk.{Desk}
-use Rattle.er_desk.specs.Desk.{Standing, ShowsOwn, standing, version_in}
+use Rattle.er_desk.specs.Desk.{Standing, ShowsOwn, running_at, standing, version_in}
+use Rattle.er_desk.specs.History.{new_point}
 use Rattle.er_words.specs.declared.action.Action.{Action}
 use Rattle.er_words.specs.declared.action.Action.TheVariants.{Init, Open}
 use Rattle.er_words.specs.declared.action.Task.TheVariants.{Ask, Import, Serve}
@@ -29,7 +29,7 @@ standing_of desk = option_map standing desk
 -- an event is made, or memory or the store fails, and all stays as it is
 abbrev pub CreatesEvent : Option Standing → List ℕ → ℕ → ℕ → Answer → Option Standing → Type 0
 CreatesEvent old name rounds cut answer new =
-    ((answer ≡ Accepted (record { serial = 0 })) × (new ≡ Some (record { event = created name rounds cut; serial = 0; stopped = false })))
+    ((answer ≡ Accepted (record { serial = 0 })) × (new ≡ Some (running_at (new_point name rounds cut) 2)))
     ⊎ ((why : Refusal) × IsFault why × (answer ≡ Refused why) × (new ≡ old))
 
 -- What an action is answered, and where the desk stands then. The tables in memory stand for its event. All but `init`

@@ -22,7 +22,7 @@ in the file, wherever the program is stopped.
   enrol FILE NAME                 enrols a player, who gets the next number
   import FILE CSV                 enrols the players of a list: a CSV with the
                                   heading name, and a name a line
-  start FILE                      ends enrolling, with two players or more
+  start FILE                      begins the rounds, with two players or more
   pair FILE ROUND SEED            pairs the next round; SEED, 64 hexadecimal
                                   digits, draws the order of equal points
   result FILE ROUND TABLE X Y D   enters a score: games won by the player named
@@ -76,7 +76,8 @@ that is refused keeps the players who were enrolled before. The refusals:
                       end: write the name anew
    2 NameTaken        a player has this name: add what tells the two apart
    3 PlayersFull      512 players are enrolled: there is no room for more
-   4 NotEnrolling     the event has started: nobody enrols any more
+   4 NotEnrolling     the event has started; for enrol, the playoff has begun:
+                      nobody enrols any more
    5 TooFewPlayers    two players who have not dropped are wanted: enrol them
    6 NotSwiss         the Swiss rounds have not begun, or the playoff has:
                       start, or playoff
@@ -84,7 +85,8 @@ that is refused keeps the players who were enrolled before. The refusals:
                       the event is
    8 RoundOpen        a match of the last round has no score: slips shows it
                       with a -
-   9 AllRoundsPaired  all rounds are paired: enter what is missing, then cut
+   9 AllRoundsPaired  all rounds are paired, and nobody enrols any more: enter
+                      what is missing, then cut
   10 NoPairing        whoever is left has met: no further round can be paired,
                       and the standings stand
   11 Budget           no pairing was found in a million steps: take another SEED
@@ -111,7 +113,8 @@ that is refused keeps the players who were enrolled before. The refusals:
                       path, or init
   28 EventExists      the file has an event already: take another FILE
   29 Damaged          the file holds what no event can be: go back to a copy
-  30 BadSetup         NAME is as a player's, ROUNDS 1 to 12, CUT 0, 2, 4 or 8
+  30 BadSetup         NAME is as a player's, ROUNDS 1 to 12, CUT 0, 2, 4 or 8;
+                      of enrol after the start: migrate FILE first
 
 After 25 Store the command is in the file whole or not at all. In this order:
   1. End what has FILE open: serve, another command, an sqlite3.
@@ -142,14 +145,16 @@ Answers `ok 0`, or refuses: 24 Memory, 25 Store, 28 EventExists, 30 BadSetup.
 pub const ENROL: &str = "\
 usage: event_reporter enrol FILE NAME
 
-Enrols a player, who gets the next number. The event must not have started.
-No name is changed later: look at it with players before start.
+Enrols a player, who gets the next number. Before the start, or after it while a
+round is still to be paired: whoever comes then has lost the rounds that are
+there, with no opponent. No name is changed later.
 
   NAME    1 to 60 bytes of text, in quotes where it has spaces; nobody else's
 
 Example: event_reporter enrol friday.event 'Ana Lima'
-Refuses: 1 BadName, 2 NameTaken, 3 PlayersFull, 4 NotEnrolling, 23 SerialFull,
-24 Memory, 25 Store, 27 NoEvent, 29 Damaged.
+Refuses: 1 BadName, 2 NameTaken, 3 PlayersFull, 4 NotEnrolling,
+9 AllRoundsPaired, 23 SerialFull, 24 Memory, 25 Store, 27 NoEvent, 29 Damaged;
+30 BadSetup after the start of a file of an older program: migrate it first.
 ";
 
 pub const IMPORT: &str = "\
@@ -157,8 +162,8 @@ usage: event_reporter import FILE CSV
 
 Enrols the players of a list, in its order. A name that is enrolled already is
 counted and passed over, so a list that has grown can be imported again. Any
-other refusal stops it, and whoever was enrolled before it stays. The event must
-not have started.
+other refusal stops it, and whoever was enrolled before it stays. After the
+start it is as with enrol.
 
   CSV     a file of at most 131072 bytes: a line `name`, and then a name a line,
           in double quotes where it has a comma; or what `export` gave of the
@@ -171,14 +176,15 @@ Answers `added` and `already`, each with its number. A faulty list is answered
 `bad csv heading`, or `bad csv row` and the number of the row, and nobody is
 enrolled; rows count from 1 behind the heading, up to 512. A list that can't be
 read or is too long is answered `cannot read`, with status 3.
-Refuses: 3 PlayersFull, 4 NotEnrolling, 23 SerialFull, 24 Memory, 25 Store,
-27 NoEvent, 29 Damaged.
+Refuses: 3 PlayersFull, 4 NotEnrolling, 9 AllRoundsPaired, 23 SerialFull,
+24 Memory, 25 Store, 27 NoEvent, 29 Damaged; 30 BadSetup as with enrol.
 ";
 
 pub const START: &str = "\
 usage: event_reporter start FILE
 
-Ends enrolling. Two players or more must have enrolled.
+Begins the Swiss rounds, and from now on players can drop. Two players or more
+must have enrolled. Whoever enrols later comes late: enrol --help says how.
 
 Example: event_reporter start friday.event
 Refuses: 4 NotEnrolling, 5 TooFewPlayers, 23 SerialFull, 24 Memory, 25 Store,

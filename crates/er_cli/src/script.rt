@@ -3,7 +3,8 @@ ghost use Rattle.sqlite.specs.Steps.{over_memory};
 ghost use Rattle.er_event.specs.Change.{created};
 ghost use Rattle.er_store.specs.Fault.{IsFault};
 ghost use Rattle.er_event.specs.Sound.{AreLimits};
-ghost use Rattle.er_desk.specs.Desk.{ShowsOwn, standing, version_in};
+ghost use Rattle.er_desk.specs.Desk.{ShowsOwn, running_at, standing, version_in};
+ghost use Rattle.er_desk.specs.History.{new_point};
 ghost use Rattle.er_words.specs.Fields.{script_action};
 ghost use Rattle.er_words.specs.declared.action.Action.TheVariants.{Init, Open};
 ghost use Rattle.er_words.specs.declared.action.Task.TheVariants.{Ask};
@@ -30,7 +31,7 @@ struct Runner {
 fn create_desk(alloc: Global, name: Name, rounds: u8, cut: u8) -> Result<Desk<MemStore>, Refusal>
     requires { AreLimits rounds cut }
     ensures made { IfOk result (λ made. standing made
-        ≡ record { event = created name rounds cut; serial = 0; stopped = false }) }
+        ≡ running_at (new_point name rounds cut) 2) }
     ensures stands { IfOk result (ShowsOwn over_memory) }
     ensures version { IfOk result (λ made. version_in made ≡ 2) }
     ensures refused { IfErr result IsFault }

@@ -77,6 +77,8 @@ new_sound name rounds cut set_up = record {
       lawful = All-nil _;
       distinct = λ i j d below above. absurd (omega (arith, below, above));
       enrolling = λ _. All-nil _;
+      early = λ _. All-nil _;
+      joined = All-nil _;
       started = λ other. absurd (other refl);
     };
     rounds = record {
@@ -87,6 +89,7 @@ new_sound name rounds cut set_up = record {
       earlier_done = All-nil _;
       done = λ over. absurd (early over);
     };
+    missed = All-nil _;
     bracket = record {
       none = λ _. refl;
       bracket = λ over. absurd (early over);

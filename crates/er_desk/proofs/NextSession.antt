@@ -1,5 +1,5 @@
 -- A session goes on from where a history has ended.
-use Rattle.std.proofs.{lemmas.Grind.common_steps, Common.{◌≡◌, List, [], ◌∷◌, ◌++◌, Result, Ok, Err, IfOk, IfErr, MatchResult, IsFalse}}
+use Rattle.std.proofs.{lemmas.Grind.common_steps, Common.{◌≡◌, ℕ, List, [], ◌∷◌, ◌++◌, Result, Ok, Err, IfOk, IfErr, MatchResult, IsFalse}}
 use Rattle.std.proofs.Common.{Vec, Global, Option, None, IfSome, inl, refl, sym, subst, arith}
 use Rattle.std.proofs.Math.Logic.{∥∥₁_elim}
 use Rattle.sqlite_trees.specs.declared.store.Store.{Ghosts}
@@ -97,5 +97,9 @@ module _ (law : Histories) (image : Image) (new first : Point) (ends : List Ende
 
 pub runs_from : {E : Type 0} (r : Result (Vec Reply Global) E) (commands : List Command) (old now : Standing) (point : Point)
     → IsFalse old.stopped → point_of old ≡ point → IfOk r (λ replies. IsRun old commands replies.items now)
-    → IfOk r (λ replies. IsRun (running_at point) commands replies.items now)
-runs_from h1 commands old now point runs is ran = grind (arith, common_steps)
+    → IfOk r (λ replies. (version : ℕ) × IsRun (running_at point version) commands replies.items now)
+runs_from (Ok replies) commands old now point runs is ran = (old.version, subst (λ (s : Standing). IsRun s commands replies.items now) same ran)
+  where
+    same : old ≡ running_at point old.version
+    same = grind (arith, common_steps)
+runs_from (Err e) commands old now point runs is ran = tt

@@ -17,14 +17,28 @@ runs_stopped old new (c ∷ cs) (r ∷ rs) (mid, turn, rest) was = runs_stopped 
 
 -- each reply is lawful, or the desk is stopped
 pub turn_lawful : (old new : Standing) (c : Command) (r : Reply) → Turn old c r new
-    → IsLawful old.event old.serial c r ⊎ ((r ≡ Err NeedsReopen) × IsTrue old.stopped)
+    → IsLawful old.version old.event old.serial c r ⊎ ((r ≡ Err NeedsReopen) × IsTrue old.stopped)
 turn_lawful old new c r h1 = grind (arith, common_steps)
+
+-- the version stays
+turn_version : (old new : Standing) (c : Command) (r : Reply) → Turn old c r new → new.version ≡ old.version
+turn_version old new c r (inl it) = it.version_is
+turn_version old new c r (inr (inl it)) = ap (λ (s : Standing). s.version) it.same
+turn_version old new c r (inr (inr (inl it))) = ap (λ (s : Standing). s.version) it.stopped
+turn_version old new c r (inr (inr (inr it))) = ap (λ (s : Standing). s.version) it.same
+
+runs_version : (old new : Standing) (cs : List Command) (rs : List Reply) → Runs old cs rs new → new.version ≡ old.version
+runs_version old new [] [] is = ap (λ (s : Standing). s.version) is
+runs_version old new [] (r ∷ rs) is = absurd is
+runs_version old new (c ∷ cs) [] is = absurd is
+runs_version old new (c ∷ cs) (r ∷ rs) (mid, turn, rest) = runs_version mid new cs rs rest ∙ turn_version old mid c r turn
 
 -- at each place
 abbrev At : Standing → List Command → List Reply → Standing → ℕ → Command → Reply → Type 0
 At old cs rs new k c r =
     (mid : EventValue) × Folds old.event (acknowledged (take k cs) (take k rs)) mid
-    × (IsLawful mid (old.serial + length (acknowledged (take k cs) (take k rs))) c r ⊎ ((r ≡ Err NeedsReopen) × IsTrue new.stopped))
+    × (IsLawful old.version mid (old.serial + length (acknowledged (take k cs) (take k rs))) c r
+    ⊎ ((r ≡ Err NeedsReopen) × IsTrue new.stopped))
 
 -- the runs before and after a place
 split : (old new : Standing) (cs : List Command) (rs : List Reply) (k : ℕ) (c : Command) (r : Reply) → Runs old cs rs new
@@ -87,6 +101,7 @@ runs_plain old new cs rs is =
       each = λ k c r at there. place k c r at there;
       event_is = leads.event;
       serial_is = leads.serial;
+      version_is = runs_version old new cs rs is;
       stopped_by = runs_stopped_by old new cs rs is;
       was_stopped = λ was. (runs_stopped old new cs rs is was, all_wait old new cs rs is was);
       stops = runs_fault old new cs rs is;
@@ -106,7 +121,9 @@ runs_plain old new cs rs is =
           mid.event,
           before.event,
           elim (turn_lawful mid parts.1 c r parts.3) [
-            | inl lawful ↦ inl (subst (λ (n : ℕ). IsLawful mid.event n c r) before.serial lawful)
+            | inl lawful ↦ inl (subst (λ (v : ℕ). IsLawful v mid.event (old.serial + length (acknowledged (take k cs) (take k rs))) c r)
+                (runs_version old mid (take k cs) (take k rs) parts.2)
+                (subst (λ (n : ℕ). IsLawful mid.version mid.event n c r) before.serial lawful))
             | inr waits ↦ inr (waits.0, parts.4 (stopped_of mid parts.1 c r parts.3 (inl waits.1)))
           ],
         )

@@ -1,6 +1,6 @@
 -- What reading the tables leaves of the tables of others.
 use Rattle.std.proofs.Common.{◌≡◌, ◌⊎◌, inl, inr, ℕ, Bool, Result, Ok, Err, IfOk, IfErr, OnErr, MatchResult, IsTrue, IsFalse}
-use Rattle.std.proofs.Common.{refl, sym, ap, subst, ◌∙◌}
+use Rattle.std.proofs.Common.{refl, sym, ap, ap₂, subst, ◌∙◌}
 use Rattle.sqlite.specs.{Effect.{Database, IsDatabase}, State.{State, IsUnchanged}}
 use Rattle.er_event.specs.declared.refusals.Refusal.{Refusal}
 use Rattle.er_event.specs.Event.{EventValue}
@@ -21,14 +21,18 @@ read_others Fails (Err why) stopped version old new settled is_open stops same k
     keeps_same version old.now new.now (kept settled is_open).0
 
 -- what is read leaves the desk as it is, or stops it
-pub reads : {A : Type 0} (passing : Refusal) (old : Standing) (is : Bool) (read : Result A Refusal) → IsFalse old.stopped
-    → MatchResult read (λ _. IsFalse is) (λ why. ((why ≡ passing) × IsFalse is) ⊎ (IsReadFault why × IsTrue is))
-    → Reads passing old read (record old { stopped = is })
-reads passing old is (Ok row) runs still = inl (runs, ap (λ (b : Bool). record old { stopped = b }) (still ∙ sym runs), inl refl)
-reads passing old is (Err why) runs (inl (passes, still)) =
-    inl (runs, ap (λ (b : Bool). record old { stopped = b }) (still ∙ sym runs), inr (ap (λ (w : Refusal). Err w) passes))
-reads passing old is (Err why) runs (inr (fault, stopped)) =
-    inr (inl (runs, ap (λ (b : Bool). record old { stopped = b }) stopped, why, fault, refl))
+pub reads : {A : Type 0} (passing : Refusal) (old : Standing) (v : ℕ) (is : Bool) (read : Result A Refusal) → IsFalse old.stopped
+    → v ≡ old.version → MatchResult read (λ _. IsFalse is) (λ why. ((why ≡ passing) × IsFalse is) ⊎ (IsReadFault why × IsTrue is))
+    → Reads passing old read (record old { version = v; stopped = is })
+reads passing old v is (Ok row) runs same still =
+    inl (runs, ap₂ (λ (n : ℕ) (b : Bool). record old { version = n; stopped = b }) same (still ∙ sym runs), inl refl)
+reads passing old v is (Err why) runs same (inl (passes, still)) = inl (
+  runs,
+  ap₂ (λ (n : ℕ) (b : Bool). record old { version = n; stopped = b }) same (still ∙ sym runs),
+  inr (ap (λ (w : Refusal). Err w) passes),
+)
+reads passing old v is (Err why) runs same (inr (fault, stopped)) =
+    inr (inl (runs, ap₂ (λ (n : ℕ) (b : Bool). record old { version = n; stopped = b }) same stopped, why, fault, refl))
 
 -- and the tables stand for its event
 pub still_shows : (v w : ℕ) (old new : State) (e : EventValue) (n : ℕ) → w ≡ v → Shows v old e n → IsUnchanged old new → Shows w new e n

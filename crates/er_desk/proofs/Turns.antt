@@ -6,23 +6,29 @@ use Rattle.std.specs.List.{AllByRecursion}
 use Rattle.sqlite_trees.specs.declared.store.Store.{Ghosts}
 use Rattle.sqlite.specs.{Table.Table, Effect.Database, State.{State, IsUnchanged}}
 use Rattle.er_event.specs.{declared.refusals.Cause.Cause, declared.commands.Command.Command, declared.commands.Receipt.Receipt}
-use Rattle.er_event.specs.{declared.refusals.Refusal.Refusal, declared.refusals.Refusal.TheVariants.{Memory, Budget, SerialFull, Store}}
+use Rattle.er_event.specs.{declared.refusals.Refusal.Refusal, declared.refusals.Refusal.TheVariants.{Memory, Budget, SerialFull, BadSetup, Store}}
 use Rattle.er_event.specs.{declared.refusals.Refusal.TheVariants.NeedsReopen, Event.EventValue}
-use Rattle.er_rules.specs.{Refusing.IsOfRules, Step.{Answers, NeedsMoreSteps}}
+use Rattle.er_rules.specs.{Late.is_late, Refusing.IsOfRules, Step.{Answers, NeedsMoreSteps}}
 use Rattle.er_store.specs.{Fault.IsFault, Reading.KeepsTables, Standing.{IsOther, HasTablesAt, KeepsOthers}, Layout.Layout}
 use Rattle.er_desk.specs.{Reply.{Reply, reply_to, receipt, IsDue}, Desk.{Standing, Turn, Stops, ShowsOwn, IsOwn, point_of, state, standing}}
 use Rattle.er_desk.specs.{Headline.LeavesJust, declared.desk.Desk.Desk}
 
 -- ---- replies
 
-pub reply-full : (serial : ℕ) (next : EventValue) → serial ≡ 999999 → Err SerialFull ≡ reply_to serial (Ok next)
-reply-full serial next full = let last : eqb serial 999999 ≡ true = grind (arith, nat_tests) in rw last refl
+module _ (version : ℕ) (event : EventValue) (serial : ℕ) (command : Command) (next : EventValue) where
+  pub reply-full : serial ≡ 999999 → Err SerialFull ≡ reply_to version event serial command (Ok next)
+  reply-full full = let last : eqb serial 999999 ≡ true = grind (arith, nat_tests) in rw last refl
 
-pub reply-low : (serial : ℕ) (next : EventValue) → serial < 999999 → Ok (receipt (serial + 1)) ≡ reply_to serial (Ok next)
-reply-low serial next low = let other : eqb serial 999999 ≡ false = grind (arith, nat_tests) in rw other refl
+  pub reply-late : serial < 999999 → IsTrue (is_late version event command) → Err BadSetup ≡ reply_to version event serial command (Ok next)
+  reply-late low late = let other : eqb serial 999999 ≡ false = grind (arith, nat_tests) in rw (other, late) refl
+
+  pub reply-low : serial < 999999 → IsFalse (is_late version event command)
+      → Ok (receipt (serial + 1)) ≡ reply_to version event serial command (Ok next)
+  reply-low low in_time = let other : eqb serial 999999 ≡ false = grind (arith, nat_tests) in rw (other, in_time) refl
 
 module _ (old : Standing) (runs : IsFalse old.stopped) (command : Command) where
-  declines : (why : Refusal) → (why ≡ Memory) ⊎ IsDue old.event old.serial command (Err why) → IsOwn why → Turn old command (Err why) old
+  declines : (why : Refusal) → (why ≡ Memory) ⊎ IsDue old.version old.event old.serial command (Err why) → IsOwn why
+      → Turn old command (Err why) old
   declines why cause own = inr (inl (record { was_running = runs; same = refl; why = why; answered = refl; cause = cause; own = own }))
 
   -- the step refuses it, or memory is wanting
@@ -32,49 +38,61 @@ module _ (old : Standing) (runs : IsFalse old.stopped) (command : Command) where
   declined (Err e) why is cause named = subst (λ (w : Refusal). Turn old command (Err w) old) (sym is)
       (declines why (due cause) (own named))
     where
-      due : (why ≡ Memory) ⊎ Answers old.event command (Err why) → (why ≡ Memory) ⊎ IsDue old.event old.serial command (Err why)
+      due : (why ≡ Memory) ⊎ Answers old.event command (Err why)
+          → (why ≡ Memory) ⊎ IsDue old.version old.event old.serial command (Err why)
       due (inl memory) = inl memory
       due (inr refuses) = inr (Err why, refuses, refl)
 
       own : (why ≡ Memory) ⊎ IsOfRules why → IsOwn why
       own (inl memory) = inl memory
-      own (inr rules) = inr (inr rules)
+      own (inr rules) = inr (inr (inr rules))
 
   -- all serials are given
   pub full : (next : EventValue) → Answers old.event command (Ok next) → old.serial ≡ 999999 → Turn old command (Err SerialFull) old
-  full next taken last = declines SerialFull (inr (Ok next, taken, reply-full old.serial next last)) (inr (inl refl))
+  full next taken last =
+      declines SerialFull (inr (Ok next, taken, reply-full old.version old.event old.serial command next last)) (inr (inl refl))
+
+  -- the tables have no place for who comes late
+  pub too_late : (next : EventValue) → Answers old.event command (Ok next) → old.serial < 999999
+      → IsTrue (is_late old.version old.event command) → Turn old command (Err BadSetup) old
+  too_late next taken room late =
+      declines BadSetup (inr (Ok next, taken, reply-late old.version old.event old.serial command next room late)) (inr (inr (inl refl)))
 
   -- it is written, or not
   pub written : (new : Standing) (result : Reply) (next : EventValue) (Same : Type 0) → (Same → new ≡ old)
-      → Answers old.event command (Ok next) → old.serial < 999999
-      → IfOk result (λ r. (new ≡ record { event = next; serial = old.serial + 1; stopped = false }) × (r.serial ≡ old.serial + 1))
+      → Answers old.event command (Ok next) → old.serial < 999999 → IsFalse (is_late old.version old.event command)
+      → IfOk result (λ r. (new ≡ record old { event = next; serial = old.serial + 1 }) × (r.serial ≡ old.serial + 1))
       → IfErr result (λ why. (Same × (why ≡ Memory)) ⊎ ((new ≡ record old { stopped = true }) × IsFault why))
       → Turn old command result new
-  written new (Ok r) next Same same taken room (is, numbered) refused =
+  written new (Ok r) next Same same taken room in_time (is, numbered) refused =
       let serial = ap (λ (s : Standing). s.serial) is in inl (record {
         was_running = runs;
         taken = subst (λ (e : EventValue). Answers old.event command (Ok e)) (sym (ap (λ (s : Standing). s.event) is)) taken;
         room = room;
+        in_time = in_time;
         serial_is = serial;
-        runs = ap (λ (s : Standing). s.stopped) is;
+        version_is = ap (λ (s : Standing). s.version) is;
+        runs = ap (λ (s : Standing). s.stopped) is ∙ runs;
         answered = ap (λ (n : ℕ). Ok (receipt n)) (numbered ∙ sym serial);
       })
-  written new (Err e) next Same same taken room done (inl own) =
+  written new (Err e) next Same same taken room in_time done (inl own) =
       inr (inl (record { was_running = runs; same = same own.0; why = e; answered = refl; cause = inl own.1; own = inl own.1 }))
-  written new (Err e) next Same same taken room done (inr stops) = inr (inr (inl (record {
+  written new (Err e) next Same same taken room in_time done (inr stops) = inr (inr (inl (record {
     was_running = runs;
     next = next;
     taken = taken;
     room = room;
+    in_time = in_time;
     stopped = stops.0;
     why = e;
     fault = stops.1;
     answered = refl;
   })))
 
-pub standing_same : (a b : EventValue) (n : ℕ) (s t : Bool) → a ≡ b → s ≡ t
-    → (let it : Standing = record { event = a; serial = n; stopped = s } in it) ≡ record { event = b; serial = n; stopped = t }
-standing_same a b n s t events stops = cc
+pub standing_same : (a b : EventValue) (n v w : ℕ) (s t : Bool) → a ≡ b → v ≡ w → s ≡ t
+    → (let it : Standing = record { event = a; serial = n; version = v; stopped = s } in it)
+    ≡ record { event = b; serial = n; version = w; stopped = t }
+standing_same a b n v w s t events versions stops = cc
 
 -- ---- what a turn tells
 
@@ -88,12 +106,14 @@ no_receipt it why is = cc
 own_store : (cause : Cause) → IsOwn (Store cause) → ⊥
 own_store cause (inl memory) = cc
 own_store cause (inr (inl full)) = cc
-own_store cause (inr (inr rules)) = rules
+own_store cause (inr (inr (inl late))) = cc
+own_store cause (inr (inr (inr rules))) = rules
 
 own_reopen : IsOwn NeedsReopen → ⊥
 own_reopen (inl memory) = cc
 own_reopen (inr (inl full)) = cc
-own_reopen (inr (inr rules)) = rules
+own_reopen (inr (inr (inl late))) = cc
+own_reopen (inr (inr (inr rules))) = rules
 
 -- nor does a fault of the store speak of reopening
 fault_reopen : IsFault NeedsReopen → ⊥
@@ -136,9 +156,16 @@ module _ (old new : Standing) (command : Command) (result : Reply) where
 
 -- ---- the budget
 
-full_or_taken : (b : Bool) (why : Refusal) (it : Receipt) → ◌≡◌ {A = Reply} (Err why) (cond b (Err SerialFull) (Ok it)) → why ≡ SerialFull
-full_or_taken true why it is = same_refusal _ _ is
-full_or_taken false why it is = absurd (no_receipt _ _ (sym is))
+-- what the step takes is refused for the serial or for the tables
+full_or_late : (b c : Bool) (why : Refusal) (it : Receipt)
+    → ◌≡◌ {A = Reply} (Err why) (cond b (Err SerialFull) (cond c (Err BadSetup) (Ok it))) → (why ≡ SerialFull) ⊎ (why ≡ BadSetup)
+full_or_late true c why it is = inl (same_refusal _ _ is)
+full_or_late false true why it is = inr (same_refusal _ _ is)
+full_or_late false false why it is = absurd (no_receipt _ _ (sym is))
+
+no_budget : (why : Refusal) (steps : ℕ) → (why ≡ SerialFull) ⊎ (why ≡ BadSetup) → why ≡ Budget steps → ⊥
+no_budget why steps (inl full) is = cc
+no_budget why steps (inr late) is = cc
 
 module _ (old new : Standing) (command : Command) where
   -- where the search has too few steps, the step said so
@@ -147,10 +174,10 @@ module _ (old new : Standing) (command : Command) where
   turn_budget result (inl it) steps is = absurd (no_receipt _ _ (sym it.answered ∙ is))
   turn_budget result (inr (inl it)) steps is = by_cause it.why it.cause (same_refusal _ _ (sym it.answered ∙ is))
     where
-      by_cause : (why : Refusal) → (why ≡ Memory) ⊎ IsDue old.event old.serial command (Err why) → why ≡ Budget steps
+      by_cause : (why : Refusal) → (why ≡ Memory) ⊎ IsDue old.version old.event old.serial command (Err why) → why ≡ Budget steps
           → Answers old.event command (Err (Budget steps))
       by_cause why (inl memory) is = absurd (cc)
-      by_cause why (inr (Ok next, taken, due)) is = absurd (let full = full_or_taken _ _ _ due in cc)
+      by_cause why (inr (Ok next, taken, due)) is = absurd (no_budget why steps (full_or_late _ _ _ _ due) is)
       by_cause why (inr (Err w, refuses, due)) is =
           subst (λ (r : Refusal). Answers old.event command (Err r)) (sym (same_refusal _ _ due) ∙ is) refuses
   turn_budget result (inr (inr (inl it))) steps is = absurd (of_store it.why it.fault (same_refusal _ _ (sym it.answered ∙ is)))

@@ -5,7 +5,7 @@ use Rattle.sqlite.specs.State.{State}
 use Rattle.sqlite.specs.Tree.{Trees}
 use Rattle.er_event.specs.declared.commands.Command.{Command}
 use Rattle.er_event.specs.declared.refusals.Refusal.{Refusal}
-use Rattle.er_event.specs.declared.refusals.Refusal.TheVariants.{Memory, SerialFull, NoSuchMatch, NeedsReopen}
+use Rattle.er_event.specs.declared.refusals.Refusal.TheVariants.{Memory, SerialFull, BadSetup, NoSuchMatch, NeedsReopen}
 use Rattle.er_event.specs.declared.commands.TheConstants.{MAX_SERIAL}
 use Rattle.er_event.specs.declared.slips.SlipRow.{SlipRow}
 use Rattle.er_event.specs.Event.{EventValue}
@@ -14,6 +14,7 @@ use Rattle.er_rules.specs.Step.{Answers}
 use Rattle.er_store.specs.Fault.{IsFault, IsReadFault}
 use Rattle.er_store.specs.Standing as tables
 use Rattle.er_store.specs.Store as store
+use Rattle.er_rules.specs.Late.{is_late}
 use Rattle.er_desk.specs.Reply.{Reply, receipt, IsDue}
 use Rattle.er_desk.specs.declared.desk.Desk.{Desk}
 
@@ -27,22 +28,29 @@ pub record Standing : Type 0 where
   pub event : EventValue
   -- how many commands were accepted
   pub serial : ℕ
+  -- of its tables
+  pub version : ℕ
   -- a fault of the store has ended it
   pub stopped : Bool
 
 abbrev pub point_of : Standing → Point
 point_of s = record { event = s.event; serial = s.serial }
 
--- with no fault behind
-abbrev pub running_at : Point → Standing
-running_at point = record { event = point.event; serial = point.serial; stopped = false }
+-- in tables of this version, with no fault behind
+abbrev pub running_at : Point → ℕ → Standing
+running_at point version = record { event = point.event; serial = point.serial; version = version; stopped = false }
 
 -- what its store shows
 abbrev pub state : {S : Type 0} (g : Ghosts S) → Desk S g → State
 state g desk = store.state g desk.store
 
 abbrev pub standing : {S : Type 0} {g : Ghosts S} → Desk S g → Standing
-standing desk = record { event = desk.event; serial = desk.serial; stopped = store.is_stopped desk.store }
+standing desk = record {
+  event = desk.event;
+  serial = desk.serial;
+  version = store.version_in desk.store;
+  stopped = store.is_stopped desk.store;
+}
 
 -- the event is shown, where memory serves and no fault of the store is behind
 abbrev pub ShowsEvent : {A : Type 0} → (Refusal → A) → Standing → (EventValue → A → Type 0) → A → Type 0
@@ -56,7 +64,7 @@ IsStoredAfter event serial command trees = (next : EventValue) × Answers event 
 
 -- the store has no part in the refusal
 abbrev pub IsOwn : Refusal → Type 0
-IsOwn why = (why ≡ Memory) ⊎ (why ≡ SerialFull) ⊎ IsOfRules why
+IsOwn why = (why ≡ Memory) ⊎ (why ≡ SerialFull) ⊎ (why ≡ BadSetup) ⊎ IsOfRules why
 
 -- the version that its tables are of
 abbrev pub version_in : {S : Type 0} {g : Ghosts S} → Desk S g → ℕ
@@ -72,7 +80,9 @@ module _ (old : Standing) (command : Command) (reply : Reply) (new : Standing) w
     pub was_running : IsFalse old.stopped
     pub taken : Answers old.event command (Ok new.event)
     pub room : old.serial < MAX_SERIAL
+    pub in_time : IsFalse (is_late old.version old.event command)
     pub serial_is : new.serial ≡ old.serial + 1
+    pub version_is : new.version ≡ old.version
     pub runs : IsFalse new.stopped
     pub answered : reply ≡ Ok (receipt new.serial)
 
@@ -82,7 +92,7 @@ module _ (old : Standing) (command : Command) (reply : Reply) (new : Standing) w
     pub same : new ≡ old
     pub why : Refusal
     pub answered : reply ≡ Err why
-    pub cause : (why ≡ Memory) ⊎ IsDue old.event old.serial command (Err why)
+    pub cause : (why ≡ Memory) ⊎ IsDue old.version old.event old.serial command (Err why)
     pub own : IsOwn why
 
   -- the store is asked in place of a receipt, and has a fault
@@ -91,6 +101,7 @@ module _ (old : Standing) (command : Command) (reply : Reply) (new : Standing) w
     pub next : EventValue
     pub taken : Answers old.event command (Ok next)
     pub room : old.serial < MAX_SERIAL
+    pub in_time : IsFalse (is_late old.version old.event command)
     pub stopped : new ≡ record old { stopped = true }
     pub why : Refusal
     pub fault : IsFault why

@@ -11,9 +11,9 @@ use Rattle.er_desk.specs.Desk.{Standing, state, version_in}
 abbrev pub MayMigrate : {S : Type 0} (g : Ghosts S) → Desk S g → Type 0
 MayMigrate g desk = (version_in desk ≡ 2) ⊎ StandsAlone (state g desk).now.schema
 
--- where the desk stood, the version of its tables, the answer, and both after it
-abbrev pub Migrates : Standing → ℕ → Result ℕ Refusal → Standing → ℕ → Type 0
-Migrates old version (Ok serial) new now = IsFalse old.stopped × (serial ≡ old.serial) × (new ≡ old) × (now ≡ 2)
-Migrates old version (Err why) new now =
-    (IsTrue old.stopped × (why ≡ NeedsReopen) × (new ≡ old) × (now ≡ version))
-    ⊎ (IsFalse old.stopped × (version ≡ 1) × IsFault why × (new ≡ record old { stopped = true }) × (now ≡ version))
+-- where the desk stood, the answer, and where it stands then
+abbrev pub Migrates : Standing → Result ℕ Refusal → Standing → Type 0
+Migrates old (Ok serial) new = IsFalse old.stopped × (serial ≡ old.serial) × (new ≡ record old { version = 2 })
+Migrates old (Err why) new =
+    (IsTrue old.stopped × (why ≡ NeedsReopen) × (new ≡ old))
+    ⊎ (IsFalse old.stopped × (old.version ≡ 1) × IsFault why × (new ≡ record old { stopped = true }))

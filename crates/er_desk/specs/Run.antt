@@ -40,10 +40,11 @@ pub record IsRun (old : Standing) (commands : List Command) (replies : List Repl
   pub all : length replies ≡ length commands
   pub each : (k : ℕ) (command : Command) (reply : Reply) → slice_get commands k ≡ Some command → slice_get replies k ≡ Some reply
       → (mid : EventValue) × Folds old.event (acknowledged (take k commands) (take k replies)) mid
-      × (IsLawful mid (old.serial + length (acknowledged (take k commands) (take k replies))) command reply
+      × (IsLawful old.version mid (old.serial + length (acknowledged (take k commands) (take k replies))) command reply
       ⊎ ((reply ≡ Err NeedsReopen) × IsTrue new.stopped))
   pub event_is : Folds old.event (acknowledged commands replies) new.event
   pub serial_is : new.serial ≡ old.serial + length (acknowledged commands replies)
+  pub version_is : new.version ≡ old.version
   -- the desk is stopped where it was before, or by a fault of the store in one of the commands
   pub stopped_by : IsTrue new.stopped → IsTrue old.stopped ⊎ ((k : ℕ) × FailsAt replies k)
   pub was_stopped : IsTrue old.stopped

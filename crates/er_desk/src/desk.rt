@@ -3,12 +3,13 @@ ghost use Rattle.er_event.specs.Change.{after, Fits};
 ghost use Rattle.er_event.specs.declared.commands.TheConstants.{MAX_SERIAL};
 ghost use Rattle.er_rules.specs.Sound.{IsSound};
 ghost use Rattle.er_store.specs.Store as tables;
+ghost use Rattle.er_rules.specs.Late.{is_late};
 
 use crate::stored::read_standings;
 use er_event::laws::events_are_sound;
-use er_event::{Change, Command, Event, MAX_SERIAL, Name, Place, Receipt, Refusal, SlipRow};
+use er_event::{Change, Command, Event, MAX_SERIAL, Name, Phase, Place, Receipt, Refusal, SlipRow};
 use er_rank::{Row, standings};
-use er_rules::laws::budget_searches;
+use er_rules::laws::{budget_searches, steps_are_taken};
 use er_rules::{decide, seeds_agree};
 use er_store::Store;
 use er_store::laws::shown_is_stored;
@@ -33,6 +34,16 @@ fn event_after(alloc: Global, event: &Event, change: &Change) -> Result<Event, R
     }
 }
 
+/// Whether a player comes after the start, to tables of version 1: these have no place for the rounds that somebody missed.
+fn is_late(version: u8, event: &Event, command: &Command) -> bool
+    ensures { result ≡ is_late version event.now command.now }
+{
+    match command {
+        Command::Enrol { .. } => version == 1 && event.phase() == Phase::Swiss,
+        _ => false,
+    }
+}
+
 /// An event, the store that keeps it, and how many commands it has taken. After a fault of the store it takes no command: the file is opened anew.
 #[derive(Drop)]
 pub struct Desk<S: Alter> {
@@ -51,7 +62,7 @@ impl<S: Alter> Desk<S> {
     ghost use Rattle.sqlite.specs.State.{HasCleanDisk, IsUnchanged};
     ghost use Rattle.sqlite.specs.Held as sqlite;
     ghost use Rattle.er_event.specs.declared.refusals.Cause.{Cause};
-    ghost use Rattle.er_event.specs.Change.{created, after, Fits};
+    ghost use Rattle.er_event.specs.{Change.{created, after, Fits}, Version.CanTake};
     ghost use Rattle.er_event.specs.Sound.{AreLimits, IsSoundButForSeeds};
     ghost use Rattle.er_event.specs.declared.commands.TheConstants.{MAX_SERIAL};
     ghost use Rattle.er_rules.specs.Sound.{IsSound, HasSeeds};
@@ -62,7 +73,7 @@ impl<S: Alter> Desk<S> {
     ghost use Rattle.er_store.specs.Loading.{HoldsEvent};
     ghost use Rattle.er_store.specs.Slip.{FindsSlip};
     ghost use Rattle.er_store.specs.{Migrated.IsTaken, Reading.KeepsTables};
-    ghost use Rattle.er_desk.specs.Desk.{Point, Turn, Stops, ReadsRows, ReadsSlip, ShowsOwn, point_of, state, standing, version_in};
+    ghost use Rattle.er_desk.specs.Desk.{Point, Turn, Stops, ReadsRows, ReadsSlip, ShowsOwn, point_of, running_at, state, standing, version_in};
     ghost use Rattle.er_desk.specs.Run.{Runs, IsRun, session_of};
     ghost use Rattle.er_desk.specs.Headline.{IsEmptyFile, LeavesJust, LeavesEither, LeavesEnd, FindsAgain, RepeatsNobody, AreTheStandings};
     ghost use Rattle.er_desk.specs.History.{new_point};
@@ -83,7 +94,7 @@ impl<S: Alter> Desk<S> {
         requires mode { conn.in_transaction ≡ false }
 
         ensures made { IfOk result (λ made. standing made
-            ≡ record { event = created name rounds cut; serial = 0; stopped = false }) }
+            ≡ running_at (new_point name rounds cut) 2) }
         ensures sound { IfOk result (λ made. IsSound made.event) }
         ensures version { IfOk result (λ made. version_in made ≡ 2) }
 
@@ -345,8 +356,7 @@ impl<S: Alter> Desk<S> {
     /// Moves the tables to version 2, and gives the serial, which stays. A desk whose tables are of version 2 stays as it is.
     pub fn migrate(&mut self) -> Result<u32, Refusal>
         // The event and the serial stay. A fault of the store stops the desk, and nothing else does.
-        ensures turn { Migrates (standing self.old) (version_in self.old) result (standing self.new)
-            (version_in self.new) }
+        ensures turn { Migrates (standing self.old) result (standing self.new) }
         ensures waits { IsTrue (standing self.old).stopped ⊎ (version_in self.old ≡ 2)
             → self.new ≡ self.old }
 
@@ -411,14 +421,14 @@ impl<S: Alter> Desk<S> {
     fn write(&mut self, alloc: Global, change: &Change) -> Reply
         requires runs { IsFalse (standing self.old).stopped }
         requires fits { Fits self.old.event change.now }
+        requires takes { CanTake (version_in self.old) self.old.event change.now }
         requires low { self.old.serial < MAX_SERIAL }
         requires sound { IsSound self.old.event → IsSound (after self.old.event change.now) }
 
         ensures taken { IfOk result (λ receipt. (standing self.new
-            ≡ record {
+            ≡ record (standing self.old) {
               event = after self.old.event change.now;
               serial = self.old.serial + 1;
-              stopped = false;
             }) × (receipt.serial ≡ self.old.serial + 1)) }
         ensures refused { IfErr result (λ why. ((self.new ≡ self.old) × (why ≡ Refusal.Memory))
             ⊎ ((standing self.new ≡ record (standing self.old) { stopped = true })
@@ -504,6 +514,10 @@ impl<S: Alter> Desk<S> {
         if self.serial == MAX_SERIAL {
             return Err(Refusal::SerialFull);
         }
+        if is_late(self.store.version(), &self.event, command) {
+            return Err(Refusal::BadSetup);
+        }
+        steps_are_taken();
         self.write(alloc, &change)
     }
 

@@ -1,4 +1,4 @@
-ghost use Rattle.std.specs.Prelude.{List, ◌≡◌, true, false, IfOk, IfErr, MatchResult};
+ghost use Rattle.std.specs.Prelude.{List, ℕ, ◌≡◌, true, false, IfOk, IfErr, MatchResult};
 ghost use Rattle.sqlite.specs.State.{HasCleanDisk};
 ghost use Rattle.sqlite.specs.Files.{over_files, file_state, IsCleanLeft, LeavesFiles};
 ghost use Rattle.sqlite_std_file.specs.File.{IsFresh};
@@ -39,8 +39,8 @@ pub fn session<S: Start>(
     ensures lawful { (new first : Point) (ends : List Ended)
         → WasLeftBy (image_at S.Start) new ends first
         → IfOk result (λ it. HasCleanDisk (state over_files it.0)
-        → IfOk it.1 (λ replies. IsRun (running_at first) commands.items replies.items
-        (standing it.0))) }
+        → IfOk it.1 (λ replies. (version : ℕ)
+        × IsRun (running_at first version) commands.items replies.items (standing it.0))) }
     // It is refused for memory or by the device alone. Of files that were not opened, what is left stands for what they held, as the
     // storage crate has it.
     ensures why { (new first : Point) (ends : List Ended)

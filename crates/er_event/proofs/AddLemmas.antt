@@ -5,7 +5,8 @@ use Rattle.er_event.proofs.Prelude.{IsFalse, IsTrue, List, [], ap, arith, false,
 use Rattle.er_event.proofs.Prelude.{sym, take, true, true≢false, ℕ, ◌++◌, ◌+◌, ◌-◌, ◌<◌, ◌||◌, ◌∙◌, ◌∷◌, ◌≡◌, ◌≢◌, nat_tests, common_steps}
 use Rattle.er_event.proofs.Prelude.{All-push, All-weaker, list_any_none, list_all, list_any}
 use Rattle.std.proofs.{lemmas.List.Folds.list_any-append, lemmas.List.take_at}
-use Rattle.er_event.proofs.{Pairs.{All-last, none-of, pairs_across, pairs_append}, RoundLemmas.{All-of, of-All}, SeatLemmas.AreApart}
+use Rattle.er_event.proofs.{Absent.all-missed-more, Pairs.{All-last, none-of, pairs_across, pairs_append}, RoundLemmas.{All-of, of-All}}
+use Rattle.er_event.proofs.SeatLemmas.{AreApart}
 use Rattle.er_event.proofs.SeatLemmas.{sit-apart}
 
 abbrev Differ : Match → Match → Type 0
@@ -98,7 +99,13 @@ module _ (e : EventValue) (ms : List Match) where
       → IsSoundButForSeeds (with_round e ms)
   IsSound-round h swiss room follows =
       let rounds = one_more (numbers e.players) e.stored ms e.rounds e.rounds (rw swiss at h.rounds) room follows in
-      record { set_up = h.set_up; players = h.players; rounds = rw swiss rounds; bracket = h.bracket }
+      record {
+        set_up = h.set_up;
+        players = h.players;
+        rounds = rw swiss rounds;
+        missed = all-missed-more e.stored (record { matches = ms }) e.players h.missed;
+        bracket = h.bracket;
+      }
 
   module _ (h : IsSoundButForSeeds (with_round e ms)) where
     pub round-few : length e.stored < e.rounds

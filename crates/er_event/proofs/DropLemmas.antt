@@ -4,9 +4,10 @@ use Rattle.er_event.proofs.Prelude.{SetDropped, Enrolling, Swiss, Player, All, B
 use Rattle.er_event.proofs.Prelude.{Some, [], ap, arith, cond, drop, false, find, get_or, length, map, not, not-suc-le-zero, option_map}
 use Rattle.er_event.proofs.Prelude.{refl, suc, sym, true, zero, ℕ, ◌+◌, ◌-◌, ◌<◌, ◌==◌, ◌∷◌, ◌≡◌, ◌≢◌, ◌≤◌, length-map, set, common_steps}
 use Rattle.er_event.proofs.Prelude.{get_or-range_with_len, length-range_with_len, AllPass-from_list_all, list_all-from_AllPass, none-some}
-use Rattle.er_event.proofs.Prelude.{ap₂, slice_get_past, slice_get_read, list_all, ◌∙◌, range_with_len, slice_get}
-use Rattle.std.proofs.Common.{unwrap_or}
+use Rattle.er_event.proofs.Prelude.{ap₂, slice_get_past, slice_get_read, list_all, ◌∙◌, range_with_len, slice_get, nat_tests}
+use Rattle.std.proofs.{Common.unwrap_or, lemmas.List.Elements.All-map}
 use Rattle.std.specs.Slice.{IsItemAt}
+use Rattle.er_event.proofs.{Absent.{joined-dropped, missed-dropped}, Prelude.HasMissed}
 
 pub numbers-dropped : (k : ℕ) (ps : List Player) → numbers (map (dropped_at k) ps) ≡ numbers ps
 numbers-dropped k [] = refl
@@ -26,15 +27,29 @@ pub numbered-within : (ps : List Player) (k : ℕ) → numbers ps ≡ range_with
     → (1 ≤ k) × (k ≤ length ps)
 numbered-within ps k numbered has = grind (arith, common_steps, length-range_with_len, get_or-range_with_len)
 
-players-dropped : (e : EventValue) (k : ℕ) → ArePlayers e.phase e.players → e.phase ≢ Enrolling
-    → ArePlayers e.phase (map (dropped_at k) e.players)
-players-dropped e k h started = grind (arith, common_steps, length-map, numbers-dropped, names-dropped)
+players-dropped : (e : EventValue) (k : ℕ) → ArePlayers e.phase e.rounds e.players → e.phase ≢ Enrolling
+    → ArePlayers e.phase e.rounds (map (dropped_at k) e.players)
+players-dropped e k h started =
+    let low : Player → Type 0 = λ p. p.joined ≤ e.rounds in
+    let joined = All-map low (dropped_at k) e.players (λ i d below. rw (joined-dropped k (get_or e.players i d)) (h.joined i d below)) in
+    record {
+      few = rw (length-map e.players (dropped_at k)) h.few;
+      numbered = rw (length-map e.players (dropped_at k), numbers-dropped k e.players) h.numbered;
+      lawful = rw (names-dropped k e.players) h.lawful;
+      distinct = rw (names-dropped k e.players) h.distinct;
+      enrolling = λ is. absurd (started is);
+      early = λ is. absurd (started is);
+      joined = joined;
+      started = λ other. rw (length-map e.players (dropped_at k)) (h.started other);
+    }
 
 pub IsSound-dropped : (e : EventValue) (k : ℕ) → IsSoundButForSeeds e → e.phase ≢ Enrolling → IsSoundButForSeeds (with_dropped e k)
 IsSound-dropped e k h started = record {
   set_up = h.set_up;
   players = players-dropped e k h.players started;
   rounds = rw numbers-dropped h.rounds;
+  missed = All-map (HasMissed e.stored) (dropped_at k) e.players
+      (λ i d below. missed-dropped e.stored k (get_or e.players i d) (h.missed i d below));
   bracket = rw numbers-dropped h.bracket;
 }
 
@@ -47,7 +62,7 @@ some-dropped k (p ∷ ps) (suc i, below, is) all = some-dropped k ps (i, omega a
 
 -- ---- the write to the one player is the map over all
 
-first_number : (p : Player) (ps : List Player) (a : ℕ) → numbers (p ∷ ps) ≡ range_with_len a (length (p ∷ ps))
+pub first_number : (p : Player) (ps : List Player) (a : ℕ) → numbers (p ∷ ps) ≡ range_with_len a (length (p ∷ ps))
     → (p.no ≡ a) × (numbers ps ≡ range_with_len (a + 1) (length ps))
 first_number p ps a e = (ap (λ (ns : List ℕ). get_or ns 0 0) e, ap (Rattle.std.specs.Prelude.drop 1) e)
 
@@ -83,13 +98,33 @@ All-undropped ps all k d below = grind (arith, common_steps, AllPass-from_list_a
 pub undropped-All : (ps : List Player) → All (λ (p : Player). IsFalse p.dropped) ps → list_all (λ (p : Player). not p.dropped) ps ≡ true
 undropped-All ps all = list_all-from_AllPass (λ (p : Player). not p.dropped) ps (λ k d below. ap not (all k d below))
 
+-- ---- nobody is late, by the test
+
+pub All-early : (ps : List Player) → list_all (λ (p : Player). p.joined == 0) ps ≡ true → All (λ (p : Player). p.joined ≡ 0) ps
+All-early ps is = λ k d below.
+    let here = AllPass-from_list_all (λ (p : Player). p.joined == 0) ps is k d below in grind (arith, nat_tests)
+
+pub early-All : (ps : List Player) → All (λ (p : Player). p.joined ≡ 0) ps → list_all (λ (p : Player). p.joined == 0) ps ≡ true
+early-All ps h = list_all-from_AllPass (λ (p : Player). p.joined == 0) ps
+    (λ k d below. let here = h k d below in grind (arith, nat_tests))
+
 -- an event whose rounds are not paired goes back to enrolling where nobody is dropped
 pub IsSound-enrolling : (e : EventValue) → IsSoundButForSeeds e → e.phase ≡ Swiss → e.stored ≡ []
     → All (λ (p : Player). IsFalse p.dropped) e.players → IsSoundButForSeeds (with_phase e Enrolling)
 IsSound-enrolling e h swiss none undropped = record {
   set_up = h.set_up;
-  players = grind (arith, h.players);
+  players = record {
+    few = h.players.few;
+    numbered = h.players.numbered;
+    lawful = h.players.lawful;
+    distinct = h.players.distinct;
+    enrolling = λ _. undropped;
+    early = λ _ i d below. (let low = (h.missed i d below).stored in omega (arith, ap length none));
+    joined = h.players.joined;
+    started = λ other. absurd (other refl);
+  };
   rounds = grind (arith, h.rounds);
+  missed = h.missed;
   bracket = grind (arith, h.bracket);
 }
 

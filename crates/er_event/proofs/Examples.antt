@@ -1,9 +1,11 @@
 -- Examples of the definitions, which compute, and the limits as the rules have them.
 use Rattle.er_event.proofs.Prelude.{MAX_PLAYERS, MAX_SERIAL, Swiss, Player, Match, PairingRow, BracketRow, Games, open_match, with_player}
 use Rattle.er_event.proofs.Prelude.{with_dropped, with_score, EventValue, Line, is_lawful_name, is_counted, match_at, is_swiss_score}
-use Rattle.er_event.proofs.Prelude.{is_playoff_score, totals_of}
+use Rattle.er_event.proofs.Prelude.{is_playoff_score, totals, totals_of, with_round, SetScore}
+use Rattle.er_event.specs.{declared.changes.Change.Change, declared.totals.Totals.Totals, Lines.own_lines, Recounted.is_recounted}
 use Rattle.std.specs.{Prelude.{◌≡◌, ℕ, pos, Bool, true, false, List, [], ◌∷◌, ◌++◌, map, replicate, codes, Some, None, refl}, Str.is_utf8}
 use Rattle.std.specs.Str.{chars}
+use Rattle.er_event.specs.{declared.rows.player.PlayerRow.PlayerRow, inside.Reading.has_missed}
 use Rattle.er_event.specs.Rows.{player_rows, keyed_pairing_rows, bracket_rows, event_row, pairing_rows}
 use Rattle.er_share.specs.declared.TheConstants.{MAX_ROUNDS}
 use Rattle.er_event.specs.declared.rows.event.TheConstants.{MOST_OLD_ROUNDS}
@@ -76,7 +78,7 @@ abbrev played : ℕ → ℕ → ℕ → ℕ → ℕ → Match
 played a b x y d = record { a = a; b = b; score = Some (games x y d) }
 
 abbrev player : ℕ → List ℕ → Bool → Player
-player number name dropped = record { no = number; name = name; dropped = dropped }
+player number name dropped = record { no = number; name = name; dropped = dropped; joined = 0 }
 
 abbrev event_of : List Player → List (List Match) → List (List Match) → EventValue
 event_of players rounds stages = record {
@@ -224,8 +226,15 @@ the_bye_again = refl
 pub complete : is_counted first_round ∷ is_counted (played 2 1 2 0 0 ∷ played 3 0 2 0 0 ∷ []) ∷ [] ≡ false ∷ true ∷ []
 complete = refl
 
-pub one_more_player : with_player paired (codes "Di") ≡ event_of (three ++ player 4 (codes "Di") false ∷ []) (first_round ∷ []) []
+-- one who comes after a round was paired has missed it
+abbrev late : ℕ → List ℕ → ℕ → Player
+late number name joined = record { no = number; name = name; dropped = false; joined = joined }
+
+pub one_more_player : with_player paired (codes "Di") ≡ event_of (three ++ late 4 (codes "Di") 1 ∷ []) (first_round ∷ []) []
 one_more_player = refl
+
+pub one_player_before_the_rounds : with_player (event_of three [] []) (codes "Di") ≡ event_of (three ++ late 4 (codes "Di") 0 ∷ []) [] []
+one_player_before_the_rounds = refl
 
 -- a dropped player stays listed
 pub one_player_dropped : with_dropped paired 3 ≡ event_of
@@ -251,3 +260,62 @@ missed_round = refl
 
 pub no_games : totals_of (line 2 0 0 0 ∷ []) ≡ record { points = 1; rounds = 1; game_points = 0; games = 0 }
 no_games = refl
+
+-- ---- a late entry
+
+abbrev four : List Player
+four = player 1 (codes "Ana") false ∷ player 2 (codes "Bo") false ∷ player 3 (codes "Cy") false ∷ player 4 (codes "Di") false ∷ []
+
+-- enrolled while the first round is open
+abbrev five : EventValue
+five = with_player (event_of four ((open_match 4 2 ∷ open_match 1 3 ∷ []) ∷ []) []) (codes "Ed")
+
+pub one_more_who_is_late : five.players ≡ four ++ late 5 (codes "Ed") 1 ∷ []
+one_more_who_is_late = refl
+
+pub row_of_a_late_player : map (λ (r : PlayerRow). r.joined) (player_rows five) ≡ pos 0 ∷ pos 0 ∷ pos 0 ∷ pos 0 ∷ pos 1 ∷ []
+row_of_a_late_player = refl
+
+abbrev sum : ℕ → ℕ → ℕ → ℕ → Totals
+sum points rounds game_points games = record { points = points; rounds = rounds; game_points = game_points; games = games }
+
+pub missed_while_open : totals five 5 ≡ sum 0 0 0 0
+missed_while_open = refl
+
+abbrev nearly : EventValue
+nearly = with_score five 1 1 (games 2 0 0)
+
+abbrev over : EventValue
+over = with_score nearly 1 2 (games 2 1 0)
+
+pub missed_once_complete : map (totals over) (1 ∷ 2 ∷ 3 ∷ 4 ∷ 5 ∷ 6 ∷ [])
+    ≡ sum 3 1 6 3 ∷ sum 0 1 0 2 ∷ sum 0 1 3 3 ∷ sum 3 1 6 2 ∷ sum 0 1 0 0 ∷ sum 0 0 0 0 ∷ []
+missed_once_complete = refl
+
+pub the_missed_line : own_lines over 5 ≡ record { round = 1; player = 5; opponent = 0; games = None } ∷ []
+the_missed_line = refl
+
+-- who sat in the first round can't have missed it, and nobody has missed a second one
+pub who_missed_a_round : map (has_missed over.stored) (late 2 (codes "Bo") 1 ∷ late 5 (codes "Ed") 1 ∷ late 5 (codes "Ed") 2 ∷ [])
+    ≡ false ∷ true ∷ false ∷ []
+who_missed_a_round = refl
+
+-- a late player has the bye in the next round: it is won, and the missed round stays lost
+pub bye_of_a_late_player : totals (with_round over (played 4 1 2 0 0 ∷ played 2 3 2 0 0 ∷ played 5 0 2 0 0 ∷ [])) 5 ≡ sum 3 2 6 2
+bye_of_a_late_player = refl
+
+-- who enrols once the round is complete has missed it at once
+pub enrolled_after_the_round : totals (with_player over (codes "Flo")) 6 ≡ sum 0 1 0 0
+enrolled_after_the_round = refl
+
+-- a late player who drops keeps the missed round, and no other comes to it
+pub dropped_late : totals (with_round (with_dropped over 5) (played 4 1 2 0 0 ∷ played 2 3 2 0 0 ∷ [])) 5 ≡ sum 0 1 0 0
+dropped_late = refl
+
+-- the score that completes a round counts for those who missed it, and a correction for its two players alone
+pub whom_a_score_counts : map (λ (c : EventValue × Change). map (is_recounted c.0 c.1) c.0.players)
+    ((five, SetScore 1 1 (games 2 0 0)) ∷ (nearly, SetScore 1 2 (games 2 1 0)) ∷ (over, SetScore 1 1 (games 0 2 0)) ∷ [])
+    ≡ (false ∷ false ∷ false ∷ false ∷ false ∷ [])
+    ∷ (true ∷ true ∷ true ∷ true ∷ true ∷ [])
+    ∷ (false ∷ true ∷ false ∷ true ∷ false ∷ []) ∷ []
+whom_a_score_counts = refl

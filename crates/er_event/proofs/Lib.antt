@@ -6,6 +6,7 @@ mod Pairs
 mod SeatLemmas
 mod SlotLemmas
 mod RoundLemmas
+mod Absent
 mod AddLemmas
 mod PrefixLemmas
 mod PartsLemmas
@@ -23,6 +24,8 @@ mod SlotScoreLemmas
 mod EndLemmas
 mod Examples
 mod TotalLemmas
+mod MissedLemmas
 mod OverLemmas
 mod RescoredLemmas
 mod RecountedLemmas
+mod VersionLemmas

@@ -3,7 +3,7 @@ use Rattle.er_event.proofs.Prelude.{EventValue, counted_lines, lines_from, lines
 use Rattle.er_event.proofs.Prelude.{totals, totals_of, Match, Round, Games, AreOver, IsSeatedOnce, All, IfSome, List, None, Option, Some}
 use Rattle.er_event.proofs.Prelude.{[], arith, flat_map, length, refl, suc, ℕ, ◌+◌, ◌∷◌, ◌≢◌, common_steps}
 use Rattle.std.proofs.lemmas.Bool.{cases_eq}
-use Rattle.er_event.proofs.TotalLemmas.{absent, apart_at, one_match, own-append}
+use Rattle.er_event.proofs.{MissedLemmas.{missed-few, totals-split}, TotalLemmas.{absent, apart_at, one_match, own-append}}
 use Rattle.er_event.specs.{Tallies.AreReadable, inside.Seen.AreFew}
 
 -- no more than so many games of each kind
@@ -45,10 +45,22 @@ rounds-over player n (r ∷ later) all =
     let more = rounds-over player (n + 1) later (λ k d below. all (suc k) d (omega arith)) in
     grind (arith, common_steps, own-append)
 
-pub totals-over : (e : EventValue) → IsSoundButForSeeds e → (player : ℕ) → AreOver (length e.stored) (totals e player)
-totals-over e sound player = rounds-over player 1 e.stored
+-- the matches alone
+pub played-over : (e : EventValue) → IsSoundButForSeeds e → (player : ℕ)
+    → AreOver (length e.stored) (totals_of (own player (lines_from 1 e.stored)))
+played-over e sound player = rounds-over player 1 e.stored
     (λ k d below. let round = sound.rounds.each k d below in (round.seated_once, round-few _ _ round))
 
 -- so they fit in a row
 pub totals-readable : (e : EventValue) → IsSoundButForSeeds e → (player : ℕ) → AreReadable (totals e player)
-totals-readable e sound player = grind (arith, common_steps, totals-over e sound player, sound.rounds.few, sound.set_up.rounds)
+totals-readable e sound player =
+    let over = played-over e sound player in
+    let missed = missed-few e player in
+    let few = sound.rounds.few in
+    let limit = sound.set_up.rounds in
+    rw (totals-split e player sound.players.numbered) (record {
+      points = omega arith;
+      rounds = omega arith;
+      game_points = omega arith;
+      games = omega arith;
+    })

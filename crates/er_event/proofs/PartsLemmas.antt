@@ -31,7 +31,7 @@ pub one_row : {A : Type 0} (rows : List A) (x : A) → 1 ≤ length rows → len
 one_row rows x some few is = grind (arith, common_steps)
 
 abbrev nobody : Player
-nobody = record { no = 0; name = []; dropped = false }
+nobody = record { no = 0; name = []; dropped = false; joined = 0 }
 
 -- the players that a list of rows has stand at its places
 pub row_at : (rows : List PlayerRow) (players : List Player) (i : ℕ) (row : PlayerRow) → i < length rows → row ≡ get_or rows i row
@@ -71,10 +71,11 @@ names-new ps i p below is apart found =
 -- ---- the players of an event, and of its rows
 
 -- what is left to ask of players who are numbered and have names of their own
-pub plays : (phase : Phase) (players : List Player) → length players ≤ MAX_PLAYERS → numbers players ≡ range_with_len 1 (length players)
-    → AllPairs (λ a b. a ≢ b) (names players)
-    → All (λ (p : Player). IsTrue (is_lawful_name p.name)) players → Suits phase players → ArePlayers phase players
-plays phase players few numbered apart lawful suits =
+pub plays : (phase : Phase) (limit : ℕ) (players : List Player) → length players ≤ MAX_PLAYERS
+    → numbers players ≡ range_with_len 1 (length players) → AllPairs (λ a b. a ≢ b) (names players)
+    → All (λ (p : Player). IsTrue (is_lawful_name p.name)) players → Suits phase limit players
+    → ArePlayers phase limit players
+plays phase limit players few numbered apart lawful suits =
     let names_are = All-map (λ n. IsTrue (is_lawful_name n)) (λ (p : Player). p.name) players lawful in grind arith
 
 -- the rows tell the players
@@ -84,14 +85,16 @@ players-same [] (y ∷ ys) e = absurd (cc)
 players-same (x ∷ xs) [] e = absurd (cc)
 players-same (x ∷ xs) (y ∷ ys) e = grind (arith, common_steps, players-same xs ys (ap (drop 1) e))
 
-pub lawful_players : (phase : Phase) (players : List Player) → ArePlayers phase players → All IsLawfulPlayer players
-lawful_players phase players h k d below =
+pub lawful_players : (phase : Phase) (limit : ℕ) (players : List Player) → limit < 256 → ArePlayers phase limit players
+    → All IsLawfulPlayer players
+lawful_players phase limit players byte h k d below =
+    let joined = h.joined k d below in
     let p = get_or players k d in
     let number = number_at players k p below (get_or_default players k d p below) h.numbered in
     let few = h.few in
     let named = get_or-map (λ (q : Player). q.name) players k d in
     let lawful = h.lawful k d.name (grind (arith, common_steps)) in
-    record { low = omega arith; high = omega arith; name = rw named at lawful }
+    record { low = omega arith; high = omega arith; name = rw named at lawful; joined = omega arith }
 
 pub none-when : {A : Type 0} (xs ys : List A) → xs ≡ ys → (length xs == 0) ≡ true → ys ≡ []
 none-when xs ys same none = grind (arith, common_steps)

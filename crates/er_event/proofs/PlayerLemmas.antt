@@ -6,6 +6,7 @@ use Rattle.er_event.proofs.Prelude.{◌++◌, ◌+◌, ◌<◌, ◌∷◌, ◌�
 use Rattle.er_event.proofs.Prelude.{bytes_eq-Decides, range_with_len, bytes_eq}
 use Rattle.std.proofs.lemmas.List.Elements.{Contains-append_left}
 use Rattle.er_event.specs.Change.{new_player}
+use Rattle.er_event.proofs.{Absent.missed-new, Prelude.{All, Enrolling, HasMissed, subst, ◌≤◌}}
 
 -- more numbers are known
 IsRound-known : (known more : List ℕ) (matches : List Match) → IsRound known matches → IsRound (known ++ more) matches
@@ -50,11 +51,11 @@ has_name-new (p ∷ ps) new distinct =
     let others = has_name-new ps new (λ i j d before within. distinct (suc i) (suc j) d (omega arith) (omega arith)) in
     grind (arith, common_steps, bytes_eq-Decides p.name new.name, last_name ps new [])
 
-players-with : (e : EventValue) (name : List ℕ) → ArePlayers e.phase e.players → IsTrue (is_lawful_name name) → length e.players < 512
-    → has_name e.players name ≡ false
-    → ArePlayers e.phase (e.players ++ new_player e.players name ∷ [])
-players-with e name h lawful room new =
-    let p = new_player e.players name in
+players-with : (e : EventValue) (name : List ℕ) → ArePlayers e.phase e.rounds e.players → IsTrue (is_lawful_name name)
+    → length e.players < 512 → has_name e.players name ≡ false → length e.stored ≤ e.rounds → (e.phase ≡ Enrolling → e.stored ≡ [])
+    → ArePlayers e.phase e.rounds (e.players ++ new_player e name ∷ [])
+players-with e name h lawful room new stored none =
+    let p = new_player e name in
     let Apart : List ℕ → List ℕ → Type 0 = λ a b. a ≢ b in
     let count : length (e.players ++ p ∷ []) ≡ length e.players + 1 = length-append e.players (p ∷ []) in
     let listed : names (e.players ++ p ∷ []) ≡ names e.players ++ name ∷ [] = map-append (λ (q : Player). q.name) e.players (p ∷ []) in
@@ -64,6 +65,8 @@ players-with e name h lawful room new =
       lawful = rw listed (All-push (λ n. IsTrue (is_lawful_name n)) (names e.players) name h.lawful lawful);
       distinct = rw listed (all_pairs_push Apart (names e.players) name h.distinct (has_name-none e.players name new));
       enrolling = λ phase. All-push (λ (q : Player). IsFalse q.dropped) e.players p (h.enrolling phase) refl;
+      early = λ phase. All-push (λ (q : Player). q.joined ≡ 0) e.players p (h.early phase) (ap length (none phase));
+      joined = All-push (λ (q : Player). q.joined ≤ e.rounds) e.players p h.joined stored;
       started = λ phase. let enough = h.started phase in omega arith;
     }
 
@@ -82,15 +85,17 @@ stages-known phase cut known more stages h = grind (arith, common_steps, IsBrack
 pub IsSound-with : (e : EventValue) (name : List ℕ) → IsSoundButForSeeds e → IsTrue (is_lawful_name name) → length e.players < 512
     → IsTrue (not (has_name e.players name)) → IsSoundButForSeeds (with_player e name)
 IsSound-with e name h lawful room new =
-    let p = new_player e.players name in
+    let p = new_player e name in
+    let each = subst (λ (known : List ℕ). All (λ (r : Round). IsRound known r.matches) e.stored) h.players.numbered h.rounds.each in
     let listed : numbers (e.players ++ p ∷ []) ≡ numbers e.players ++ p.no ∷ [] = map-append (λ (q : Player). q.no) e.players (p ∷ []) in
     record {
       set_up = h.set_up;
-      players = players-with e name h.players lawful room (not_true-from _ new);
+      players = players-with e name h.players lawful room (not_true-from _ new) h.rounds.few h.rounds.enrolling;
       rounds = rw listed (rounds-known e.phase e.rounds (numbers e.players) (p.no ∷ []) e.stored h.rounds);
+      missed = All-push (HasMissed e.stored) e.players p h.missed (missed-new (length e.players) e.stored p each refl refl);
       bracket = rw listed (stages-known e.phase e.cut (numbers e.players) (p.no ∷ []) e.bracket.stages h.bracket);
     }
 
 -- and the name was new, where that is so
 pub IsSound-new : (e : EventValue) (name : List ℕ) → IsSoundButForSeeds (with_player e name) → IsTrue (not (has_name e.players name))
-IsSound-new e name h = ap not (has_name-new e.players (new_player e.players name) h.players.distinct)
+IsSound-new e name h = ap not (has_name-new e.players (new_player e name) h.players.distinct)

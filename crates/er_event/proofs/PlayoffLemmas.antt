@@ -76,7 +76,13 @@ module _ (e : EventValue) (p : Phase) (stages : List (List Match)) where
       let begun : e.phase ≡ Enrolling → ⊥ = λ is.
       (let none = ap length (h.rounds.enrolling is) in let all = done.0 in let some = h.set_up.rounds.0 in omega arith) in
       let two = h.players.started begun in
-      record { set_up = h.set_up; players = grind (arith, h.players); rounds = grind (arith, h.rounds); bracket = grind arith }
+      record {
+        set_up = h.set_up;
+        players = grind (arith, h.players);
+        rounds = grind (arith, h.rounds);
+        missed = h.missed;
+        bracket = grind arith;
+      }
 
 -- stages that follow on one another end, so that no stage comes behind them
 pub follow-never : (l : List Match) (later : List (List Match)) (ns : List Match) → FollowOn (l ∷ later)

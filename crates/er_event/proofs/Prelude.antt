@@ -30,12 +30,13 @@ pub use Rattle.er_event.specs.Match.{is_known}
 pub use Rattle.er_event.specs.Name.{is_lawful_name}
 pub use Rattle.er_event.specs.Pairings.{FitRows, AreTables, FitsRow, table_rows, is_of}
 pub use Rattle.er_event.specs.Parts.{IsEventRow, IsFirstFault, IsOf}
-pub use Rattle.er_event.specs.Recounted.{IsAbsent, recounted, recounted_in}
-pub use Rattle.er_event.specs.Round.{is_counted, seats, is_bye, numbered_from, match_in, matches_of, match_at, is_same_pairing}
+pub use Rattle.er_event.specs.Recounted.{recounted, recounted_in}
+pub use Rattle.er_event.specs.Round.{IsAbsent, is_counted, seats, is_bye, numbered_from, match_in, matches_of, match_at, is_same_pairing}
 pub use Rattle.er_event.specs.Rows.{bracket_rows_from, keyed_rows_from, player_row, keyed_round_rows, pairing_row, bracket_row, phase_code}
 pub use Rattle.er_event.specs.Rows.{tally_row}
 pub use Rattle.er_event.specs.Score.{is_playoff_score, is_swiss_score, bye_score}
-pub use Rattle.er_event.specs.Sound.{IsSoundButForSeeds, numbers, IsRound, names, AreRounds, IsBracket, ArePlayers, AreStages, IsPlayoff}
+pub use Rattle.er_event.specs.Sound.{IsSoundButForSeeds, numbers, IsRound, names, AreRounds, IsBracket, ArePlayers, HasMissed, AreStages}
+pub use Rattle.er_event.specs.Sound.{IsPlayoff}
 pub use Rattle.er_event.specs.Sound.{is_lawful_cut}
 pub use Rattle.er_event.specs.Totals.{totals, totals_of}
 pub use Rattle.er_event.specs.declared.changes.Change.TheVariants.{SetScore, SetBracketScore, AddRound, SetDropped, AddBracket}

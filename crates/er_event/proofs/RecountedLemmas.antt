@@ -1,12 +1,19 @@
--- Whoever sits at none of the matches that count anew keeps the totals.
+-- Whoever sits at none of the matches that count anew keeps what the matches come to.
 use Rattle.er_event.proofs.Prelude.{open_match, Fits, scored, scored_slot, with_round, with_score, EventValue, counted_lines, lines_from}
-use Rattle.er_event.proofs.Prelude.{lines_of_match, own, IsAbsent, recounted, recounted_in, is_bye, is_counted, IsRound, IsSoundButForSeeds}
+use Rattle.er_event.proofs.Prelude.{lines_of_match, own, IsAbsent, recounted, recounted_in, is_counted, IsSoundButForSeeds}
 use Rattle.er_event.proofs.Prelude.{numbers, totals, totals_of, AddRound, SetScore, Match, Round, Games, All, Bool, Contains, IsFalse, List}
 use Rattle.er_event.proofs.Prelude.{[], ap, arith, false, flat_map, get_or, if◌then◌else◌, length, refl, suc, sym, true, zero, ℕ, ◌+◌, ◌-◌}
-use Rattle.er_event.proofs.Prelude.{◌<◌, ◌∙◌, ◌∷◌, ◌≡◌, ◌≢◌, set, common_steps, All-cons, All-nil, get_or_default, Line, ◌++◌}
-use Rattle.er_event.proofs.{Pairs.All-last, RescoredLemmas.{as-scored, round-within, table-within}, TotalLemmas.{absent, absent_lines}}
+use Rattle.er_event.proofs.Prelude.{◌<◌, ◌∙◌, ◌∷◌, ◌≡◌, ◌≢◌, set, common_steps, All-cons, get_or_default, Line, ◌++◌}
+use Rattle.er_event.proofs.{RescoredLemmas.{as-scored}, TotalLemmas.{absent, absent_lines}}
 use Rattle.er_event.proofs.TotalLemmas.{lines_from-push, own-append}
-use Rattle.er_event.specs.Recounted.{AreOf}
+use Rattle.er_event.proofs.Prelude.{Some, ap₂, inl, inr, match_at, none-some, rescored, subst, ◌&&◌, ◌==◌, ◌||◌, ◌≤◌}
+use Rattle.er_event.proofs.Prelude.{nat_tests, range_with_len, SetDropped, cond}
+use Rattle.std.proofs.{Common.{filter, nat_le}, lemmas.Bool.cases_Bool, lemmas.List.take-set-le}
+use Rattle.er_event.specs.{Change.{after, new_player}, Recounted.{completed, completed_in, includes, sits}, inside.Joined.joined_of}
+use Rattle.er_event.specs.Totals.{missed_totals, plus}
+use Rattle.er_event.specs.{declared.changes.Change.Change, declared.changes.Change.TheVariants.AddPlayer}
+use Rattle.er_event.proofs.{DropLemmas.numbered-within, MissedLemmas.{Counted, complete, complete-after, joined-dropped, joined-others}}
+use Rattle.er_event.proofs.{MissedLemmas.{joined-at, joined-stored, totals-split}, Pairs.none-of, Prelude.{Player, not-suc-le-zero}}
 
 -- ---- a round that is added
 
@@ -16,7 +23,7 @@ counted_by player n true ms away = absent_lines player n ms away
 counted_by player n false ms away = refl
 
 pub added-same : (e : EventValue) (ms : List Match) (player : ℕ) → IsAbsent player (if is_counted ms then ms else [])
-    → totals (with_round e ms) player ≡ totals e player
+    → totals_of (own player (lines_from 1 (with_round e ms).stored)) ≡ totals_of (own player (lines_from 1 e.stored))
 added-same e ms player away = grind (arith, common_steps, lines_from-push, own-append, counted_by)
 
 -- ---- a score
@@ -81,38 +88,107 @@ scored-rounds player n (suc k) (r ∷ rounds) new same =
 
 pub scored-same : (e : EventValue) (k t : ℕ) (s : Games) (player : ℕ) → Fits e (SetScore k t s)
     → IsAbsent player (recounted e (SetScore k t s))
-    → totals (with_score e k t s) player ≡ totals e player
+    → totals_of (own player (lines_from 1 (with_score e k t s).stored)) ≡ totals_of (own player (lines_from 1 e.stored))
 scored-same e k t s player fits away =
     let ms = (get_or e.stored (k - 1) (record { matches = [] })).matches in
     ap (λ (rs : List Round). totals_of (own player (lines_from 1 rs))) (sym (as-scored e k t s fits))
     ∙ ap totals_of (scored-rounds player 1 (k - 1) e.stored (record { matches = scored_slot ms t s })
     (λ j. scored-lines player j t ms s away))
 
--- ---- the players of the matches
+-- ---- the rounds that were missed
 
-abbrev IsKnown : EventValue → Match → Type 0
-IsKnown e m = Contains (numbers e.players) m.a × (IsFalse (is_bye m) → Contains (numbers e.players) m.b)
+complete-set : (j k : ℕ) (rs : List Round) (new : Round)
+    → is_counted new.matches ≡ is_counted (get_or rs k (record { matches = [] })).matches → complete j (set rs k new) ≡ complete j rs
+complete-set zero k rs new same = refl
+complete-set (suc j) k [] new same = refl
+complete-set (suc j) zero (r ∷ rs) new same = grind (arith, common_steps)
+complete-set (suc j) (suc k) (r ∷ rs) new same =
+    let rest = complete-set j k rs new same in
+    elim (cases_Bool (is_counted r.matches)) [
+      | inl counted ↦ rw counted (ap suc rest)
+      | inr unfinished ↦ rw unfinished rest
+    ]
 
-round-of : (e : EventValue) (ms : List Match) → IsRound (numbers e.players) ms → AreOf e ms
-round-of e ms round = λ k d below. (round.first_known k d below, round.second_known k d below)
+complete-late : (j k : ℕ) (rs : List Round) (new : Round) → j ≤ k → complete j (set rs k new) ≡ complete j rs
+complete-late j k rs new late = ap (λ (xs : List Round). length (filter Counted xs)) (take-set-le j rs k new late)
 
-of-tests : (P : Match → Type 0) (before now : Bool) (m : Match) (ms : List Match) → (before ≡ true → P m) → All P ms
-    → All P (if before then m ∷ [] else if now then ms else [])
-of-tests P true now m ms here all = All-cons P m [] (here refl) (All-nil P)
-of-tests P false true m ms here all = all
-of-tests P false false m ms here all = All-nil P
+some-round : (e : EventValue) (k t : ℕ) (m : Match) → match_at e k t ≡ Some m → 1 ≤ k
+some-round e zero t m at = absurd (none-some m at)
+some-round e (suc k) t m at = omega arith
 
-pub added-known : (e : EventValue) (ms : List Match) → Fits e (AddRound ms) → AreOf e (if is_counted ms then ms else [])
-added-known e ms fits =
-    of-tests (IsKnown e) false (is_counted ms) (open_match 0 0) ms (λ never. absurd (let no = never in cc)) (round-of e ms
-    (All-last (λ (r : Round). IsRound (numbers e.players) r.matches) e.stored (record { matches = ms }) fits.sound.rounds.each))
+scored-complete : (k t j : ℕ) (rs : List Round) (s : Games) → 1 ≤ k
+    → (let ms = (get_or rs (k - 1) (record { matches = [] })).matches in
+    nat_le 1 (completed_in ms k t s) && nat_le (completed_in ms k t s) j ≡ false)
+    → complete j (rescored rs (k - 1) t s) ≡ complete j rs
+scored-complete k t j rs s low none = by_tests (is_counted ms) refl (is_counted new) refl none
+  where
+    ms : List Match
+    ms = (get_or rs (k - 1) (record { matches = [] })).matches
 
-pub scored-known : (e : EventValue) (k t : ℕ) (s : Games) → IsSoundButForSeeds e → Fits e (SetScore k t s)
-    → AreOf e (recounted e (SetScore k t s))
-scored-known e k t s sound fits =
-    let r : Round = get_or e.stored (k - 1) (record { matches = [] }) in
-    let all = round-of e r.matches (sound.rounds.each (k - 1) (record { matches = [] }) (round-within e k t s fits)) in
-    let within = table-within e k t s fits r (get_or_default e.stored (k - 1) (record { matches = [] }) r (round-within e k t s fits)) in
-    of-tests (IsKnown e) (is_counted r.matches) (is_counted (scored_slot r.matches t s)) (get_or r.matches (t - 1) (open_match 0 0))
-    r.matches
-    (λ _. all (t - 1) (open_match 0 0) (omega (arith, within.0, within.1))) all
+    new : List Match
+    new = scored_slot ms t s
+
+    by_tests : (before : Bool) → is_counted ms ≡ before → (now : Bool) → is_counted new ≡ now
+        → nat_le 1 (cond before 0 (cond now k 0)) && nat_le (cond before 0 (cond now k 0)) j ≡ false
+        → complete j (set rs (k - 1) (record { matches = new })) ≡ complete j rs
+    by_tests true is now is_now none =
+        complete-set j (k - 1) rs (record { matches = new }) (counted-set (t - 1) ms s (get_or ms (t - 1) (open_match 0 0)) is ∙ sym is)
+    by_tests false is true is_now none = complete-late j (k - 1) rs (record { matches = new }) (grind (arith, nat_tests))
+    by_tests false is false is_now none = complete-set j (k - 1) rs (record { matches = new }) (is_now ∙ sym is)
+
+same-complete : (e : EventValue) (c : Change) (j : ℕ) → Fits e c → j ≤ length e.stored
+    → nat_le 1 (completed e c) && nat_le (completed e c) j ≡ false → complete j (after e c).stored ≡ complete j e.stored
+same-complete e (SetScore k t s) j fits low none =
+    ap (complete j) (sym (as-scored e k t s fits))
+    ∙ scored-complete k t j e.stored s (some-round e k t fits.named.0 fits.named.1) none
+same-complete e (AddRound ms) j fits low none = complete-after e (AddRound ms) j low (λ k t s is. (let never = is in cc))
+same-complete e _ j fits low none = refl
+
+-- one of the event's players missed as many rounds as before
+same-joined : (e : EventValue) (c : Change) (player : ℕ) → numbers e.players ≡ range_with_len 1 (length e.players)
+    → Contains (numbers e.players) player → joined_of (after e c).players player ≡ joined_of e.players player
+same-joined e (AddPlayer name) player numbered known =
+    let high = (numbered-within e.players player numbered known).1 in
+    joined-others player e.players (new_player e name) (λ same. omega (arith, same))
+same-joined e (SetDropped gone) player numbered known = joined-dropped gone player e.players
+same-joined e _ player numbered known = refl
+
+number-known : (ps : List Player) (k : ℕ) (d : Player) → k < length ps → Contains (numbers ps) (get_or ps k d).no
+number-known [] k d below = absurd (not-suc-le-zero below)
+number-known (p ∷ ps) zero d below = (0, omega arith, refl)
+number-known (p ∷ ps) (suc k) d below = let has = number-known ps k d (omega arith) in (suc has.0, omega (arith, has.1), has.2)
+
+-- whose matches and missed rounds count as before keeps the totals
+pub totals-same : (e : EventValue) (c : Change) (player : ℕ) → IsSoundButForSeeds e → Fits e c → Contains (numbers e.players) player
+    → totals_of (own player (lines_from 1 (after e c).stored)) ≡ totals_of (own player (lines_from 1 e.stored))
+    → nat_le 1 (completed e c) && nat_le (completed e c) (joined_of e.players player) ≡ false
+    → totals (after e c) player ≡ totals e player
+totals-same e c player sound fits known played none =
+    let numbered = sound.players.numbered in
+    let joined = same-joined e c player numbered known in
+    let low = joined-stored player e.players e.stored sound.missed in
+    let missed = same-complete e c (joined_of e.players player) fits low none in
+    totals-split (after e c) player fits.sound.players.numbered
+    ∙ (ap₂ plus played (ap missed_totals (ap (λ (n : ℕ). complete n (after e c).stored) joined ∙ missed))
+    ∙ sym (totals-split e player numbered))
+
+sits-absent : (player : ℕ) (ms : List Match) → sits ms player ≡ false → IsAbsent player ms
+sits-absent player ms is = λ k d below.
+    let here = none-of (λ (m : Match). m.a == player || m.b == player) ms is k d below in
+    (λ same. (let never = here in grind (arith, nat_tests)), λ same. (let never = here in grind (arith, nat_tests)))
+
+-- a player of the event whom the change doesn't count anew keeps the totals, if whoever sits at no match that counts anew keeps the matches
+pub kept-others : (e : EventValue) (c : Change) (ms : List Match) (round : ℕ) → IsSoundButForSeeds e → Fits e c → round ≡ completed e c
+    → ((player : ℕ) → IsAbsent player ms
+    → totals_of (own player (lines_from 1 (after e c).stored)) ≡ totals_of (own player (lines_from 1 e.stored)))
+    → All (λ (p : Player). IsFalse (includes (record { matches = ms; completed = round }) p)
+    → totals (after e c) p.no ≡ totals e p.no) e.players
+kept-others e c ms round sound fits is keep k d below none =
+    let p = get_or e.players k d in
+    let joined : joined_of e.players p.no ≡ p.joined =
+    joined-at e.players k p sound.players.numbered below (get_or_default e.players k d p below) in
+    let away : sits ms p.no ≡ false = grind arith in
+    let early : nat_le 1 round && nat_le round p.joined ≡ false = grind arith in
+    totals-same e c p.no sound fits (number-known e.players k d below) (keep p.no (sits-absent p.no ms away))
+    (subst (λ j. nat_le 1 (completed e c) && nat_le (completed e c) j ≡ false) (sym joined)
+    (subst (λ r. nat_le 1 r && nat_le r p.joined ≡ false) is early))

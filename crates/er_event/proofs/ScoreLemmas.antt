@@ -1,7 +1,8 @@
 -- An event with one score set anew is sound exactly where the score is lawful.
 use Rattle.er_event.proofs.Prelude.{Fits, score_table, scored, with_score, EventValue, is_bye, is_counted, match_at, match_in, matches_of}
 use Rattle.er_event.proofs.Prelude.{numbered_from, seats, bye_score, is_swiss_score, AreRounds, IsRound, IsSoundButForSeeds, numbers}
-use Rattle.er_event.proofs.Prelude.{SetScore, Match, Round, Games, All, AllPairs, Bor, Contains, IfSome, IsFalse, IsTrue, List, None}
+use Rattle.er_event.proofs.Prelude.{HasMissed, IsAbsent, Player, SetScore, Match, Round, Games, All, AllPairs, Bor, Contains, IfSome}
+use Rattle.er_event.proofs.Prelude.{IsFalse, IsTrue, List, None}
 use Rattle.er_event.proofs.Prelude.{Option, Some, ap, arith, false, flat_map, get_or, length, option_map, subst, sym, take, true}
 use Rattle.er_event.proofs.Prelude.{true≢false, ℕ, ◌-◌, ◌<◌, ◌∙◌, ◌≡◌, ◌≢◌, ◌≤◌, set, nat_tests, common_steps, length-set}
 use Rattle.er_event.proofs.Prelude.{get_or_from_slice_get, slice_get_past, slice_get_read, slice_get_within, slice_get}
@@ -78,8 +79,24 @@ module _ (s : Games) (m : Match) (i : ℕ) (ms : List Match) (there : get_or ms 
         let all = All-set Counted r j e.stored counted-here in
         grind (arith, common_steps)
 
+    missed-scored : (p : Player) → HasMissed e.stored p → HasMissed rounds p
+    missed-scored p h =
+        let Away : Match → Type 0 = λ k. (k.a ≢ p.no) × (k.b ≢ p.no) in
+        let low = h.stored in
+        record {
+          stored = omega (arith, count-rounds, low);
+          absent = First-set (λ (q : Round). IsAbsent p.no q.matches) r p.joined j e.stored
+              (λ is. kept Away (λ away. away) (subst (IsAbsent p.no) round is)) h.absent;
+        }
+
     IsSound-scored : is_swiss_score s ≡ true → IsSoundButForSeeds e → IsSoundButForSeeds (record e { stored = rounds })
-    IsSound-scored swiss h = record { set_up = h.set_up; players = h.players; rounds = rounds-scored swiss h.rounds; bracket = h.bracket }
+    IsSound-scored swiss h = record {
+      set_up = h.set_up;
+      players = h.players;
+      rounds = rounds-scored swiss h.rounds;
+      missed = λ i p below. missed-scored (get_or e.players i p) (h.missed i p below);
+      bracket = h.bracket;
+    }
 
     -- a sound event has no other score
     scored-swiss : i < length ms → j < length e.stored → IsSoundButForSeeds (record e { stored = rounds }) → is_swiss_score s ≡ true

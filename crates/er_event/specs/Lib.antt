@@ -3,11 +3,12 @@
 -- Event is the tournament as every contract sees it; Name and Score say what may stand in one. Round, Match and Bracket
 -- say what matches are, and Sound puts all of it together: what is true of every event, but for who is seeded where.
 -- Change says when a change fits, and the event after it; Safe, which changes keep an event sound, but for its seeds.
--- Lines and Totals count a player's matches; Tallies are the totals of all, and who met whom; Recounted is what a
--- change counts anew; Slip is one match with its names.
+-- Lines and Totals count a player's matches, and the rounds that the player missed; Tallies are the totals of all, and
+-- who met whom; Recounted is what a change counts anew, and for whom; Slip is one match with its names.
 --
--- Rows are the rows of the five tables that an event has. Pairings and Parts read them back: the event that rows stand
--- for, or the first table at fault. Refusal numbers and names the thirty refusals.
+-- Rows are the rows of the five tables that an event has, and Version says which events each version of the tables can
+-- keep. Pairings and Parts read the rows back: the event that they stand for, or the first table at fault. Refusal
+-- numbers and names the thirty refusals.
 --
 -- What private functions alone cite lies in `inside`.
 pub mod Refusal

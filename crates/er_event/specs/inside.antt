@@ -3,3 +3,4 @@ pub mod EventFields
 pub mod Stages
 pub mod Reading
 pub mod Seen
+pub mod Joined

@@ -1,7 +1,9 @@
 //! Laws of events and their changes. A law is called for its contract alone, which is the law.
 
+ghost use Rattle.er_event.specs.Recounted.{OthersKeepTotals};
 ghost use Rattle.er_event.specs.Safe.{ChangesKeepSound};
 ghost use Rattle.er_event.specs.Sound.{IsSoundButForSeeds};
+ghost use Rattle.er_event.specs.Version.{ChangesAreKept};
 
 use crate::Event;
 
@@ -15,4 +17,14 @@ pub fn events_are_sound(event: &Event)
 /// A safe change keeps an event sound, but for its seeds.
 pub fn changes_keep_sound()
     ensures { ChangesKeepSound }
+{}
+
+/// A player who is added leaves the totals of the others.
+pub fn others_keep_totals()
+    ensures { OthersKeepTotals }
+{}
+
+/// What a change that tables of a version can take makes of an event that they keep, they keep too.
+pub fn changes_are_kept()
+    ensures { ChangesAreKept }
 {}

@@ -1,7 +1,8 @@
-ghost use Rattle.std.specs.Prelude.{◌≡◌, ◌≢◌, ◌≤◌, ◌<◌, ◌==◌, ◌↔◌, not, length, find, option_map, All, AllPairs, IsTrue, IsSome, IfSome};
+ghost use Rattle.std.specs.Prelude.{◌≡◌, ◌≢◌, ◌≤◌, ◌<◌, ◌==◌, nat_le, ◌↔◌, not, length, find, option_map, All, AllPairs, IsTrue, IsSome, IfSome};
 ghost use Rattle.std.specs.List.{list_all, range_with_len};
 ghost use Rattle.er_event.specs.Change.{has_name};
 ghost use Rattle.er_event.specs.Name.{is_lawful_name};
+ghost use Rattle.er_event.specs.inside.Joined.{joined_of};
 ghost use Rattle.er_event.specs.Sound.{numbers, names, ArePlayers};
 ghost use Rattle.er_event.specs.inside.Reading.{Suits};
 
@@ -58,6 +59,8 @@ pub struct Player {
     pub name: Name,
     /// Whether the player has left the tournament. A dropped player stays listed.
     pub dropped: bool,
+    /// How many rounds were stored when the player was enrolled. Each of them counts as lost, once it is complete.
+    pub joined: u8,
 }
 
 pub(crate) fn has_name(players: &[Player], name: &Name) -> bool
@@ -77,6 +80,17 @@ pub(crate) fn player_of(players: &[Player], number: u16) -> Option<&Player>
         return None;
     }
     players.get(usize::from(number) - 1)
+}
+
+/// How many rounds the player of this number missed, 0 where there is no such player.
+pub(crate) fn joined_of(players: &[Player], number: u16) -> u8
+    requires numbered { numbers players.now ≡ range_with_len 1 (length players.now) }
+    ensures { result ≡ joined_of players.now number }
+{
+    match player_of(players, number) {
+        Some(player) => player.joined,
+        None => 0,
+    }
 }
 
 pub(crate) fn is_nobody_dropped(players: &[Player]) -> bool
@@ -109,19 +123,36 @@ fn are_distinct(players: &[Player]) -> bool
     true
 }
 
-fn suits(phase: Phase, players: &[Player]) -> bool
-    ensures { IsTrue result ↔ Suits phase players.now }
+/// Whether nobody has missed a round.
+pub(crate) fn is_nobody_late(players: &[Player]) -> bool
+    ensures { result ≡ list_all (λ p. p.joined == 0) players.now }
 {
+    players.iter().all(|player| player.joined == 0)
+}
+
+/// Whether nobody has missed more rounds than these.
+fn is_nobody_later(players: &[Player], rounds: u8) -> bool
+    ensures { result ≡ list_all (λ p. nat_le p.joined rounds) players.now }
+{
+    players.iter().all(|player| player.joined <= rounds)
+}
+
+fn suits(phase: Phase, rounds: u8, players: &[Player]) -> bool
+    ensures { IsTrue result ↔ Suits phase rounds players.now }
+{
+    if !is_nobody_later(players, rounds) {
+        return false;
+    }
     match phase {
-        Phase::Enrolling => is_nobody_dropped(players),
+        Phase::Enrolling => is_nobody_dropped(players) && is_nobody_late(players),
         _ => players.len() >= 2,
     }
 }
 
-/// Whether players with lawful names may be those of an event in this phase.
-pub(crate) fn may_play(phase: Phase, players: &[Player]) -> bool
+/// Whether players with lawful names may be those of an event in this phase, with so many rounds.
+pub(crate) fn may_play(phase: Phase, rounds: u8, players: &[Player]) -> bool
     requires { All (λ p. IsTrue (is_lawful_name p.name)) players.now }
-    ensures { IsTrue result ↔ ArePlayers phase players.now }
+    ensures { IsTrue result ↔ ArePlayers phase rounds players.now }
 {
     if players.len() > usize::from(MAX_PLAYERS) || !are_numbered(players) {
         return false;
@@ -129,5 +160,5 @@ pub(crate) fn may_play(phase: Phase, players: &[Player]) -> bool
     if !are_distinct(players) {
         return false;
     }
-    suits(phase, players)
+    suits(phase, rounds, players)
 }

@@ -1,12 +1,13 @@
-ghost use Rattle.std.specs.Prelude.{◌≡◌, ◌↔◌, ◌-◌, ◌==◌, ◌||◌, not, is_some, length, take, IsTrue, IfOk};
+ghost use Rattle.std.specs.Prelude.{◌≡◌, ◌↔◌, ◌-◌, ◌==◌, ◌||◌, ◌&&◌, nat_le, not, is_some, length, take, IsTrue, IfOk};
 ghost use Rattle.std.specs.List.{list_all, list_any, range_with_len};
 ghost use Rattle.er_event.specs.declared.events.Phase.TheVariants.{Swiss};
 ghost use Rattle.er_event.specs.Round.{is_bye, is_counted, is_same_pairing};
 ghost use Rattle.er_event.specs.Sound.{IsRound, AreRounds};
-ghost use Rattle.er_event.specs.inside.Reading.{MayFollow};
+ghost use Rattle.er_event.specs.inside.Reading.{MayFollow, is_absent, has_missed};
 
 use crate::items::Items;
 use crate::matches::{Match, are_lawful, are_seated_once, is_complete};
+use crate::players::Player;
 use std::alloc::{AllocError, Global};
 
 /// A Swiss round: the matches of tables 1, 2, .., and then the bye, if there is one.
@@ -111,4 +112,40 @@ pub(crate) fn are_rounds(count: u16, rounds: &[Round]) -> bool
         }
     }
     true
+}
+
+/// Whether nobody of this number sits at the matches.
+fn is_absent(matches: &[Match], player: u16) -> bool
+    ensures { result ≡ is_absent player matches.now }
+{
+    matches
+        .iter()
+        .all(|played| played.a != player && played.b != player)
+}
+
+/// Whether nobody of this number sits in the rounds.
+fn is_away(rounds: &[Round], player: u16) -> bool
+    ensures { result ≡ list_all (λ r. is_absent player r.matches) rounds.now }
+{
+    rounds
+        .iter()
+        .all(|round| is_absent(round.matches.as_slice(), player))
+}
+
+/// Whether the rounds that the player missed are stored, and the player sits in none of them.
+fn has_missed(rounds: &[Round], player: &Player) -> bool
+    ensures { result ≡ has_missed rounds.now player.now }
+{
+    let joined = usize::from(player.joined);
+    if joined > rounds.len() {
+        return false;
+    }
+    is_away(&rounds[..joined], player.no.get())
+}
+
+/// Whether the rounds that each player missed are stored, and nobody sits in a round that they missed.
+pub(crate) fn have_missed(rounds: &[Round], players: &[Player]) -> bool
+    ensures { result ≡ list_all (has_missed rounds.now) players.now }
+{
+    players.iter().all(|player| has_missed(rounds, player))
 }

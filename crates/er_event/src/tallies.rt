@@ -1,18 +1,20 @@
-ghost use Rattle.std.specs.Prelude.{◌≡◌, ◌≤◌, ◌↔◌, ℕ, [], IsTrue, if◌then◌else◌, length};
+ghost use Rattle.std.specs.Prelude.{◌≡◌, ◌≤◌, ◌↔◌, ℕ, [], IsTrue, IsFalse, All, ◌==◌, ◌||◌, ◌&&◌, nat_le, if◌then◌else◌, length};
 ghost use Rattle.er_event.specs.Change.{after, Fits};
-ghost use Rattle.er_event.specs.Recounted.{recounted, recounted_in, IsAbsent, AreOf};
-ghost use Rattle.er_event.specs.Round.{is_counted};
+ghost use Rattle.er_event.specs.Lines.{has_missed, own, lines_from};
+ghost use Rattle.er_event.specs.Recounted.{recounted, recounted_in, completed, completed_in, sits, includes, recount_of};
+ghost use Rattle.er_event.specs.Round.{is_counted, IsAbsent};
 ghost use Rattle.er_event.specs.Rows.{tally_rows};
 ghost use Rattle.er_event.specs.Sound.{IsSoundButForSeeds};
-ghost use Rattle.er_event.specs.Totals.{totals};
+ghost use Rattle.er_event.specs.Totals.{totals, totals_of};
 
 use crate::changes::Change;
 use crate::events::Event;
 use crate::matches::{Match, is_complete};
-use crate::players::PlayerNo;
+use crate::players::{Player, PlayerNo};
 use crate::rows::{TallyRow, is_row_of};
 use crate::scores::Score;
 use crate::totals::{Totals, is_complete_with};
+use std::marker::Model;
 
 /// What a player's matches of the complete rounds come to, as the table of totals keeps it.
 #[derive(Clone, Copy, Debug, PartialEq, Eq)]
@@ -53,6 +55,59 @@ fn counted_at_once(matches: &[Match]) -> &[Match]
     if is_complete(matches) { matches } else { &[] }
 }
 
+/// The round, where the score of a table completes it, and else 0.
+fn completed_in(matches: &[Match], round: u8, table: usize, score: Score) -> u8
+    requires { (1 ≤ table) × (table ≤ length matches.now) }
+    ensures { result ≡ completed_in matches.now round table score }
+{
+    if !is_complete(matches) && is_complete_with(matches, table, score) {
+        round
+    } else {
+        0
+    }
+}
+
+/// Whether somebody of this number sits at one of the matches.
+fn sits(matches: &[Match], player: u16) -> bool
+    ensures { result ≡ sits matches.now player }
+{
+    matches
+        .iter()
+        .any(|played| played.a == player || played.b == player)
+}
+
+/// Whether there is such a round, and the player missed it.
+fn is_missed(round: u8, player: &Player) -> bool
+    ensures { result ≡ nat_le 1 round && has_missed round player.now }
+{
+    1 <= round && round <= player.joined
+}
+
+/// What a change counts anew: matches, for those who sit at them, and a round that it completes, for those who missed it.
+#[derive(Debug, Drop)]
+pub struct Recount<'a> {
+    matches: &'a [Match],
+    /// The round, or 0 for none.
+    completed: u8,
+}
+
+impl<'a> Model for Recount<'a> {
+    ghost use Rattle.er_event.specs.Recounted.{Recounting};
+
+    ghost Value = { Recounting };
+
+    ghost view = { λ r. record { matches = r.matches.now; completed = r.completed } };
+}
+
+impl Recount<'_> {
+    /// Whether the totals of a player of the event are to be set.
+    pub fn includes(&self, player: &Player) -> bool
+        ensures { result ≡ includes self.now player.now }
+    {
+        sits(self.matches, player.no.get()) || is_missed(self.completed, player)
+    }
+}
+
 impl Event {
     /// Whether these are the rows of the players' totals, by number.
     pub fn has_tallies(&self, rows: &[TallyRow]) -> bool
@@ -70,14 +125,14 @@ impl Event {
         true
     }
 
-    /// The matches by which a change alters what players' matches come to: none while their round stays open.
-    pub fn matches_to_recount<'a>(&'a self, change: &'a Change) -> &'a [Match]
+    /// The matches that count anew with a change: none while their round stays open.
+    fn matches_to_recount<'a>(&'a self, change: &'a Change) -> &'a [Match]
         requires { Fits self.now change.now }
         ensures value { result.now ≡ recounted self.now change.now }
-        ensures known { AreOf self.now result.now }
         ensures sound { IsSoundButForSeeds self.now }
         ensures others { (player : ℕ) → IsAbsent player result.now
-            → totals (after self.now change.now) player ≡ totals self.now player }
+            → totals_of (own player (lines_from 1 (after self.now change.now).stored))
+            ≡ totals_of (own player (lines_from 1 self.now.stored)) }
     {
         let stored = self.stored();
         match change {
@@ -95,6 +150,37 @@ impl Event {
             | Change::SetPhase { .. }
             | Change::AddBracket { .. }
             | Change::SetBracketScore { .. } => &[],
+        }
+    }
+
+    /// The round that the change completes, or 0 for none.
+    fn completed(&self, change: &Change) -> u8
+        requires { Fits self.now change.now }
+        ensures { result ≡ completed self.now change.now }
+    {
+        match change {
+            Change::SetScore {
+                round,
+                table,
+                score,
+            } => {
+                let matches = self.stored()[usize::from(*round) - 1].matches.as_slice();
+                completed_in(matches, *round, usize::from(*table), *score)
+            }
+            _ => 0,
+        }
+    }
+
+    /// Whose totals a change alters, worked out once for all players.
+    pub fn recount_of<'a>(&'a self, change: &'a Change) -> Recount<'a>
+        requires { Fits self.now change.now }
+        ensures value { result ≡ recount_of self.now change.now }
+        ensures others { All (λ p. IsFalse (includes result p)
+            → totals (after self.now change.now) p.no ≡ totals self.now p.no) self.now.players }
+    {
+        Recount {
+            matches: self.matches_to_recount(change),
+            completed: self.completed(change),
         }
     }
 }

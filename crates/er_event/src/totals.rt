@@ -1,8 +1,11 @@
-ghost use Rattle.std.specs.Prelude.{◌≡◌, ◌≢◌, ℕ, List, [], ◌∷◌, ◌++◌, Some, ◌+◌, ◌<◌, ◌≤◌, ◌==◌, nat_lt, if◌then◌else◌, length, flat_map, slice_index_or, All, IfSome};
+ghost use Rattle.std.specs.Prelude.{◌≡◌, ◌≢◌, ℕ, List, [], ◌∷◌, ◌++◌, Some, ◌+◌, ◌<◌, ◌≤◌, ◌==◌, nat_lt, if◌then◌else◌, length, take, filter, flat_map, slice_index_or, All, IfSome};
 ghost use Rattle.er_share.specs.declared.TheConstants.{MAX_ROUNDS};
 ghost use Rattle.er_event.specs.declared.rounds.Round.{Round};
 ghost use Rattle.er_event.specs.Lines.{own, lines_of_match, counted_lines, lines_from};
-ghost use Rattle.er_event.specs.Totals.{totals_of, totals_of_games, plus, totals};
+ghost use Rattle.er_event.specs.Totals.{totals_of, totals_of_games, plus, missed_totals, totals};
+ghost use Rattle.std.specs.List.{range_with_len};
+ghost use Rattle.er_event.specs.inside.Joined.{joined_of};
+ghost use Rattle.er_event.specs.Sound.{numbers};
 ghost use Rattle.er_event.specs.Round.{is_counted};
 ghost use Rattle.er_event.specs.Change.{scored_slot, after, Fits};
 ghost use Rattle.er_event.specs.inside.Seen.{AreSeen, AreFew, AreOver, IsSeatedOnce, HasTable, rescored};
@@ -10,18 +13,18 @@ ghost use Rattle.er_event.specs.inside.Seen.{AreSeen, AreFew, AreOver, IsSeatedO
 use crate::changes::Change;
 use crate::events::Event;
 use crate::matches::{Match, is_complete};
-use crate::players::PlayerNo;
+use crate::players::{Player, PlayerNo, joined_of};
 use crate::rounds::Round;
 use crate::scores::{Games, Score};
 use er_share::MAX_ROUNDS;
 use std::cmp::Ordering;
 
-/// What a player's matches of the complete rounds come to.
+/// What a player's rounds that are complete come to.
 #[derive(Clone, Copy, Debug, PartialEq, Eq)]
 pub struct Totals {
     /// Match points: 3 for a match won, 1 for one drawn.
     pub points: u8,
-    /// The rounds that the player took part in.
+    /// The rounds that the player took part in, or missed.
     pub rounds: u8,
     /// Game points: 3 for a game won, 1 for one drawn.
     pub game_points: u16,
@@ -66,6 +69,17 @@ impl Totals {
             rounds: self.rounds + 1,
             game_points: self.game_points + u16::from(3 * games.x + games.d),
             games: self.games + u16::from(games.x + games.y + games.d),
+        }
+    }
+
+    /// With so many rounds more that the player missed.
+    fn with_missed(self, rounds: usize) -> Totals
+        requires { self.rounds + rounds < 256 }
+        ensures { result ≡ plus self (missed_totals rounds) }
+    {
+        Totals {
+            rounds: self.rounds + rounds as u8,
+            ..self
         }
     }
 }
@@ -267,18 +281,114 @@ fn totals_with_round(rounds: &[Round], matches: &[Match], player: u16) -> Totals
     }
 }
 
+/// How many of the first rounds are complete.
+fn complete_of(rounds: &[Round], first: u8) -> usize
+    requires { first ≤ length rounds.now }
+    ensures { result ≡ length (filter (λ r. is_counted r.matches) (take first rounds.now)) }
+{
+    rounds[..usize::from(first)]
+        .iter()
+        .filter(|round| round.is_complete())
+        .count()
+}
+
+/// Whether one of the rounds is complete with the new score.
+fn is_complete_at(rounds: &[Round], at: usize, new: &NewScore) -> bool
+    requires within { at < length rounds.now }
+    requires table { HasTable rounds.now new.now.place new.now.table }
+    ensures { (round : Round)
+        → round ≡ slice_index_or (rescored rounds.now new.now.place new.now.table new.now.score) at
+        round → result ≡ is_counted round.matches }
+{
+    let matches = rounds[at].matches.as_slice();
+    if at == new.place {
+        is_complete_with(matches, new.table, new.score)
+    } else {
+        is_complete(matches)
+    }
+}
+
+/// How many of the first rounds are complete with the new score.
+fn complete_with(rounds: &[Round], first: u8, new: &NewScore) -> usize
+    requires few { first ≤ length rounds.now }
+    requires table { HasTable rounds.now new.now.place new.now.table }
+    ensures { result ≡ length (filter (λ r. is_counted r.matches)
+        (take first (rescored rounds.now new.now.place new.now.table new.now.score))) }
+{
+    let mut count = 0;
+    for at in 0..usize::from(first) {
+        count += usize::from(is_complete_at(rounds, at, new));
+    }
+    count
+}
+
+/// How many rounds the player of this number has missed, once one more is enrolled, who has missed so many.
+fn joined_with(players: &[Player], newest: u8, player: u16) -> u8
+    requires { numbers players.now ≡ range_with_len 1 (length players.now) }
+    ensures { (new : Player) → new.no ≡ 1 + length players.now → new.joined ≡ newest
+        → result ≡ joined_of (players.now ++ new ∷ []) player }
+{
+    if usize::from(player) == players.len() + 1 {
+        newest
+    } else {
+        joined_of(players, player)
+    }
+}
+
 impl Event {
-    /// What the player's matches of the complete rounds come to. It takes no memory.
+    /// What the player's rounds that are complete come to: the matches, and the rounds that the player missed. It takes no memory.
     pub fn totals(&self, player: PlayerNo) -> Totals
         ensures { result ≡ totals self.now player }
     {
-        totals_in(self.stored(), player.get())
+        let joined = joined_of(self.players(), player.get());
+        let missed = complete_of(self.stored(), joined);
+        totals_in(self.stored(), player.get()).with_missed(missed)
     }
 
-    /// The same after a change. It takes no memory either.
-    pub fn totals_after(&self, change: &Change, player: PlayerNo) -> Totals
+    /// How many rounds the player of this number has missed after a change.
+    fn joined_after(&self, change: &Change, player: u16) -> u8
         requires { Fits self.now change.now }
-        ensures { result ≡ totals (after self.now change.now) player }
+        ensures value { result ≡ joined_of (after self.now change.now).players player }
+        ensures few { result ≤ length self.now.stored }
+    {
+        match change {
+            Change::AddPlayer { .. } => {
+                joined_with(self.players(), self.stored().len() as u8, player)
+            }
+            _ => joined_of(self.players(), player),
+        }
+    }
+
+    /// How many of the first rounds are complete after a change.
+    fn complete_after(&self, change: &Change, first: u8) -> usize
+        requires fits { Fits self.now change.now }
+        requires few { first ≤ length self.now.stored }
+        ensures { result ≡ length (filter (λ r. is_counted r.matches)
+            (take first (after self.now change.now).stored)) }
+    {
+        let stored = self.stored();
+        match change {
+            Change::SetScore {
+                round,
+                table,
+                score,
+            } => {
+                let new = NewScore {
+                    place: usize::from(*round) - 1,
+                    table: usize::from(*table),
+                    score: *score,
+                };
+                complete_with(stored, first, &new)
+            }
+            _ => complete_of(stored, first),
+        }
+    }
+
+    /// What the player's matches of the complete rounds come to after a change.
+    fn played_after(&self, change: &Change, player: PlayerNo) -> Totals
+        requires { Fits self.now change.now }
+        ensures { result
+            ≡ totals_of (own player (lines_from 1 (after self.now change.now).stored)) }
     {
         let stored = self.stored();
         match change {
@@ -303,7 +413,17 @@ impl Event {
             | Change::SetDropped { .. }
             | Change::SetPhase { .. }
             | Change::AddBracket { .. }
-            | Change::SetBracketScore { .. } => self.totals(player),
+            | Change::SetBracketScore { .. } => totals_in(stored, player.get()),
         }
+    }
+
+    /// The same as `totals` after a change. It takes no memory either.
+    pub fn totals_after(&self, change: &Change, player: PlayerNo) -> Totals
+        requires { Fits self.now change.now }
+        ensures { result ≡ totals (after self.now change.now) player }
+    {
+        let joined = self.joined_after(change, player.get());
+        let missed = self.complete_after(change, joined);
+        self.played_after(change, player).with_missed(missed)
     }
 }

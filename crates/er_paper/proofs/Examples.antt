@@ -16,7 +16,7 @@ games x y d = record { x = x; y = y; d = d }
 -- ---- tables that are written
 
 abbrev player : ℕ → List ℕ → Bool → Player
-player number name dropped = record { no = number; name = name; dropped = dropped }
+player number name dropped = record { no = number; name = name; dropped = dropped; joined = 0 }
 
 -- a comma in a name calls for quotes
 pub table_of_players : rows_text (players_heading ∷ map player_fields

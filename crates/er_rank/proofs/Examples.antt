@@ -17,7 +17,7 @@ abbrev round_of : List Match → Round
 round_of matches = record { matches = matches }
 
 abbrev player : ℕ → List ℕ → Player
-player number name = record { no = number; name = name; dropped = false }
+player number name = record { no = number; name = name; dropped = false; joined = 0 }
 
 abbrev event_of : List Player → List Round → EventValue
 event_of players stored = record {
@@ -151,3 +151,42 @@ pub standings_drawn : map (printed drawn) (1 ∷ 2 ∷ []) ≡
     ∷ (1 ∷ 2 ∷ 1 ∷ 3333 ∷ 3300 ∷ 3300 ∷ []) ∷ []
 unfolding percentage average fraction_cmp hundredths
 standings_drawn = refl
+
+-- the fifth player enrols once the first round is complete, and loses it
+abbrev five : List Player
+five = four ++ record { no = 5; name = codes "Ed"; dropped = false; joined = 1 } ∷ []
+
+abbrev came_late : EventValue
+came_late = record one_round { players = five }
+
+pub standings_when_one_comes : map (printed came_late) (4 ∷ 1 ∷ 3 ∷ 2 ∷ 5 ∷ []) ≡
+    (1 ∷ 4 ∷ 3 ∷ 3300 ∷ 10000 ∷ 3300 ∷ [])
+    ∷ (2 ∷ 1 ∷ 3 ∷ 3300 ∷ 6667 ∷ 3333 ∷ [])
+    ∷ (3 ∷ 3 ∷ 0 ∷ 10000 ∷ 3333 ∷ 6667 ∷ [])
+    ∷ (4 ∷ 2 ∷ 0 ∷ 10000 ∷ 3300 ∷ 10000 ∷ [])
+    ∷ (5 ∷ 5 ∷ 0 ∷ 3300 ∷ 3300 ∷ 3300 ∷ []) ∷ []
+unfolding percentage average fraction_cmp hundredths
+standings_when_one_comes = refl
+
+pub order_when_one_comes : in_order came_late (4 ∷ 1 ∷ 3 ∷ 2 ∷ 5 ∷ []) ≡ replicate 4 true
+unfolding percentage average fraction_cmp
+order_when_one_comes = refl
+
+-- and wins the second: three points in two rounds, of which one was missed
+abbrev after_two : EventValue
+after_two = record came_late {
+  stored = came_late.stored ++ round_of (played 4 1 2 0 0 ∷ played 2 5 0 2 0 ∷ played 3 0 2 0 0 ∷ []) ∷ [];
+}
+
+pub standings_after_two : map (printed after_two) (4 ∷ 1 ∷ 3 ∷ 5 ∷ 2 ∷ []) ≡
+    (1 ∷ 4 ∷ 6 ∷ 4150 ∷ 10000 ∷ 3650 ∷ [])
+    ∷ (2 ∷ 1 ∷ 3 ∷ 7500 ∷ 4000 ∷ 8000 ∷ [])
+    ∷ (3 ∷ 3 ∷ 3 ∷ 5000 ∷ 6000 ∷ 4000 ∷ [])
+    ∷ (4 ∷ 5 ∷ 3 ∷ 3300 ∷ 10000 ∷ 3300 ∷ [])
+    ∷ (5 ∷ 2 ∷ 0 ∷ 7500 ∷ 3300 ∷ 10000 ∷ []) ∷ []
+unfolding percentage average fraction_cmp hundredths
+standings_after_two = refl
+
+pub order_after_two : in_order after_two (4 ∷ 1 ∷ 3 ∷ 5 ∷ 2 ∷ []) ≡ replicate 4 true
+unfolding percentage average fraction_cmp
+order_after_two = refl

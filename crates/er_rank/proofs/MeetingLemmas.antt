@@ -5,6 +5,8 @@ use Rattle.std.proofs.{lemmas.Bool.{cases_Bool, not-true, cond_both, and_parts, 
 use Rattle.std.proofs.lemmas.List.Elements.{All-nil, All-cons, All-append, filter-append}
 use Rattle.er_event.specs.{declared.matches.Match.Match, declared.rounds.Round.Round, declared.scores.Games.Games}
 use Rattle.er_event.specs.{declared.tallies.Meeting.Meeting, declared.totals.Totals.Totals, Event.EventValue, Lines.{own, lines_of_score}}
+use Rattle.std.proofs.Common.{ap, ap₂, sym, ◌∙◌, append-nil}
+use Rattle.er_event.specs.{declared.players.Player.Player, Lines.{has_missed, missed_line, missed_in, missed_from}}
 use Rattle.er_event.specs.{Lines.{lines_of_match, counted_lines, lines_from}, Round.{is_bye, is_counted}, Tallies.counted_matches}
 use Rattle.er_event.specs.{Tallies.{meeting_by, meetings}, Totals.totals}
 use Rattle.er_rank.specs.{Meeting.{Encounter, encounters, opponents_of, IsRecord, IsKnownTo, AreKnownTo}, Standings.opponents}
@@ -74,9 +76,29 @@ module _ (come_to : ℕ → Totals) where
       joined player (counted_in r) (counted_matches rounds) (counted_lines n r) (lines_from (n + 1) rounds) here
       (rounds_met player (n + 1) rounds (λ k d below. positive (suc k) d (omega arith)))
 
+-- a round that was missed has no opponent
+unseen : (come_to : ℕ → Totals) (player n : ℕ) (ps : List Player) → seen_in come_to player (map (missed_line n) ps) ≡ []
+unseen come_to player n [] = refl
+unseen come_to player n (p ∷ ps) = grind (arith, common_steps, unseen come_to player n ps)
+
+missed_seen : (come_to : ℕ → Totals) (player : ℕ) (ps : List Player) (n : ℕ) (rounds : List Round)
+    → seen_in come_to player (missed_from ps n rounds) ≡ []
+missed_seen come_to player ps n [] = refl
+missed_seen come_to player ps n (r ∷ rounds) =
+    let here : seen_in come_to player (missed_in ps n r) ≡ [] = elim (cases_Bool (is_counted r.matches)) [
+      | inl is ↦ rw is (unseen come_to player n (filter (has_missed n) ps))
+      | inr is ↦ rw is refl
+    ] in
+    seen_in-append come_to player (missed_in ps n r) (missed_from ps (n + 1) rounds)
+    ∙ ap₂ (λ (xs ys : List Totals). xs ++ ys) here (missed_seen come_to player ps (n + 1) rounds)
+
 pub opponents-met : (e : EventValue) (player : ℕ) → All (λ (r : Round). All (λ (m : Match). 0 < m.a) r.matches) e.stored
     → opponents_of (encounters (meetings e)) player ≡ map (totals e) (opponents e player)
-opponents-met e player positive = rounds_met (totals e) player 1 e.stored positive
+opponents-met e player positive =
+    let played = seen_in (totals e) player (lines_from 1 e.stored) in
+    rounds_met (totals e) player 1 e.stored positive
+    ∙ sym (seen_in-append (totals e) player (lines_from 1 e.stored) (missed_from e.players 1 e.stored)
+    ∙ (ap (λ (ts : List Totals). played ++ ts) (missed_seen (totals e) player e.players 1 e.stored) ∙ append-nil played))
 
 -- ---- what is known of each encounter
 

@@ -7,7 +7,10 @@ use Rattle.std.proofs.lemmas.List.Sums.{sum_by-cons, sum_by-append}
 use Rattle.er_event.specs.{declared.players.Player.Player, declared.matches.Match.Match, declared.rounds.Round.Round}
 use Rattle.er_event.specs.{declared.scores.Games.Games, Event.EventValue, Round.{is_counted, seats}, Score.is_swiss_score, Sound.numbers}
 use Rattle.er_event.specs.{Sound.{IsRound, IsSoundButForSeeds}, Lines.{Line, turned, lines_of_score, lines_of_match, counted_lines}}
-use Rattle.er_event.specs.{Lines.{lines_from, lines}, Totals.games_of}
+use Rattle.er_event.specs.{Lines.{lines_from, lines, has_missed, missed_line, missed_in, missed_from}, Round.IsAbsent, Totals.games_of}
+use Rattle.std.proofs.{Common.{◌-◌, ◌∙◌, filter, map, subst, sym, take, refl, ◌⊎◌}, lemmas.Bool.cases_Bool}
+use Rattle.std.proofs.lemmas.List.{length-map, Elements.All-map}
+use Rattle.std.specs.List.{range_with_len}
 use Rattle.er_share.specs.declared.TheConstants.{MAX_ROUNDS}
 use Rattle.er_rank.specs.{Meeting.AreKnownTo, declared.lists.TheConstants.MAX_GAMES_OF_MATCH, Tally.IsKnown}
 use Rattle.er_rank.proofs.PlacingLemmas.{count_front}
@@ -46,6 +49,18 @@ rounds_short players r (round ∷ rounds) sound =
     (λ counted. matches_short r round.matches here.scores) (λ unfinished. All-nil IsShort))
     (rounds_short players (r + 1) rounds (λ k d below. sound (suc k) d (omega arith)))
 
+-- a round that was missed has no game
+missed_in_short : (ps : List Player) (r : ℕ) (round : Round) → All IsShort (missed_in ps r round)
+missed_in_short ps r round =
+    let missed = filter (has_missed r) ps in
+    cond_both (is_counted round.matches) (map (missed_line r) missed) [] (All IsShort)
+    (λ counted. All-map IsShort (missed_line r) missed (λ k d below. omega arith)) (λ unfinished. All-nil IsShort)
+
+missed_short : (ps : List Player) (r : ℕ) (rounds : List Round) → All IsShort (missed_from ps r rounds)
+missed_short ps r [] = All-nil IsShort
+missed_short ps r (round ∷ rounds) =
+    All-append IsShort (missed_in ps r round) (missed_from ps (r + 1) rounds) (missed_in_short ps r round) (missed_short ps (r + 1) rounds)
+
 -- ---- one line a round
 
 abbrev is_no : ℕ → ℕ → Bool
@@ -83,27 +98,145 @@ matches_once player r (m ∷ ms) =
     let all = sum_by-append (λ q. cond (is_no player q) 1 0) (seats m) (flat_map seats ms) in
     rw (own, all) (omega (arith, here, rest))
 
-rounds_once : (player r : ℕ) (rounds : List Round) → All (λ (round : Round). AllPairs (λ p q. p ≢ q) (flat_map seats round.matches)) rounds
-    → count_by (is_of player) (lines_from r rounds) ≤ length rounds
-rounds_once player r [] apart = omega arith
-rounds_once player r (round ∷ rounds) apart =
-    let tables = flat_map (lines_of_match r) round.matches in
+-- ---- who missed a round has no match in it
+
+score_none : (player r a b : ℕ) (score : Option Games) → a ≢ player → b ≢ player → count_by (is_of player) (lines_of_score r a b score) ≡ 0
+score_none player r a b h1 first second = grind (arith, common_steps, nat_tests)
+
+matches_none : (player r : ℕ) (ms : List Match) → IsAbsent player ms → count_by (is_of player) (flat_map (lines_of_match r) ms) ≡ 0
+matches_none player r [] away = refl
+matches_none player r (m ∷ ms) away =
+    let here = score_none player r m.a m.b m.score (away 0 m (omega arith)).0 (away 0 m (omega arith)).1 in
+    let rest = matches_none player r ms (λ k d below. away (suc k) d (omega arith)) in
+    let own = sum_by-append (λ (l : Line). cond (is_of player l) 1 0) (lines_of_match r m) (flat_map (lines_of_match r) ms) in
+    rw own (omega (arith, here, rest))
+
+missed_none : (player r : ℕ) (ps : List Player) → All (λ (p : Player). p.no ≢ player) ps
+    → count_by (is_of player) (map (missed_line r) (filter (has_missed r) ps)) ≡ 0
+missed_none player r [] other = refl
+missed_none player r (p ∷ ps) other =
+    let rest = missed_none player r ps (λ k d below. other (suc k) d (omega arith)) in
+    let here = other 0 p (omega arith) in
+    elim (cases_Bool (has_missed r p)) [
+      | inl late ↦ rw late (grind (arith, common_steps, nat_tests, sum_by-cons))
+      | inr early ↦ rw early rest
+    ]
+
+abbrev HasNone : ℕ → List Match → Player → Type 0
+HasNone r ms p = r ≤ p.joined → IsAbsent p.no ms
+
+-- the lines of its matches and those of who missed it
+one_line : (player r : ℕ) (ms : List Match) (ps : List Player) → AllPairs (λ p q. p ≢ q) (numbers ps) → All (HasNone r ms) ps
+    → count_by (is_of player) (flat_map (lines_of_match r) ms) ≤ 1
+    → count_by (is_of player) (flat_map (lines_of_match r) ms)
+    + count_by (is_of player) (map (missed_line r) (filter (has_missed r) ps)) ≤ 1
+one_line player r ms [] apart none one = omega arith
+one_line player r ms (p ∷ ps) apart none one =
+    let more = one_line player r ms ps (λ i j d before within. apart (suc i) (suc j) d (omega arith) (omega arith))
+    (λ k d below. none (suc k) d (omega arith)) one in
+    elim (cases_Bool (has_missed r p)) [
+      | inl late ↦
+          let low : r ≤ p.joined = grind (arith, nat_tests) in
+          let split = sum_by-cons (λ (l : Line). cond (is_of player l) 1 0) (missed_line r p)
+          (map (missed_line r) (filter (has_missed r) ps)) in
+          elim (cases_eq p.no player) [
+            | inl same ↦
+                let away = subst (λ (n : ℕ). IsAbsent n ms) same (none 0 p (omega arith) low) in
+                let lines_none = matches_none player r ms away in
+                let later = missed_none player r ps (λ k d below. other_number p ps apart player same k d below) in
+                rw late (grind (arith, nat_tests, split, lines_none, later))
+            | inr other ↦ rw late (grind (arith, nat_tests, split, more))
+          ]
+      | inr early ↦ rw early more
+    ]
+  where
+    other_number : (p : Player) (ps : List Player) → AllPairs (λ a b. a ≢ b) (numbers (p ∷ ps)) → (player : ℕ) → p.no ≡ player
+        → (k : ℕ) (d : Player) → k < length ps → (get_or ps k d).no ≢ player
+    other_number p ps apart player same k d below is =
+        let at = get_or-map (λ (q : Player). q.no) ps k d 0 below in
+        let long = length-map ps (λ (q : Player). q.no) in
+        apart 0 (suc k) 0 (omega arith) (omega (arith, long)) (same ∙ (sym is ∙ sym at))
+
+low_or_high : (m n : ℕ) → (m ≤ n) ⊎ (n < m)
+low_or_high m n = grind arith
+
+-- in each round
+abbrev AreAway : List Player → ℕ → List Round → Type 0
+AreAway ps r [] = Unit {0}
+AreAway ps r (round ∷ later) = All (HasNone r round.matches) ps × AreAway ps (r + 1) later
+
+away_from : (ps : List Player) (r : ℕ) (rounds : List Round)
+    → All (λ (p : Player). All (λ (round : Round). IsAbsent p.no round.matches) (take (p.joined + 1 - r) rounds)) ps → AreAway ps r rounds
+away_from ps r [] away = tt
+away_from ps r (round ∷ later) away = (
+  λ k d below low.
+      let p = get_or ps k d in
+      let some : p.joined + 1 - r ≡ suc (p.joined + 1 - (r + 1)) = omega arith in
+      rw some at (away k d below) 0 round (omega arith),
+  away_from ps (r + 1) later (λ k d below.
+      let p = get_or ps k d in
+      later_away p r round later (away k d below)),
+)
+  where
+    later_away : (p : Player) (r : ℕ) (round : Round) (later : List Round)
+        → All (λ (q : Round). IsAbsent p.no q.matches) (take (p.joined + 1 - r) (round ∷ later))
+        → All (λ (q : Round). IsAbsent p.no q.matches) (take (p.joined + 1 - (r + 1)) later)
+    later_away p r round later away = elim (low_or_high r p.joined) [
+      | inl low ↦
+          let some : p.joined + 1 - r ≡ suc (p.joined + 1 - (r + 1)) = omega arith in
+          λ k d below. rw some at away (suc k) d (omega arith)
+      | inr high ↦
+          let none : p.joined + 1 - (r + 1) ≡ 0 = omega arith in
+          λ k d below. absurd (let never = rw none at below in omega arith)
+    ]
+
+rounds_once : (player r : ℕ) (ps : List Player) (rounds : List Round)
+    → All (λ (round : Round). AllPairs (λ p q. p ≢ q) (flat_map seats round.matches)) rounds → AllPairs (λ p q. p ≢ q) (numbers ps)
+    → AreAway ps r rounds
+    → count_by (is_of player) (lines_from r rounds) + count_by (is_of player) (missed_from ps r rounds) ≤ length rounds
+rounds_once player r ps [] apart differ away = omega arith
+rounds_once player r ps (round ∷ rounds) apart differ away =
     let one = once player (flat_map seats round.matches) (apart 0 round (omega arith)) in
-    let here : count_by (is_of player) (counted_lines r round) ≤ 1 =
-    cond_both (is_counted round.matches) tables [] (λ (ls : List Line). count_by (is_of player) ls ≤ 1)
-    (λ counted. omega (arith, matches_once player r round.matches)) (λ unfinished. omega arith) in
-    let rest = rounds_once player (r + 1) rounds (λ k d below. apart (suc k) d (omega arith)) in
-    rw (sum_by-append (λ (l : Line). cond (is_of player l) 1 0) (counted_lines r round) (lines_from (r + 1) rounds)) (omega arith)
+    let few : count_by (is_of player) (flat_map (lines_of_match r) round.matches) ≤ 1 =
+    omega (arith, matches_once player r round.matches) in
+    let here : count_by (is_of player) (counted_lines r round) + count_by (is_of player) (missed_in ps r round) ≤ 1 =
+    elim (cases_Bool (is_counted round.matches)) [
+      | inl counted ↦ rw counted (one_line player r round.matches ps differ away.0 few)
+      | inr unfinished ↦ rw unfinished (omega arith)
+    ] in
+    let rest = rounds_once player (r + 1) ps rounds (λ k d below. apart (suc k) d (omega arith)) differ away.1 in
+    let played = sum_by-append (λ (l : Line). cond (is_of player l) 1 0) (counted_lines r round) (lines_from (r + 1) rounds) in
+    let missed = sum_by-append (λ (l : Line). cond (is_of player l) 1 0) (missed_in ps r round) (missed_from ps (r + 1) rounds) in
+    rw (played, missed) (omega arith)
+
+range_apart : (a n : ℕ) → AllPairs (λ p q. p ≢ q) (range_with_len a n)
+range_apart a n i j d before within same =
+    let long = length-range_with_len a n in
+    let one = get_or-range_with_len a n i d (omega arith) in
+    let other = get_or-range_with_len a n j d (omega arith) in
+    omega (arith, one, other, same)
 
 -- ---- a sound event
 
 module _ (e : EventValue) (sound : IsSoundButForSeeds e) where
+  -- no two players have one number
+  differ : AllPairs (λ p q. p ≢ q) (numbers e.players)
+  differ = rw sound.players.numbered (range_apart 1 (length e.players))
+
   pub AreWithin-sound : AreWithin (lines e)
   AreWithin-sound =
-      let apart = λ (player : ℕ). rounds_once player 1 e.stored (λ k d below. (sound.rounds.each k d below).seated_once) in
+      let away = away_from e.players 1 e.stored (λ k d below.
+      let p = get_or e.players k d in
+      let all : p.joined + 1 - 1 ≡ p.joined = omega arith in
+      rw all (sound.missed k d below).absent) in
+      let apart = λ (player : ℕ). rounds_once player 1 e.players e.stored (λ k d below. (sound.rounds.each k d below).seated_once) differ
+      away in
+      let both = λ (player : ℕ). sum_by-append (λ (l : Line). cond (is_of player l) 1 0) (lines_from 1 e.stored)
+      (missed_from e.players 1 e.stored) in
       record {
-        few = λ player. omega (arith, apart player, sound.rounds.few, sound.set_up.rounds);
-        short = rounds_short (numbers e.players) 1 e.stored sound.rounds.each;
+        few = λ player. rw (both player) (omega (arith, apart player, sound.rounds.few, sound.set_up.rounds));
+        short = All-append IsShort (lines_from 1 e.stored) (missed_from e.players 1 e.stored)
+            (rounds_short (numbers e.players) 1 e.stored sound.rounds.each) (missed_short e.players 1 e.stored);
       }
 
   -- the players' numbers

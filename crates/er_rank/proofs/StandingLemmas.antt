@@ -62,7 +62,7 @@ module _ (e : EventValue) (sound : IsSoundButForSeeds e) where
     pub ArePlacings-each : (placings : List Placing) → All (λ (q : Player). IsKnown (length e.players) q.no) e.players
         → ArePlacings (encounters (meetings e)) (tallies e) placings → All (IsPlacing e) placings
     ArePlacings-each placings known placed = λ k d below.
-        let nobody : Player = record { no = 0; name = []; dropped = false } in
+        let nobody : Player = record { no = 0; name = []; dropped = false; joined = 0 } in
         let numbers = placed.numbers ∙ map-map (λ (t : Tally). t.no) (tally_by (totals e)) e.players in
         let gone = placed.dropped ∙ map-map (λ (t : Tally). t.dropped) (tally_by (totals e)) e.players in
         let long = length-map placings (λ (p : Placing). p.player) in

@@ -21,10 +21,10 @@ abbrev played : ℕ → ℕ → ℕ → ℕ → ℕ → Match
 played a b x y d = record { a = a; b = b; score = Some (games x y d) }
 
 abbrev player : ℕ → List ℕ → Player
-player number name = record { no = number; name = name; dropped = false }
+player number name = record { no = number; name = name; dropped = false; joined = 0 }
 
 abbrev gone : ℕ → List ℕ → Player
-gone number name = record { no = number; name = name; dropped = true }
+gone number name = record { no = number; name = name; dropped = true; joined = 0 }
 
 abbrev event_of : ℕ → ℕ → Phase → List Player → List (List Match) → List (List Match) → EventValue
 event_of rounds cut phase players stored stages = record {
@@ -83,8 +83,8 @@ before_the_start = refl
 abbrev paired : EventValue
 paired = event_of 3 0 Swiss four ((open_match 4 2 ∷ open_match 1 3 ∷ []) ∷ []) []
 
-pub after_the_start : refused paired (Enrol (codes "Ed") ∷ Enrol [] ∷ Start ∷ PlayOff 1 1 (games 2 0 0) ∷ [])
-    ≡ Some NotEnrolling ∷ Some NotEnrolling ∷ Some NotEnrolling ∷ Some NotPlayoff ∷ []
+pub after_the_start : refused paired (Enrol (codes "Ed") ∷ Enrol (codes "Ana") ∷ Enrol [] ∷ Start ∷ PlayOff 1 1 (games 2 0 0) ∷ [])
+    ≡ None ∷ Some NameTaken ∷ Some BadName ∷ Some NotEnrolling ∷ Some NotPlayoff ∷ []
 unfolding is_utf8 chars lib.Utf8.encode
 after_the_start = refl
 
@@ -147,6 +147,14 @@ rounds_to_pair = refl
 
 pub no_round_left : refused (over 1 0 two) (pair 1 ∷ pair 2 ∷ []) ≡ Some (WrongRound 2) ∷ Some AllRoundsPaired ∷ []
 no_round_left = refl
+
+-- nobody comes once all rounds are paired, and that is said before that the name is there
+pub too_late : refused (over 1 0 two) (Enrol (codes "Cy") ∷ Enrol (codes "Ana") ∷ Enrol [] ∷ [])
+    ++ refused (event_of 1 2 Swiss two ((open_match 2 1 ∷ []) ∷ []) []) (Enrol (codes "Cy") ∷ [])
+    ++ refused (event_of 1 2 Playoff two ((played 2 1 2 0 0 ∷ []) ∷ []) ((open_match 2 1 ∷ []) ∷ [])) (Enrol (codes "Cy") ∷ [])
+    ≡ Some AllRoundsPaired ∷ Some AllRoundsPaired ∷ Some AllRoundsPaired ∷ Some AllRoundsPaired ∷ Some NotEnrolling ∷ []
+unfolding is_utf8 chars lib.Utf8.encode
+too_late = refl
 
 -- one of the two players has dropped
 pub nobody_to_meet : refused (over 2 0 (player 1 (codes "Ana") ∷ gone 2 (codes "Bo") ∷ [])) (pair 2 ∷ []) ≡ Some TooFewPlayers ∷ []

@@ -1,5 +1,6 @@
 -- The step keeps the seeds of the playoff.
-use Rattle.std.proofs.Common.{arith, true, false, ◌≡◌, inl, inr, ℕ, zero, suc, ◌-◌, not, List, [], ◌∷◌, ◌++◌, get_or, Option, Some, None}
+use Rattle.std.proofs.Common.{arith, true, false, ◌||◌, ◌⊎◌, ◌≡◌, inl, inr, ℕ, zero, suc, ◌-◌, not, List, [], ◌∷◌, ◌++◌, get_or, Option}
+use Rattle.std.proofs.Common.{Some, None}
 use Rattle.std.proofs.{Common.{MatchOption, Result, Ok, IfOk, OnOk, refl, sym, ap, subst, ◌∙◌}, lemmas.Grind.common_steps, Math.ListN.set}
 use Rattle.std.proofs.lemmas.Option.{none-some, same_Some}
 use Rattle.std.specs.List.{slice_get}
@@ -38,6 +39,10 @@ passes ((true, w) ∷ cs) is = absurd (none-some w (sym is))
 
 pub enrolling_is : (p : Phase) → not (is_enrolling p) ≡ false → p ≡ Enrolling
 enrolling_is h1 is = grind (arith, common_steps)
+
+-- players enrol in two phases
+pub open_is : (p : Phase) → not (is_enrolling p || is_swiss p) ≡ false → (p ≡ Enrolling) ⊎ (p ≡ Swiss)
+open_is h1 is = grind (arith, common_steps)
 
 pub swiss_is : (p : Phase) → not (is_swiss p) ≡ false → p ≡ Swiss
 swiss_is h1 is = grind (arith, common_steps)
@@ -107,7 +112,8 @@ module _ (e : EventValue) (sound : IsSound e) where
   none_after next same none = grind (arith, common_steps)
 
   pub keeps : (c : Command) (next : EventValue) → AllPass (checks e c) → Makes e c (Ok next) → HasSeeds next
-  keeps (Enrol name) next pass made = none_after next (ap stages_in (same_Ok next _ made)) (enrolling pass.0)
+  keeps (Enrol name) next pass made =
+      none_after next (ap stages_in (same_Ok next _ made)) (sound.but_for_seeds.bracket.none (open_is e.phase pass.0))
   keeps Start next pass made = none_after next (ap stages_in (same_Ok next _ made)) (enrolling pass.0)
   keeps (Pair round seed) next pass made = none_after next (ap stages_in made.2.2) (swiss pass.0)
   keeps Cut next pass made =

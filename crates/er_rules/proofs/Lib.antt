@@ -14,3 +14,4 @@ mod Retrying
 mod Rescoring
 mod Replaying
 mod Correcting
+mod Late

@@ -1,13 +1,15 @@
 -- A command that was taken once is refused at every later point: enrolment, start, pairing, drop and cut.
 use Rattle.std.proofs.{lemmas.Grind.common_steps, Common.{◌≡◌, inl, inr, ℕ, ◌+◌, ◌≤◌, ◌==◌, Bool, true, false, cond, not, List, [], ◌∷◌}}
-use Rattle.std.proofs.Common.{length, map, find, Option, Some, None, Result, Ok, Err, refl, sym, ap, subst, ◌∙◌, arith, length-append}
+use Rattle.std.proofs.Common.{◌++◌, ◌&&◌, ◌||◌, length, map, find, Option, Some, None, Result, Ok, Err, refl, sym, ap, subst, ◌∙◌, arith}
+use Rattle.std.proofs.Common.{length-append}
 use Rattle.std.proofs.{lemmas.Slice.Eq.bytes_eq-Decides, lemmas.Bool.{not-false, eqb-true, ne_eqb, cases_Bool, cond_both, or_left}}
-use Rattle.std.proofs.{lemmas.Bool.or_right, lemmas.List.Folds.list_any-append}
+use Rattle.std.proofs.{lemmas.Bool.or_right, lemmas.List.Folds.{find-append, list_any-append}}
 use Rattle.std.specs.Str.{bytes_eq}
 use Rattle.er_event.specs.{declared.events.Phase.Phase, declared.events.Phase.TheVariants.Finished, declared.players.Player.Player}
 use Rattle.er_event.specs.{declared.commands.Command.Command, declared.commands.Command.TheVariants.{Enrol, Start, Pair, Drop, Cut}}
 use Rattle.er_event.specs.{declared.refusals.Refusal.Refusal, declared.refusals.Refusal.TheVariants.{NameTaken, NotEnrolling, NotSwiss}}
-use Rattle.er_event.specs.{declared.refusals.Refusal.TheVariants.{WrongRound, AlreadyDropped}, Event.EventValue, Name.is_lawful_name}
+use Rattle.er_event.specs.{declared.refusals.Refusal.TheVariants.{WrongRound, AlreadyDropped, AllRoundsPaired}, Event.EventValue}
+use Rattle.er_event.specs.Name.{is_lawful_name}
 use Rattle.er_event.specs.Change.{has_name, dropped_at, new_player}
 use Rattle.er_rules.specs.{Commands.{first_refusal, is_enrolling, is_swiss, of_player}, Step.{Steps, Makes, checks}, Fold.Folds}
 use Rattle.er_rules.specs.Retry.{IsRetryRefusal}
@@ -97,7 +99,7 @@ name_kept name e next c steps has = made c (is_taken e next c steps).1
   where
     made : (c : Command) → Makes e c (Ok next) → named name next ≡ true
     made (Enrol other) is =
-        let more = list_any-append (λ (p : Player). bytes_eq p.name name) e.players (new_player e.players other ∷ []) in
+        let more = list_any-append (λ (p : Player). bytes_eq p.name name) e.players (new_player e other ∷ []) in
         ap (named name) (same_Ok next _ is) ∙ (more ∙ or_left _ _ has)
     made (Pair round seed) is = ap (named name) is.2.2 ∙ has
     made (Drop player) is = ap (named name) (same_Ok next _ is) ∙ (names_stay player name e.players ∙ has)
@@ -122,6 +124,14 @@ gone_stays n k xs (p, found, dropped) = gone_after n k xs p found (drop_stays k 
 gone_now : (n : ℕ) (xs : List Player) (p : Player) → find (of_number n) xs ≡ Some p → Gone n (map (dropped_at n) xs)
 gone_now n xs p found = gone_after n n xs p found (let is = find_passes (of_number n) xs p found in rw is refl)
 
+-- one more player has another number
+gone_among : (n : ℕ) (xs : List Player) (new : Player) → Gone n xs → Gone n (xs ++ new ∷ [])
+gone_among n xs new (p, found, dropped) = (p, found_among n xs new p found, dropped)
+  where
+    found_among : (n : ℕ) (xs : List Player) (new p : Player) → find (of_number n) xs ≡ Some p
+        → find (of_number n) (xs ++ new ∷ []) ≡ Some p
+    found_among n xs new p found = grind (arith, common_steps, find-append (of_number n) xs (new ∷ []))
+
 abbrev HasGone : ℕ → EventValue → Type 0
 HasGone n e = (is_enrolling e.phase ≡ false) × Gone n e.players
 
@@ -132,7 +142,8 @@ gone_kept n e next c steps has = (begun_stays e next c steps has.0, made c (is_t
     as_before same = subst (Gone n) (sym same) has.1
 
     made : (c : Command) → (first_refusal (checks e c) ≡ None) × Makes e c (Ok next) → Gone n next.players
-    made (Enrol name) is = absurd (not_again (is_enrolling e.phase) has.0 (passes (checks e (Enrol name)) is.0).0)
+    made (Enrol name) is =
+        subst (Gone n) (sym (ap players_in (same_Ok next _ is.1))) (gone_among n e.players (new_player e name) has.1)
     made (Pair round seed) is = as_before (ap players_in is.1.2.2)
     made (Drop player) is = subst (Gone n) (sym (ap players_in (same_Ok next _ is.1))) (gone_stays n player e.players has.1)
     made Cut is = as_before (ap players_in (same_Ok next _ is.1.2))
@@ -178,14 +189,19 @@ module _ (e next later : EventValue) (more : List Command) (folds : Folds next m
   pub enrol_again : (name : List ℕ) → Steps e (Enrol name) (Ok next) → Steps later (Enrol name) result → Refused (Enrol name)
   enrol_again name taken again =
       let it = is_taken e next (Enrol name) taken in
-      let lawful = not-false (is_lawful_name name) (passes (checks e (Enrol name)) it.0).1.0 in
+      let lawful = not-false (is_lawful_name name) (passes (checks e (Enrol name)) it.0).1.1.0 in
       let own : bytes_eq name name ≡ true = (bytes_eq-Decides name name).1 refl in
-      let added = list_any-append (λ (p : Player). bytes_eq p.name name) e.players (new_player e.players name ∷ []) in
+      let added = list_any-append (λ (p : Player). bytes_eq p.name name) e.players (new_player e name ∷ []) in
       let has : named name next ≡ true = ap (named name) (same_Ok next _ it.1) ∙ (added ∙ or_right _ _ (or_left _ false own)) in
       let now = kept_on (λ (x : EventValue). named name x ≡ true) (name_kept name) next later more folds has in
-      elim (cases_Bool (is_enrolling later.phase)) [
-        | inr begun ↦ (NotEnrolling, refused_by later (Enrol name) NotEnrolling result (rw begun refl) again, inr refl)
-        | inl enrolling ↦ (NameTaken, refused_by later (Enrol name) NameTaken result (rw (enrolling, lawful, now) refl) again, inl refl)
+      elim (cases_Bool (is_enrolling later.phase || is_swiss later.phase)) [
+        | inr closed ↦ (NotEnrolling, refused_by later (Enrol name) NotEnrolling result (rw closed refl) again, inr (inr refl))
+        | inl open_yet ↦ elim (cases_Bool (is_swiss later.phase && length later.stored == later.rounds)) [
+          | inl paired ↦
+              (AllRoundsPaired, refused_by later (Enrol name) AllRoundsPaired result (rw (open_yet, paired) refl) again, inr (inl refl))
+          | inr left ↦
+              (NameTaken, refused_by later (Enrol name) NameTaken result (rw (open_yet, left, lawful, now) refl) again, inl refl)
+        ]
       ]
 
   pub drop_again : (player : ℕ) → Steps e (Drop player) (Ok next) → Steps later (Drop player) result → Refused (Drop player)

@@ -30,7 +30,7 @@ at_match : (m : Option Match) (more : Match → List Check) → ((x : Match) →
 at_match h1 more all = grind (arith, common_steps)
 
 no_check : (e : EventValue) (c : Command) → NoBudget (checks e c)
-no_check e (Enrol name) = (refl, (refl, (refl, (refl, tt))))
+no_check e (Enrol name) = (refl, (refl, (refl, (refl, (refl, tt)))))
 no_check e Start = (refl, (refl, tt))
 no_check e (Pair round seed) = (refl, (refl, (refl, (refl, (refl, tt)))))
 no_check e (Report round table score) = (refl, at_match (match_at e round table) _ (λ m. (refl, scored_already m.score _ (refl, tt))))

@@ -31,9 +31,9 @@ module _ (keeps : ChangesKeepSound) (once : StandOnce) (seats : LegalSeats) (e n
 
   after : (c : Command) → AllPass (checks e c) → Makes e c (Ok next) → IsSoundButForSeeds next
   after (Enrol name) pass made =
-      let full : nat_le 512 (length e.players) ≡ false = pass.1.1.1.0 in
+      let full : nat_le 512 (length e.players) ≡ false = pass.1.1.1.1.0 in
       let room : length e.players < 512 = grind (arith, nat_tests) in
-      is_now _ made (keeps e (AddPlayer name) h (not-false (is_lawful_name name) pass.1.0, room, pass.1.1.0))
+      is_now _ made (keeps e (AddPlayer name) h (not-false (is_lawful_name name) pass.1.1.0, room, pass.1.1.1.0))
   after Start pass made =
       let few : nat_lt (length e.players) 2 ≡ false = pass.1.0 in
       let two : 2 ≤ length e.players = grind (arith, nat_tests) in

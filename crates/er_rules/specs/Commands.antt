@@ -1,5 +1,6 @@
 -- The checks of each command, in order, and what it makes of an event that it is taken on.
-use Rattle.std.specs.Prelude.{ℕ, ◌+◌, ◌-◌, ◌==◌, nat_le, nat_lt, Bool, true, false, ◌&&◌, not, List, [], ◌∷◌, ◌++◌, length, filter, find}
+use Rattle.std.specs.Prelude.{ℕ, ◌+◌, ◌-◌, ◌==◌, nat_le, nat_lt, Bool, true, false, ◌&&◌, ◌||◌, not, List, [], ◌∷◌, ◌++◌, length, filter}
+use Rattle.std.specs.Prelude.{find}
 use Rattle.std.specs.Prelude.{drop, option_map, Option, Some, None, is_none}
 use Rattle.std.specs.List.{list_any, list_all}
 use Rattle.er_event.specs.declared.scores.Games.{Games}
@@ -50,9 +51,11 @@ Check = Bool × Refusal
 abbrev pub first_refusal : List Check → Option Refusal
 first_refusal checks = option_map (λ (c : Check). c.1) (find (λ (c : Check). c.0) checks)
 
+-- players enrol before the start, and then until the last round is paired
 abbrev pub enrol_checks : EventValue → List ℕ → List Check
 enrol_checks event name =
-    (not (is_enrolling event.phase), NotEnrolling)
+    (not (is_enrolling event.phase || is_swiss event.phase), NotEnrolling)
+    ∷ (is_swiss event.phase && length event.stored == event.rounds, AllRoundsPaired)
     ∷ (not (is_lawful_name name), BadName)
     ∷ (has_name event.players name, NameTaken)
     ∷ (nat_le MAX_PLAYERS (length event.players), PlayersFull)

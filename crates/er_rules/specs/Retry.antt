@@ -5,7 +5,8 @@ use Rattle.er_event.specs.declared.commands.Command.{Command}
 use Rattle.er_event.specs.declared.commands.Command.TheVariants.{Enrol, Start, Pair, Result as Report, Correct, Drop, Cut}
 use Rattle.er_event.specs.declared.commands.Command.TheVariants.{Playoff as PlayOff}
 use Rattle.er_event.specs.declared.refusals.Refusal.{Refusal}
-use Rattle.er_event.specs.declared.refusals.Refusal.TheVariants.{NameTaken, NotEnrolling, NotSwiss, WrongRound, AlreadyReported}
+use Rattle.er_event.specs.declared.refusals.Refusal.TheVariants.{NameTaken, AllRoundsPaired, NotEnrolling, NotSwiss, WrongRound}
+use Rattle.er_event.specs.declared.refusals.Refusal.TheVariants.{AlreadyReported}
 use Rattle.er_event.specs.declared.refusals.Refusal.TheVariants.{AlreadyDropped, NotPlayoff}
 use Rattle.er_event.specs.Event.{EventValue}
 use Rattle.er_rules.specs.Step.{Steps}
@@ -13,7 +14,7 @@ use Rattle.er_rules.specs.Fold.{Folds}
 
 -- how a command that was accepted once is refused later
 abbrev pub IsRetryRefusal : Command → Refusal → Type 0
-IsRetryRefusal (Enrol name) why = (why ≡ NameTaken) ⊎ (why ≡ NotEnrolling)
+IsRetryRefusal (Enrol name) why = (why ≡ NameTaken) ⊎ (why ≡ AllRoundsPaired) ⊎ (why ≡ NotEnrolling)
 IsRetryRefusal Start why = why ≡ NotEnrolling
 IsRetryRefusal (Pair round seed) why = ((next : ℕ) × (why ≡ WrongRound next)) ⊎ (why ≡ NotSwiss)
 IsRetryRefusal (Report round table score) why = ((stored : Games) × (why ≡ AlreadyReported stored)) ⊎ (why ≡ NotSwiss)

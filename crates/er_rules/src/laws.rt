@@ -9,6 +9,7 @@ ghost use Rattle.er_event.specs.Sound.{IsSoundButForSeeds};
 ghost use Rattle.er_rules.specs.Sound.{IsSound};
 ghost use Rattle.er_rules.specs.Step.{Steps, Answers, NeedsMoreSteps};
 ghost use Rattle.er_rules.specs.Retry.{NoDoubleEffect};
+ghost use Rattle.er_rules.specs.Late.{StepsAreTaken};
 
 use er_event::laws::changes_keep_sound;
 use er_pair::laws::{legal_seats, one_earliest, one_order, stand_once};
@@ -44,4 +45,9 @@ pub fn budget_searches()
 /// A command that was taken once, and no correction, is refused at every later point. A correction that is sent again at once gives the same event.
 pub fn no_double_effect()
     ensures { NoDoubleEffect }
+{}
+
+/// The tables of a version can take what a command makes of an event, unless it enrols somebody too late for them.
+pub fn steps_are_taken()
+    ensures { StepsAreTaken }
 {}

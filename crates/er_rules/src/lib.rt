@@ -1,10 +1,10 @@
 //! What each command does to an event: the change that it makes, or the refusal of the first check that fails.
 #![tactic(auto)]
 
-ghost use Rattle.std.specs.Prelude.{◌≡◌, ◌⊎◌, Ok, Err, IfOk, IfErr, OnOk, Some, None, IsTrue, IsFalse};
+ghost use Rattle.std.specs.Prelude.{◌≡◌, ◌==◌, ◌&&◌, ◌||◌, not, length, ◌⊎◌, Ok, Err, IfOk, IfErr, OnOk, Some, None, IsTrue, IsFalse};
 ghost use Rattle.er_event.specs.Name.{is_lawful_name};
 ghost use Rattle.er_event.specs.Change.{after, Fits};
-ghost use Rattle.er_rules.specs.Commands.{first_refusal, enrol_checks, start_checks, drop_checks};
+ghost use Rattle.er_rules.specs.Commands.{is_enrolling, is_swiss, first_refusal, enrol_checks, start_checks, drop_checks};
 ghost use Rattle.er_rules.specs.Refusing.{IsOfRules, TakesMemory};
 ghost use Rattle.er_rules.specs.Sound.{IsSound};
 ghost use Rattle.er_rules.specs.Step.{Answers};
@@ -22,6 +22,24 @@ use results::{decide_correct, decide_result};
 pub use seeds::seeds_agree;
 use std::alloc::Global;
 
+/// Whether nobody enrols any more, since the playoff has begun.
+fn is_closed(phase: Phase) -> bool
+    ensures { result ≡ not (is_enrolling phase || is_swiss phase) }
+{
+    !matches!(phase, Phase::Enrolling | Phase::Swiss)
+}
+
+/// Whether nobody enrols any more, since the last round is paired.
+fn is_last_paired(event: &Event) -> bool
+    ensures { result
+        ≡ (is_swiss event.now.phase && length event.now.stored == event.now.rounds) }
+{
+    match event.phase() {
+        Phase::Swiss => event.stored().len() == usize::from(event.rounds()),
+        _ => false,
+    }
+}
+
 fn decide_enrol(event: &Event, name: &[u8]) -> Result<Change, Refusal>
     ensures change { IfOk result (λ change. change ≡ Change.AddPlayer name.now) }
     ensures fits { IfOk result (Fits event.now) }
@@ -30,8 +48,11 @@ fn decide_enrol(event: &Event, name: &[u8]) -> Result<Change, Refusal>
         ≡ Some why) }
     ensures named { IfErr result IsOfRules }
 {
-    if event.phase() != Phase::Enrolling {
+    if is_closed(event.phase()) {
         return Err(Refusal::NotEnrolling);
+    }
+    if is_last_paired(event) {
+        return Err(Refusal::AllRoundsPaired);
     }
     let Ok(name) = Name::try_from_bytes(name) else {
         return Err(Refusal::BadName);

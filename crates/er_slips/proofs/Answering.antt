@@ -144,14 +144,19 @@ module _ (old new : Standing) (input : List ℕ) (answer : AnswerValue) (runs : 
       below : (old.serial == MAX_SERIAL) ≡ false
       below = let room = it.room in grind (arith, nat_tests)
 
-      due : reply ≡ reply_to old.serial (Ok new.event)
+      due : reply ≡ reply_to 2 old.event old.serial (Hand round table score) (Ok new.event)
       due = rw below (it.answered ∙ ap (λ (n : ℕ). Ok (receipt n)) it.serial_is)
   reply-by round table score reply is (inr (inl it)) e = by it.cause
     where
-      by : (it.why ≡ Memory) ⊎ IsDue old.event old.serial (Hand round table score) (Err it.why)
+      due : IsDue old.version old.event old.serial (Hand round table score) (Err it.why)
+          → IsDue 2 old.event old.serial (Hand round table score) (Err it.why)
+      due (Ok next, taken, same) = (Ok next, taken, same)
+      due (Err why, refused, same) = (Err why, refused, same)
+
+      by : (it.why ≡ Memory) ⊎ IsDue old.version old.event old.serial (Hand round table score) (Err it.why)
           → IsAnswerUnless503 old.event old.serial input answer
       by (inl memory) = hindered Memory refl (e ∙ ap reply_answer it.answered ∙ ap refusal_answer memory)
-      by (inr due) = exact (Ok (Report round table score)) is (Err it.why, due, e ∙ ap reply_answer it.answered)
+      by (inr is_due) = exact (Ok (Report round table score)) is (Err it.why, due is_due, e ∙ ap reply_answer it.answered)
   reply-by round table score reply is (inr (inr (inl it))) e = faulty it.why (inl it.fault) (e ∙ ap reply_answer it.answered)
   reply-by round table score reply is (inr (inr (inr it))) e = runs-on it.was_stopped
 

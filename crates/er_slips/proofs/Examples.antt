@@ -180,7 +180,7 @@ cut_short = refl
 -- ---- an event of four players, whose first round is paired
 
 abbrev player : ℕ → List ℕ → Player
-player number name = record { no = number; name = name; dropped = false }
+player number name = record { no = number; name = name; dropped = false; joined = 0 }
 
 abbrev games : ℕ → ℕ → ℕ → Games
 games x y d = record { x = x; y = y; d = d }
@@ -209,11 +209,11 @@ round_not_stored = refl
 abbrev hand : Games → Command
 hand score = Hand 1 1 score
 
-pub due_receipt : IsDue friday 6 (hand (games 2 1 0)) (Ok (record { serial = 7 }))
+pub due_receipt : IsDue 2 friday 6 (hand (games 2 1 0)) (Ok (record { serial = 7 }))
 due_receipt = (Ok (with_score friday 1 1 (games 2 1 0)), inl (refl, λ needs. needs), refl)
 
-pub due_to_a_retry : IsDue (with_score friday 1 1 (games 2 1 0)) 7 (hand (games 2 1 0)) (Err (AlreadyReported (games 2 1 0)))
+pub due_to_a_retry : IsDue 2 (with_score friday 1 1 (games 2 1 0)) 7 (hand (games 2 1 0)) (Err (AlreadyReported (games 2 1 0)))
 due_to_a_retry = (Err (AlreadyReported (games 2 1 0)), inl (refl, λ needs. needs), refl)
 
-pub due_to_no_score : IsDue friday 6 (hand (games 2 2 0)) (Err BadScore)
+pub due_to_no_score : IsDue 2 friday 6 (hand (games 2 2 0)) (Err BadScore)
 due_to_no_score = (Err BadScore, inl (refl, λ needs. needs), refl)

@@ -35,14 +35,15 @@ abbrev pub reply_answer : Reply → AnswerValue
 reply_answer (Ok receipt) = receipt_answer receipt.serial
 reply_answer (Err why) = refusal_answer why
 
--- the answer to what is asked, where memory and the store serve
+-- The answer to what is asked, where memory and the store serve. A score is never late: its reply is the same in tables of
+-- either version.
 abbrev pub IsAnswered : EventValue → ℕ → Result Asked Fault → AnswerValue → Type 0
 IsAnswered event serial (Err fault) answer = answer ≡ fault_answer fault
 IsAnswered event serial (Ok Standings) answer = ShowsStandings event answer
 IsAnswered event serial (Ok (Pairings round)) answer = ShowsPairings round event answer
 IsAnswered event serial (Ok (Slip round table)) answer = answer ≡ row_answer (slip_of event round table)
 IsAnswered event serial (Ok (Report round table score)) answer =
-    (reply : Reply) × IsDue event serial (Hand round table score) reply × (answer ≡ reply_answer reply)
+    (reply : Reply) × IsDue 2 event serial (Hand round table score) reply × (answer ≡ reply_answer reply)
 
 -- a score that is handed in is submitted, and nothing else is
 abbrev pub submitted : Result Asked Fault → Option Command

@@ -8,7 +8,7 @@ use Rattle.er_store.proofs.Prelude.{round_rows, pairing_rows, TallyRow, pairing_
 use Rattle.er_store.proofs.Prelude.{BringsToWith, all_from_test, test_from_all, BracketTable, BracketRow, with_stage, bracket_row}
 use Rattle.er_store.proofs.Prelude.{stage_rows, bracket_rows, bracket_columns, stored_slot, Layout, version_of}
 use Rattle.sqlite_trees.proofs.TreeLemmas.{IsTable-put_row, all-put_row}
-use Rattle.er_store.proofs.{Together.{pairings_set, moves_then, row_put, bracket_set}, Grouped.{rows_more, pairing_rows_are, newest_more}}
+use Rattle.er_store.proofs.{Together.{keeps_as, pairings_set, moves_then, row_put, bracket_set}, Grouped.{rows_more, pairing_rows_are, newest_more}}
 use Rattle.er_store.proofs.Grouped.{bracket_rows_are}
 
 -- ---- the rows of one more round
@@ -46,18 +46,18 @@ pairing_added e before m id {old = old} stands put =
 
 -- tables that show the same rows of another event stand for that one
 pub stands_as : {l : Layout} {db : Database} {e f : EventValue} {s : ℕ} {kept : List TallyRow} → f.rounds ≡ e.rounds
-    → ((table : Place) → IsPermutation (rows_in l db table) (rows_with (version_of l) e s kept table)
+    → f.players ≡ e.players → ((table : Place) → IsPermutation (rows_in l db table) (rows_with (version_of l) e s kept table)
     → IsPermutation (rows_in l db table) (rows_with (version_of l) f s kept table)) → StandsWith l db e s kept → StandsWith l db f s kept
-stands_as rounds same stands = record {
+stands_as rounds players same stands = record {
   low = stands.low;
-  keeps = λ first. rw rounds (stands.keeps first);
+  keeps = keeps_as rounds players stands.keeps;
   has = record { tables = stands.has.tables; rows = λ table. same table (stands.has.rows table); keyed = stands.has.keyed };
 }
 
 -- a round of no match has no row
 pub none_added : (e : EventValue) {l : Layout} {db : Database} {s : ℕ} {kept : List TallyRow}
     → StandsWith l db e s kept → StandsWith l db (with_round e []) s kept
-none_added e = stands_as refl (elim [ PairingTable ↦ λ rows. rw (pairing_none e) rows | _ ↦ λ rows. rows ])
+none_added e = stands_as refl refl (elim [ PairingTable ↦ λ rows. rw (pairing_none e) rows | _ ↦ λ rows. rows ])
 
 -- ---- matches, one after the other
 
@@ -148,4 +148,4 @@ slot_added e before m id {old = old} stands put =
 -- a stage of no match has no row
 pub no_slot_added : (e : EventValue) {l : Layout} {db : Database} {s : ℕ} {kept : List TallyRow}
     → StandsWith l db e s kept → StandsWith l db (with_stage e []) s kept
-no_slot_added e = stands_as refl (elim [ BracketTable ↦ λ rows. rw (slots_none e) rows | _ ↦ λ rows. rows ])
+no_slot_added e = stands_as refl refl (elim [ BracketTable ↦ λ rows. rw (slots_none e) rows | _ ↦ λ rows. rows ])

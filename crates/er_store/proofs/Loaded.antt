@@ -59,7 +59,7 @@ no_fault parts e it sound =
         event = record {
           version = it.version;
           known = it.known;
-          keeps = it.keeps;
+          keeps = it.keeps.rounds;
           serial = it.serial;
           low = it.low;
           set_up = sound.set_up;
@@ -67,9 +67,11 @@ no_fault parts e it sound =
         };
         rows = ap (λ (p : Parts). p.players) are;
         players = sound.players;
+        keeps = it.keeps.players;
       };
       rows = ap (λ (p : Parts). p.pairings) are;
       rounds = sound.rounds;
+      missed = sound.missed;
     } in
     elim [
       | EventTable ↦ λ h. h e rounds.players.event

@@ -181,9 +181,16 @@ pub record IsMeetingRow (e : EventValue) (row : MeetingRow) : Type 0 where
   pub high : max it.a it.b ≤ 512
   pub sides : sides_in row ≡ sides_of (meeting_by (totals e) it)
 
+-- of any totals
+sides-shown : (come_to : ℕ → Totals) (k j : ℕ) (m : Match) → sides_in (meeting_row come_to k (j, m)) ≡ sides_of (meeting_by come_to m)
+sides-shown come_to k j m = refl
+
 module _ (e : EventValue) (sound : IsSoundButForSeeds e) where
   pair-row : (k j : ℕ) (m : Match) → IsMatch (numbers e.players) m → is_bye m ≡ false → IsMeetingRow e (meeting_row (totals e) k (j, m))
-  pair-row k j m are pair = grind (arith, common_steps)
+  pair-row k j m are pair =
+      let low : 1 ≤ min m.a m.b = grind (arith, common_steps) in
+      let high : max m.a m.b ≤ 512 = grind (arith, common_steps) in
+      record { it = m; low = low; high = high; sides = sides-shown (totals e) k j m }
 
   round-shows : (k j : ℕ) (ms : List Match) → All (IsMatch (numbers e.players)) ms
       → AllByRecursion (IsMeetingRow e) (rows_of (totals e) k j ms)

@@ -104,7 +104,7 @@ player2_created {old} {new} {e} {s} may ran =
 
 -- one more
 pub player2_added : {old new : State} {ps : List Player} {e : EventValue} {s : ℕ} {f : List Row} (p : Player)
-    → IsMoving old old 1 ps e s f → Puts moved_tree (stored_player2 p.no p.name p.dropped 0) old new
+    → IsMoving old old 1 ps e s f → Puts moved_tree (stored_player2 p.no p.name p.dropped p.joined) old new
     → IsMoving old new 1 (ps ++ p ∷ []) e s f
 player2_added {old} {new} {ps} {e} {s} p here put =
     let shown : Row = player_columns (player_row p) in
@@ -184,6 +184,6 @@ former_numbered {db} {e} stands k d below =
 pub is_moved : {old new : State} {e : EventValue} {s : ℕ} → s ≤ 999999 → IsMoving old new 2 e.players e s [] → IsMoved new e s
 is_moved low end = record {
   sound = end.sound;
-  stands = record { low = low; keeps = λ is. absurd (cc); has = end.has };
+  stands = record { low = low; keeps = record { rounds = λ is. absurd (cc); players = λ is. absurd (cc) }; has = end.has };
   emptied = end.former;
 }

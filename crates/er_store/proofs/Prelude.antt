@@ -120,4 +120,4 @@ pub use Rattle.er_store.specs.inside.Lookup.{begins_select}
 pub use Rattle.er_store.specs.inside.Meetings.{is_outside, sides_in, meeting_rows, counted_rows, sides_of}
 pub use Rattle.er_store.specs.inside.Queries.{Selects, table_query, SelectsWith, Takes}
 pub use Rattle.er_store.specs.inside.Steps.{made_players, Puts, BringsToWith, Ran, Moves, Stays, Goes, IsReady, IsStage, CreatesAll}
-pub use Rattle.er_store.specs.inside.Totals.{set_for_all, set_for}
+pub use Rattle.er_store.specs.inside.Totals.{set_for, set_up_to}

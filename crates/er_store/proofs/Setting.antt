@@ -22,7 +22,12 @@ use Rattle.sqlite.specs.declared.types.Value.TheVariants.{Real, Blob}
 use Rattle.sqlite_trees.specs.Tree.{IsTable}
 use Rattle.sqlite_trees.proofs.TreeLemmas.{later_rowids}
 use Rattle.sqlite_keyed.proofs.ListLemmas.{all-filter, ascending-filter}
-use Rattle.er_store.proofs.{Picking.{picks, is_another, picks-compares, picks_one, same_number, picks_row, AreRowsBy}, Effects.one_of}
+use Rattle.er_store.proofs.{Picking.{has_number, picks, is_another, picks-compares, picks_one, same_number, picks_row, AreRowsBy}}
+use Rattle.er_store.proofs.Effects.{one_of}
+use Rattle.er_store.proofs.Prelude.{All, All-weaker, find, ◌==◌}
+use Rattle.sqlite_keyed.proofs.SliceLemmas.{All-find}
+use Rattle.std.proofs.lemmas.List.Elements.{All-map}
+use Rattle.er_event.specs.Version.{KeepsPlayers}
 use Rattle.er_store.proofs.{Effects.{meant, old_meant, second_meant, second_at, tally_at, pairing_at, bracket_at}}
 use Rattle.er_store.proofs.{Meaning.{rows_query, dropped_tests, Means, score_tests}, Together.{shows_more, players_set}}
 use Rattle.er_store.proofs.{Together.{tallies_set, pairings_set, bracket_set}, Writing.{replaces, cast_int, cast_null, one_shown}}
@@ -99,6 +104,21 @@ sets_number l table more n row {values} {was} {all} {terms} {old = old} {new} me
 
 -- ---- what the UPDATE of one player does, which a WHERE picks
 
+-- in version 1 nobody has missed a round
+is_early : (ps : List Player) (n : ℕ) (it : Player) → All (λ (p : Player). p.joined ≡ 0) ps → find (has_number n) ps ≡ Some it
+    → it.joined ≡ 0
+is_early ps n it all found = All-find (λ (p : Player). p.joined ≡ 0) (has_number n) ps it all found
+
+-- who is dropped has missed what they had
+dropped_keeps : {v : ℕ} (n : ℕ) (ps : List Player) → KeepsPlayers v ps → KeepsPlayers v (map (dropped_at n) ps)
+dropped_keeps n ps keeps first =
+    let IsEarly : Player → Type 0 = λ p. p.joined ≡ 0 in
+    All-map IsEarly (dropped_at n) ps (All-weaker IsEarly (λ p. IsEarly (dropped_at n p)) (λ p early. same p (p.no == n) early) ps (keeps first))
+  where
+    same : (p : Player) (b : Bool) → p.joined ≡ 0 → (if b then record p { dropped = true } else p).joined ≡ 0
+    same p true early = early
+    same p false early = early
+
 pub player_dropped : (n : ℕ) {old new : State} {e : EventValue} {s : ℕ} {kept : List TallyRow} → StandsWith Old old.now e s kept
     → numbers e.players ≡ range_with_len 1 (length e.players) → Contains (numbers e.players) n
     → Ran set_dropped (number n ∷ []) old new → BringsToWith Old old new (with_dropped e n) s kept
@@ -107,11 +127,12 @@ player_dropped n {old} {new} {e} stands numbered known ran =
     let one = picks_one e.players n numbered known in
     let it = one.it in
     let row = stored_player n it.name true in
+    let early : it.joined ≡ 0 = is_early e.players n it (stands.keeps.players refl) one.first in
     let set = sets_number Old (player player_tree) (λ r. at_places (2 ∷ 3 ∷ []) r ++ number 0 ∷ []) n row (old_meant has).dropped has
     (ap (λ ts. slice_get ts 1) has.are) (λ x other. other.1) (λ db. refl) (λ r h. let is = one.is in cc) (simp (cast_int, cast_null))
     (stands.has.rows PlayerTable) one.alone ran in
-    players_set stands (map (dropped_at n) e.players) set.0
-    (IsPermutation-trans _ _ _ set.1 (rw (same_number it.no n one.is, one.is) at one.replaced))
+    players_set stands (map (dropped_at n) e.players) (dropped_keeps n e.players stands.keeps.players) set.0
+    (IsPermutation-trans _ _ _ set.1 (rw (same_number it.no n one.is, one.is, early) at one.replaced))
 
 -- what is read of a player of version 2
 second_shown : (l : Layout) → version_of l ≡ 2 → (rows all : List Row) → IsPermutation (map (player_shown l) rows) all
@@ -134,11 +155,11 @@ second_dropped n l is {old} {new} {e} stands numbered known ran =
     let has = stands.has.tables in
     let one = picks_one e.players n numbered known in
     let it = one.it in
-    let row = stored_player2 n it.name true 0 in
+    let row = stored_player2 n it.name true it.joined in
     let set = sets_number l (player2 (players_tree l)) (at_places (2 ∷ 3 ∷ 4 ∷ [])) n row (second_meant l is has).dropped has
     (second_at l is has) (λ x other. other.1) (λ db. bare db (players_tree l)) (λ r h. let is = one.is in cc) (simp (cast_int, cast_null))
     (second_shown l is _ _ (stands.has.rows PlayerTable)) one.alone ran in
-    players_set stands (map (dropped_at n) e.players) set.0 (shown_second l is _ _
+    players_set stands (map (dropped_at n) e.players) (dropped_keeps n e.players stands.keeps.players) set.0 (shown_second l is _ _
     (IsPermutation-trans _ _ _ set.1 (rw (same_number it.no n one.is, one.is) at one.replaced)))
 
 -- ---- what the UPDATE of one player's totals does, which a WHERE picks

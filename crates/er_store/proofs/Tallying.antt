@@ -2,19 +2,19 @@
 use Rattle.er_store.proofs.Prelude.{tallies, common_steps, ◌≡◌, ℕ, ◌+◌, ◌<◌, ◌≤◌, List, [], ◌∷◌, ◌++◌, map, take, length, get_or, false}
 use Rattle.er_store.proofs.Prelude.{inl, Result, Ok, Err, MatchResult, sym, ap, ◌∙◌, arith, length-map, take_more, get_or-range_with_len}
 use Rattle.er_store.proofs.Prelude.{Player, Refusal, Memory, PlayerRow, TallyRow, EventValue, player_row, player_rows, tally_row}
-use Rattle.er_store.proofs.Prelude.{tally_rows, IsSoundButForSeeds, tally_by, totals, IsFault, Tally, suc, ◌==◌, ◌||◌, if◌then◌else◌, All}
+use Rattle.er_store.proofs.Prelude.{tally_rows, IsSoundButForSeeds, tally_by, totals, IsFault, Tally, Round}
 use Rattle.er_store.proofs.Prelude.{Contains, refl, ap₂, subst, AllByRecursion, range_with_len, nat_tests, map-append}
-use Rattle.er_store.proofs.Prelude.{length-range_with_len, Table, Trees, State, SetDropped, Match, Totals, after, new_player, with_player}
-use Rattle.er_store.proofs.Prelude.{tally_rows_by, numbers, Layout, IsOther, Moves, set_for, set_for_all, map-map}
+use Rattle.er_store.proofs.Prelude.{Table, Trees, State, SetDropped, Totals, after, new_player, with_player}
+use Rattle.er_store.proofs.Prelude.{tally_rows_by, numbers, Layout, IsOther, Moves, set_for, set_up_to, map-map, ◌-◌}
 use Rattle.std.proofs.lemmas.List.{get_or-map}
 use Rattle.er_event.specs.{declared.changes.Change.Change, declared.changes.Change.TheVariants.AddPlayer}
-use Rattle.er_event.specs.{declared.players.TheConstants.MAX_PLAYERS, Recounted.IsAbsent}
+use Rattle.er_event.specs.declared.{players.TheConstants.MAX_PLAYERS, events.Phase.TheVariants.Enrolling}
 use Rattle.er_store.proofs.Picking.{within, numbers-dropped_at}
 
 -- ---- the rows of players and of totals, one beside the other
 
 nobody : Player
-nobody = record { no = 0; name = []; dropped = false }
+nobody = record { no = 0; name = []; dropped = false; joined = 0 }
 
 -- the player of this place, and what is read of them
 pub record IsPlayerAt (e : EventValue) (k : ℕ) (player : PlayerRow) (row : TallyRow) : Type 0 where
@@ -25,9 +25,9 @@ pub record IsPlayerAt (e : EventValue) (k : ℕ) (player : PlayerRow) (row : Tal
   pub row_is : row ≡ tally_row it.no (totals e it.no)
   pub more : take (k + 1) (tallies e) ≡ take k (tallies e) ++ tally_by (totals e) it ∷ []
 
-number-at : (e : EventValue) → IsSoundButForSeeds e → (k : ℕ) → k < length e.players → (get_or e.players k nobody).no ≡ 1 + k
-number-at e sound k below =
-    sym (get_or-map (λ (p : Player). p.no) e.players k nobody 0 below)
+pub number-at : (e : EventValue) → IsSoundButForSeeds e → (k : ℕ) (d : Player) → k < length e.players → (get_or e.players k d).no ≡ 1 + k
+number-at e sound k d below =
+    sym (get_or-map (λ (p : Player). p.no) e.players k d 0 below)
     ∙ (ap (λ (ns : List ℕ). get_or ns k 0) sound.players.numbered ∙ get_or-range_with_len 1 (length e.players) k 0 below)
 
 pub player-at : (e : EventValue) → IsSoundButForSeeds e
@@ -37,7 +37,7 @@ player-at e sound players rows k pd rd players_are rows_are within =
     let p = get_or e.players k nobody in
     let below : k < length e.players = omega (arith, ap length players_are, length-map e.players player_row, within) in
     let few = sound.players.few in
-    let no : p.no ≡ 1 + k = number-at e sound k below in
+    let no : p.no ≡ 1 + k = number-at e sound k nobody below in
     let many : k < length (tallies e) = omega (arith, length-map e.players (tally_by (totals e)), below) in
     record {
       it = p;
@@ -87,16 +87,28 @@ pub numbered_too : (ps qs : List Player) → numbers ps ≡ numbers qs → numbe
     → numbers ps ≡ range_with_len 1 (length ps)
 numbered_too ps qs same numbered = same ∙ (numbered ∙ ap (range_with_len 1) (sym (length-numbers ps qs same)))
 
-agree_from : (f g : ℕ → Totals) (ns : List ℕ) → All (λ (n : ℕ). 1 ≤ n) ns → ((q : ℕ) → 1 ≤ q → f q ≡ g q)
-    → map (λ n. tally_row n (f n)) ns ≡ map (λ n. tally_row n (g n)) ns
-agree_from f g [] low same = refl
-agree_from f g (n ∷ ns) low same =
-    ap₂ (λ (t : Totals) (rows : List TallyRow). tally_row n t ∷ rows) (same n (low 0 n (omega arith)))
-    (agree_from f g ns (λ k d below. low (suc k) d (omega arith)) same)
+agree_from : (f g : ℕ → Totals) (ps : List Player) (k : ℕ) → numbers ps ≡ range_with_len k (length ps)
+    → ((q : ℕ) → k ≤ q → q < k + length ps → f q ≡ g q) → tally_rows_by f ps ≡ tally_rows_by g ps
+agree_from f g [] k numbered same = refl
+agree_from f g (p ∷ ps) k numbered same =
+    let number : p.no ≡ k = ap (λ (ns : List ℕ). get_or ns 0 0) numbered in
+    let later : numbers ps ≡ range_with_len (k + 1) (length ps) = ap (Rattle.std.specs.Prelude.drop 1) numbered in
+    let rest = agree_from f g ps (k + 1) later (λ q low high. same q (omega arith) (omega arith)) in
+    let here = same p.no (omega arith) (omega arith) in
+    ap₂ (λ (t : Totals) (rows : List TallyRow). tally_row p.no t ∷ rows) here rest
 
-pub rows_agree : (f g : ℕ → Totals) (ps : List Player) → numbers ps ≡ range_with_len 1 (length ps) → ((q : ℕ) → 1 ≤ q → f q ≡ g q)
-    → tally_rows_by f ps ≡ tally_rows_by g ps
-rows_agree f g ps numbered same = grind (arith, common_steps, agree_from, by_numbers, get_or-range_with_len, length-range_with_len)
+-- rows of totals that agree for the numbers of the players
+pub rows_agree : (f g : ℕ → Totals) (ps : List Player) → numbers ps ≡ range_with_len 1 (length ps)
+    → ((q : ℕ) → 1 ≤ q → q ≤ length ps → f q ≡ g q) → tally_rows_by f ps ≡ tally_rows_by g ps
+rows_agree f g ps numbered same = agree_from f g ps 1 numbered (λ q low high. same q low (omega arith))
+
+pub contains_numbered : (ps : List Player) (q : ℕ) → numbers ps ≡ range_with_len 1 (length ps) → 1 ≤ q → q ≤ length ps
+    → Contains (numbers ps) q
+contains_numbered ps q numbered low high = (
+  q - 1,
+  omega (arith, length-map ps (λ (p : Player). p.no)),
+  rw numbered (grind (arith, get_or-range_with_len 1 (length ps) (q - 1))),
+)
 
 pub in_range : (ps : List Player) (q : ℕ) → numbers ps ≡ range_with_len 1 (length ps) → length ps ≤ MAX_PLAYERS → Contains (numbers ps) q
     → (1 ≤ q) × (q ≤ MAX_PLAYERS)
@@ -104,28 +116,25 @@ in_range ps q numbered few known =
     let it = within (length ps) q (subst (λ (ns : List ℕ). Contains ns q) numbered known) in
     (it.0, omega (arith, it.1, few))
 
--- ---- one match
+-- ---- one player after the other
 
--- those of a match, one after the other
-pub two_set : (a b q : ℕ) (now before : ℕ → Totals)
-    → set_for b (now b) (set_for a (now a) before) q ≡ (if ((a == q || b == q) || false) then now q else before q)
-two_set a b q now before = grind (arith, nat_tests)
+module _ (now before : ℕ → Totals) where
+  -- who keeps their totals may be set too
+  pub set_same : (player q : ℕ) → before player ≡ now player → before q ≡ set_for player (now player) before q
+  set_same player q same = grind (arith, nat_tests)
 
--- a bye's
-pub one_set : (a b q : ℕ) (now before : ℕ → Totals) → b ≡ 0 → 1 ≤ q
-    → set_for a (now a) before q ≡ (if ((a == q || b == q) || false) then now q else before q)
-one_set a b q now before bye low = grind (arith, nat_tests)
+  pub none_set : (q : ℕ) → 1 ≤ q → before q ≡ set_up_to 0 now before q
+  none_set q low = grind (arith, nat_tests)
 
--- ---- one match after the other
+  pub not_yet : (k player : ℕ) → player ≡ k + 1 → set_up_to k now before player ≡ before player
+  not_yet k player is = grind (arith, nat_tests)
 
-pub set-more : (xs : List Match) (m : Match) (q : ℕ) (now before : ℕ → Totals)
-    → set_for_all (m ∷ []) now (set_for_all xs now before) q ≡ set_for_all (xs ++ m ∷ []) now before q
-set-more xs m q now before = grind (arith, common_steps)
+  pub set_more : (k player q : ℕ) → player ≡ k + 1
+      → set_for player (now player) (set_up_to k now before) q ≡ set_up_to (k + 1) now before q
+  set_more k player q is = grind (arith, nat_tests)
 
--- all that count anew are set, and the others stay
-pub all_set : (ms : List Match) (now before : ℕ → Totals) → ((q : ℕ) → IsAbsent q ms → now q ≡ before q) → (q : ℕ)
-    → set_for_all ms now before q ≡ now q
-all_set ms now before others q = grind (arith, common_steps)
+  pub all_set : (n q : ℕ) → q ≤ n → set_up_to n now before q ≡ now q
+  all_set n q high = grind (arith, nat_tests)
 
 -- ---- the players after a change
 
@@ -135,7 +144,17 @@ same_numbers e (AddPlayer name) never = absurd (never name refl)
 same_numbers e (SetDropped player) never = numbers-dropped_at player e.players
 same_numbers e _ never = refl
 
-pub one_more_player : (e : EventValue) (name : List ℕ)
+-- the others keep their totals
+pub one_more_player : (e : EventValue) (name : List ℕ) → numbers e.players ≡ range_with_len 1 (length e.players)
+    → ((q : ℕ) → Contains (numbers e.players) q → totals (with_player e name) q ≡ totals e q)
     → tally_rows e ++ tally_row (length e.players + 1) (totals (with_player e name) (length e.players + 1)) ∷ []
     ≡ tally_rows (with_player e name)
-one_more_player e name = sym (map-append (λ (p : Player). tally_row p.no (totals e p.no)) e.players (new_player e.players name ∷ []))
+one_more_player e name numbered same =
+    ap (λ (rows : List TallyRow). rows ++ tally_row (length e.players + 1) (totals (with_player e name) (length e.players + 1)) ∷ [])
+    (rows_agree (totals e) (totals (with_player e name)) e.players numbered
+    (λ q low high. sym (same q (contains_numbered e.players q numbered low high))))
+    ∙ sym (map-append (λ (p : Player). tally_row p.no (totals (with_player e name) p.no)) e.players (new_player e name ∷ []))
+
+-- before the start no round is stored
+pub none_stored : (e : EventValue) → IsSoundButForSeeds e → e.phase ≡ Enrolling → length e.stored ≡ 0
+none_stored e sound enrolling = ap (λ (rounds : List Round). length rounds) (sound.rounds.enrolling enrolling)

@@ -10,10 +10,11 @@ use Rattle.er_store.proofs.Prelude.{pairing_columns, bracket_columns, tally_colu
 use Rattle.er_store.proofs.Prelude.{rows_with, HasTablesAt, HasRows, StandsWith, IsKeyed, IsOther, KeepsRest, Goes, Puts}
 use Rattle.er_store.proofs.Prelude.{Moves, player_shown}
 use Rattle.er_store.proofs.Prelude.{Layout, Old, version_of, players_tree, with_ours}
-use Rattle.er_event.specs.Version.{IsVersion, Keeps}
+use Rattle.er_event.specs.Version.{IsVersion, Keeps, KeepsPlayers}
 use Rattle.er_store.proofs.Prelude.{◌==◌, if◌then◌else◌, true, inl, inr, New, Moved, StandsIn, tally_rows, made_players, tally_schema}
 use Rattle.er_store.proofs.Prelude.{player, player2, stored_player2}
-use Rattle.er_store.proofs.Prelude.{BringsToWith, CreatesAll, all_weaker, value_cmp}
+use Rattle.er_store.proofs.Prelude.{BringsToWith, CreatesAll, all_weaker, value_cmp, All-cons, All-nil}
+use Rattle.std.proofs.lemmas.List.Elements.{All-append}
 use Rattle.std.proofs.lemmas.List.Sorted.{IsPermutation-to_front, IsPermutation-middle, IsPermutation-cons}
 use Rattle.std.specs.Ordering.{match_ordering}
 use Rattle.er_store.specs.Standing.{tree_of, shown_of, IsNew}
@@ -160,6 +161,10 @@ table_set l tree {old} {new} apart stands goes low keeps follows pairings bracke
   stands = record { low = low; keeps = keeps; has = rows_set l tree stands.has goes follows pairings bracket };
 }
 
+-- an event of the same rounds and players can be kept, too
+pub keeps_as : {v : ℕ} {e f : EventValue} → f.rounds ≡ e.rounds → f.players ≡ e.players → Keeps v e → Keeps v f
+keeps_as rounds players it = record { rounds = λ is. rw rounds (it.rounds is); players = λ is. rw players (it.players is) }
+
 -- the tree of the players is none of the other four
 pub record ArePlayersApart (tree : ℕ) : Type 0 where
   pub event : tree ≢ event_tree
@@ -174,12 +179,13 @@ players_apart Moved = record { event = λ e. cc; pairing = λ e. cc; bracket = �
 
 module _ {l : Layout} {old new : State} {e : EventValue} {s : ℕ} {kept : List TallyRow} (stands : StandsWith l old.now e s kept) where
   -- the players' rows alone are others
-  pub players_set : (players : List Player) → Goes (players_tree l) old new
+  pub players_set : (players : List Player) → KeepsPlayers (version_of l) players → Goes (players_tree l) old new
       → IsPermutation (rows_in l new.now PlayerTable) (map player_columns (map player_row players))
       → BringsToWith l old new (record e { players = players }) s kept
-  players_set players goes set =
+  players_set players fit goes set =
       let apart = players_apart l in
-      table_set l (players_tree l) (λ t other. other.1) stands goes stands.low stands.keeps (elim [
+      table_set l (players_tree l) (λ t other. other.1) stands goes stands.low
+      (record { rounds = stands.keeps.rounds; players = fit }) (elim [
         | EventTable ↦ λ same. same (λ e. apart.event (sym e))
         | PlayerTable ↦ λ same. set
         | PairingTable ↦ λ same. same (λ e. apart.pairing (sym e))
@@ -192,7 +198,7 @@ module _ {l : Layout} {old new : State} {e : EventValue} {s : ℕ} {kept : List 
       → IsPermutation (rows_in l new.now PairingTable) (map pairing_columns (pairing_rows_from 1 stored))
       → IsKeyed (new.now.trees pairing_tree)
       → BringsToWith l old new (record e { stored = stored }) s kept
-  pairings_set stored goes set keyed = table_set l 3 (λ t other. other.2) stands goes stands.low stands.keeps (elim [
+  pairings_set stored goes set keyed = table_set l 3 (λ t other. other.2) stands goes stands.low (keeps_as refl refl stands.keeps) (elim [
     | PairingTable ↦ λ same. set
     | PlayerTable ↦ λ same. same (players_apart l).pairing
     | _ ↦ λ same. same (λ e. cc)
@@ -203,7 +209,7 @@ module _ {l : Layout} {old new : State} {e : EventValue} {s : ℕ} {kept : List 
       → IsPermutation (rows_in l new.now BracketTable) (map bracket_columns (bracket_rows_from 1 stages))
       → IsKeyed (new.now.trees bracket_tree)
       → BringsToWith l old new (record e { bracket = record { stages = stages } }) s kept
-  bracket_set stages goes set keyed = table_set l 6 (λ t other. other.3) stands goes stands.low stands.keeps (elim [
+  bracket_set stages goes set keyed = table_set l 6 (λ t other. other.3) stands goes stands.low (keeps_as refl refl stands.keeps) (elim [
     | BracketTable ↦ λ same. set
     | PlayerTable ↦ λ same. same (players_apart l).bracket
     | _ ↦ λ same. same (λ e. cc)
@@ -222,7 +228,7 @@ module _ {l : Layout} {old new : State} {e : EventValue} {s : ℕ} {kept : List 
   pub row_set : (phase : Phase) (t : ℕ) → t ≤ 999999 → Goes event_tree old new
       → new.now.trees event_tree ≡ stored_event (version_of l) (with_phase e phase) t ∷ []
       → BringsToWith l old new (with_phase e phase) t kept
-  row_set phase t low goes set = table_set l 0 (λ t other. other.0) stands goes low stands.keeps (elim [
+  row_set phase t low goes set = table_set l 0 (λ t other. other.0) stands goes low (keeps_as refl refl stands.keeps) (elim [
     | EventTable ↦ λ same. rw set (IsPermutation-refl _)
     | PlayerTable ↦ λ same. same (players_apart l).event
     | _ ↦ λ same. same (λ e. cc)
@@ -237,27 +243,29 @@ module _ {l : Layout} {old new : State} {e : EventValue} {s : ℕ} {kept : List 
   tally_added row put = tallies_set (kept ++ row ∷ []) put.goes
       (row_put TallyTable _ (tally_columns row) _ put refl (map-append tally_columns kept (row ∷ [])))
 
--- one more player, in a row of either version
+-- one more player, in a row of either version; version 1 takes nobody who missed a round
 player_added : {l : Layout} {old new : State} {e : EventValue} {s : ℕ} {kept : List TallyRow} → StandsWith l old.now e s kept
-    → (name : List ℕ) (row : Row) → player_shown l row ≡ player_columns (player_row (new_player e.players name))
-    → Puts (players_tree l) row old new → BringsToWith l old new (with_player e name) s kept
-player_added {e = e} stands name row shows put =
-    let p = new_player e.players name in
-    players_set stands (e.players ++ p ∷ []) put.goes
-    (row_put stands PlayerTable row (player_columns (player_row p)) _ put shows (simp map-append))
+    → (name : List ℕ) (row : Row) → player_shown l row ≡ player_columns (player_row (new_player e name))
+    → (version_of l ≡ 1 → length e.stored ≡ 0) → Puts (players_tree l) row old new → BringsToWith l old new (with_player e name) s kept
+player_added {e = e} stands name row shows early put =
+    let p = new_player e name in
+    let IsEarly : Player → Type 0 = λ q. q.joined ≡ 0 in
+    players_set stands (e.players ++ p ∷ [])
+    (λ first. All-append IsEarly e.players (p ∷ []) (stands.keeps.players first) (All-cons IsEarly p [] (early first) (All-nil IsEarly)))
+    put.goes (row_put stands PlayerTable row (player_columns (player_row p)) _ put shows (simp map-append))
 
 pub old_player_added : {old new : State} {e : EventValue} {s : ℕ} {kept : List TallyRow} → StandsWith Old old.now e s kept
-    → (name : List ℕ) → Puts player_tree (stored_player (length e.players + 1) name false) old new
+    → (name : List ℕ) → length e.stored ≡ 0 → Puts player_tree (stored_player (length e.players + 1) name false) old new
     → BringsToWith Old old new (with_player e name) s kept
-old_player_added stands name = player_added stands name _ refl
+old_player_added stands name early = player_added stands name _ (rw early refl) (λ first. early)
 
 pub second_player_added : (l : Layout) → version_of l ≡ 2 → {old new : State} {e : EventValue} {s : ℕ} {kept : List TallyRow}
     → StandsWith l old.now e s kept → (name : List ℕ)
-    → Puts (players_tree l) (stored_player2 (length e.players + 1) name false 0) old new
+    → Puts (players_tree l) (stored_player2 (length e.players + 1) name false (length e.stored)) old new
     → BringsToWith l old new (with_player e name) s kept
 second_player_added Old is stands name = absurd (cc)
-second_player_added New is stands name = player_added stands name _ refl
-second_player_added Moved is stands name = player_added stands name _ refl
+second_player_added New is stands name = player_added stands name _ refl (λ first. absurd (cc))
+second_player_added Moved is stands name = player_added stands name _ refl (λ first. absurd (cc))
 
 -- ---- creation
 

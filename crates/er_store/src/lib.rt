@@ -52,7 +52,7 @@ impl<S: Alter> Store<S> {
     ghost use Rattle.er_event.specs.Rows.{tally_rows};
     ghost use Rattle.er_event.specs.Tallies.{tallies, meetings};
     ghost use Rattle.er_store.specs.Tables.{no_schema};
-    ghost use Rattle.er_event.specs.Version.{IsVersion, Keeps};
+    ghost use Rattle.er_event.specs.Version.{CanTake, IsVersion, Keeps};
     ghost use Rattle.er_event.specs.declared.rows.event.TheConstants.{MOST_OLD_ROUNDS};
     ghost use Rattle.er_store.specs.Layout.{StandsAlone};
     ghost use Rattle.er_store.specs.Migrated.{MayMigrate, IsMigrated, IsStoredWhole, IsTaken, MigratesStore, turn_of};
@@ -289,6 +289,7 @@ impl<S: Alter> Store<S> {
     /// Writes the change and the next serial in one transaction. The serial is the event's.
     pub fn write(&mut self, event: &Event, change: &Change, serial: u32) -> Result<(), Refusal>
         requires fits { Fits event.now change.now }
+        requires takes { CanTake (version_in self.old) event.now change.now }
         requires low { serial < MAX_SERIAL }
 
         ensures stopped { IsTrue (is_stopped self.old) → (result ≡ Err Refusal.NeedsReopen)

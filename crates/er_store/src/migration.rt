@@ -30,7 +30,8 @@ fn copy_players<S: Alter>(tx: &mut Transaction<'_, S>, event: &Event) -> Result<
 {
     for player in event.players() {
         let number = u32::from(player.no.get());
-        insert_player2(tx, number, player.name.as_str(), player.dropped, 0)?;
+        let joined = u32::from(player.joined);
+        insert_player2(tx, number, player.name.as_str(), player.dropped, joined)?;
     }
     Ok(())
 }

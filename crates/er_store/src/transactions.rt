@@ -1,4 +1,4 @@
-ghost use Rattle.std.specs.Prelude.{◌≡◌, ◌+◌, ◌<◌, ◌≤◌, length, false, ℕ, List, [], ◌∷◌, ◌++◌, Contains, Some, option_map, OnOk, OnErr, IfOk, IsOk, IfSome, ◌↔◌, IsTrue};
+ghost use Rattle.std.specs.Prelude.{◌≡◌, ◌+◌, ◌<◌, ◌≤◌, length, false, ℕ, List, [], ◌∷◌, ◌++◌, Contains, Some, option_map, OnOk, OnErr, IfOk, IsOk, IfSome, ◌↔◌, IsTrue, IsFalse};
 ghost use Rattle.std.specs.List.{range_with_len};
 ghost use Rattle.sqlite.specs.State.{HasCleanDisk, Survives, IsUnchanged};
 ghost use Rattle.sqlite.specs.Held.{state};
@@ -11,12 +11,12 @@ ghost use Rattle.er_event.specs.Change.{after, with_player, with_dropped, with_r
 ghost use Rattle.er_event.specs.Bracket.{slot_at};
 ghost use Rattle.er_event.specs.declared.players.TheConstants.{MAX_PLAYERS};
 ghost use Rattle.er_event.specs.declared.totals.Totals.{Totals};
-ghost use Rattle.er_event.specs.Recounted.{AreOf};
+ghost use Rattle.er_event.specs.Recounted.{includes};
 ghost use Rattle.er_event.specs.Rows.{tally_row, tally_rows_by};
 ghost use Rattle.er_event.specs.Sound.{numbers};
 ghost use Rattle.er_event.specs.Totals.{totals};
-ghost use Rattle.er_event.specs.Version.{IsVersion, Keeps};
-ghost use Rattle.er_store.specs.inside.Totals.{set_for, set_for_all};
+ghost use Rattle.er_event.specs.Version.{CanTake, IsVersion, Keeps};
+ghost use Rattle.er_store.specs.inside.Totals.{set_for};
 ghost use Rattle.er_event.specs.declared.matches.Match.{Match};
 ghost use Rattle.er_store.specs.inside.Steps.{IsStage};
 ghost use Rattle.er_store.specs.Tables.{no_schema, tally_schema};
@@ -31,8 +31,10 @@ use crate::statements::{
     set_dropped, set_dropped2, set_phase, set_score, set_serial, set_slot_score, set_tally,
 };
 use crate::tables::TableRow;
+use er_event::laws::{events_are_sound, others_keep_totals};
 use er_event::{
-    BracketRow, Change, Event, EventRow, Items, Match, PairingRow, Phase, PlayerNo, Score, TallyRow,
+    BracketRow, Change, Event, EventRow, Items, Match, PairingRow, Phase, Player, PlayerNo,
+    Recount, Score, TallyRow,
 };
 use sqlite::{Alter, Connection, Error, Transaction};
 
@@ -136,18 +138,19 @@ fn score_stages<S: Alter>(
     }
 }
 
-/// Inserts one player, who is there from the start, into the table of this version.
+/// Inserts one player into the table of this version. That of version 1 has no place for rounds that a player missed.
 fn add_player<S: Alter>(
     tx: &mut Transaction<'_, S>,
     version: u8,
     number: u32,
     name: &str,
+    joined: u32,
 ) -> Result<(), Error>
     ensures same_reference { tx.new.conn.ghost_name ≡ tx.old.conn.ghost_name }
     ensures makes { HasCleanDisk (state S.Store tx.new.conn.now)
         → (l : Layout) → version_of l ≡ version → (e : EventValue) (s : ℕ) (t : List TallyRow)
         → StandsWith l (state S.Store tx.old.conn.now).now e s t
-        → number ≡ length e.players + 1
+        → number ≡ length e.players + 1 → joined ≡ length e.stored → (version ≡ 1 → joined ≡ 0)
         → OnOk result (BringsToWith l (state S.Store tx.old.conn.now)
         (state S.Store tx.new.conn.now) (with_player e name.now) s t) }
     ensures stays { Stays (state S.Store tx.old.conn.now) (state S.Store tx.new.conn.now) }
@@ -155,7 +158,7 @@ fn add_player<S: Alter>(
     if version == 1 {
         insert_player(tx, number, name, false)
     } else {
-        insert_player2(tx, number, name, false, 0)
+        insert_player2(tx, number, name, false, joined)
     }
 }
 
@@ -186,6 +189,7 @@ fn change_rows<S: Alter>(
     change: &Change,
 ) -> Result<(), Error>
     requires fits { Fits event.now change.now }
+    requires takes { CanTake version event.now change.now }
     ensures same_reference { tx.new.conn.ghost_name ≡ tx.old.conn.ghost_name }
     ensures makes { HasCleanDisk (state S.Store tx.new.conn.now)
         → (l : Layout) → version_of l ≡ version → (s : ℕ) (t : List TallyRow)
@@ -197,7 +201,8 @@ fn change_rows<S: Alter>(
     match change {
         Change::AddPlayer { name } => {
             let number = event.players().len() as u32 + 1;
-            add_player(tx, version, number, name.as_str())
+            let joined = event.stored().len() as u32;
+            add_player(tx, version, number, name.as_str(), joined)
         }
         Change::SetDropped { player } => drop_player(tx, version, u32::from(player.get())),
         Change::SetPhase { phase } => set_phase(tx, *phase),
@@ -224,64 +229,62 @@ fn change_rows<S: Alter>(
     }
 }
 
-/// Sets the totals of one player to what the matches come to after the change.
+/// Sets the totals of one player to what their lines come to after the change.
 fn recount_player<S: Alter>(
     tx: &mut Transaction<'_, S>,
     event: &Event,
     change: &Change,
-    number: u16,
+    player: PlayerNo,
 ) -> Result<(), Error>
     requires fits { Fits event.now change.now }
-    requires number { (1 ≤ number) × (number ≤ MAX_PLAYERS) }
     ensures same_reference { tx.new.conn.ghost_name ≡ tx.old.conn.ghost_name }
     ensures makes { HasCleanDisk (state S.Store tx.new.conn.now)
         → (l : Layout) (e : EventValue) (s : ℕ) (before : ℕ → Totals)
         → StandsWith l (state S.Store tx.old.conn.now).now e s (tally_rows_by before e.players)
         → numbers e.players ≡ range_with_len 1 (length e.players)
-        → Contains (numbers e.players) number
+        → Contains (numbers e.players) player
         → OnOk result (BringsToWith l (state S.Store tx.old.conn.now)
         (state S.Store tx.new.conn.now) e s
-        (tally_rows_by (set_for number (totals (after event.now change.now) number) before)
+        (tally_rows_by (set_for player (totals (after event.now change.now) player) before)
         e.players)) }
     ensures stays { Stays (state S.Store tx.old.conn.now) (state S.Store tx.new.conn.now) }
 {
-    let Some(player) = PlayerNo::try_new(number) else {
-        unreachable!()
-    };
     let row = TallyRow::of(player, event.totals_after(change, player));
     set_tally(tx, &row)
 }
 
-/// Sets the totals of those who sit at a match.
-fn recount_match<S: Alter>(
+/// Sets the totals of one player of the event, where the change alters them.
+fn recount_one<S: Alter>(
     tx: &mut Transaction<'_, S>,
     event: &Event,
     change: &Change,
-    played: &Match,
+    recount: &Recount<'_>,
+    player: &Player,
 ) -> Result<(), Error>
     requires fits { Fits event.now change.now }
-    requires numbered { numbers event.now.players ≡ range_with_len 1 (length event.now.players) }
-    requires few { length event.now.players ≤ MAX_PLAYERS }
-    requires known { AreOf event.now (played.now ∷ []) }
+    requires others { IsFalse (includes recount.now player.now)
+        → totals (after event.now change.now) player.now.no ≡ totals event.now player.now.no }
     ensures same_reference { tx.new.conn.ghost_name ≡ tx.old.conn.ghost_name }
     ensures makes { HasCleanDisk (state S.Store tx.new.conn.now)
         → (l : Layout) (e : EventValue) (s : ℕ) (before : ℕ → Totals)
-        → numbers e.players ≡ numbers event.now.players
+        → numbers e.players ≡ range_with_len 1 (length e.players)
+        → Contains (numbers e.players) player.now.no
+        → before player.now.no ≡ totals event.now player.now.no
+        → Moves l (state S.Store tx.old.conn.now) (state S.Store tx.old.conn.now)
         → StandsWith l (state S.Store tx.old.conn.now).now e s (tally_rows_by before e.players)
         → OnOk result (BringsToWith l (state S.Store tx.old.conn.now)
         (state S.Store tx.new.conn.now) e s
-        (tally_rows_by (set_for_all (played.now ∷ []) (totals (after event.now change.now)) before)
-        e.players)) }
+        (tally_rows_by (set_for player.now.no (totals (after event.now change.now) player.now.no)
+        before) e.players)) }
     ensures stays { Stays (state S.Store tx.old.conn.now) (state S.Store tx.new.conn.now) }
 {
-    recount_player(tx, event, change, played.a)?;
-    if played.b != 0 {
-        recount_player(tx, event, change, played.b)?;
+    if recount.includes(player) {
+        recount_player(tx, event, change, player.no)?;
     }
     Ok(())
 }
 
-/// Sets the totals of those whose matches the change counts anew.
+/// Sets the totals that the change alters.
 fn recount<S: Alter>(
     tx: &mut Transaction<'_, S>,
     event: &Event,
@@ -300,8 +303,9 @@ fn recount<S: Alter>(
         (tally_rows_by (totals (after event.now change.now)) e.players)) }
     ensures stays { Stays (state S.Store tx.old.conn.now) (state S.Store tx.new.conn.now) }
 {
-    for played in event.matches_to_recount(change) {
-        recount_match(tx, event, change, played)?;
+    let recount = event.recount_of(change);
+    for player in event.players() {
+        recount_one(tx, event, change, &recount, player)?;
     }
     Ok(())
 }
@@ -340,6 +344,7 @@ fn change_tables<S: Alter>(
     change: &Change,
 ) -> Result<(), Error>
     requires fits { Fits event.now change.now }
+    requires takes { CanTake version event.now change.now }
     ensures same_reference { tx.new.conn.ghost_name ≡ tx.old.conn.ghost_name }
     ensures makes { HasCleanDisk (state S.Store tx.new.conn.now)
         → (l : Layout) → version_of l ≡ version → (s : ℕ)
@@ -350,7 +355,11 @@ fn change_tables<S: Alter>(
 {
     change_rows(tx, version, event, change)?;
     match change {
-        Change::AddPlayer { .. } => count_player(tx, event, change),
+        Change::AddPlayer { .. } => {
+            events_are_sound(event);
+            others_keep_totals();
+            count_player(tx, event, change)
+        }
         _ => recount(tx, event, change),
     }
 }
@@ -364,6 +373,7 @@ fn change_event<S: Alter>(
     serial: u32,
 ) -> Result<(), Error>
     requires fits { Fits event.now change.now }
+    requires takes { CanTake version event.now change.now }
     requires low { serial < MAX_SERIAL }
     ensures same_reference { tx.new.conn.ghost_name ≡ tx.old.conn.ghost_name }
     ensures makes { HasCleanDisk (state S.Store tx.new.conn.now)
@@ -388,6 +398,7 @@ pub fn write_tables<S: Alter>(
     serial: u32,
 ) -> Result<(), Error>
     requires fits { Fits event.now change.now }
+    requires takes { CanTake version event.now change.now }
     requires low { serial < MAX_SERIAL }
     requires mode { conn.old.in_transaction ≡ false }
     ensures mode { conn.new.in_transaction ≡ false }

@@ -94,8 +94,8 @@ fn is_of_two(event: &Event) -> bool {
     event.name().as_str() == "Friday"
         && event.stored().is_empty()
         && event.bracket().stages.as_slice().is_empty()
-        && (ana.no.get(), ana.name.as_str(), ana.dropped) == (1, "Ana", false)
-        && (bo.no.get(), bo.name.as_str(), bo.dropped) == (2, "Bo", false)
+        && (ana.no.get(), ana.name.as_str(), ana.dropped, ana.joined) == (1, "Ana", false, 0)
+        && (bo.no.get(), bo.name.as_str(), bo.dropped, bo.joined) == (2, "Bo", false, 0)
 }
 
 fn numbers_are_next(alloc: Global) -> Option<bool> {

@@ -177,6 +177,65 @@ fn a_name_that_is_taken_stops_a_migration(rt: HostRuntime) -> Result<(), Fail> {
     Ok(())
 }
 
+/// The four of worked example 9.
+const SCORED: &str = "\
+enrol Ana
+enrol Bo
+enrol Cy
+enrol Di
+start
+pair 1
+result 1 1 2 0 0
+result 1 2 2 1 0
+";
+
+/// A desk over version 1 after it has turned Ed away, who comes late, and Ana, who is there.
+fn turning_away(alloc: Global) -> Option<Desk<MemStore>> {
+    let mut desk = old_desk_after(alloc, SCORED)?;
+    let late = submit(alloc, &mut desk, "enrol Ed");
+    let there = submit(alloc, &mut desk, "enrol Ana");
+    let is_late = late == Some(Err(Refusal::BadSetup));
+    let is_there = there == Some(Err(Refusal::NameTaken));
+    if is_late && is_there && desk.serial() == Ok(8) && !desk.needs_reopen() {
+        Some(desk)
+    } else {
+        None
+    }
+}
+
+/// The same after its tables were moved to version 2 and Ed has come.
+fn letting_in(alloc: Global) -> Option<Desk<MemStore>> {
+    let mut desk = turning_away(alloc)?;
+    let is_moved = desk.migrate() == Ok(8);
+    if is_moved && takes(alloc, &mut desk, "enrol Ed") && desk.serial() == Ok(9) {
+        Some(desk)
+    } else {
+        None
+    }
+}
+
+const TURNED_AWAY: &str = "\
+SELECT version || ' ' || serial FROM event -> 1 8
+SELECT '' || (SELECT count(*) FROM player) -> 4
+SELECT '' || (SELECT count(*) FROM tally) -> 4
+";
+
+const LET_IN: &str = "\
+SELECT version || ' ' || serial FROM event -> 2 9
+SELECT no || ' ' || name || ' ' || dropped || ' ' || joined FROM player2 WHERE no = 4 -> 4 Di 0 0
+SELECT no || ' ' || name || ' ' || dropped || ' ' || joined FROM player2 WHERE no = 5 -> 5 Ed 0 1
+SELECT points || ' ' || rounds || ' ' || gamepoints || ' ' || games FROM tally WHERE no = 5 -> 0 1 0 0
+";
+
+/// Worked example 49.
+#[test]
+fn nobody_comes_late_to_version_1(rt: HostRuntime) -> Result<(), Fail> {
+    let alloc = rt.alloc();
+    assert!(rt; holds(turning_away(alloc), TURNED_AWAY));
+    assert!(rt; holds(letting_in(alloc), LET_IN));
+    Ok(())
+}
+
 const OTHERS: &str = "\
 CREATE TABLE note(body TEXT)
 INSERT INTO note VALUES ('chairs')

@@ -445,20 +445,67 @@ const BRACKET: &str = " Stg Slot    A    B Score Names
 Champion 1 P1
 ";
 
-/// Whether all commands of a playoff lead to that bracket, with this serial.
-fn ends_with_its_bracket(alloc: Global, case: Case, serial: u32) -> Option<bool> {
+/// Whether all commands of a playoff lead to this bracket, with this serial.
+fn ends_with_bracket(alloc: Global, case: Case, bracket: &str, serial: u32) -> Option<bool> {
     let desk = unstopped(alloc, case, case.lines.lines().count())?;
     let text = bracket_text(alloc, desk.event().ok()?).ok()?;
-    Some(text.as_slice() == BRACKET.as_bytes() && desk.serial() == Ok(serial))
+    Some(text.as_slice() == bracket.as_bytes() && desk.serial() == Ok(serial))
 }
 
 /// A stop at each call of each file, in creation and in each of 17 commands.
 #[test]
 fn a_whole_event_survives_each_stop(rt: HostRuntime) -> Result<(), Fail> {
     let alloc = rt.alloc();
-    assert_eq!(rt; ends_with_its_bracket(alloc, PLAYOFF, 17), Some(true));
+    assert_eq!(rt; ends_with_bracket(alloc, PLAYOFF, BRACKET, 17), Some(true));
     assert!(rt; whole_event(alloc, PLAYOFF, true).is_some_and(|calls| calls > 17));
     assert!(rt; whole_event(alloc, PLAYOFF, false).is_some());
+    Ok(())
+}
+
+/// The same with a seventh player, who enrols behind the start and loses at the third table.
+const SEVENTH: Case = Case {
+    rounds: 1,
+    cut: 4,
+    lines: "\
+enrol P1
+enrol P2
+enrol P3
+enrol P4
+enrol P5
+enrol P6
+start
+enrol P7
+pair 1
+result 1 1 2 0 0
+result 1 2 2 0 0
+result 1 3 2 0 0
+correct 1 1 2 0 0
+drop 2
+cut
+playoff 1 1 2 0 0
+playoff 1 2 1 2 0
+playoff 2 1 0 2 0
+",
+};
+
+/// Player 3 had the bye.
+const BRACKET_OF_SEVEN: &str = " Stg Slot    A    B Score Names
+   1    1    3    1 2-0-0 P3 - P1
+   1    2    5    6 1-2-0 P5 - P6
+   2    1    3    6 0-2-0 P3 - P6
+Champion 6 P6
+";
+
+/// A stop at each call of each file, in each of 18 commands: at a call of the late entry it leaves serial 7 or 8.
+#[test]
+fn an_event_with_a_late_entry_survives_each_stop(rt: HostRuntime) -> Result<(), Fail> {
+    let alloc = rt.alloc();
+    assert_eq!(rt;
+        ends_with_bracket(alloc, SEVENTH, BRACKET_OF_SEVEN, 18),
+        Some(true)
+    );
+    assert!(rt; whole_event(alloc, SEVENTH, true).is_some_and(|calls| calls > 18));
+    assert!(rt; whole_event(alloc, SEVENTH, false).is_some());
     Ok(())
 }
 
@@ -554,15 +601,29 @@ fn later_calls(
     is_sent(alloc, case, files, places, stops_log, low)?.then_some(low)
 }
 
-/// Stops a second session of the eight players at each call by which it pairs the second round. The count of these calls, if it survives each stop.
-fn second_stops(alloc: Global, files: &Disks, stops_log: bool) -> Option<u64> {
-    let first = later_calls(alloc, EIGHT, files, (9, 14), stops_log)?;
-    let end = later_calls(alloc, EIGHT, files, (9, 15), stops_log)?;
+/// Stops a session that sends the commands from `places.0` on and before `places.2`, at each call behind those that it takes to open the files and to
+/// send the ones before `places.1`. The count of these calls, if it survives each stop.
+fn command_stops(
+    alloc: Global,
+    case: Case,
+    files: &Disks,
+    places: (usize, usize, usize),
+    stops_log: bool,
+) -> Option<u64> {
+    let (before, from, to) = places;
+    let first = later_calls(alloc, case, files, (before, from), stops_log)?;
+    let end = later_calls(alloc, case, files, (before, to), stops_log)?;
     for calls in first..end {
         let (log, db) = calls_of(stops_log, calls);
-        session_ends(alloc, EIGHT, opened_again(alloc, files, log, db)?, (9, 15))?;
+        let files = opened_again(alloc, files, log, db)?;
+        session_ends(alloc, case, files, (before, to))?;
     }
     end.checked_sub(first)
+}
+
+/// Stops a second session of the eight players at each call by which it pairs the second round.
+fn second_stops(alloc: Global, files: &Disks, stops_log: bool) -> Option<u64> {
+    command_stops(alloc, EIGHT, files, (9, 14, 15), stops_log)
 }
 
 /// Both stops of each kind of file after what a first session has left.
@@ -597,6 +658,40 @@ fn two_stops_in_three_sessions(rt: HostRuntime) -> Result<(), Fail> {
     let alloc = rt.alloc();
     let (log, db) = (two_stops(alloc, true), two_stops(alloc, false));
     assert!(rt; log.is_some_and(|count| count > 8), "log {log:?}");
+    assert!(rt; db.is_some(), "db {db:?}");
+    Ok(())
+}
+
+/// Four players, and a fifth who enrols while their round is open. The next command completes it.
+const FIFTH: Case = Case {
+    rounds: 3,
+    cut: 0,
+    lines: "\
+enrol P1
+enrol P2
+enrol P3
+enrol P4
+start
+pair 1
+result 1 1 2 0 0
+enrol P5
+result 1 2 2 0 0
+pair 2
+",
+};
+
+/// The calls at which a session is stopped by which the fifth comes and the round is completed.
+fn missed_round(alloc: Global, stops_log: bool) -> Option<u64> {
+    let before = first_session(alloc, FIFTH, NEVER, NEVER, 6);
+    command_stops(alloc, FIFTH, &before.files, (6, 7, 9), stops_log)
+}
+
+/// The result that completes a round is written with the totals of whoever missed it, or not at all.
+#[test]
+fn a_missed_round_survives_each_stop(rt: HostRuntime) -> Result<(), Fail> {
+    let alloc = rt.alloc();
+    let (log, db) = (missed_round(alloc, true), missed_round(alloc, false));
+    assert!(rt; log.is_some_and(|calls| calls > 2), "log {log:?}");
     assert!(rt; db.is_some(), "db {db:?}");
     Ok(())
 }
@@ -677,7 +772,7 @@ fn migration(alloc: Global, files: &Disks, stops_log: bool) -> Option<u64> {
 #[test]
 fn a_migration_survives_each_stop(rt: HostRuntime) -> Result<(), Fail> {
     let alloc = rt.alloc();
-    assert_eq!(rt; ends_with_its_bracket(alloc, CUT, 16), Some(true));
+    assert_eq!(rt; ends_with_bracket(alloc, CUT, BRACKET, 16), Some(true));
     let files = old_files(alloc).ok_or("no files of version 1")?;
     let (log, db) = (
         migration(alloc, &files, true),

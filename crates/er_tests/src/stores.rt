@@ -35,6 +35,19 @@ result 1 1 2 0 0
 pair 2
 ";
 
+/// Ed comes while the first round is open, and has missed it.
+const LATE: &str = "\
+enrol Ana
+enrol Bo
+enrol Cy
+enrol Di
+start
+pair 1
+result 1 1 2 0 0
+enrol Ed
+result 1 2 2 1 0
+";
+
 /// The only round of six is (6,4), (2,1), (5,3). Player 2 drops, and the seeds are 5, 6, 1, 3.
 const CUT: &str = "\
 enrol P1
@@ -195,6 +208,7 @@ fn have_same_players(one: &Event, other: &Event) -> bool {
             one.no == other.no
                 && one.name.as_str() == other.name.as_str()
                 && one.dropped == other.dropped
+                && one.joined == other.joined
         })
 }
 
@@ -269,11 +283,12 @@ fn the_event_is_read_back(rt: HostRuntime) -> Result<(), Fail> {
         ),
         serial_read(alloc, desk_after(alloc, 3, 0, TWO_ROUNDS)),
         serial_read(alloc, desk_after(alloc, 4, 0, THREE)),
+        serial_read(alloc, desk_after(alloc, 3, 0, LATE)),
         serial_read(alloc, playoff(alloc, "")),
         serial_read(alloc, playoff(alloc, SEMIFINALS)),
         serial_read(alloc, playoff(alloc, ALL_OF_IT)),
     ];
-    let wanted = [0, 4, 9, 7, 13, 15, 16];
+    let wanted = [0, 4, 9, 7, 9, 13, 15, 16];
     assert_eq!(rt; serials, wanted.map(Some));
     Ok(())
 }
@@ -369,7 +384,8 @@ UPDATE player2 SET name = CAST(x'ff' AS TEXT) WHERE no = 2
 UPDATE player2 SET dropped = 2 WHERE no = 2
 UPDATE player2 SET dropped = -1 WHERE no = 2
 UPDATE player2 SET dropped = x'00' WHERE no = 2
-UPDATE player2 SET joined = 1 WHERE no = 2
+UPDATE player2 SET joined = 4 WHERE no = 2
+UPDATE player2 SET joined = 257 WHERE no = 2
 UPDATE player2 SET joined = -1 WHERE no = 2
 UPDATE player2 SET joined = x'00' WHERE no = 2
 UPDATE event SET phase = 0
@@ -381,6 +397,13 @@ UPDATE event SET version = -1
 DELETE FROM event
 ";
 
+/// Nobody has missed a round that is not stored.
+const BROKEN_PAIRINGS: &str = "\
+DROP TABLE pairing
+UPDATE player2 SET joined = 1 WHERE no = 2
+UPDATE player2 SET joined = 3 WHERE no = 2
+";
+
 const DROPPED: &str = "enrol Ana\nenrol Bo\nstart\ndrop 2";
 
 /// The first table whose rows no event has is named. Without the table of the event there is none. Players are looked for in the table of version 1 where
@@ -390,16 +413,7 @@ fn broken_events_and_players_are_damage(rt: HostRuntime) -> Result<(), Fail> {
     let alloc = rt.alloc();
     assert!(rt; are_damage(alloc, 3, 0, DROPPED, BROKEN_EVENTS, Place::EventTable));
     assert!(rt; are_damage(alloc, 3, 0, DROPPED, BROKEN_PLAYERS, Place::PlayerTable));
-    assert!(rt;
-        are_damage(
-            alloc,
-            3,
-            0,
-            DROPPED,
-            "DROP TABLE pairing",
-            Place::PairingTable
-        )
-    );
+    assert!(rt; are_damage(alloc, 3, 0, DROPPED, BROKEN_PAIRINGS, Place::PairingTable));
     assert!(rt;
         are_damage(
             alloc,
@@ -551,6 +565,69 @@ fn totals_are_kept(rt: HostRuntime) -> Result<(), Fail> {
     Ok(())
 }
 
+const MISSED: &str = "\
+SELECT no || ' ' || name || ' ' || dropped || ' ' || joined FROM player2 WHERE no = 4 -> 4 Di 0 0
+SELECT no || ' ' || name || ' ' || dropped || ' ' || joined FROM player2 WHERE no = 5 -> 5 Ed 0 1
+SELECT points || ' ' || rounds || ' ' || gamepoints || ' ' || games FROM tally WHERE no = 5 -> 0 0 0 0
+";
+
+const MISSED_AND_COUNTED: &str = "\
+SELECT points || ' ' || rounds || ' ' || gamepoints || ' ' || games FROM tally WHERE no = 1 -> 3 1 6 3
+SELECT points || ' ' || rounds || ' ' || gamepoints || ' ' || games FROM tally WHERE no = 5 -> 0 1 0 0
+SELECT '' || (SELECT count(*) FROM tally) -> 5
+";
+
+/// The second match, corrected: whoever missed the round keeps the totals.
+const MISSED_AND_CORRECTED: &str = "\
+SELECT points || ' ' || rounds || ' ' || gamepoints || ' ' || games FROM tally WHERE no = 3 -> 3 1 6 2
+SELECT points || ' ' || rounds || ' ' || gamepoints || ' ' || games FROM tally WHERE no = 5 -> 0 1 0 0
+";
+
+/// A round that was missed counts once it is complete, as the others do.
+#[test]
+fn missed_rounds_are_kept(rt: HostRuntime) -> Result<(), Fail> {
+    let alloc = rt.alloc();
+    let open = format!(in alloc; "{FOUR}enrol Ed\nresult 1 1 2 0 0")?;
+    assert!(rt; holds(desk_after(alloc, 3, 0, open.as_str()), MISSED));
+    assert!(rt; holds(desk_after(alloc, 3, 0, LATE), MISSED_AND_COUNTED));
+    let corrected = format!(in alloc; "{LATE}correct 1 2 0 2 0")?;
+    assert!(rt;
+        holds(
+            desk_after(alloc, 3, 0, corrected.as_str()),
+            MISSED_AND_CORRECTED
+        )
+    );
+    Ok(())
+}
+
+const LATE_IN_PLAYERS: &str = "\
+UPDATE player2 SET joined = 4 WHERE no = 5
+UPDATE player2 SET joined = 257 WHERE no = 5
+UPDATE player2 SET joined = -1 WHERE no = 5
+";
+
+const LATE_IN_PAIRINGS: &str = "\
+UPDATE player2 SET joined = 2 WHERE no = 5
+UPDATE player2 SET joined = 3 WHERE no = 5
+UPDATE player2 SET joined = 1 WHERE no = 2
+";
+
+const LATE_IN_TOTALS: &str = "\
+UPDATE player2 SET joined = 0 WHERE no = 5
+UPDATE tally SET rounds = 0 WHERE no = 5
+UPDATE tally SET points = 1 WHERE no = 5
+";
+
+/// Whoever came late has missed no more rounds than are stored and sat in none of them, and each that is complete is in the totals.
+#[test]
+fn broken_late_entries_are_damage(rt: HostRuntime) -> Result<(), Fail> {
+    let alloc = rt.alloc();
+    assert!(rt; are_damage(alloc, 3, 0, LATE, LATE_IN_PLAYERS, Place::PlayerTable));
+    assert!(rt; are_damage(alloc, 3, 0, LATE, LATE_IN_PAIRINGS, Place::PairingTable));
+    assert!(rt; are_damage(alloc, 3, 0, LATE, LATE_IN_TOTALS, Place::TallyTable));
+    Ok(())
+}
+
 /// After the first round; the second counts for nothing while it is open.
 const STANDINGS: &str = "\
 Rank   No Pts    OMW    GWP    OGW D Name
@@ -636,6 +713,29 @@ fn gives_the_standings(alloc: Global) -> Option<bool> {
 #[test]
 fn totals_give_the_standings(rt: HostRuntime) -> Result<(), Fail> {
     assert_eq!(rt; gives_the_standings(rt.alloc()), Some(true));
+    Ok(())
+}
+
+/// Worked example 48, to its end.
+const LATE_STANDINGS: &str = "\
+Rank   No Pts    OMW    GWP    OGW D Name
+   1    4   6  41.50 100.00  36.50   Di
+   2    1   3  75.00  40.00  80.00   Ana
+   3    3   3  50.00  60.00  40.00   Cy
+   4    5   3  33.00 100.00  33.00   Ed
+   5    2   0  75.00  33.00 100.00   Bo
+";
+
+fn gives_late_standings(alloc: Global) -> Option<bool> {
+    let lines = format!(in alloc; "{LATE}pair 2\nresult 2 1 2 0 0\nresult 2 2 0 2 0").ok()?;
+    let mut desk = desk_after(alloc, 3, 0, lines.as_str())?;
+    let text = stored_text(alloc, &mut desk);
+    Some(text.is_some_and(|text| text.as_slice() == LATE_STANDINGS.as_bytes()))
+}
+
+#[test]
+fn totals_with_missed_rounds_give_the_standings(rt: HostRuntime) -> Result<(), Fail> {
+    assert_eq!(rt; gives_late_standings(rt.alloc()), Some(true));
     Ok(())
 }
 

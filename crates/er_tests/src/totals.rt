@@ -1,5 +1,5 @@
-//! What players' matches come to, as in worked example 39, before a change and after it.
-use crate::helpers::{changed, started};
+//! What players' rounds come to, as in worked examples 39 and 49, before a change and after it, and whose totals a change sets.
+use crate::helpers::{changed, player, started, with_player};
 use er_event::{Change, Event, Games, Items, Match, PlayerNo, Score, Totals};
 use std::alloc::Global;
 use std::test::Fail;
@@ -108,5 +108,80 @@ fn three_come_to(alloc: Global) -> Option<bool> {
 #[test]
 fn a_round_counts_once_it_is_complete(rt: HostRuntime) -> Result<(), Fail> {
     assert_eq!(rt; three_come_to(rt.alloc()), Some(true));
+    Ok(())
+}
+
+/// Whether a change sets the totals of just these players, by number, if it fits.
+fn sets(event: &Event, change: &Change, expected: &[bool]) -> Option<bool> {
+    if event.fits(change) {
+        let recount = event.recount_of(change);
+        let each = event
+            .players()
+            .iter()
+            .zip(expected)
+            .all(|(player, is_set)| recount.includes(player) == *is_set);
+        Some(each && event.players().len() == expected.len())
+    } else {
+        None
+    }
+}
+
+/// Whether a score of a table of the first round does.
+fn score_sets(event: &Event, table: u16, games: Games, expected: &[bool]) -> Option<bool> {
+    let score = Score::swiss(games)?;
+    let change = Change::SetScore {
+        round: 1,
+        table,
+        score,
+    };
+    sets(event, &change, expected)
+}
+
+/// Whether the fifth has missed the round that the result of its second table completes. It sets the totals of all five.
+fn fifth_misses_it(event: &Event) -> Option<bool> {
+    let after = [
+        totals(3, 1, 6, 3),
+        totals(0, 1, 0, 2),
+        totals(0, 1, 3, 3),
+        totals(3, 1, 6, 2),
+        totals(0, 1, 0, 0),
+    ];
+    let won = Games { x: 2, y: 1, d: 0 };
+    let is_late = event.players().last()?.joined == 1;
+    let is_open = come_to(event, &[totals(0, 0, 0, 0); 5]);
+    let counts = come_to_after(event, 2, won, &after)? && score_sets(event, 2, won, &[true; 5])?;
+    Some(is_late && is_open && counts)
+}
+
+/// The four of worked example 9 and a fifth who comes while their round is open.
+fn five_come_to(alloc: Global) -> Option<bool> {
+    let event = with_round(alloc, 4, &[played(4, 2, TWO), played(1, 3, None)])?;
+    fifth_misses_it(&with_player(alloc, event, "Ed")?)
+}
+
+/// What the change that enrols a fifth makes of that one's totals.
+fn fifth_comes_to(event: &Event) -> Option<Totals> {
+    totals_after(event, &player("Ed")?, player_at(4)?)
+}
+
+/// Whether a correction of the second table sets the totals of its two players alone, and the fifth has missed the round.
+fn fifth_stays(event: &Event) -> Option<bool> {
+    let corrected = Games { x: 0, y: 2, d: 0 };
+    let is_set = score_sets(event, 2, corrected, &[true, false, true, false, false])?;
+    Some(is_set && event.totals(player_at(4)?) == totals(0, 1, 0, 0))
+}
+
+/// The same with a fifth who comes after the round.
+fn five_come_to_later(alloc: Global) -> Option<bool> {
+    let event = with_round(alloc, 4, &[played(4, 2, TWO), played(1, 3, TWO_ONE)])?;
+    let is_counted = fifth_comes_to(&event) == Some(totals(0, 1, 0, 0));
+    let event = with_player(alloc, event, "Ed")?;
+    Some(is_counted && fifth_stays(&event) == Some(true))
+}
+
+#[test]
+fn a_missed_round_counts_once_it_is_complete(rt: HostRuntime) -> Result<(), Fail> {
+    assert_eq!(rt; five_come_to(rt.alloc()), Some(true));
+    assert_eq!(rt; five_come_to_later(rt.alloc()), Some(true));
     Ok(())
 }

@@ -85,6 +85,7 @@ impl Event {
             no,
             name,
             dropped: false,
+            joined: self.stored.len() as u8,
         };
         match self.players.push(player) {
             Ok(()) => Ok(self),

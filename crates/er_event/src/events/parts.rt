@@ -8,6 +8,7 @@ use super::Event;
 use crate::brackets::Bracket;
 use crate::items::Items;
 use crate::refusals::Place;
+use crate::rounds::have_missed;
 use crate::rows::{
     BracketRow, EventRow, PairingRow, PlayerRow, read_bracket, read_event, read_players,
     read_stored,
@@ -53,9 +54,12 @@ impl Event {
             → IsFirstFault parts.now place }
     {
         let setup = read_event(parts.event.as_slice())?;
-        let players = read_players(alloc, setup.phase, parts.players.as_slice())?;
+        let players = read_players(alloc, &setup, parts.players.as_slice())?;
         let count = players.len() as u16;
         let stored = read_stored(alloc, &setup, count, parts.pairings.as_slice())?;
+        if !have_missed(stored.as_slice(), players.as_slice()) {
+            return Err(PartsFault::Damaged(Place::PairingTable));
+        }
         let stages = read_bracket(alloc, &setup, count, parts.bracket.as_slice())?;
         Ok(Event {
             name: setup.name,

@@ -28,9 +28,10 @@ pub struct EventRow {
     pub phase: i64,
 }
 
-/// What the event's row says of the event.
+/// What the event's row says of the event, and of which version its tables are.
 #[derive(Clone, Copy)]
 pub struct Setup {
+    pub version: u8,
     pub name: Name,
     pub rounds: u8,
     pub cut: u8,
@@ -56,7 +57,7 @@ fn phase_of(value: i64) -> Option<Phase>
 }
 
 /// A number below 256.
-fn small_of(value: i64) -> Option<u8>
+pub fn small_of(value: i64) -> Option<u8>
     ensures value { IfSome result (λ n. value ≡ pos n) }
     ensures none { IsNone result → (n : ℕ) → n < 256 → value ≢ pos n }
 {
@@ -70,12 +71,12 @@ fn is_serial(value: i64) -> bool
 }
 
 /// How many rounds tables of this version keep, if it is one.
-fn most_rounds(version: i64) -> Option<u8>
-    ensures value { IfSome result (λ most. (v : ℕ) × (version ≡ pos v) × IsVersion v
-        × ((rounds : ℕ) → rounds ≤ most → KeepsRounds v rounds)) }
-    ensures exact { (v : ℕ) (rounds : ℕ) → IsVersion v → version ≡ pos v → rounds ≤ MAX_ROUNDS
-        → KeepsRounds v rounds → IfSome result (λ most. rounds ≤ most) }
-    ensures none { IsNone result → (v : ℕ) → IsVersion v → version ≢ pos v }
+fn most_rounds(version: u8) -> Option<u8>
+    ensures value { IfSome result (λ most. IsVersion version
+        × ((rounds : ℕ) → rounds ≤ most → KeepsRounds version rounds)) }
+    ensures exact { (rounds : ℕ) → rounds ≤ MAX_ROUNDS → KeepsRounds version rounds
+        → IfSome result (λ most. rounds ≤ most) }
+    ensures none { IsNone result → IsVersion version → ⊥ }
 {
     match version {
         1 => Some(MOST_OLD_ROUNDS),
@@ -88,13 +89,18 @@ fn most_rounds(version: i64) -> Option<u8>
 fn read_row(row: &EventRow) -> Result<Setup, PartsFault>
     ensures value { IfOk result (λ setup. (e : EventValue) → IsSetUpAs setup e
         → IsEventRow (row.now ∷ []) e) }
+    ensures version { IfOk result (λ setup. (e : EventValue) (is : IsEventRow (row.now ∷ []) e)
+        → is.version ≡ setup.version) }
     ensures damaged { (place : Place) → result ≡ Err (PartsFault.Damaged place)
         → (place ≡ Place.EventTable) × ((e : EventValue) → IsEventRow (row.now ∷ []) e → ⊥) }
 {
     if row.id != 1 || !is_serial(row.serial) {
         return Err(DAMAGED);
     }
-    let Some(most) = most_rounds(row.version) else {
+    let Some(version) = small_of(row.version) else {
+        return Err(DAMAGED);
+    };
+    let Some(most) = most_rounds(version) else {
         return Err(DAMAGED);
     };
     let (Some(rounds), Some(cut), Some(phase)) = (
@@ -114,6 +120,7 @@ fn read_row(row: &EventRow) -> Result<Setup, PartsFault>
         return Err(DAMAGED);
     }
     Ok(Setup {
+        version,
         name,
         rounds,
         cut,
@@ -125,6 +132,8 @@ fn read_row(row: &EventRow) -> Result<Setup, PartsFault>
 pub fn read_event(rows: &[EventRow]) -> Result<Setup, PartsFault>
     ensures value { IfOk result (λ setup. (e : EventValue) → IsSetUpAs setup e
         → IsEventRow rows.now e) }
+    ensures version { IfOk result (λ setup. (e : EventValue) (is : IsEventRow rows.now e)
+        → is.version ≡ setup.version) }
     ensures damaged { (place : Place) → result ≡ Err (PartsFault.Damaged place)
         → (place ≡ Place.EventTable) × ((e : EventValue) → IsEventRow rows.now e → ⊥) }
 {

@@ -1,17 +1,20 @@
 ghost use Rattle.std.specs.Prelude.{◌≡◌, ◌≢◌, ◌≤◌, ℕ, pos, List, Err, map, All, IsTrue, IsNone, IfSome, IfOk};
+ghost use Rattle.er_share.specs.declared.TheConstants.{MAX_ROUNDS};
 ghost use Rattle.er_event.specs.declared.players.TheConstants.{MAX_PLAYERS};
 ghost use Rattle.er_event.specs.declared.players.Player.{Player};
 ghost use Rattle.er_event.specs.declared.refusals.Place.{Place};
 ghost use Rattle.er_event.specs.Name.{is_lawful_name};
 ghost use Rattle.er_event.specs.Rows.{player_row};
 ghost use Rattle.er_event.specs.Sound.{ArePlayers};
+ghost use Rattle.er_event.specs.Version.{KeepsPlayers};
 ghost use Rattle.er_event.specs.inside.Reading.{IsLawfulPlayer};
 
+use super::event::{Setup, small_of};
 use super::flag_of;
-use crate::events::{PartsFault, Phase};
+use crate::events::PartsFault;
 use crate::items::Items;
 use crate::names::Name;
-use crate::players::{Player, PlayerNo, may_play};
+use crate::players::{Player, PlayerNo, is_nobody_late, may_play};
 use crate::refusals::Place;
 use std::alloc::{AllocError, Global};
 
@@ -21,7 +24,7 @@ pub struct PlayerRow {
     pub no: i64,
     pub name: Items<u8>,
     pub dropped: i64,
-    /// How many rounds were stored when the player joined: 0, as nobody joins late.
+    /// How many rounds were stored when the player was enrolled.
     pub joined: i64,
 }
 
@@ -41,10 +44,13 @@ fn read_player(row: &PlayerRow) -> Option<Player>
     let no = number_of(row.no)?;
     let name = Name::try_from_bytes(row.name.as_slice()).ok()?;
     let dropped = flag_of(row.dropped)?;
-    if row.joined != 0 {
-        return None;
-    }
-    Some(Player { no, name, dropped })
+    let joined = small_of(row.joined)?;
+    Some(Player {
+        no,
+        name,
+        dropped,
+        joined,
+    })
 }
 
 /// The players of these rows, which may be numbered and named anyhow.
@@ -66,20 +72,26 @@ fn read_rows(alloc: Global, rows: &[PlayerRow]) -> Result<Vec<Player>, PartsFaul
     Ok(players)
 }
 
-/// The players of these rows, where they may be those of an event in this phase.
+/// The players of these rows, where they may be those of an event with this row, in tables of its version.
 pub fn read_players(
     alloc: Global,
-    phase: Phase,
+    setup: &Setup,
     rows: &[PlayerRow],
 ) -> Result<Vec<Player>, PartsFault>
+    requires { setup.now.rounds ≤ MAX_ROUNDS }
     ensures value { IfOk result (λ players. (rows.now ≡ map player_row players.items)
-        × ArePlayers phase players.items) }
+        × ArePlayers setup.now.phase setup.now.rounds players.items) }
+    ensures kept { IfOk result (λ players. KeepsPlayers setup.now.version players.items) }
     ensures damaged { (place : Place) → result ≡ Err (PartsFault.Damaged place)
         → (place ≡ Place.PlayerTable)
-        × ((players : List Player) → ArePlayers phase players → rows.now ≢ map player_row players) }
+        × ((players : List Player) → ArePlayers setup.now.phase setup.now.rounds players
+        → KeepsPlayers setup.now.version players → rows.now ≢ map player_row players) }
 {
     let players = read_rows(alloc, rows)?;
-    if !may_play(phase, players.as_slice()) {
+    if !may_play(setup.phase, setup.rounds, players.as_slice()) {
+        return Err(DAMAGED);
+    }
+    if setup.version == 1 && !is_nobody_late(players.as_slice()) {
         return Err(DAMAGED);
     }
     Ok(players)

@@ -1,14 +1,13 @@
 use Rattle.std.proofs.Common.{Ok, Err, refl}
-use Rattle.er_desk.specs.Desk.{version_in}
 use Rattle.er_cli.proofs.answers.migrate.Goals as goal
 
 pub returns-in-Ok-clause-answers : goal.returns-in-Ok-clause-answers
 returns-in-Ok-clause-answers g c =
-    (Ok c.in-Ok.serial, version_in c.args.desk.now, version_in c.migrate.new.self, c.in-Ok.ensures.turn, refl)
+    (Ok c.in-Ok.serial, c.in-Ok.ensures.turn, refl)
 
 pub returns-in-Err-clause-answers : goal.returns-in-Err-clause-answers
 returns-in-Err-clause-answers g c =
-    (Err c.in-Err.why, version_in c.args.desk.now, version_in c.migrate.new.self, c.in-Err.ensures.turn, refl)
+    (Err c.in-Err.why, c.in-Err.ensures.turn, refl)
 
 pub returns-in-Ok-clause-moved : goal.returns-in-Ok-clause-moved
 returns-in-Ok-clause-moved g c = record {

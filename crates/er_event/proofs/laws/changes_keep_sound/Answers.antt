@@ -9,7 +9,13 @@ use Rattle.er_event.proofs.laws.changes_keep_sound.Goals as goal
 started : (e : EventValue) → IsSoundButForSeeds e → e.phase ≡ Enrolling → 2 ≤ length e.players
     → IsSoundButForSeeds (with_phase e Swiss)
 started e h phase two =
-    record { set_up = h.set_up; players = grind (arith, h.players); rounds = grind (arith, h.rounds); bracket = grind (arith, h.bracket) }
+    record {
+      set_up = h.set_up;
+      players = grind (arith, h.players);
+      rounds = grind (arith, h.rounds);
+      missed = h.missed;
+      bracket = grind (arith, h.bracket);
+    }
 
 keeps : ChangesKeepSound
 keeps e (AddPlayer name) h (lawful, room, new) = IsSound-with e name h lawful room (ap not new)

@@ -17,7 +17,7 @@ loop-player-preserved g c =
       stays_then so_far.1 c.insert_player2.ensures.stays,
       λ clean e s former here.
           let was = so_far.2 (was_clean c.insert_player2.ensures.stays.survives clean) e s former here in
-          let put = rw (c.from-number.ensures, c.get.ensures.value, c.as_str.ensures.value) at
+          let put = rw (c.from-number.ensures, c.from-joined.ensures, c.get.ensures.value, c.as_str.ensures.value) at
           (c.in_ok-insert_player2.ensures.puts clean Moved refl was.has.tables) in
           rw more (moving_then was (player2_added p (moving_here was) put)),
     )

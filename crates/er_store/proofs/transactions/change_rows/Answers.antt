@@ -1,8 +1,8 @@
 use Rattle.er_store.proofs.Prelude.{after, with_player, ◌≡◌, List, Option, Some, None, IfSome, option_map, sym, ap, subst, ◌∙◌}
-use Rattle.er_store.proofs.Prelude.{rules, SetDropped, Match, IsStage, length, ◌+◌}
+use Rattle.er_store.proofs.Prelude.{rules, SetDropped, Match, Round, IsStage, length, ◌+◌}
 use Rattle.std.proofs.Common.{Bor}
 use Rattle.er_event.specs.{Change.Fits, declared.changes.Change.TheVariants.SetScore}
-use Rattle.er_store.proofs.{Picking.numbered_before, Together.makes_then, Crash.{stays_then, was_clean}, Sizes.next_is}
+use Rattle.er_store.proofs.{Picking.numbered_before, Together.makes_then, Crash.{stays_then, was_clean}, Sizes.next_is, Tallying.none_stored}
 use Rattle.er_store.proofs.transactions.change_rows.Goals as goal
 
 pub returns-in-AddPlayer-clause-makes : goal.returns-in-AddPlayer-clause-makes
@@ -10,7 +10,11 @@ returns-in-AddPlayer-clause-makes g c clean l version s rows stands =
     let e = c.args.event.now in
     let is : with_player e c.as_str.result.now ≡ after e c.args.change.now = ap (with_player e) c.as_str.ensures.value
     ∙ sym (ap (after e) c.in-AddPlayer.is) in
-    rw (← is) (c.add_player.ensures.makes clean l version e s rows stands (ap (λ ps. length ps + 1) c.players.ensures.value))
+    let fits = rw c.in-AddPlayer.is at c.requires.fits in
+    let takes = rw c.in-AddPlayer.is at c.requires.takes in
+    let joined = ap (λ (rs : List Round). length rs) c.stored.ensures.value in
+    rw (← is) (c.add_player.ensures.makes clean l version e s rows stands (ap (λ ps. length ps + 1) c.players.ensures.value) joined
+    (λ first. joined ∙ none_stored _ fits.sound (takes first)))
 
 pub returns-in-SetDropped-clause-makes : goal.returns-in-SetDropped-clause-makes
 returns-in-SetDropped-clause-makes g c clean l version s rows stands =

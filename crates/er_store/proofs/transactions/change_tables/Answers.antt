@@ -8,7 +8,13 @@ returns-in-AddPlayer-clause-makes g c clean l version s stands =
     let e = c.args.event.now in
     let one = c.in_ok-change_rows.ensures.makes (was_clean c.count_player.ensures.stays.survives clean) l version s (tally_rows e) stands in
     let made = c.count_player.ensures.makes clean l (after e c.args.change.now) s (tally_rows e) one.stands in
-    rw (c.in-AddPlayer.is, ← one_more_player e c.in-AddPlayer.name)
+    let fits = rw c.in-AddPlayer.is at c.requires.fits in
+    let sound = c.events_are_sound.ensures in
+    rw (
+      c.in-AddPlayer.is,
+      ← one_more_player e c.in-AddPlayer.name sound.players.numbered
+          (λ q known. c.others_keep_totals.ensures e c.in-AddPlayer.name q sound fits known),
+    )
     (on_ok_weaker c.count_player.result (λ two. makes_then (rw c.in-AddPlayer.is at one) two) (rw c.in-AddPlayer.is at made))
 
 pub returns-in_default : goal.returns-in_default

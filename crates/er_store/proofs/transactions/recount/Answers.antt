@@ -1,71 +1,68 @@
-use Rattle.er_store.proofs.Prelude.{◌≡◌, ◌+◌, ◌<◌, ℕ, List, length, Contains, IsFalse, [], ◌∷◌, ◌++◌, take, get_or, refl, sym, ap, ◌∙◌}
-use Rattle.er_store.proofs.Prelude.{take_all, take_more, All-nil, All-cons, state, Match, after, EventValue, is_bye, numbers, totals}
-use Rattle.er_store.proofs.Prelude.{set_for_all}
-use Rattle.er_event.specs.Recounted.{AreOf}
-use Rattle.er_store.proofs.{Crash.{stays_self, stays_then, was_clean}, Together.makes_then, Tallying.{numbered_too, rows_agree, set-more}}
-use Rattle.er_store.proofs.Tallying.{all_set}
+use Rattle.er_store.proofs.Prelude.{◌≡◌, ◌+◌, ◌<◌, length, refl, ap, ◌∙◌, state, Player, after, totals, set_for, set_up_to, arith}
+use Rattle.er_store.proofs.{Crash.{stays_self, stays_then, was_clean}, Together.makes_then}
+use Rattle.er_store.proofs.Tallying.{numbered_too, rows_agree, none_set, not_yet, set_more, all_set, moves_self, contains_numbered, number-at}
+use Rattle.er_store.proofs.Tallying.{length-numbers}
 use Rattle.er_store.proofs.transactions.recount.Goals as goal
 
-pub loop-played-init : goal.loop-played-init
-loop-played-init g c =
+pub loop-player-init : goal.loop-player-init
+loop-player-init g c =
     let old = state g.S.Store c.args.tx.now.conn.now in
-    (refl, stays_self old, λ clean l e s same moves stands. record { moves = moves; stands = stands })
-
--- what holds of all holds of one
-one_match : (event : EventValue) (items : List Match) (at : ℕ) (m : Match) → AreOf event items → at < length items → m ≡ get_or items at m
-    → AreOf event (m ∷ [])
-one_match event items at m all below is =
-    All-cons (λ (x : Match). Contains (numbers event.players) x.a × (IsFalse (is_bye x) → Contains (numbers event.players) x.b)) m []
-    (rw is (all at m below)) (All-nil _)
-
-pub recount_match-requires-clause-known : goal.recount_match-requires-clause-known
-recount_match-requires-clause-known g c =
-    one_match c.args.event.now c.matches_to_recount-played-items.result.now c.loop-played.played-index c.played-item.result
-    c.matches_to_recount-played-items.ensures.known c.loop-played-test.true c.played-item.is
-
-pub returns-in_err-recount_match-clause-same_reference : goal.returns-in_err-recount_match-clause-same_reference
-returns-in_err-recount_match-clause-same_reference g c = c.recount_match.ensures.same_reference ∙ c.loop-played.invariant.0
-
-pub returns-in_err-recount_match-clause-stays : goal.returns-in_err-recount_match-clause-stays
-returns-in_err-recount_match-clause-stays g c = stays_then c.loop-played.invariant.1 c.recount_match.ensures.stays
-
-pub loop-played-preserved : goal.loop-played-preserved
-loop-played-preserved g c =
-    let items = c.matches_to_recount-played-items.result.now in
-    let at = c.loop-played.played-index in
-    let m = c.played-item.result in
     let now = totals (after c.args.event.now c.args.change.now) in
-    let before = totals c.args.event.now in
-    let so_far = c.loop-played.invariant in
-    let more : take (at + 1) items ≡ take at items ++ m ∷ [] = take_more items at m c.loop-played-test.true
-    ∙ ap (λ x. take at items ++ x ∷ []) (sym c.played-item.is) in (
-      c.recount_match.ensures.same_reference ∙ so_far.0,
-      stays_then so_far.1 c.recount_match.ensures.stays,
+    let before = totals c.args.event.now in (
+      refl,
+      stays_self old,
       λ clean l e s same moves stands.
-          let was = so_far.2 (was_clean c.recount_match.ensures.stays.survives clean) l e s same moves stands in
-          let made = c.in_ok-recount_match.ensures.makes clean l e s (set_for_all (take at items) now before) same was.stands in
-          let numbered = numbered_too e.players c.args.event.now.players same
-          c.matches_to_recount-played-items.ensures.sound.players.numbered in
-          rw (
-            more,
-            ← rows_agree (set_for_all (m ∷ []) now (set_for_all (take at items) now before))
-                (set_for_all (take at items ++ m ∷ []) now before) e.players numbered (λ q low. set-more (take at items) m q now before),
-          )
+          let numbered = numbered_too e.players c.args.event.now.players same c.players-player-items.ensures.sound.players.numbered in
+          rw (← rows_agree before (set_up_to 0 now before) e.players numbered (λ q low high. none_set now before q low))
+          (record { moves = moves; stands = stands }),
+    )
+
+pub returns-in_err-recount_one-clause-same_reference : goal.returns-in_err-recount_one-clause-same_reference
+returns-in_err-recount_one-clause-same_reference g c = c.recount_one.ensures.same_reference ∙ c.loop-player.invariant.0
+
+pub returns-in_err-recount_one-clause-stays : goal.returns-in_err-recount_one-clause-stays
+returns-in_err-recount_one-clause-stays g c = stays_then c.loop-player.invariant.1 c.recount_one.ensures.stays
+
+pub loop-player-preserved : goal.loop-player-preserved
+loop-player-preserved g c =
+    let event = c.args.event.now in
+    let now = totals (after event c.args.change.now) in
+    let before = totals event in
+    let k = c.loop-player.player-index in
+    let so_far = c.loop-player.invariant in
+    let sound = c.players-player-items.ensures.sound in
+    let value = c.players-player-items.ensures.value in
+    let below : k < length event.players = rw value at c.loop-player-test.true in
+    let it = c.player-item.result in
+    let no : it.no ≡ k + 1 = ap (λ (p : Player). p.no) (rw value at c.player-item.is) ∙ (number-at event sound k it below ∙ omega arith) in (
+      c.recount_one.ensures.same_reference ∙ so_far.0,
+      stays_then so_far.1 c.recount_one.ensures.stays,
+      λ clean l e s same moves stands.
+          let was = so_far.2 (was_clean c.recount_one.ensures.stays.survives clean) l e s same moves stands in
+          let numbered = numbered_too e.players event.players same sound.players.numbered in
+          let many = length-numbers e.players event.players same in
+          let known = contains_numbered e.players it.no numbered (omega (arith, no)) (omega (arith, no, many, below)) in
+          let made = c.in_ok-recount_one.ensures.makes clean l e s (set_up_to k now before) numbered known
+          (not_yet now before k it.no no) (moves_self was.moves) was.stands in
+          rw (← rows_agree (set_for it.no (now it.no) (set_up_to k now before)) (set_up_to (k + 1) now before) e.players numbered
+          (λ q low high. set_more now before k it.no q no))
           (makes_then was made),
     )
 
 pub returns-clause-same_reference : goal.returns-clause-same_reference
-returns-clause-same_reference g c = c.loop-played.invariant.0
+returns-clause-same_reference g c = c.loop-player.invariant.0
 
 pub returns-clause-makes : goal.returns-clause-makes
 returns-clause-makes g c clean l e s same moves stands =
-    let items = c.matches_to_recount-played-items.result.now in
-    let now = totals (after c.args.event.now c.args.change.now) in
-    let before = totals c.args.event.now in
-    let told = c.matches_to_recount-played-items.ensures in
-    let numbered = numbered_too e.players c.args.event.now.players same told.sound.players.numbered in
-    rw (← rows_agree (set_for_all items now before) now e.players numbered (λ q low. all_set items now before told.others q))
-    (rw (take_all c.loop-played.played-index items c.loop-played-test.false) at (c.loop-played.invariant.2 clean l e s same moves stands))
+    let event = c.args.event.now in
+    let now = totals (after event c.args.change.now) in
+    let before = totals event in
+    let k = c.loop-player.player-index in
+    let numbered = numbered_too e.players event.players same c.players-player-items.ensures.sound.players.numbered in
+    let many = length-numbers e.players event.players same in
+    rw (← rows_agree (set_up_to k now before) now e.players numbered
+    (λ q low high. all_set now before k q (omega (arith, many, high, ap length c.players-player-items.ensures.value, c.loop-player-test.false))))
+    (c.loop-player.invariant.2 clean l e s same moves stands)
 
 pub returns-clause-stays : goal.returns-clause-stays
-returns-clause-stays g c = c.loop-played.invariant.1
+returns-clause-stays g c = c.loop-player.invariant.1

@@ -2,14 +2,14 @@ use Rattle.std.proofs.Common.{◌≡◌, inl, ℕ, Bool, true, false, not, List,
 use Rattle.std.proofs.Common.{refl, sym, ap, ◌∙◌}
 use Rattle.sqlite_trees.specs.declared.memory.MemStore.{MemStore}
 use Rattle.sqlite.specs.Steps.{over_memory}
-use Rattle.er_event.specs.{Change.created, declared.refusals.Refusal.{Refusal, TheVariants.{BadSetup, EventExists}}}
+use Rattle.er_event.specs.{declared.refusals.Refusal.{Refusal, TheVariants.{BadSetup, EventExists}}}
 use Rattle.er_rules.specs.Commands.{first_refusal}
-use Rattle.er_desk.specs.{declared.desk.Desk.Desk, Desk.Standing}
+use Rattle.er_desk.specs.{declared.desk.Desk.Desk, Desk.{Standing, running_at}, History.new_point}
 use Rattle.er_cli.specs.Script.{standing_of}
 use Rattle.er_cli.proofs.script.Runner.init.Goals as goal
 
 abbrev started : List ℕ → ℕ → ℕ → Standing
-started name rounds cut = record { event = created name rounds cut; serial = 0; stopped = false }
+started name rounds cut = running_at (new_point name rounds cut) 2
 
 stands : (desk : Option (Desk MemStore over_memory)) → is_some (standing_of desk) ≡ is_some desk
 stands None = refl

@@ -90,7 +90,7 @@ pub returns-clause-sound : goal.returns-clause-sound
 returns-clause-sound g c = new_sound _ _ _ _ c.in-Ok.ensures.value c.in-Ok.ensures.sound
 
 pub returns-clause-made : goal.returns-clause-made
-returns-clause-made g c = standing_same _ _ _ _ _ c.in-Ok.ensures.value c.in_ok-store.ensures.ready
+returns-clause-made g c = standing_same _ _ _ _ _ _ _ c.in-Ok.ensures.value c.in_ok-store.ensures.version c.in_ok-store.ensures.ready
 
 pub returns-clause-within : goal.returns-clause-within
 returns-clause-within g c = c.in-Ok.ensures.within.0 refl

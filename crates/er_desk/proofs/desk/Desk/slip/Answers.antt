@@ -10,7 +10,8 @@ pub returns-clause-turn : goal.returns-clause-turn
 returns-clause-turn g c =
     let desk = c.args.self.now in
     let runs = sym desk.told ∙ c.if-self.false in
-    reads NoSuchMatch (standing desk) (tables.is_stopped c.slip-read.new.self) c.slip-read.result runs (c.slip-read.ensures.stops runs)
+    reads NoSuchMatch (standing desk) (tables.version_in c.slip-read.new.self) (tables.is_stopped c.slip-read.new.self) c.slip-read.result runs
+    c.slip-read.ensures.version (c.slip-read.ensures.stops runs)
 
 pub returns-clause-waits : goal.returns-clause-waits
 returns-clause-waits g c stopped = absurd (true≢false (sym stopped ∙ (sym c.args.self.now.told ∙ c.if-self.false)))

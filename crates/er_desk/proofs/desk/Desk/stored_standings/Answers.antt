@@ -9,8 +9,9 @@ use Rattle.er_desk.proofs.desk.Desk.stored_standings.Goals as goal
 pub returns-clause-turn : goal.returns-clause-turn
 returns-clause-turn g c =
     let desk = c.args.self.now in
-    reads Memory (standing desk) (tables.is_stopped c.read_standings-read.new.store) c.read_standings-read.result
-    (sym desk.told ∙ c.if-self.false) c.read_standings-read.ensures.stops
+    let new = c.read_standings-read.new.store in
+    reads Memory (standing desk) (tables.version_in new) (tables.is_stopped new) c.read_standings-read.result
+    (sym desk.told ∙ c.if-self.false) c.read_standings-read.ensures.version c.read_standings-read.ensures.stops
 
 pub returns-clause-waits : goal.returns-clause-waits
 returns-clause-waits g c stopped = absurd (true≢false (sym stopped ∙ (sym c.args.self.now.told ∙ c.if-self.false)))

@@ -1,6 +1,6 @@
 use Rattle.std.proofs.{Common.{◌≡◌, ◌<◌, ◌∙◌, inl, inr, refl, sym, ap, arith, true≢false}, lemmas.Result.err_from_is_err_and}
 use Rattle.er_desk.specs.Desk.{state, standing}
-use Rattle.er_desk.proofs.Turns.{declined, full, written, turn_fault, turn_asks, waits_of, stops_of, stopped_of, keeps_self, same_keeps}
+use Rattle.er_desk.proofs.Turns.{declined, full, too_late, written, turn_fault, turn_asks, waits_of, stops_of, stopped_of, keeps_self, same_keeps}
 use Rattle.er_desk.proofs.Turns.{on_error, same_unless, stands_after, leaves_refused}
 use Rattle.er_desk.proofs.desk.Desk.take.Goals as goal
 
@@ -61,10 +61,44 @@ returns-then-self-eq-MAX_SERIAL-clause-undecided g c runs shows clean trees may 
 pub returns-then-self-eq-MAX_SERIAL-clause-refused : goal.returns-then-self-eq-MAX_SERIAL-clause-refused
 returns-then-self-eq-MAX_SERIAL-clause-refused g c shows runs = c.shown_is_stored.ensures _ _ _ shows
 
+-- ---- the tables have no place for who comes late
+
+pub returns-then-is_late-clause-turn : goal.returns-then-is_late-clause-turn
+returns-then-is_late-clause-turn g c =
+    let desk = c.args.self.now in
+    let room : desk.serial < 999999 = omega (arith, desk.low, c.if-self-eq-MAX_SERIAL.false) in
+    too_late (standing desk) (sym desk.told ∙ c.if-self.false) c.args.command.now _ c.in_ok-change.ensures.taken.1 room
+    (rw c.version.ensures.value at (sym c.is_late.ensures ∙ c.if-is_late.true))
+
+pub returns-then-is_late-clause-stops : goal.returns-then-is_late-clause-stops
+returns-then-is_late-clause-stops g c =
+    let turn = returns-then-is_late-clause-turn g c in (stops_of _ _ _ _ turn, stopped_of _ _ _ _ turn)
+
+pub returns-then-is_late-clause-fault : goal.returns-then-is_late-clause-fault
+returns-then-is_late-clause-fault g c = turn_fault _ _ _ _ (returns-then-is_late-clause-turn g c)
+
+pub returns-then-is_late-clause-asks : goal.returns-then-is_late-clause-asks
+returns-then-is_late-clause-asks g c =
+    let turn = returns-then-is_late-clause-turn g c in (turn_asks _ _ _ _ turn, waits_of _ _ _ _ turn)
+
+pub returns-then-is_late-clause-others : goal.returns-then-is_late-clause-others
+returns-then-is_late-clause-others g c clean shows is_open = keeps_self _ (state g.S.Store c.args.self.now).now
+
+pub returns-then-is_late-clause-undecided : goal.returns-then-is_late-clause-undecided
+returns-then-is_late-clause-undecided g c runs shows clean trees may = inl
+    (c.shown_is_stored.ensures _ _ _ shows clean trees may)
+
+pub returns-then-is_late-clause-refused : goal.returns-then-is_late-clause-refused
+returns-then-is_late-clause-refused g c shows runs = c.shown_is_stored.ensures _ _ _ shows
+
 -- ---- the change is written, or not
 
 pub write-requires-clause-runs : goal.write-requires-clause-runs
 write-requires-clause-runs g c = sym c.args.self.now.told ∙ c.if-self.false
+
+pub write-requires-clause-takes : goal.write-requires-clause-takes
+write-requires-clause-takes g c = c.steps_are_taken.ensures _ c.args.self.now.event c.args.command.now c.in_ok-change.change
+    c.in_ok-change.ensures.taken.1 (rw c.version.ensures.value at (sym c.is_late.ensures ∙ c.if-is_late.false))
 
 pub returns-clause-turn : goal.returns-clause-turn
 returns-clause-turn g c =
@@ -72,7 +106,8 @@ returns-clause-turn g c =
     let room : desk.serial < 999999 = omega (arith, desk.low, c.if-self-eq-MAX_SERIAL.false) in
     written (standing desk) (sym desk.told ∙ c.if-self.false) c.args.command.now (standing c.write.new.self) c.write.result _
     (c.write.new.self ≡ desk) (λ same. ap standing same)
-    c.in_ok-change.ensures.taken.1 room c.write.ensures.taken c.write.ensures.refused
+    c.in_ok-change.ensures.taken.1 room (rw c.version.ensures.value at (sym c.is_late.ensures ∙ c.if-is_late.false))
+    c.write.ensures.taken c.write.ensures.refused
 
 pub returns-clause-stops : goal.returns-clause-stops
 returns-clause-stops g c = let turn = returns-clause-turn g c in (stops_of _ _ _ _ turn, stopped_of _ _ _ _ turn)
@@ -191,3 +226,18 @@ returns-then-self-eq-MAX_SERIAL-clause-same g c = λ runs. refl
 
 pub returns-then-self-eq-MAX_SERIAL-clause-kept : goal.returns-then-self-eq-MAX_SERIAL-clause-kept
 returns-then-self-eq-MAX_SERIAL-clause-kept g c clean = same_keeps (state g.S.Store c.args.self.now)
+
+pub returns-then-is_late-clause-clean : goal.returns-then-is_late-clause-clean
+returns-then-is_late-clause-clean g c = λ clean. clean
+
+pub returns-then-is_late-clause-stands : goal.returns-then-is_late-clause-stands
+returns-then-is_late-clause-stands g c = λ clean shows runs. shows
+
+pub returns-then-is_late-clause-waits : goal.returns-then-is_late-clause-waits
+returns-then-is_late-clause-waits g c = λ stopped. refl
+
+pub returns-then-is_late-clause-same : goal.returns-then-is_late-clause-same
+returns-then-is_late-clause-same g c = λ runs. refl
+
+pub returns-then-is_late-clause-kept : goal.returns-then-is_late-clause-kept
+returns-then-is_late-clause-kept g c clean = same_keeps (state g.S.Store c.args.self.now)

@@ -44,7 +44,11 @@ pub returns-in_err-next-clause-clean : goal.returns-in_err-next-clause-clean
 returns-in_err-next-clause-clean g c clean = clean
 
 pub returns-in-Ok-clause-taken : goal.returns-in-Ok-clause-taken
-returns-in-Ok-clause-taken g c = (standing_same _ _ _ _ _ c.in_ok-next.ensures.ok (c.in-Ok.ensures.stops c.requires.runs), refl)
+returns-in-Ok-clause-taken g c = (
+  standing_same _ _ _ _ _ _ _ c.in_ok-next.ensures.ok c.write.ensures.version
+      (c.in-Ok.ensures.stops c.requires.runs ∙ sym c.requires.runs),
+  refl,
+)
 
 pub returns-in-Ok-clause-acknowledged : goal.returns-in-Ok-clause-acknowledged
 returns-in-Ok-clause-acknowledged g c shows clean trees may =
@@ -60,4 +64,4 @@ returns-in-Err-clause-crash g c = c.write.ensures.crash c.requires.runs
 pub returns-in-Err-clause-refused : goal.returns-in-Err-clause-refused
 returns-in-Err-clause-refused g c =
     let stopped = c.in-Err.ensures.stops c.requires.runs in
-    inr (standing_same _ _ _ _ _ refl stopped.1, stopped.0)
+    inr (standing_same _ _ _ _ _ _ _ refl c.write.ensures.version stopped.1, stopped.0)

@@ -15,7 +15,8 @@ pub invariant_of-self : goal.invariant_of-self
 invariant_of-self c =
     let count : c.len.result ≡ length c.self.inside.players.items = search rules in
     let number = c.in-Some.ensures.value ∙ ap (λ n. n + 1) count in
-    rw (c.in-Ok.ensures.items, number)
+    let stored : c.len-2.result ≡ length c.self.inside.stored.items = search rules in
+    rw (c.in-Ok.ensures.items, number, stored)
     (subst (λ (v : EventValue). IsSoundButForSeeds (with_player v c.args.name)) (sym c.self.view_is) c.requires)
 
 pub invariant_of-self-in-Err : goal.invariant_of-self-in-Err

@@ -17,6 +17,8 @@ created-sound name rounds cut lawful limits = record {
     lawful = λ k d below. absurd (not-suc-le-zero below);
     distinct = λ i j d before within. absurd (not-suc-le-zero within);
     enrolling = λ is k d below. absurd (not-suc-le-zero below);
+    early = λ is k d below. absurd (not-suc-le-zero below);
+    joined = λ k d below. absurd (not-suc-le-zero below);
     started = λ other. absurd (other refl);
   };
   rounds = record {
@@ -27,6 +29,7 @@ created-sound name rounds cut lawful limits = record {
     earlier_done = λ k d below. absurd (not-suc-le-zero below);
     done = λ is. absurd (not_playoff is);
   };
+  missed = λ k d below. absurd (not-suc-le-zero below);
   bracket = record {
     none = λ is. refl;
     bracket = λ is. absurd (not_playoff is);

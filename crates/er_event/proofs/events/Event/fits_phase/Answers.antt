@@ -24,6 +24,8 @@ IsSound-started e h was enough = record {
     lawful = h.players.lawful;
     distinct = h.players.distinct;
     enrolling = λ is. absurd (not_enrolling is);
+    early = λ is. absurd (not_enrolling is);
+    joined = h.players.joined;
     started = λ other. enough;
   };
   rounds = record {
@@ -34,6 +36,7 @@ IsSound-started e h was enough = record {
     earlier_done = h.rounds.earlier_done;
     done = λ is. absurd (not_playoff is);
   };
+  missed = h.missed;
   bracket = record {
     none = λ is. h.bracket.none (inl was);
     bracket = λ is. absurd (not_playoff is);

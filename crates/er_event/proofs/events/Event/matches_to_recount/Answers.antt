@@ -1,6 +1,6 @@
-use Rattle.er_event.proofs.Prelude.{Fits, IsAbsent, recounted, recounted_in, is_counted, AddRound, SetScore, Match, List, [], ap, arith}
-use Rattle.er_event.proofs.Prelude.{get_or, if◌then◌else◌, subst, ◌∙◌, common_steps, get_or_default}
-use Rattle.er_event.proofs.{RecountedLemmas.{added-known, added-same, scored-known, scored-same}, RescoredLemmas.round-within}
+use Rattle.er_event.proofs.Prelude.{Fits, IsAbsent, recounted, recounted_in, is_counted, SetScore, ap, arith}
+use Rattle.er_event.proofs.Prelude.{get_or, subst, ◌∙◌, common_steps, get_or_default}
+use Rattle.er_event.proofs.{RecountedLemmas.{added-same, scored-same}, RescoredLemmas.round-within}
 use Rattle.er_event.proofs.RescoredLemmas.{table-within}
 use Rattle.er_event.proofs.events.Event.matches_to_recount.Goals as goal
 
@@ -13,13 +13,6 @@ bounds-stored-from c =
 pub matches_to_recount_in-requires : goal.matches_to_recount_in-requires
 matches_to_recount_in-requires c = grind (arith, common_steps, get_or, table-within)
 
-pub returns-in-AddRound-clause-known : goal.returns-in-AddRound-clause-known
-returns-in-AddRound-clause-known c =
-    let ms = c.in-AddRound.matches in
-    let fits : Fits c.args.self.now (AddRound ms) = subst (Fits c.args.self.now) c.in-AddRound.is c.requires in
-    let are = c.counted_at_once.ensures ∙ ap (λ (xs : List Match). if is_counted xs then xs else []) c.as_slice.ensures in
-    rw are (added-known c.args.self.now ms fits)
-
 pub returns-in-AddRound-clause-others : goal.returns-in-AddRound-clause-others
 returns-in-AddRound-clause-others c = grind (arith, common_steps, added-same, is_counted)
 
@@ -29,13 +22,6 @@ given c = grind (arith, common_steps, get_or, get_or_default, recounted_in, roun
 
 pub returns-in-SetScore-clause-value : goal.returns-in-SetScore-clause-value
 returns-in-SetScore-clause-value = given
-
-pub returns-in-SetScore-clause-known : goal.returns-in-SetScore-clause-known
-returns-in-SetScore-clause-known c =
-    let score = c.in-SetScore in
-    let event = c.args.self.now in
-    let fits : Fits event (SetScore score.round score.table score.score) = subst (Fits event) score.is c.requires in
-    rw (given c ∙ ap (recounted event) score.is) (scored-known event score.round score.table score.score c.stored-stored.ensures.sound fits)
 
 pub returns-in-SetScore-clause-others : goal.returns-in-SetScore-clause-others
 returns-in-SetScore-clause-others c = λ player away.

@@ -1,24 +1,24 @@
-use Rattle.er_event.proofs.Prelude.{AddRound, Fits, IsRound, Round, lines_from, numbers, totals_of, SetScore, arith, subst, common_steps}
-use Rattle.er_event.proofs.{Pairs.All-last, RescoredLemmas.{as-scored, has-table, seated-after}}
+use Rattle.er_event.proofs.Prelude.{IsSoundButForSeeds, arith, ap, ap₂, sym, ◌∙◌, ◌≡◌, ℕ}
+use Rattle.er_event.proofs.{MissedLemmas.{complete, complete-few, totals-split}, OverLemmas.played-over}
+use Rattle.er_event.specs.{Change.after, inside.Joined.joined_of, Totals.{missed_totals, plus}, declared.totals.Totals.Totals}
 use Rattle.er_event.proofs.events.Event.totals_after.Goals as goal
 
-pub totals_with_round-requires-clause-seated_now : goal.totals_with_round-requires-clause-seated_now
-totals_with_round-requires-clause-seated_now c =
-    let e = c.args.self.now in
-    let ms = c.in-AddRound.matches in
-    let fits : Fits e (AddRound ms) = subst (Fits e) c.in-AddRound.is c.requires in
-    rw c.as_slice.ensures
-    (All-last (λ (r : Round). IsRound (numbers e.players) r.matches) e.stored (record { matches = ms }) fits.sound.rounds.each).seated_once
+pub with_missed-requires : goal.with_missed-requires
+with_missed-requires c =
+    let next = after c.args.self.now c.args.change.now in
+    let sound : IsSoundButForSeeds next = c.requires.sound in
+    let over = played-over next sound c.args.player in
+    let few = complete-few c.joined_after-joined.result next.stored in
+    let played = ap (λ (t : Totals). t.rounds) c.played_after.ensures in
+    let missed = c.complete_after-missed.ensures in
+    omega (arith, over.rounds_are, sound.rounds.few, sound.set_up.rounds.1)
 
-pub totals_with-requires-clause-table : goal.totals_with-requires-clause-table
-totals_with-requires-clause-table c =
-    let score = c.in-SetScore in
-    let fits : Fits c.args.self.now (SetScore score.round score.table score.score) = subst (Fits c.args.self.now) score.is c.requires in
-    rw (c.stored-stored.ensures.value, c.from.ensures, c.from-in-SetScore.ensures)
-    (has-table c.args.self.now score.round score.table score.score fits)
-
-pub totals_with-requires-clause-seated : goal.totals_with-requires-clause-seated
-totals_with-requires-clause-seated c = grind (arith, common_steps, seated-after)
-
-pub returns-in-SetScore : goal.returns-in-SetScore
-returns-in-SetScore c = grind (arith, common_steps, as-scored, lines_from, totals_of)
+pub returns : goal.returns
+returns c =
+    let next = after c.args.self.now c.args.change.now in
+    let joined : c.joined_after-joined.result ≡ joined_of next.players c.args.player =
+    c.joined_after-joined.ensures.value ∙ ap (joined_of next.players) c.get.ensures.value in
+    let missed : c.complete_after-missed.result ≡ complete (joined_of next.players c.args.player) next.stored =
+    c.complete_after-missed.ensures ∙ ap (λ (n : ℕ). complete n next.stored) joined in
+    c.with_missed.ensures ∙ (ap₂ plus c.played_after.ensures (ap missed_totals missed)
+    ∙ sym (totals-split next c.args.player c.requires.sound.players.numbered))
