@@ -3,7 +3,7 @@ refuses each such file, for reading as for writing, and leaves it as it is. The 
 Python's SQLite; and those of worked example 43, or `all`, through the command `sqlite3` too, where it is installed.
 
 The files are old ones, of version 1, which SQL makes; new ones, of version 2; and old ones that were moved to version 2. Of these last only the edits are
-made that come to different things in the three, or `all`.
+made that come to different things in the three, or `all`. An event with a late entry has no old file.
 """
 import collections
 import copy
@@ -34,6 +34,7 @@ EXAMPLES = {
     4: (3, 0, ("Ana", "Bo", "Cy", "Di"), [], "result 1 1 2 0 0"),
     5: (3, 0, ("Ana", "Bo", "Cy"), [], "result 1 1 2 0 0"),
     9: (3, 0, ("Ana", "Bo", "Cy", "Di"), ["result 1 1 2 0 0", "result 1 2 2 1 0"], "correct 1 2 0 2 0"),
+    48: (3, 0, ("Ana", "Bo", "Cy", "Di"), ["result 1 1 2 0 0", "result 1 2 2 1 0", "enrol Ed"], "correct 1 2 0 2 0"),
     17: (
         1,
         4,
@@ -91,8 +92,27 @@ WORKED = [
 
 NO_UTF8, NO_UTF8_EVENT = "UPDATE {player} SET name = CAST(x'ff' AS TEXT) WHERE no = 3", "UPDATE event SET name = CAST(x'ff' AS TEXT)"
 
+# files of version 2
+LATER = (NEW, MOVED)
+# how many rounds were stored when a player came, and the totals of somebody who came late; worked example 49 is among them
+JOINED = [
+    Edit(9, dict.fromkeys(LATER, "pairing"), "one who sat in the round that they missed", "UPDATE {player} SET joined = 1 WHERE no = 2"),
+    Edit(9, dict.fromkeys(LATER, "pairing"), "one who came after round 3, of which one is stored", "UPDATE {player} SET joined = 3 WHERE no = 2"),
+    Edit(9, dict.fromkeys(LATER, "player2"), "one who came after round 4 of 3", "UPDATE {player} SET joined = 4 WHERE no = 2"),
+    Edit(9, dict.fromkeys(LATER, "player2"), "one who came after round 257", "UPDATE {player} SET joined = 257 WHERE no = 2"),
+    Edit(48, {NEW: "pairing"}, "one who came late, after a round that isn't stored", "UPDATE {player} SET joined = 2 WHERE no = 5"),
+    Edit(48, {NEW: "player2"}, "one who came late, after round 257", "UPDATE {player} SET joined = 257 WHERE no = 5"),
+    Edit(48, {NEW: "player2"}, "one who came late, before any round", "UPDATE {player} SET joined = -1 WHERE no = 5"),
+    Edit(48, {NEW: "player2"}, "one who came late, before the start", "DELETE FROM pairing; UPDATE tally SET points = 0, rounds = 0, gamepoints = 0, games = 0; UPDATE event SET phase = 0"),
+    Edit(48, {NEW: "tally"}, "totals without the round that was missed", "UPDATE tally SET rounds = 0 WHERE no = 5"),
+    Edit(48, {NEW: "tally"}, "a round that was missed twice in the totals", "UPDATE tally SET rounds = 2 WHERE no = 5"),
+    Edit(48, {NEW: "tally"}, "a round that was missed as a draw", "UPDATE tally SET points = 1 WHERE no = 5"),
+    Edit(48, {NEW: "tally"}, "one who came in time, with a round that was missed", "UPDATE {player} SET joined = 0 WHERE no = 5"),
+    Edit(48, {NEW: "tally"}, "a round that was missed, and is open again", "UPDATE pairing SET done = 0, x = 0, y = 0, d = 0; UPDATE tally SET points = 0, rounds = 0, gamepoints = 0, games = 0 WHERE no < 5"),
+]
+
 # worked examples 18 and 39, and others
-EDITS = WORKED + [
+EDITS = WORKED + JOINED + [
     Edit(4, "pairing", "a pairing again", loosely("pairing", "INSERT INTO pairing SELECT 2, tab, lo, hi, 1 - swapped, 0, 0, 0, 0 FROM pairing; UPDATE pairing SET done = 1, x = 2 WHERE round = 1; UPDATE tally SET rounds = 1, games = 2; UPDATE tally SET points = 3, gamepoints = 6 WHERE no IN (1, 4)")),
     Edit(9, "tally", "points of player 4", "UPDATE tally SET points = 4 WHERE no = 4"),
     Edit(1, None, "no table event", "DROP TABLE event"),
@@ -156,18 +176,22 @@ EDITS = WORKED + [
 
 
 # edits that leave an event, with the kinds of file on which they are tried: more rounds than version 1 has; a file that was moved to version 2 before
-# anybody enrolled, with its first version again; and another program's table where the other version has its players
+# anybody enrolled, with its first version again; another program's table where the other version has its players; and other rounds of one who came late
 LAWFUL = [
     (1, (NEW, MOVED), "ten rounds of version 2", "UPDATE event SET rounds = 10"),
     (1, (NEW, MOVED), "twelve rounds of version 2", "UPDATE event SET rounds = 12"),
     (0, (MOVED,), "version 1 where nobody has enrolled", "UPDATE event SET version = 1"),
     (1, LAYOUTS, "another table of that name", "DROP TABLE IF EXISTS {other}; CREATE TABLE {other}(body TEXT)"),
+    (48, (NEW,), "one who sat out in place of coming late", "UPDATE {player} SET joined = 0 WHERE no = 5; UPDATE tally SET rounds = 0 WHERE no = 5"),
+    (48, (NEW,), "a round that was missed, and is open", "UPDATE pairing SET done = 0, x = 0, y = 0, d = 0; UPDATE tally SET points = 0, rounds = 0, gamepoints = 0, games = 0"),
 ]
 
 
 def command(event, words):
     """What the plain event is answered to a command line without its file."""
     name, *rest = words.split(" ")
+    if name == "enrol":
+        return event.enrol(*rest)
     numbers = [int(it) for it in rest]
     if name in ("result", "correct"):
         return event.report(*numbers[:2], tuple(numbers[2:]), name == "result")
@@ -213,9 +237,9 @@ def all_made(room):
     """The files of the worked examples, as each of the layouts has them."""
     goods = {}
     for example in EXAMPLES:
-        new = made(example, room)
-        old, moved = old_and_moved(example, new, room)
-        goods.update({(example, OLD): old, (example, NEW): new, (example, MOVED): moved})
+        goods[example, NEW] = made(example, room)
+        if not goods[example, NEW].event.late:
+            goods[example, OLD], goods[example, MOVED] = old_and_moved(example, goods[example, NEW], room)
     return goods
 
 

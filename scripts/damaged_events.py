@@ -101,12 +101,14 @@ def other_number(dice, event):
 
 
 def other_players(dice, event):
-    what, number = dice.randrange(4), dice.randint(1, len(event.names) or 1)
+    what, number = dice.randrange(5), dice.randint(1, len(event.names) or 1)
     if what == 0:
         event.dropped ^= {number}
     elif what == 1:
         event.names.append(dice.choice(("Late", "P1", *NAMES)))
-    elif what == 2 and event.names:
+    elif what == 2:
+        event.late[dice.choice([number, *event.late])] = dice.choice((0, 1, len(event.stored), len(event.stored) + 1, event.rounds, event.rounds + 1, -1, 256))
+    elif what == 3 and event.names:
         event.names[number - 1] = dice.choice(NAMES + NO_NAMES + ("P1", "P2"))
     elif event.names:
         event.names.pop()

@@ -28,7 +28,7 @@ TRICKS = {
         "name = name || ' '", "phase = phase + 4", "phase = phase - 4", "rounds = 10", "rounds = 13", "rounds = rounds + 256", "cut = cut + 2",
     ),
     "player": PLAYER_TRICKS,
-    "player2": (*PLAYER_TRICKS, "joined = 1 - joined", "joined = joined - 1", "joined = joined + 256"),
+    "player2": (*PLAYER_TRICKS, "joined = 1 - joined", "joined = joined - 1", "joined = joined + 1", "joined = joined + 256", "joined = 0"),
     "pairing": (
         "lo = hi, hi = lo, swapped = 1 - swapped", "swapped = 2 * swapped", "swapped = -swapped", "done = 2 * done", "done = -done", "round = round + 1", "tab = tab + 1",
         "x = x + 1 - done", "y = y - 1 + done", "d = d + 1 - done", "swapped = 1 - swapped, x = y, y = x", "tab = 0", "lo = 0",

@@ -140,9 +140,8 @@ def bracket_rows(event):
 
 def rows_of(event, name="E"):
     """The rows of the five tables that stand for an event of this name."""
-    # nobody joins behind the start yet
-    joined = (0,) * (event.version == 2)
-    players = [(it, event.names[it - 1], int(it in event.dropped), *joined) for it in event.numbers()]
+    columns = 3 if event.version == 1 else 4
+    players = [(it, event.names[it - 1], int(it in event.dropped), event.joined(it))[:columns] for it in event.numbers()]
     first = (1, event.version, event.serial, name, event.rounds, event.cut, event.phase)
     tallies = [(it, *event.totals(it)) for it in event.numbers()]
     return [first], players, sorted(pairing_rows(event)), sorted(bracket_rows(event)), tallies

@@ -1,8 +1,8 @@
 """Plays events by command lines on the program as it is built, one process a line, beside a plain reading of the rules: random ones, and two with a
-playoff. Half of them begin in version 1, in a file made by SQL, and are migrated on the way. Compared are each answer, its stream and the exit status,
-and after each command the rows of the tables, as C SQLite reads them of the file alone, without its log. In half of the cases C SQLite opens the file
-itself too, and so may end the log. Of those with a playoff the program is given the file alone as well, and has to print its players, standings and
-bracket.
+playoff. Half of them begin in version 1, in a file made by SQL, and are migrated on the way; some players enrol late. Compared are each answer, its
+stream and the exit status, and after each command the rows of the tables, as C SQLite reads them of the file alone, without its log. In half of the
+cases C SQLite opens the file itself too, and so may end the log. Of those with a playoff the program is given the file alone as well, and has to print
+its players, standings and bracket.
 """
 import os
 import random

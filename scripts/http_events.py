@@ -1,7 +1,7 @@
 """Serves events on the program as it is built beside the plain reading of the rules: one event to each odd request of the lists, and random
 events to random and damaged requests. Compared are each whole answer and, after each run of `serve`, the rows of the file and the texts that
-command lines print. Between the runs the event goes on by command lines. Every second event begins in version 1, in a file made by SQL, and some of
-these are migrated. A failure names the event: `http_events.py PROGRAM 0 SEED NUMBER` plays that one alone.
+command lines print. Between the runs the event goes on by command lines, and some players enrol late. Every second event begins in version 1, in a
+file made by SQL, and some of these are migrated. A failure names the event: `http_events.py PROGRAM 0 SEED NUMBER` plays that one alone.
 """
 import collections
 import random
@@ -107,6 +107,9 @@ class Evening:
         if dice.random() < 0.15:
             player = dice.randint(0, len(event.names))
             self.line(f"drop\t{player}", event.drop(player))
+        if dice.random() < 0.25:
+            name = dice.choice(NAMES)
+            self.line(f"enrol\t{name}", event.enrol(name))
         if event.phase == SWISS and len(event.stored) == event.rounds and not event.is_open() and dice.random() < 0.7:
             self.line("cut", event.end_rounds())
         elif event.phase == PLAYOFF:

@@ -5,7 +5,9 @@ import csv
 import io
 import re
 
-MOST_BYTES, MOST_PLAYERS = 131072, 512
+from plain_event import MOST_PLAYERS, is_lawful
+
+MOST_BYTES = 131072
 csv.field_size_limit(10 * MOST_BYTES)
 
 
@@ -19,25 +21,17 @@ def records(data):
     return [[it.encode("latin-1") for it in row] for row in csv.reader(io.StringIO(text, newline="")) if row]
 
 
-def is_name(data):
-    try:
-        data.decode()
-    except UnicodeDecodeError:
-        return False
-    return 0 < len(data) <= 60 and not data.startswith(b" ") and not data.endswith(b" ") and not re.search(rb"[\x00-\x1f\x7f]", data)
-
-
 def number(data):
     """The number that 1 to 6 digits are, or None."""
     return int(data) if re.fullmatch(rb"[0-9]{1,6}", data) else None
 
 
 def is_full(place, row):
-    return len(row) == 3 and number(row[0]) == place and is_name(row[1]) and number(row[2]) in (0, 1)
+    return len(row) == 3 and number(row[0]) == place and is_lawful(row[1]) and number(row[2]) in (0, 1)
 
 
 def is_lone(_place, row):
-    return len(row) == 1 and is_name(row[0])
+    return len(row) == 1 and is_lawful(row[0])
 
 
 def names_of(data):
@@ -55,18 +49,6 @@ def names_of(data):
     return [row[at].decode() for row in rows]
 
 
-def enrolled(event, name):
-    """The refusal of a lawful name, or None where it is enrolled."""
-    if event.phase:
-        return "refused 4 NotEnrolling\n"
-    if name in event.names:
-        return "refused 2 NameTaken\n"
-    if len(event.names) == MOST_PLAYERS:
-        return "refused 3 PlayersFull\n"
-    event.enrol(name)
-    return None
-
-
 def imported(event, data):
     """The status, the output and the errors of an import, which is done to the event."""
     if len(data) > MOST_BYTES:
@@ -76,16 +58,17 @@ def imported(event, data):
     except Fault as fault:
         return 1, b"", str(fault).encode()
     added = already = 0
-    why = None
+    why = ""
     for name in names:
-        why = enrolled(event, name)
-        if why is None:
+        answer = event.enrol(name)[0]
+        if answer.startswith("ok "):
             added += 1
-        elif why.startswith("refused 2 "):
-            already, why = already + 1, None
+        elif answer.startswith("refused 2 "):
+            already += 1
         else:
+            why = f"{answer}\n"
             break
-    return 1 if why else 0, f"added {added} already {already}\n".encode(), (why or "").encode()
+    return 1 if why else 0, f"added {added} already {already}\n".encode(), why.encode()
 
 
 def players_rows(event):

@@ -1,5 +1,6 @@
 """A plain and slow reading of the rules (docs/RULES.md): an event, what each command is answered, and what each text shows."""
 import itertools
+import re
 from fractions import Fraction
 
 from chacha20 import words_of
@@ -7,10 +8,20 @@ from chacha20 import words_of
 LEAST = Fraction(33, 100)
 BYE = (2, 0, 0)
 MOST_STEPS = 1_000_000
+LAST_SERIAL, MOST_PLAYERS, LONGEST_NAME = 999_999, 512, 60
 ENROLLING, SWISS, PLAYOFF, FINISHED = range(4)
 
 # which seeds meet in the slots of the first stage
 SLOTS = {2: [(1, 2)], 4: [(1, 4), (2, 3)], 8: [(1, 8), (4, 5), (2, 7), (3, 6)]}
+
+
+def is_lawful(name):
+    """Whether these bytes are a name."""
+    try:
+        text = name.decode()
+    except UnicodeDecodeError:
+        return False
+    return 1 <= len(name) <= LONGEST_NAME and not re.search("[\0-\x1f\x7f]", text) and text == text.strip(" ")
 
 
 def swiss(score):
@@ -21,6 +32,10 @@ def swiss(score):
 def of_playoff(score):
     x, y, d = score
     return x <= 3 and y <= 3 and d <= 3 and x != y
+
+
+def is_complete(matches):
+    return all(score for _, _, score in matches)
 
 
 def winner(match):
@@ -42,15 +57,17 @@ def printed(share):
 
 
 class Event:
-    """Rounds and stages are lists of [first, second or 0, score or None]; the bye stands last. The version is that of its tables."""
+    """Rounds and stages are lists of [first, second or 0, score or None]; the bye stands last. The version is that of its tables. Of those who came
+    late, and of nobody else, `late` has how many rounds were stored by then.
+    """
 
     def __init__(self, rounds, cut, version=2):
         self.rounds, self.cut, self.version, self.serial, self.phase = rounds, cut, version, 0, ENROLLING
-        self.names, self.dropped, self.stored, self.stages = [], set(), [], []
+        self.names, self.dropped, self.late, self.stored, self.stages = [], set(), {}, [], []
 
     def is_open(self):
         """Whether a match of the newest round has no score."""
-        return bool(self.stored) and not all(score for _, _, score in self.stored[-1])
+        return bool(self.stored) and not is_complete(self.stored[-1])
 
     def players(self):
         lines = ["  No D Name"]
@@ -59,10 +76,18 @@ class Event:
     def numbers(self):
         return range(1, len(self.names) + 1)
 
+    def joined(self, player):
+        """How many rounds were stored when the player was enrolled."""
+        return self.late.get(player, 0)
+
+    def missed(self, player):
+        """How many complete rounds the player missed. Each is a round without a point, a game and an opponent."""
+        return sum(map(is_complete, self.stored[: self.joined(player)]))
+
     def played(self, player):
         """The matches of a player in complete rounds: the opponent, and the score from the player's side."""
         for matches in self.stored:
-            if all(score for _, _, score in matches):
+            if is_complete(matches):
                 for a, b, (x, y, d) in matches:
                     if a == player:
                         yield b, (x, y, d)
@@ -73,9 +98,9 @@ class Event:
         return sum(3 if x > y else 1 if x == y else 0 for _, (x, y, _) in self.played(player))
 
     def totals(self, player):
-        """What the player's matches come to: points, rounds, game points and games."""
+        """What the player's complete rounds come to: points, rounds, game points and games."""
         scores = [score for _, score in self.played(player)]
-        return self.points(player), len(scores), sum(3 * x + d for x, _, d in scores), sum(map(sum, scores))
+        return self.points(player), len(scores) + self.missed(player), sum(3 * x + d for x, _, d in scores), sum(map(sum, scores))
 
     def match_wins(self, player):
         points, rounds, _, _ = self.totals(player)
@@ -133,9 +158,23 @@ class Event:
         return [f"ok {self.serial}"]
 
     def enrol(self, name):
-        if self.phase != ENROLLING:
+        if self.phase in (PLAYOFF, FINISHED):
             return ["refused 4 NotEnrolling"]
+        if self.phase == SWISS and len(self.stored) == self.rounds:
+            return ["refused 9 AllRoundsPaired"]
+        if not is_lawful(name.encode()):
+            return ["refused 1 BadName"]
+        if name in self.names:
+            return ["refused 2 NameTaken"]
+        if len(self.names) == MOST_PLAYERS:
+            return ["refused 3 PlayersFull"]
+        if self.serial == LAST_SERIAL:
+            return ["refused 23 SerialFull"]
+        if self.phase == SWISS and self.version == 1:
+            return ["refused 30 BadSetup"]
         self.names.append(name)
+        if self.stored:
+            self.late[len(self.names)] = len(self.stored)
         return self.taken()
 
     def start(self):
@@ -201,7 +240,7 @@ class Event:
             return ["refused 6 NotSwiss"]
         if self.cut == 0:
             return ["refused 20 NoCut"]
-        if len(self.stored) < self.rounds or not all(score for matches in self.stored for _, _, score in matches):
+        if len(self.stored) < self.rounds or not all(map(is_complete, self.stored)):
             return ["refused 19 RoundsNotDone"]
         seeds = [it for it in self.merits() if it not in self.dropped]
         if len(seeds) < self.cut:
@@ -221,7 +260,7 @@ class Event:
         if not of_playoff(score):
             return ["refused 13 BadScore"]
         matches[slot - 1][2] = score
-        if all(score for _, _, score in matches):
+        if is_complete(matches):
             if len(matches) == 1:
                 self.phase = FINISHED
             else:

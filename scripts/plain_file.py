@@ -5,7 +5,7 @@ import itertools
 import re
 import sqlite3
 
-from plain_event import BYE, ENROLLING, FINISHED, PLAYOFF, SLOTS, SWISS, Event, of_playoff, swiss, winner
+from plain_event import BYE, ENROLLING, FINISHED, LAST_SERIAL, MOST_PLAYERS, PLAYOFF, SLOTS, SWISS, Event, is_complete, is_lawful, of_playoff, swiss, winner
 
 # the columns of each table, and how many of the first make its key; all but the two names are whole numbers
 COLUMNS = {
@@ -18,7 +18,6 @@ COLUMNS = {
 }
 # where each version has the players, and the most rounds that it has
 PLAYERS, MOST_ROUNDS = {1: "player", 2: "player2"}, {1: 9, 2: 12}
-LAST_SERIAL, MOST_PLAYERS, LONGEST_NAME = 999_999, 512, 60
 
 
 def tables_of(version):
@@ -74,14 +73,6 @@ def check_keys(table, rows):
     need(table, all(a[:size] < b[:size] for a, b in zip(rows, rows[1:])), "a key comes twice")
 
 
-def is_lawful(name):
-    try:
-        text = name.decode()
-    except UnicodeDecodeError:
-        return False
-    return 1 <= len(name) <= LONGEST_NAME and not re.search("[\0-\x1f\x7f]", text) and text == text.strip(" ")
-
-
 def score_of(table, done, score):
     """The score of a row, or None where the match has none."""
     need(table, done in (0, 1), "done")
@@ -118,10 +109,12 @@ def check_players(event, rows):
     need(table, all(is_lawful(it[1]) for it in rows), "name")
     need(table, len({it[1] for it in rows}) == len(rows), "a name comes twice")
     need(table, all(it[2] in (0, 1) for it in rows), "dropped")
-    # nobody joins behind the start yet; only version 2 has the column
-    need(table, not any(it for row in rows for it in row[3:]), "joined")
+    # only version 2 has the column `joined`
+    most = 0 if event.phase == ENROLLING else event.rounds
+    need(table, all(0 <= it <= most for row in rows for it in row[3:]), "joined")
     event.names = [it[1].decode() for it in rows]
     event.dropped = {it[0] for it in rows if it[2]}
+    event.late = {row[0]: it for row in rows for it in row[3:] if it}
     need(table, event.phase != ENROLLING or not event.dropped, "one has dropped before the start")
     need(table, event.phase == ENROLLING or len(rows) >= 2, "too few")
 
@@ -151,10 +144,6 @@ def round_of(event, rows):
     return [matches[it] for it in tables] + [matches[it] for it in matches if it == 0]
 
 
-def is_complete(matches):
-    return all(score for _, _, score in matches)
-
-
 def check_pairings(event, rows):
     check_keys("pairing", rows)
     rounds = [list(it) for _, it in itertools.groupby(rows, key=lambda it: it[0])]
@@ -163,6 +152,9 @@ def check_pairings(event, rows):
     need("pairing", len({it[2:4] for it in rows}) == len(rows), "two meet twice, or one has two byes")
     event.stored = [round_of(event, it) for it in rounds]
     need("pairing", all(is_complete(it) for it in event.stored[:-1]), "an open round before the newest")
+    need("pairing", all(it <= len(event.stored) for it in event.late.values()), "one has missed a round that isn't stored")
+    sitting = [(number, it) for number, matches in enumerate(event.stored, 1) for match in matches for it in match[:2]]
+    need("pairing", all(event.joined(it) < number for number, it in sitting), "one sits in a round that they missed")
     need("pairing", event.phase != ENROLLING or not rows, "a round before the start")
     is_over = len(event.stored) == event.rounds and all(map(is_complete, event.stored))
     need("pairing", event.phase not in (PLAYOFF, FINISHED) or is_over, "a playoff before the rounds are done")

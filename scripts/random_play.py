@@ -1,6 +1,7 @@
 """Random events: small ones, of 2 to 11 players, in which pairings, results, corrections, drops and cuts come in any order, and whole
 ones, of 8 to 64 players, which are played from the first round to the champion, where they have a cut and enough players for it. Every fifth of these
-is a long one, of twice as many players and up to the most rounds. An event that begins in version 1 is moved to version 2 at a random place.
+is a long one, of twice as many players and up to the most rounds. Others enrol at any time: in a round that is open or complete, once all rounds are
+paired, and in the playoff. An event that begins in version 1 is moved to version 2 at a random place.
 """
 from plain_event import PLAYOFF, SWISS, Event
 from plain_file import MOST_ROUNDS
@@ -24,7 +25,7 @@ class Play:
     """An event, and `sends`: what becomes of each line and of the answer that is due to it."""
 
     def __init__(self, sends, dice, players, rounds, cut, version):
-        self.sends, self.dice, self.event, self.players = sends, dice, Event(rounds, cut, version), players
+        self.sends, self.dice, self.event = sends, dice, Event(rounds, cut, version)
         self.send(f"init\tE\t{rounds}\t{cut}", ["ok 0"])
         for number in range(1, players + 1):
             self.send(f"enrol\tP{number}", self.event.enrol(f"P{number}"))
@@ -36,6 +37,14 @@ class Play:
         self.sends(line, answer, self.event)
         if self.dice.random() < (0.03 if self.event.version == 1 else 0.003):
             self.sends("migrate", self.event.migrate(), self.event)
+
+    def enrol(self):
+        """Somebody comes, in most cases nobody who is there."""
+        name = f"P{len(self.event.names) + 1 if self.dice.random() < 0.9 else self.dice.randint(1, len(self.event.names))}"
+        self.send(f"enrol\t{name}", self.event.enrol(name))
+
+    def any_table(self):
+        return self.dice.randint(0, len(self.event.names) // 2 + 1)
 
     def standings(self):
         self.send("standings", self.event.standings())
@@ -50,7 +59,9 @@ class Play:
         self.send(f"{verb}\t{number}\t{table}\t{score[0]}\t{score[1]}\t{score[2]}", self.event.report(number, table, score, is_new))
 
     def drop(self):
-        player = self.dice.randint(0, self.players + 1)
+        """Anybody, or nobody, or in some cases one of those who came late."""
+        is_late = self.event.late and self.dice.random() < 0.3
+        player = self.dice.choice([*self.event.late]) if is_late else self.dice.randint(0, len(self.event.names) + 1)
         self.send(f"drop\t{player}", self.event.drop(player))
 
     def cut(self):
@@ -69,7 +80,7 @@ class Play:
 
     def late(self):
         """A command for which it is too late once the rounds are over."""
-        number, what = len(self.event.stored), self.dice.randrange(7)
+        number, what = len(self.event.stored), self.dice.randrange(8)
         if what == 0:
             self.pair(number + self.dice.randrange(2))
         elif what in (1, 2):
@@ -81,7 +92,7 @@ class Play:
         elif what == 5:
             self.send("start", self.event.start())
         else:
-            self.send("enrol\tLate", self.event.enrol("Late"))
+            self.enrol()
 
 
 def this_and_that(sends, dice, version):
@@ -96,13 +107,17 @@ def this_and_that(sends, dice, version):
         elif what < 0.9:
             is_new = dice.random() < (0.85 if is_open else 0.2)
             number = number if is_new or dice.random() < 0.3 else dice.randint(0, number + 1)
-            play.report(is_new, number, dice.randint(0, play.players // 2 + 1), random_score(dice))
-        elif what < 0.95:
+            play.report(is_new, number, play.any_table(), random_score(dice))
+        elif what < 0.94:
             play.drop()
+        elif what < 0.97:
+            play.enrol()
         elif what < 0.99:
             play.cut()
         else:
             play.playoff()
+        if dice.random() < 0.05:
+            play.enrol()
         if dice.random() < 0.7:
             play.standings()
     return play
@@ -113,13 +128,19 @@ def to_the_champion(sends, dice, version, players, rounds):
     play = Play(sends, dice, players, rounds, dice.choice((0, 2, 4, 8, 8)), version)
     event = play.event
     for number in range(1, event.rounds + 1):
+        if dice.random() < 0.15:
+            play.enrol()
         play.pair(number)
         while play.event.is_open():
             tables = [table for table, (_, _, score) in enumerate(event.stored[-1], 1) if not score]
-            table = dice.choice(tables) if dice.random() < 0.95 else dice.randint(0, play.players // 2 + 1)
+            table = dice.choice(tables) if dice.random() < 0.95 else play.any_table()
             play.report(dice.random() < 0.95, number, table, random_score(dice))
+            if dice.random() < 0.02:
+                play.enrol()
         if dice.random() < 0.3:
             play.drop()
+        if dice.random() < 0.1:
+            play.report(False, dice.randint(1, number), play.any_table(), random_score(dice))
         if dice.random() < 0.2:
             play.cut()
     while event.phase == SWISS and dice.random() < 0.5:

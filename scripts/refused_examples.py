@@ -1,4 +1,4 @@
-"""Refuses each growth of memory of worked examples 1, 8, 9, 14, 17, 20 and 21, one at a time: as scripts, as command lines over files, and as requests
+"""Refuses each growth of memory of worked examples 1, 8, 9, 14, 17, 20, 21 and 48, one at a time: as scripts, as command lines over files, and as requests
 while the program serves, its opening among them; and of the migrations of worked example 47. What is asked of each is what refused_memory.py,
 refused_file_memory.py and refused_http_memory.py ask. What is due where nothing is refused is what the worked examples show, by a plain reading of
 the rules.
@@ -25,6 +25,7 @@ NAME, ZERO = "Friday", "0" * 64
 FOUR = ["enrol\tAna", "enrol\tBo", "enrol\tCy", "enrol\tDi"]
 PAIRED = [*FOUR, "start", f"pair\t1\t{ZERO}"]
 SCORED = [*PAIRED, "result\t1\t1\t2\t0\t0", "result\t1\t2\t2\t1\t0"]
+LATE = [*SCORED, "enrol\tEd", f"pair\t2\t{ZERO}", "result\t2\t1\t2\t0\t0", "result\t2\t2\t0\t2\t0"]
 THREE = ["enrol\tAna", "enrol\tBo", "enrol\tCy", "start", f"pair\t1\t{ZERO}"]
 SECOND = [*THREE, "result\t1\t1\t2\t0\t0", f"pair\t2\t{ZERO}"]
 THIRD = [*SECOND, "result\t2\t1\t2\t0\t0", f"pair\t3\t{ZERO}"]
@@ -45,6 +46,7 @@ EXAMPLES = [
     (21, 3, 0, [*SCORED, "export\tresults"]),
     (21, 3, 0, [*PAIRED, "export\tresults"]),
     (21, 3, 0, [*THREE, "export\tresults"]),
+    (48, 3, 0, [*LATE[:9], "standings", *LATE[9:], "standings"]),
 ]
 # in version 1 up to the migration, the first of two
 MIGRATED = (47, 1, 4, [*DONE, "cut", "migrate", "migrate"])
@@ -78,6 +80,8 @@ SERVED = [
     (20, 3, 0, ["import\tnames.csv"], [STANDINGS]),
     (21, 3, 0, SCORED, [ROUND]),
     (21, 3, 0, THREE, [ROUND, get("/rounds/1/tables/0")]),
+    (48, 3, 0, LATE[:-1], [post(2, 2, 0, 2, 0)]),
+    (48, 3, 0, LATE, [STANDINGS]),
 ]
 
 

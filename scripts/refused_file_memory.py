@@ -20,12 +20,14 @@ LAST = 150
 ZERO = "0" * 64
 # a command line, and whether its growths are refused
 COMMANDS = [
-    (["init", "Friday", "1", "4"], True),
+    (["init", "Friday", "2", "4"], True),
     *((["enrol", f"P{it}"], it == 6) for it in range(1, 7)),
     (["import", "names.csv"], True),
     (["export", "players"], True),
     (["start"], False),
     (["pair", "1", ZERO], True),
+    # one who comes late, while the round is open
+    (["enrol", "Late"], True),
     (["standings"], True),
     # a fault of usage, which is told in words
     (["pair", "1", "no key"], True),

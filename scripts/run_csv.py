@@ -8,7 +8,7 @@ import subprocess
 import sys
 import tempfile
 
-from event_files import due
+from event_files import due, event_of_four, make_old
 from plain_csv import MOST_BYTES
 from tally import check, end
 
@@ -80,7 +80,6 @@ def run_worked(room):
     bye = played(room, [["enrol", "Ana"], ["enrol", "Bo"], ["enrol", "Cy"], ["start"], ["pair", "1", ZERO]], "bye")
     check("a bye stands last", run("export", bye, "results")[1].splitlines()[-1], b"1,0,3,0,2,0,0")
     late = file_of(room, "late.csv", b"name\nEd\n")
-    check("in the Swiss rounds", run("import", scored, late), tally(0, 0, "refused 4 NotEnrolling"))
     check("after the end", run("import", played(room, ENDED, "ended", "1", "4"), late), tally(0, 0, "refused 4 NotEnrolling"))
     rows = b"".join(b"P%d\n" % it for it in range(513))
     for what, data, want in (
@@ -207,6 +206,28 @@ def run_stops(room):
     check("the last serial, and who is there", did("players", full), b"  No D Name\n   1   Ana\n")
 
 
+def run_late(room):
+    """A list in the Swiss rounds: those who are there are passed over, and others come late, until the last round is paired."""
+    names = file_of(room, "names.csv", b"name\nAna\nEd\nBo\nFlo\n")
+    open_round, scored = played(room, PAIRED, "open"), played(room, SCORED, "scored")
+    check("while a round is open", run("import", open_round, names), tally(2, 2))
+    check("and again", run("import", open_round, names), tally(0, 4))
+    check("once it is complete", run("import", scored, names), tally(2, 2))
+    check("who came", did("export", scored, "players"), b"no,name,dropped\n1,Ana,0\n2,Bo,0\n3,Cy,0\n4,Di,0\n5,Ed,0\n6,Flo,0\n")
+    nine = tally(0, 0, "refused 9 AllRoundsPaired")
+    for what, lines in (("open", PAIRED), ("complete", SCORED)):
+        last = played(room, lines, f"last-{what}", "1")
+        check(f"the last round is {what}", run("import", last, names), nine)
+        check(f"the last round is {what}, and all are there", run("import", last, file_of(room, "there.csv", b"name\nAna\n")), nine)
+    old, event = f"{room}/old", event_of_four(1)
+    make_old(old, event)
+    check("into version 1", run("import", old, file_of(room, "four.csv", b"name\nP1\nP4\nEd\nP2\n")), tally(0, 2, "refused 30 BadSetup"))
+    check("into version 1, nobody new", run("import", old, file_of(room, "two.csv", b"name\nP1\nP4\n")), tally(0, 2))
+    check("into version 1, and who is there", did("players", old), due(event.players())[1])
+    did("migrate", old)
+    check("into version 1, once it is migrated", run("import", old, f"{room}/four.csv"), tally(1, 3))
+
+
 def run_again(room):
     """A list of those who came first, and a second one with those who came late."""
     file = new(room)
@@ -221,7 +242,7 @@ def run_again(room):
     check("in a script", ran.stdout, b"ok 0\nok 1\nno,name,dropped\n1,Ana,0\nround,table,a,b,x,y,d\nusage\nusage\n")
 
 
-for part in (run_worked, run_lists, run_sizes, run_paths, run_stops, run_again):
+for part in (run_worked, run_lists, run_sizes, run_paths, run_stops, run_late, run_again):
     with tempfile.TemporaryDirectory() as room:
         part(room)
 end("CSV, as the program is built")

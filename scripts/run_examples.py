@@ -48,13 +48,14 @@ def run_sizes():
 
 
 def run_full_event():
-    """An event has 512 players at most. A name that is taken comes first."""
+    """An event has 512 players at most, before the start and after it. A name that is taken comes first."""
     script, answers = b"init\tFriday\t3\t0\n", b"ok 0\n"
     for number in range(1, 513):
         script += b"enrol\tN%d\n" % number
         answers += b"ok %d\n" % number
-    script += b"enrol\tN1\nenrol\tN513\nenrol\t\nstart\npair\t1\t" + b"0" * 64 + b"\n"
-    answers += b"refused 2 NameTaken\nrefused 3 PlayersFull\nrefused 1 BadName\nok 513\nok 514\n"
+    script += b"enrol\tN1\nenrol\tN513\nenrol\t\nstart\npair\t1\t" + b"0" * 64 + b"\nenrol\tN1\nenrol\tN513\nenrol\t\n"
+    turned_away = b"refused 2 NameTaken\nrefused 3 PlayersFull\nrefused 1 BadName\n"
+    answers += turned_away + b"ok 513\nok 514\n" + turned_away
     check("512 players", run(script), (0, answers, b""))
 
 

@@ -1,6 +1,6 @@
 """Runs the program as it is built on files: each transcript of a folder as command lines, one process a line; then the files that a person may
-hand in, each with a clear answer, nothing changed, and no litter beside it; copies, as a person makes them and goes back to them; and files of
-version 1, which are migrated.
+hand in, each with a clear answer, nothing changed, and no litter beside it; copies, as a person makes them and goes back to them; files of
+version 1, which are migrated; and late entries in files of either version.
 
 An empty line of a transcript begins the next file. What a script is answered `usage` is a fault of usage here, whose text goes to the errors.
 """
@@ -630,9 +630,63 @@ def run_no_migration(room):
     shows("migrate once there is room", file, event)
 
 
+def run_late(room):
+    """Worked example 49, and a correction: the totals of one who enrols while a round is open, and so misses it."""
+    file = f"{room}/e.event"
+    make_four(program, file)
+    check("late, enrol", run("enrol", file, "Ed"), due(["ok 7"]))
+    check("late, how many rounds were stored", query(file, "SELECT no, joined FROM player2 ORDER BY no"), [(1, 0), (2, 0), (3, 0), (4, 0), (5, 1)])
+    check("late, totals while the round is open", totals_in(file), [(it, 0, 0, 0, 0) for it in range(1, 6)])
+    run("result", file, "1", "1", "2", "0", "0")
+    check("late, totals while it is open still", totals_in(file), [(it, 0, 0, 0, 0) for it in range(1, 6)])
+    run("result", file, "1", "2", "2", "1", "0")
+    check("late, totals once it is complete", totals_in(file), [(1, 3, 1, 6, 3), (2, 0, 1, 0, 2), (3, 0, 1, 3, 3), (4, 3, 1, 6, 2), (5, 0, 1, 0, 0)])
+    run("correct", file, "1", "2", "0", "2", "0")
+    check("late, totals after a correction", totals_in(file), [(1, 0, 1, 0, 2), (2, 0, 1, 0, 2), (3, 3, 1, 6, 2), (4, 3, 1, 6, 2), (5, 0, 1, 0, 0)])
+    check("late, enrol once more", run("enrol", file, "Flo"), due(["ok 11"]))
+    check("late, totals of a round that was complete", totals_in(file)[5:], [(6, 0, 1, 0, 0)])
+    run("pair", file, "2", "0" * 64)
+    check("late, the round that is open has no place in them", totals_in(file)[4:], [(5, 0, 1, 0, 0), (6, 0, 1, 0, 0)])
+
+
+def event_begun(version):
+    """An event of four before its first pairing."""
+    event = Event(3, 0, version)
+    for number in range(1, 5):
+        event.enrol(f"P{number}")
+    event.start()
+    return event
+
+
+def event_scored(version):
+    """The same after its first round."""
+    event = event_of_four(version)
+    event.report(1, 1, (2, 0, 0), True)
+    event.report(1, 2, (2, 1, 0), True)
+    return event
+
+
+def run_late_in_version_1(room):
+    """Worked example 49: tables of version 1 take nobody late, whether a round is stored or not. The rules come before that, and so does the last serial."""
+    for what, event in (("no round", event_begun(1)), ("an open round", event_of_four(1)), ("a round", event_scored(1))):
+        file, name = f"{room}/{what}", f"late in version 1, {what}"
+        make_old(file, event)
+        check(name, run("enrol", file, "Ed"), refused(30, "BadSetup"))
+        check(f"{name}, a name that is taken", run("enrol", file, "P1"), refused(2, "NameTaken"))
+        check(f"{name}, no name", run("enrol", file, "Ed "), refused(1, "BadName"))
+        shows(f"{name}, it stays", file, event)
+        full = by_sqlite(shutil.copy(file, f"{file}, full"), "UPDATE event SET serial = 999999")
+        check(f"{name}, the last serial", run("enrol", full, "Ed"), refused(23, "SerialFull"))
+        check(f"{name}, the last serial, a name that is taken", run("enrol", full, "P1"), refused(2, "NameTaken"))
+        check(f"{name}, migrate", run("migrate", file), due([f"ok {event.serial}"]))
+        event.migrate()
+        check(f"{name}, once it is migrated", run("enrol", file, "Ed"), due(event.enrol("Ed")))
+        shows(f"{name}, with one who came late", file, event)
+
+
 PARTS = [run_paths, run_contents, run_litter, run_empty, run_logs, run_links, run_alone, run_copies, run_restoring]
 PARTS += [run_after_sqlite, run_totals, run_locked, run_full_disk, run_rights, run_terminal]
-PARTS += [run_migration, run_versions, run_taken, run_among_others, run_no_migration]
+PARTS += [run_migration, run_versions, run_taken, run_among_others, run_no_migration, run_late, run_late_in_version_1]
 
 run_transcripts()
 for part in PARTS:

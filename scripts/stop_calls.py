@@ -1,5 +1,5 @@
 """Stops the program at each call by which it changes a file, and has each such call fail once, one after the other: in the commands of an event with
-a playoff, in migrations, and in random events. Each time the file has to hold the event before the command or after it, whole, and after it where the
+a playoff, in a late entry, in migrations, and in random events. Each time the file has to hold the event before the command or after it, whole, and after it where the
 command was acknowledged; the program shows that event's standings; and the command, sent again where it was not taken, is taken. A call that
 fails has the command refused with 25.
 
@@ -18,7 +18,7 @@ import random
 import sys
 import tempfile
 
-from event_files import copied, due, has_begun_old, make_old, play_playoff, play_rounds, rows_alone, rows_left, rows_of, run, words_of
+from event_files import copied, due, event_of_four, has_begun_old, make_four, make_old, play_playoff, play_rounds, rows_alone, rows_left, rows_of, run, words_of
 from plain_event import Event
 from random_play import random_event, version_of
 from stopping import STOPS, calls_of, meddling, ways
@@ -122,11 +122,21 @@ def play_migration(calls, has_log):
     calls.play("playoff\t1\t1\t2\t0\t0", event.play(1, 1, (2, 0, 0)), event)
 
 
+def play_late(calls):
+    """A fifth player enrols while the first round of four is open, and misses it: the result that completes it sets the totals of all five."""
+    event = event_of_four()
+    make_four(calls.program, calls.file)
+    calls.before = State(rows_of(event), due(event.standings()))
+    calls.play("enrol\tP5", event.enrol("P5"), event)
+    for table in (1, 2):
+        calls.play(f"result\t1\t{table}\t2\t0\t0", event.report(1, table, (2, 0, 0), True), event)
+
+
 def main(program, library, count, seed):
     dice = random.Random(seed)
     with concurrent.futures.ThreadPoolExecutor(len(os.sched_getaffinity(0))) as pool:
         calls = Calls(program, library, 1 if count else 4, pool)
-        plays = [lambda: play_playoff(calls.play), lambda: play_migration(calls, False), lambda: play_migration(calls, True)]
+        plays = [lambda: play_playoff(calls.play), lambda: play_migration(calls, False), lambda: play_migration(calls, True), lambda: play_late(calls)]
         plays += [lambda it=it: random_event(calls.play, dice, it, MOST, version_of(it)) for it in range(1, count + 1)]
         for number, play in enumerate(plays, 1):
             with tempfile.TemporaryDirectory() as folder:

@@ -27,6 +27,8 @@ struct Match {
 struct Player {
     name: String,
     dropped: bool,
+    /// How many rounds were stored when the player came.
+    joined: usize,
 }
 
 #[derive(Clone, Copy, PartialEq, Eq)]
@@ -211,6 +213,9 @@ impl Event {
                 tally.games += won + lost + s.d;
             }
         }
+        for (player, tally) in self.players.iter().zip(&mut tallies[1..]) {
+            tally.rounds += self.stored.iter().take(player.joined).filter(|round| is_complete(round)).count() as u8;
+        }
         tallies
     }
 
@@ -240,8 +245,11 @@ impl Event {
     }
 
     fn enrol(&mut self, name: &str) -> Result<(), Refusal> {
-        if self.phase != Phase::Enrolling {
+        if matches!(self.phase, Phase::Playoff | Phase::Finished) {
             return Err(NOT_ENROLLING);
+        }
+        if self.phase == Phase::Swiss && self.stored.len() == self.rounds {
+            return Err(ALL_ROUNDS_PAIRED);
         }
         if !is_lawful_name(name) {
             return Err(BAD_NAME);
@@ -252,7 +260,7 @@ impl Event {
         if self.players.len() >= 512 {
             return Err(PLAYERS_FULL);
         }
-        self.players.push(Player { name: name.to_owned(), dropped: false });
+        self.players.push(Player { name: name.to_owned(), dropped: false, joined: self.stored.len() });
         Ok(())
     }
 

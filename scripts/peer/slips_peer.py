@@ -28,6 +28,7 @@ def printed(value):
 
 def standings():
     players = base.execute("SELECT no, name, dropped FROM player2 ORDER BY no").fetchall()
+    joined = base.execute("SELECT no, joined FROM player2 WHERE joined > 0").fetchall()
     rows = base.execute("SELECT round, lo, hi, swapped, done, x, y, d FROM pairing").fetchall()
     is_open = {row[0] for row in rows if not row[4]}
     total = {no: [0, 0, 0, 0] for no, _, _ in players}
@@ -45,6 +46,9 @@ def standings():
                 mine[3] += x + y + d
                 if other:
                     met[one].append(other)
+    complete = {row[0] for row in rows} - is_open
+    for no, rounds in joined:
+        total[no][1] += len(complete & {*range(1, rounds + 1)})
     match_wins = {no: share(points, rounds) for no, (points, rounds, _, _) in total.items()}
     game_wins = {no: share(points, games) for no, (_, _, points, games) in total.items()}
 
