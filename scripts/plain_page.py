@@ -1,0 +1,195 @@
+"""A plain reading of the pages of `extras/sheets.py`: a page as a tree, what each of its lists shows, and what they have to show of an event as the
+plain reading of the rules has it. It uses nothing of the program, nor of the sheets.
+"""
+import html.parser
+import unicodedata
+
+VOID = {"meta", "col"}
+STAGES = {1: "Final", 2: "Semifinals", 4: "Quarterfinals"}
+
+
+class Node:
+    def __init__(self, tag, attributes, parent):
+        self.tag, self.attributes, self.parent, self.children = tag, attributes, parent, []
+
+    def kinds(self):
+        return (self.attributes.get("class") or "").split()
+
+    def text(self):
+        return "".join(it if isinstance(it, str) else it.text() for it in self.children)
+
+    def nodes(self):
+        """This one and all beneath it, in the order of the text."""
+        yield self
+        for it in self.children:
+            if not isinstance(it, str):
+                yield from it.nodes()
+
+    def of(self, tag, kind=None):
+        return [it for it in self.nodes() if it.tag == tag and (kind is None or kind in it.kinds())]
+
+    def one(self, tag, kind):
+        """The text of what there is one of."""
+        found = self.of(tag, kind)
+        return found[0].text() if len(found) == 1 else f"{len(found)} of {tag} {kind}"
+
+
+class Page(html.parser.HTMLParser):
+    """A page as a tree. Faults are noted: an end without its beginning, and what is left open."""
+
+    def __init__(self, text):
+        super().__init__(convert_charrefs=True)
+        self.root = self.at = Node("", {}, None)
+        self.faults = []
+        self.feed(text)
+        self.close()
+        if self.at is not self.root:
+            self.faults.append(f"{self.at.tag} is left open")
+
+    def handle_starttag(self, tag, attributes):
+        node = Node(tag, dict(attributes), self.at)
+        self.at.children.append(node)
+        if tag not in VOID:
+            self.at = node
+
+    def handle_startendtag(self, tag, attributes):
+        self.at.children.append(Node(tag, dict(attributes), self.at))
+
+    def handle_endtag(self, tag):
+        if tag != self.at.tag:
+            self.faults.append(f"{tag} ends in {self.at.tag}")
+        else:
+            self.at = self.at.parent
+
+    def handle_data(self, data):
+        self.at.children.append(data)
+
+    def parts(self):
+        """The parts by their kind, in their order."""
+        return {it.kinds()[1]: it for it in self.root.of("section", "part")}
+
+
+# ---- what a page shows
+
+
+def heading(part):
+    return part.one("span", "event"), part.one("span", "what")
+
+
+def rows(part):
+    """The cells of each row: their kind and their text."""
+    for row in part.of("tbody")[0].of("tr"):
+        yield [(it.kinds()[0], it.text()) for it in row.of("td")]
+
+
+def shown_rows(part):
+    return [tuple(text for _, text in row) for row in rows(part)]
+
+
+def shown_standings(part):
+    """The rows, with a D at those who have dropped; and the width of each bar."""
+    found, bars = [], []
+    for row in part.of("tbody")[0].of("tr"):
+        cells = row.of("td")
+        name = cells[2].of("bdi")[0].text()
+        has_dropped = cells[2].text() == f"{name} dropped"
+        found.append((cells[0].text(), cells[1].text(), name, "D" if has_dropped else "", *(it.text() for it in cells[3:])))
+        bars.append(tuple(it.of("rect", "filled")[0].attributes["width"] for it in cells[4:]))
+    return found, bars
+
+
+def shown_slips(part):
+    found = []
+    for it in part.of("article", "slip"):
+        players = [(line.one("span", "no"), line.one("span", "name")) for line in it.of("div", "who")]
+        boxes = [len(it.of("span", kind)) for kind in ("box", "won", "drawn", "drop", "signature")]
+        found.append((it.one("span", "event"), it.one("span", "round"), it.one("span", "table"), *players, boxes))
+    return found
+
+
+def shown_bracket(part):
+    """The headings of the stages, the players in their boxes, and how many boxes there are."""
+    seats = [(it.one("span", "no"), it.one("span", "name"), it.one("span", "games")) for it in part.of("div", "seat")]
+    return [it.text() for it in part.of("text", "stage")], seats, len(part.of("rect", "match")), [it.text() for it in part.of("text", "even")]
+
+
+# ---- what it has to show
+
+
+def table_rows(event, number):
+    for place, (a, b, score) in enumerate(event.stored[number - 1], 1):
+        other = (str(b), event.names[b - 1]) if b else ("", "")
+        yield (str(place) if b else "bye", str(a), event.names[a - 1], *other, "-".join(map(str, score)) if score else "")
+
+
+def folded(name):
+    return "".join(it for it in unicodedata.normalize("NFKD", name) if not unicodedata.combining(it)).casefold()
+
+
+def name_rows(event, number):
+    """A row for each who sits in the round, by name."""
+    found = []
+    for place, (a, b, _) in enumerate(event.stored[number - 1], 1):
+        for one, other in ((a, b), (b, a)):
+            if one:
+                found.append((event.names[one - 1], str(one), str(place) if b else "bye", event.names[other - 1] if other else ""))
+    return sorted(found, key=lambda it: (folded(it[0]), it[0]))
+
+
+def slips_due(event, number, title):
+    """A slip for each match that has no score: games won twice, drawn once, two drops, two signatures."""
+    matches = [(f"Round {number}", f"Table {place}", match) for place, match in enumerate(event.stored[number - 1] if number else [], 1)]
+    for stage, slots in enumerate(event.stages, 1):
+        matches += [(f"Playoff, stage {stage}", f"Slot {slot}", match) for slot, match in enumerate(slots, 1)]
+    players = lambda it: [(str(number), event.names[number - 1]) for number in it[:2]]
+    return [(title, where, table, *players(match), [5, 3, 1, 2, 2]) for where, table, match in matches if not match[2]]
+
+
+def standings_due(event):
+    """The plain reading's text by its columns."""
+    lines = event.standings()[1:]
+    return [
+        (it[:4].strip(), it[5:9].strip(), it[37:], it[35].strip(), it[10:13].strip(), it[14:20].strip(), it[21:27].strip(), it[28:34].strip())
+        for it in lines
+    ]
+
+
+def bracket_due(event):
+    first = len(event.stages[0])
+    sizes = [first >> it for it in range(first.bit_length())]
+    seats = []
+    even = []
+    for matches in event.stages:
+        for a, b, score in matches:
+            games = score or ("", "", 0)
+            seats += [(str(one), event.names[one - 1], str(count)) for one, count in zip((a, b), games)]
+            even += [f"{games[2]} drawn"] if games[2] else []
+    stages = [STAGES[it] for it in sizes]
+    champion = event.bracket()[-1]
+    if champion.startswith("Champion "):
+        number = int(champion.split()[1])
+        seats.append((str(number), event.names[number - 1], ""))
+        stages.append("Champion")
+    return stages, seats, sum(sizes) + len(stages) - len(sizes), even
+
+
+def rounds_counted(event):
+    return sum(all(score for _, _, score in matches) for matches in event.stored)
+
+
+def parts_due(event, number, is_board=False, has_bracket=True):
+    """The parts of a page, in their order."""
+    if is_board and event.stages and has_bracket:
+        return ["bracket", "standings", "names", "tables"]
+    due = []
+    if not event.stored:
+        due.append("players")
+    if number:
+        due += ["names", "tables"] if is_board else ["tables", "names"]
+    if not is_board and slips_due(event, number, ""):
+        due.append("slips")
+    if event.stored:
+        due.append("standings")
+    if event.stages and has_bracket:
+        due.append("bracket")
+    return due
