@@ -18,7 +18,6 @@ import tempfile
 import time
 
 from event_files import due
-from plain_event import Event
 from serving import Serving, free_port, hear_interrupts, received, sent_to_the_end, sent_whole, served
 from tally import check, end
 
@@ -497,105 +496,9 @@ def run_jq(room):
         check("jq, the end", serving.end(), served(len(cases)))
 
 
-class Dialog:
-    """The script of the scorekeeper's table, as it is typed into."""
-
-    def __init__(self, port):
-        script = f"{os.path.dirname(os.path.abspath(__file__))}/../examples/report.sh"
-        self.process = subprocess.Popen(["sh", script, str(port)], stdin=subprocess.PIPE, stdout=subprocess.PIPE, stderr=subprocess.STDOUT, bufsize=0)
-
-    def said(self, *lines, until):
-        """What is said to these lines, up to these words."""
-        self.process.stdin.write("".join(f"{line}\n" for line in lines).encode())
-        said = b""
-        while not said.endswith(until.encode()) and select.select([self.process.stdout], [], [], 20)[0]:
-            byte = self.process.stdout.read(1)
-            if not byte:
-                break
-            said += byte
-        return said.decode()
-
-    def end(self):
-        self.process.communicate(timeout=60)
-        return self.process.returncode
-
-
-FIVE = ["Ana", 'Zoë "Z" \\o', "Cy", "Di", "Ed"]
-FIVE_LINES = [("init", "Friday", "3", "0"), *(("enrol", it) for it in FIVE), ("start",), ("pair", "1", ZERO)]
-RIGHT = "Is that right (y or n): "
-AGAIN_OR_NOT = "Try again (y or n): "
-NO_SUCH_SCORE = "Not taken: no match ends so. A player wins 2 games at most, not both do, and 3 games at most are drawn.\n"
-FULL = "Not taken: the event has taken all the commands that it can. Tell the organiser.\n"
-
-
-def names_of_five():
-    """Who sits at the tables 1 and 2, and who has the bye."""
-    event = Event(3, 0)
-    for name in FIVE:
-        event.enrol(name)
-    event.start()
-    event.pair(1, bytes(32))
-    return [FIVE[number - 1] for match in event.stored[0] for number in match[:2] if number]
-
-
-def run_report(room):
-    """The script of the scorekeeper's table, to each answer that it puts in words."""
-    one, other, third, fourth, alone = names_of_five()
-    table = f"Table: Round 1, table 1: {one} against {other}\n"
-    games = f"Games won by {one}: Games won by {other}: "
-    second_table = f"Table: Round 1, table 2: {third} against {fourth}\nGames won by {third}: Games won by {fourth}: Games drawn: "
-    port = free_port()
-    with Serving(program, made(f"{room}/e.event", FIVE_LINES), 1000, port) as serving:
-        dialog = Dialog(port)
-
-        def says(name, lines, until, want):
-            check(f"report, {name}", dialog.said(*lines, until=until), want + until)
-
-        says("the start", [], "Round: ", "")
-        again = f"A number, please.\nGames won by {other}: "
-        says("a score", ["1", "1", "2", "x", "01", "0"], RIGHT, f"{table}{games}{again}Games drawn: {one} 2, {other} 1, drawn 0. ")
-        says("not right", ["n"], "Round: ", "Nothing was handed in.\n")
-        says("no such score", ["1", "1", "2", "2", "0"], RIGHT, f"{table}{games}Games drawn: {one} 2, {other} 2, drawn 0. ")
-        says("no such score, sent", ["y"], "Round: ", NO_SUCH_SCORE)
-        says("no such count", ["1", "1", "2", "0", "256"], RIGHT, f"{table}{games}Games drawn: {one} 2, {other} 0, drawn 256. ")
-        says("no such count, sent", ["y"], "Round: ", "Not taken: no count of games goes above 255.\n")
-        says("the bye", ["1", "0"], "Round: ", f"Table: {alone} has the bye.\n")
-        says("no such table", ["1", "9"], "Round: ", "Table: There is no table 9 in round 1.\n")
-        dialog.said("1", "1", "2", "1", "0", until=RIGHT)
-        check("report, somebody else", serving.ask(POST), answer("200 OK", '{"serial":8}'))
-        says("stored by somebody else", ["y"], "Round: ", "Stored already, with this very score. All is well.\n")
-        says("stored", ["1", "1"], "Round: ", f"Table: A score is stored already: {one} 2, {other} 1, drawn 0.\n")
-        says("the second table", ["1", "2", "0", "2", "0"], RIGHT, f"{second_table}{third} 0, {fourth} 2, drawn 0. ")
-    silence = f"No answer at port {port}. Is the program serving? Somebody else may be before you; wait a little.\n"
-    says("nobody serves", ["y"], AGAIN_OR_NOT, silence + "Trying again is safe: a score is stored once.\n")
-    with Serving(program, f"{room}/e.event", 1000, port):
-        says("tried again", ["y"], "Round: ", "Stored. The event has taken 9 commands.\n")
-    check("report, an empty line", (dialog.said("", until="Round: "), dialog.end()), ("", 0))
-
-
-def run_report_late(room):
-    """The same, where another score was stored in between, and where the event can't take one."""
-    one, other, *_ = names_of_five()
-    with Serving(program, made(f"{room}/e.event", FIVE_LINES), 1000) as serving:
-        dialog = Dialog(serving.port)
-        dialog.said("1", "1", "0", "2", "0", until=RIGHT)
-        serving.ask(POST)
-        stored = f"Not taken: another score is stored already: {one} 2, {other} 1, drawn 0.\n"
-        advice = "If that one is wrong, end the serving and correct it: event_reporter correct FILE 1 1 X Y D\n"
-        check("report, another score", dialog.said("y", until="Round: "), f"{stored}{advice}Round: ")
-        check("report, the input ends", dialog.end(), 0)
-    full = made(f"{room}/full", FIVE_LINES)
-    by_sqlite(full, "UPDATE event SET serial = 999999")
-    with Serving(program, full, 1000) as serving:
-        dialog = Dialog(serving.port)
-        dialog.said("1", "1", "2", "1", "0", until=RIGHT)
-        check("report, the last serial", dialog.said("y", until="Round: "), f"{FULL}Round: ")
-        check("report, the last serial, the input ends", dialog.end(), 0)
-
-
 PARTS = [run_posted, run_turned_down, run_two_clients, run_limits, run_broken, run_answers, run_full_disk, run_words, run_address]
 PARTS += [run_locked, run_ended, run_line, run_gone, run_gone_in_the_line, run_slow_reader, run_python]
-for tools, parts in ((["curl"], [run_curl, run_report, run_report_late]), (["curl", "jq"], [run_jq])):
+for tools, parts in ((["curl"], [run_curl]), (["curl", "jq"], [run_jq])):
     missing = [it for it in tools if not shutil.which(it)]
     PARTS += [] if missing else parts
     for it in missing:

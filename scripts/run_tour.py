@@ -1,5 +1,5 @@
 """Runs what the documents show: in each block of kind `console` the lines behind `$`, one after the other in one new folder for a document,
-in which `event_reporter` is the program as it is built and the examples lie beside it. What they print, errors too, has to be what stands
+in which `event_reporter` is the program as it is built and the examples and the companions lie beside it. What they print, errors too, has to be what stands
 beneath them. A line that ends with `&` goes on behind the ones that follow; what stands beneath it is what it prints at once, and beneath `wait`
 stands the rest. The port that is shown stands for one that is free. What goes on behind is asked by `curl`; where that isn't installed, a document
 ends there, and a line says so.
@@ -56,7 +56,8 @@ class Tour:
 for document in documents:
     with tempfile.TemporaryDirectory() as room:
         os.symlink(os.path.abspath(program), f"{room}/event_reporter")
-        shutil.copytree(f"{top}/examples", f"{room}/examples")
+        for folder in ("examples", "extras"):
+            shutil.copytree(f"{top}/{folder}", f"{room}/{folder}")
         tour = Tour(room)
         for typed, shown in steps_of(document):
             if typed.endswith(" &") and not shutil.which("curl"):
