@@ -814,9 +814,12 @@ def run_interrupted(room):
     """Ctrl-C while a command is under way: it is answered all the same."""
     event, file = started(room, ["Ana", "Bo", "Cy", "Di"])
     said(file, "pair")
-    prompt = Terminal(file, by=stand_in(room, '[ "$1" = result ] && sleep 0.6\nexec "$REAL" "$@"'))
+    begun = f"{room}/begun"
+    prompt = Terminal(file, by=stand_in(room, f'[ "$1" = result ] && : > {begun} && sleep 0.6\nexec "$REAL" "$@"'))
     prompt.keys("1 2 0\r")
-    time.sleep(0.4)
+    until = time.monotonic() + PATIENCE
+    while not os.path.exists(begun) and time.monotonic() < until:
+        time.sleep(0.02)
     prompt.keys("\x03")
     check_said("Ctrl-C in a command", prompt.read(), "table 1:", "2-0-0", "ok ", "1 table open: 2")
     check("Ctrl-C in a command, the end", prompt.end()[0], 0)
