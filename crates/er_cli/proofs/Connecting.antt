@@ -1,56 +1,59 @@
 -- One connection after the other.
-use Rattle.std.proofs.Common.{◌≡◌, ◌⊎◌, inl, inr, ℕ, suc, ◌+◌, Bool, true, false, IsTrue, IsFalse, List, Option, refl, sym, ap, subst, ◌∙◌}
-use Rattle.std.proofs.Common.{◌≤◌, arith, true≢false}
+use Rattle.std.proofs.Common.{◌≡◌, ◌⊎◌, inl, inr, ℕ, suc, ◌+◌, List, Option, Result, Ok, Err, refl, subst, ◌≤◌, arith}
 use Rattle.std.proofs.Math.Nat.{le_refl}
 use Rattle.std.specs.Io.KnownBytes.{Appends}
 use Rattle.sqlite_trees.specs.declared.store.Store.{Ghosts}
-use Rattle.er_desk.specs.{declared.desk.Desk.Desk, Desk.{ShowsOwn, Standing, point_of, standing, state}, Headline.LeavesJust}
 use Rattle.sqlite.specs.State.{HasCleanDisk}
+use Rattle.er_desk.specs.{declared.desk.Desk.Desk, Asking.joined, Desk.{ShowsOwn, Standing, standing, state}, Run.Session}
+use Rattle.er_slips.specs.{Answer.AnswerValue, Serving.{AnswersRequest, EndsServing, IsServed, IsUnserved, Serves}}
+use Rattle.er_slips.specs.{declared.request.asked.Asked.Asked, declared.request.asked.Asked.TheVariants.{Standings, Pairings, Slip, Report}}
+use Rattle.er_slips.specs.declared.request.asked.Fault.{Fault}
+use Rattle.er_slips.specs.{declared.serve.Served.Served, declared.serve.Served.TheVariants.{Answered, ReadFault, WriteFault}}
 use Rattle.er_cli.specs.{declared.TheConstants.{DONE, DEVICE}, Serving.{Connects, ConnectsAll, ConnectsUpTo, PrintsServed}}
 use Rattle.er_cli.specs.{Serving.{listening, served}, Texts.AppendsPart}
 use Rattle.er_cli.proofs.Sending.{part_after, part_first, whole_part}
+
+-- what serving a request does to the desk
+module _ (Stood : Type 0) (old : Standing) (session : Session) (new : Standing) where
+  asked_connects : (asked : Result Asked Fault) (answer : AnswerValue) → AnswersRequest Stood old asked answer session new
+      → Connects old session new
+  asked_connects (Err fault) answer it = inl (it.2, it.1)
+  asked_connects (Ok Standings) answer (read, reads, found, is, nothing) = inr (inl (read, reads, nothing))
+  asked_connects (Ok (Pairings round)) answer it = inl (it.2, it.1)
+  asked_connects (Ok (Slip round table)) answer (read, reads, found, is, nothing) = inr (inr (inl (read, reads, nothing)))
+  asked_connects (Ok (Report round table score)) answer (reply, turn, is, asks) = inr (inr (inr (round, table, score, reply, turn, asks)))
+
+  served_connects : (input : Option (List ℕ)) (answer : AnswerValue)
+      → IsServed Stood input old answer session new ⊎ IsUnserved old answer session new → Connects old session new
+  served_connects input answer (inl (asked, is, answers)) = asked_connects asked answer answers
+  served_connects input answer (inr it) = inl (it.2, it.1)
+
+  ends_connecting : (input before after : Option (List ℕ)) (served : Served)
+      → EndsServing Stood input old session new before after served → Connects old session new
+  ends_connecting input before after ReadFault it = inl (it.2, it.1)
+  ends_connecting input before after (Answered status) (answer, wrote, due) = served_connects input answer due
+  ends_connecting input before after (WriteFault sent) (answer, wrote, due) = served_connects input answer due
+
+module _ {S : Type 0} (g : Ghosts S) (input : Option (List ℕ)) (old new : Desk S g) (before after : Option (List ℕ)) (served : Served) where
+  pub serves_connecting : (it : Serves g input old new before after served) → Connects (standing old) it.session (standing new)
+  serves_connecting it = ends_connecting (HasCleanDisk (state g new) × ShowsOwn g old) (standing old) it.session (standing new)
+      input before after served it.ends
 
 one_more : (count : ℕ) → suc count ≡ count + 1
 one_more count = omega arith
 
 -- one connection more
-pub connects_more : (count : ℕ) (first old new : Standing) → ConnectsAll count first old → Connects old new
-    → ConnectsAll (count + 1) first new
-connects_more count first old new all one = subst (λ (n : ℕ). ConnectsAll n first new) (one_more count) (old, all, one)
+pub connects_more : (count : ℕ) (first : Standing) (before : Session) (old : Standing) (one : Session) (new : Standing)
+    → ConnectsAll count first before old → Connects old one new → ConnectsAll (count + 1) first (joined before one) new
+connects_more count first before old one new all more =
+    subst (λ (n : ℕ). ConnectsAll n first (joined before one) new) (one_more count) (old, before, one, all, more, refl)
 
 -- all of so many are so many at most
-pub connects_up_to : (count status : ℕ) (old new : Standing)
-    → ((status ≡ DONE) × ConnectsAll count old new) ⊎ ((status ≡ DEVICE) × ConnectsUpTo count old new) → ConnectsUpTo count old new
-connects_up_to count status old new (inl (done, all)) = (count, le_refl count, all)
-connects_up_to count status old new (inr (broke, some)) = some
-
--- a desk that was stopped stays as it is
-module _ {S : Type 0} {g : Ghosts S} (first old new : Desk S g) where
-  pub waits_more : (IsTrue (standing first).stopped → old ≡ first) → (IsTrue (standing old).stopped → new ≡ old)
-      → IsTrue (standing first).stopped → new ≡ first
-  waits_more before more stopped = let is = before stopped in more (ap (λ (d : Desk S g). (standing d).stopped) is ∙ stopped) ∙ is
-
-module _ {S : Type 0} {g : Ghosts S} (old new : Desk S g) where
-  -- and so one that runs has run before
-  pub ran_before : (IsTrue (standing old).stopped → new ≡ old) → IsFalse (standing new).stopped → IsFalse (standing old).stopped
-  ran_before waits runs = by_stop (standing old).stopped refl
-    where
-      by_stop : (b : Bool) → (standing old).stopped ≡ b → IsFalse (standing old).stopped
-      by_stop false is = is
-      by_stop true is = absurd (true≢false (sym is ∙ ap (λ (d : Desk S g). (standing d).stopped) (sym (waits is)) ∙ runs))
-
--- while it runs, a crash leaves its own event
-module _ {S : Type 0} (g : Ghosts S) (first old new : Desk S g) where
-  pub leaves_more : (HasCleanDisk (state g old) → ShowsOwn g first → IsFalse (standing old).stopped → ShowsOwn g old)
-      → (ShowsOwn g first → LeavesJust (state g first) (point_of (standing first)) → IsFalse (standing old).stopped
-      → LeavesJust (state g old) (point_of (standing old)))
-      → (IsTrue (standing old).stopped → new ≡ old) → (HasCleanDisk (state g new) → HasCleanDisk (state g old))
-      → (ShowsOwn g old → LeavesJust (state g old) (point_of (standing old)) → IsFalse (standing new).stopped
-      → LeavesJust (state g new) (point_of (standing new)))
-      → ShowsOwn g first → LeavesJust (state g first) (point_of (standing first)) → IsFalse (standing new).stopped
-      → LeavesJust (state g new) (point_of (standing new))
-  leaves_more stands leaves waits cleans more shows left runs clean trees may =
-      let ran = ran_before old new waits runs in more (stands (cleans clean) shows ran) (leaves shows left ran) runs clean trees may
+pub connects_up_to : (count status : ℕ) (old : Standing) (session : Session) (new : Standing)
+    → ((status ≡ DONE) × ConnectsAll count old session new) ⊎ ((status ≡ DEVICE) × ConnectsUpTo count old session new)
+    → ConnectsUpTo count old session new
+connects_up_to count status old session new (inl (done, all)) = (count, le_refl count, all)
+connects_up_to count status old session new (inr (broke, some)) = some
 
 -- ---- what is printed where serving ends early
 

@@ -1,15 +1,13 @@
 -- One name more of a list.
 use Rattle.std.proofs.Common.{◌≡◌, inl, inr, ℕ, ◌+◌, ◌<◌, Bool, true, false, IsFalse, List, [], ◌∷◌, ◌++◌, length, map, take, get_or}
-use Rattle.std.proofs.Common.{Some, None, Ok, Err, OnOk, IfErr, is_ok, not, refl, sym, ap, subst, ◌∙◌, arith, true≢false}
+use Rattle.std.proofs.Common.{Some, None, Ok, Err, is_ok, not, refl, sym, ap, subst, ◌∙◌, arith, true≢false}
 use Rattle.std.proofs.{Common.{append-nil, length-append, length-take-le}, lemmas.List.{length-map, take_all, take_more, map-append}}
 use Rattle.std.proofs.lemmas.List.{Elements.filter-append, Folds.list_any-append}
 use Rattle.std.specs.List.{filter, list_any, take-map}
 use Rattle.er_event.specs.{declared.commands.Command.Command, declared.commands.Command.TheVariants.Enrol}
 use Rattle.er_event.specs.{declared.commands.Receipt.Receipt, declared.refusals.Refusal.Refusal}
-use Rattle.sqlite_trees.specs.declared.store.Store.{Ghosts}
 use Rattle.er_store.specs.Fault.{IsFault}
-use Rattle.er_desk.specs.{declared.desk.Desk.Desk, Desk.{ShowsOwn, Standing, Turn, point_of, standing, state}, Headline.LeavesJust}
-use Rattle.er_desk.specs.{Reply.Reply, Run.Runs}
+use Rattle.er_desk.specs.{Asking.{ListsGrow, joined}, Desk.{Standing, Turn}, Reply.Reply, Run.{Runs, Session, session_of}}
 use Rattle.er_paper.specs.declared.imports.PlayerLine.{PlayerLine}
 use Rattle.er_cli.specs.{declared.importing.Additions.Additions, Importing.{Enrols, is_already, is_stop, is_taken, names_of, additions_of}}
 
@@ -36,16 +34,6 @@ runs_on old new command reply (inr (inr (inl it))) on =
     absurd (true≢false (sym (fault_stops it.why it.fault) ∙ sym (ap is_stop it.answered) ∙ on))
 runs_on old new command reply (inr (inr (inr it))) on = absurd (true≢false (sym (ap is_stop it.answered) ∙ on))
 
--- after a reply, while the desk runs, a crash leaves its event
-module _ {S : Type 0} (g : Ghosts S) (old new : Desk S g) where
-  pub replied_leaves : (reply : Reply) → (ShowsOwn g old → OnOk reply (LeavesJust (state g new) (point_of (standing new))))
-      → IfErr reply (λ _. IsFalse (standing new).stopped → new ≡ old)
-      → ShowsOwn g old → LeavesJust (state g old) (point_of (standing old)) → IsFalse (standing new).stopped
-      → LeavesJust (state g new) (point_of (standing new))
-  replied_leaves (Ok receipt) acknowledged same shows left runs = acknowledged shows
-  replied_leaves (Err why) acknowledged same shows left runs =
-      subst (λ (d : Desk S g). LeavesJust (state g d) (point_of (standing d))) (sym (same runs)) left
-
 -- ---- one name more was handed in
 
 counts : (p : Reply → Bool) (replies : List Reply) (reply : Reply)
@@ -63,55 +51,81 @@ none_more replies reply none on = rw (list_any-append is_stop replies (reply ∷
 one_longer : (replies : List Reply) (reply : Reply) → length (replies ++ reply ∷ []) ≡ length replies + 1
 one_longer replies reply = length-append replies (reply ∷ [])
 
-module _ (names : List (List ℕ)) (old mid new : Standing) (additions : Additions)
-    (so_far : Enrols names old additions None mid) (name : List ℕ)
+-- the session with this command behind it
+abbrev pub with_name : Session → List ℕ → Reply → Standing → Session
+with_name session name reply new = joined session (session_of (Enrol name ∷ []) (reply ∷ []) new.stopped)
+
+module _ (grow : ListsGrow) (names : List (List ℕ)) (old mid new : Standing) (additions : Additions) (session : Session)
+    (so_far : Enrols names old additions None session mid) (name : List ℕ)
     (reply : Reply) (turn : Turn mid (Enrol name) reply new) where
   as_many : length so_far.replies ≡ length names
   as_many = so_far.all refl
 
+  whole : take (length so_far.replies) names ≡ names
+  whole = take_all (length so_far.replies) names (omega (arith, as_many))
+
   all_ran : Runs old (map Enrol names) so_far.replies mid
   all_ran =
-      let same : so_far.replies ++ [] ≡ so_far.replies = append-nil so_far.replies in
-      let taken : take (length so_far.replies) names ≡ names = take_all (length so_far.replies) names (omega (arith, as_many)) in
-      subst (λ (ns : List (List ℕ)). Runs old (map Enrol ns) so_far.replies mid) taken
-      (subst (λ (rs : List Reply). Runs old (map Enrol (take (length rs) names)) rs mid) same so_far.ran)
+      subst (λ (ns : List (List ℕ)). Runs old (map Enrol ns) so_far.replies mid) whole
+      (subst (λ (rs : List Reply). Runs old (map Enrol (take (length rs) names)) rs mid) (append-nil so_far.replies) so_far.ran)
+
+  all_asked : session ≡ session_of (map Enrol names) so_far.replies mid.stopped
+  all_asked =
+      subst (λ (ns : List (List ℕ)). session ≡ session_of (map Enrol ns) so_far.replies mid.stopped) whole
+      (subst (λ (rs : List Reply). session ≡ session_of (map Enrol (take (length rs) names)) rs mid.stopped) (append-nil so_far.replies)
+      so_far.asked)
 
   ran_more : Runs old (map Enrol (names ++ name ∷ [])) (so_far.replies ++ reply ∷ []) new
   ran_more = subst (λ (cs : List Command). Runs old cs (so_far.replies ++ reply ∷ []) new) (sym (map-append Enrol names (name ∷ [])))
       (runs_more (map Enrol names) so_far.replies old mid new (Enrol name) reply all_ran turn)
+
+  asked_more : with_name session name reply new
+      ≡ session_of (map Enrol (names ++ name ∷ [])) (so_far.replies ++ reply ∷ []) new.stopped
+  asked_more =
+      ap (λ (s : Session). with_name s name reply new) all_asked
+      ∙ grow old mid new (map Enrol names) so_far.replies (Enrol name) reply all_ran turn
+      ∙ ap (λ (cs : List Command). session_of cs (so_far.replies ++ reply ∷ []) new.stopped) (sym (map-append Enrol names (name ∷ [])))
 
   fits : length (so_far.replies ++ reply ∷ []) ≡ length (names ++ name ∷ [])
   fits = one_longer so_far.replies reply ∙ ap (λ n. n + 1) as_many ∙ sym (length-append names (name ∷ []))
 
   -- the whole list, where this one doesn't stop it
   pub enrols_more : is_stop reply ≡ false → (next : Additions) → next ≡ additions_of (so_far.replies ++ reply ∷ [])
-      → Enrols (names ++ name ∷ []) old next None new
-  enrols_more on next is = record {
-    replies = so_far.replies ++ reply ∷ [];
-    ran = rw (
-      append-nil (so_far.replies ++ reply ∷ []),
-      take_all (length (so_far.replies ++ reply ∷ [])) (names ++ name ∷ []) (omega (arith, fits)),
-    ) ran_more;
-    counted = is;
-    goes_on = none_more so_far.replies reply so_far.goes_on on;
-    all = λ _. fits;
-    ends = tt;
-  }
+      → Enrols (names ++ name ∷ []) old next None (with_name session name reply new) new
+  enrols_more on next is =
+      let all = append-nil (so_far.replies ++ reply ∷ []) in
+      let long = take_all (length (so_far.replies ++ reply ∷ [])) (names ++ name ∷ []) (omega (arith, fits)) in
+      record {
+        replies = so_far.replies ++ reply ∷ [];
+        ran = rw (all, long) ran_more;
+        asked = rw (all, long) asked_more;
+        counted = is;
+        goes_on = none_more so_far.replies reply so_far.goes_on on;
+        all = λ _. fits;
+        ends = tt;
+      }
 
   -- and where it does
   pub enrols_stop : (why : Refusal) → reply ≡ Err why → is_stop reply ≡ true → (all : List (List ℕ))
-      → take (length (names ++ name ∷ [])) all ≡ names ++ name ∷ [] → Enrols all old additions (Some why) new
-  enrols_stop why is stops all begins = record {
-    replies = so_far.replies;
-    ran =
-        let ran = subst (λ (r : Reply). Runs old (map Enrol (names ++ name ∷ [])) (so_far.replies ++ r ∷ []) new) is ran_more in
-        let long = subst (λ (r : Reply). length (so_far.replies ++ r ∷ []) ≡ length (names ++ name ∷ [])) is fits in
-        rw (long, begins) ran;
-    counted = so_far.counted;
-    goes_on = so_far.goes_on;
-    all = λ none. cc;
-    ends = subst (λ (r : Reply). is_stop r ≡ true) is stops;
-  }
+      → take (length (names ++ name ∷ [])) all ≡ names ++ name ∷ []
+      → Enrols all old additions (Some why) (with_name session name reply new) new
+  enrols_stop why is stops all begins =
+      let long = subst (λ (r : Reply). length (so_far.replies ++ r ∷ []) ≡ length (names ++ name ∷ [])) is fits in
+      record {
+        replies = so_far.replies;
+        ran =
+            let ran = subst (λ (r : Reply). Runs old (map Enrol (names ++ name ∷ [])) (so_far.replies ++ r ∷ []) new) is ran_more in
+            rw (long, begins) ran;
+        asked =
+            let asked = subst (λ (r : Reply).
+            with_name session name reply new ≡ session_of (map Enrol (names ++ name ∷ [])) (so_far.replies ++ r ∷ []) new.stopped)
+            is asked_more in
+            rw (long, begins) asked;
+        counted = so_far.counted;
+        goes_on = so_far.goes_on;
+        all = λ none. cc;
+        ends = subst (λ (r : Reply). is_stop r ≡ true) is stops;
+      }
 
 -- the first names and the next one
 pub names_push : (lines : List PlayerLine) (i : ℕ) (d : PlayerLine) → i < length lines
@@ -134,17 +148,21 @@ first_names lines i d within is =
     (ap (λ n. take n (names_of lines)) long ∙ take-map name (i + 1) lines)
 
 -- a name of a list, in its turn
-module _ (lines : List PlayerLine) (i : ℕ) (line : PlayerLine) (within : i < length lines) (is : line ≡ get_or lines i line)
-    (old mid new : Standing) (additions : Additions) (so_far : Enrols (names_of (take i lines)) old additions None mid) (reply : Reply)
+module _ (grow : ListsGrow) (lines : List PlayerLine) (i : ℕ) (line : PlayerLine) (within : i < length lines) (is : line ≡ get_or lines i line)
+    (old mid new : Standing) (additions : Additions) (session : Session)
+    (so_far : Enrols (names_of (take i lines)) old additions None session mid) (reply : Reply)
     (turn : Turn mid (Enrol line.name) reply new) where
+  abbrev then : Session
+  then = with_name session line.name reply new
+
   pub next_enrolled : is_stop reply ≡ false → (next : Additions) → next ≡ additions_of (so_far.replies ++ reply ∷ [])
-      → Enrols (names_of (take (i + 1) lines)) old next None new
-  next_enrolled on next counted = subst (λ (ns : List (List ℕ)). Enrols ns old next None new) (sym (names_next lines i line within is))
-      (enrols_more (names_of (take i lines)) old mid new additions so_far line.name reply turn on next counted)
+      → Enrols (names_of (take (i + 1) lines)) old next None then new
+  next_enrolled on next counted = subst (λ (ns : List (List ℕ)). Enrols ns old next None then new) (sym (names_next lines i line within is))
+      (enrols_more grow (names_of (take i lines)) old mid new additions session so_far line.name reply turn on next counted)
 
   -- the player was added
   pub added : (receipt : Receipt) → reply ≡ Ok receipt
-      → Enrols (names_of (take (i + 1) lines)) old (record { added = additions.added + 1; already = additions.already }) None new
+      → Enrols (names_of (take (i + 1) lines)) old (record { added = additions.added + 1; already = additions.already }) None then new
   added receipt ok =
       let replies = so_far.replies in
       let one : length (filter is_ok (replies ++ reply ∷ [])) ≡ length (filter is_ok replies) + 1 =
@@ -157,7 +175,7 @@ module _ (lines : List PlayerLine) (i : ℕ) (line : PlayerLine) (within : i < l
 
   -- or was there already
   pub found : (why : Refusal) → reply ≡ Err why → is_taken why ≡ true
-      → Enrols (names_of (take (i + 1) lines)) old (record { added = additions.added; already = additions.already + 1 }) None new
+      → Enrols (names_of (take (i + 1) lines)) old (record { added = additions.added; already = additions.already + 1 }) None then new
   found why err taken =
       let replies = so_far.replies in
       let none : length (filter is_ok (replies ++ reply ∷ [])) ≡ length (filter is_ok replies) + 0 =
@@ -170,6 +188,6 @@ module _ (lines : List PlayerLine) (i : ℕ) (line : PlayerLine) (within : i < l
       next_enrolled (ap is_stop err ∙ ap not taken) _ (same_additions _ _ _ _ (omega (arith, none, were)) (omega (arith, one, had)))
 
   -- or the import ends
-  pub ended : (why : Refusal) → reply ≡ Err why → is_taken why ≡ false → Enrols (names_of lines) old additions (Some why) new
-  ended why err other = enrols_stop (names_of (take i lines)) old mid new additions so_far line.name reply turn why err
+  pub ended : (why : Refusal) → reply ≡ Err why → is_taken why ≡ false → Enrols (names_of lines) old additions (Some why) then new
+  ended why err other = enrols_stop grow (names_of (take i lines)) old mid new additions session so_far line.name reply turn why err
       (ap is_stop err ∙ ap not other) (names_of lines) (first_names lines i line within is)

@@ -14,24 +14,28 @@ use Rattle.er_event.specs.{declared.refusals.Refusal.TheVariants.{Memory, NoEven
 use Rattle.er_rank.specs.declared.rows.Row.{Row}
 use Rattle.er_store.specs.{Fault.{IsFault, IsLoadFault}, Standing.{IsStored, Leaves}}
 use Rattle.er_desk.specs.{declared.desk.Desk.Desk, Desk.{Point, Standing, Turn, Reads, ShowsEvent, ShowsOwn, point_of}}
-use Rattle.er_desk.specs.Desk.{standing, state, version_in}
+use Rattle.er_desk.specs.Desk.{running_at, standing, state, version_in}
 use Rattle.er_desk.specs.{Reply.{Reply, IsLawful, receipt}, Run.{Session, IsStoredEnd, no_session}, History.{Ended, LeadsTo}}
 use Rattle.er_desk.specs.{Headline.{FindsAgain, LeavesEnd, NextBegins, WasLeftBy}, Migrating.{MayMigrate, Migrates}}
 use Rattle.sqlite_trees.specs.declared.store.Store.{Ghosts}
-use Rattle.er_desk.specs.{Headline.AreTheStandings, Asking.{Asks, NextSessions}, Closing.{IsAtRest, IsClosedAs, LeavesNoMore}}
+use Rattle.er_desk.specs.{Headline.AreTheStandings, Asking.{Asks, GoesOnFrom, NextSessions}, Closing.{IsAtRest, IsClosedAs, LeavesNoMore}}
+use Rattle.er_desk.specs.{History.new_point, Opening.HoldsNothing}
+use Rattle.er_event.specs.Sound.{IsSetUp}
+use Rattle.er_cli.specs.{Files.IsMade, Next.{FindsNext, GoesTo, IsLeftNext}}
 use Rattle.sqlite_store.specs.FileStore.{files as store_files}
 use Rattle.std.proofs.Math.Logic.{∥∥₁_elim}
 use Rattle.sqlite_trees.specs.Props.{Trees-set}
 use Rattle.er_desk.specs.{declared.opening.OpenFault.OpenFault, declared.opening.OpenFault.TheVariants.Unopened as NotOpened}
-use Rattle.er_desk.specs.{declared.opening.OpenFault.TheVariants.Refused as OpenedInVain, Opening.{OnRefused, OnLeft, IsCleanFault, why_of}}
+use Rattle.er_desk.specs.{declared.opening.OpenFault.TheVariants.Refused as OpenedInVain, Opening.{OnRefused, OnUnopened, IsCleanFault, why_of}}
 use Rattle.er_words.specs.{declared.action.Task.Task, declared.action.Task.TheVariants.{Ask, Import, Serve}}
 use Rattle.er_words.specs.{declared.action.Request.Request, declared.action.Request.TheVariants.{Submit, Players, Standings, Slips}}
 use Rattle.er_words.specs.{declared.action.Request.TheVariants.{Bracket, Export, Migrate}}
 use Rattle.er_cli.specs.{declared.texts.Answer.Answer, declared.texts.Answer.TheVariants.{Accepted, Text, Refused, Usage}}
-use Rattle.er_cli.specs.Answers.{AsksFor, DeskAnswers, IfMovable, IsRowsAnswer, Moves, moved_answer}
+use Rattle.er_cli.specs.Answers.{AsksFor, DeskAnswers, IsRowsAnswer, Moves, moved_answer}
 use Rattle.er_cli.specs.Answers.{reply_answer, replies_of, session_at, ShowsPlayers, ShowsSlips, ShowsBracket, ShowsExport}
-use Rattle.er_cli.specs.GoingOn.{Answered, FindsNext, IsAnswered, IsAnswerAt, IsFound, IsLeftNext, OrFault, ShowsStandings}
-use Rattle.er_cli.specs.{GoingOn.{IsAbsent, OnAsk, OnAsked, GoesOn, GoesOnIfThere}, Files.{IsNotOpened, OpensFor, StandsOn}, Help.Tells}
+use Rattle.er_cli.specs.GoingOn.{Answered, DoesNext, Handed, IsAnswered, IsAnswerAt, IsFound}
+use Rattle.er_cli.specs.GoingOn.{OrFault, ShowsStandings}
+use Rattle.er_cli.specs.{GoingOn.{IsAbsent, OnOpen, GoesOn, GoesOnIfThere}, Files.{IsNotOpened, OpensFor}, Help.Tells}
 use Rattle.er_words.specs.{declared.action.Action.Action, declared.action.Action.TheVariants.{Init, Open}}
 
 not_found : (why : Refusal) → (why ≡ NoEvent) ⊎ IsFault why → (why ≡ NoEvent) ⊎ IsLoadFault why
@@ -55,6 +59,13 @@ lawful_turn : (old new : Standing) (c : Command) (r : Reply) → Turn old c r ne
     → IsLawful old.version old.event old.serial c r
 lawful_turn old new c r h1 runs = grind (arith, common_steps)
 
+-- its tables stay of their version
+turn_version : (old new : Standing) (c : Command) (r : Reply) → Turn old c r new → new.version ≡ old.version
+turn_version old new c r (inl it) = it.version_is
+turn_version old new c r (inr (inl it)) = ap (λ (s : Standing). s.version) it.same
+turn_version old new c r (inr (inr (inl it))) = ap (λ (s : Standing). s.version) it.stopped
+turn_version old new c r (inr (inr (inr it))) = ap (λ (s : Standing). s.version) it.same
+
 shown : (old : Standing) (Shows : EventValue → Answer → Type 0) (answer : Answer) → IsFalse old.stopped
     → ShowsEvent Refused old Shows answer → OrFault (Shows old.event answer) answer
 shown old Shows answer runs (inl (going, inl shows)) = inl shows
@@ -75,9 +86,13 @@ moved_at old new (Err why) answer runs (inl it) is = absurd (true≢false (sym i
 moved_at old new (Err why) answer runs (inr it) is = inr (why, it.2, is)
 
 pub answer_at : (Stood : Type 0) (old new : Standing) (request : Request) (answer : Answer) → Stood → IsFalse old.stopped
-    → DeskAnswers Stood old request answer new → IsAnswerAt (point_of old) request answer
-answer_at Stood old new (Submit command) answer stood runs (reply, turn, is) =
-    (reply, old.version, lawful_turn old new command reply turn runs, is)
+    → DeskAnswers Stood old request answer new → IsAnswerAt new.version (point_of old) request answer
+answer_at Stood old new (Submit command) answer stood runs (reply, turn, is) = (
+  reply,
+  subst (λ (v : ℕ). IsLawful v old.event old.serial command reply) (sym (turn_version old new command reply turn))
+      (lawful_turn old new command reply turn runs),
+  is,
+)
 answer_at Stood old new Players answer stood runs it = shown old ShowsPlayers answer runs it.0
 answer_at Stood old new Standings answer stood runs (read, reads, are, is, fails) =
     rows_shown old read answer (are stood) (fails stood runs) is
@@ -189,12 +204,12 @@ doubt_fault Stood old new Migrate answer stood runs (moved, it, is) stopped =
 -- ---- the file
 
 -- what a history needs to know of a request that asks this session
-record Goes {S : Type 0} (g : Ghosts S) (old : Desk S g) (session : Session) (new : Desk S g) : Type 0 where
-  leads : LeadsTo (point_of (standing old)) session.kept (point_of (standing new))
-  sure : IsFalse (standing new).stopped → session.doubt ≡ None
-  clean : HasCleanDisk (state g new) → HasCleanDisk (state g old)
-  stands : HasCleanDisk (state g new) → ShowsOwn g old → IsFalse (standing new).stopped → ShowsOwn g new
-  crash : IsFalse (standing old).stopped → ShowsOwn g old → LeavesEnd (state g new) (point_of (standing old)) session
+pub record Goes {S : Type 0} (g : Ghosts S) (old : Desk S g) (session : Session) (new : Desk S g) : Type 0 where
+  pub leads : LeadsTo (point_of (standing old)) session.kept (point_of (standing new))
+  pub sure : IsFalse (standing new).stopped → session.doubt ≡ None
+  pub clean : HasCleanDisk (state g new) → HasCleanDisk (state g old)
+  pub stands : HasCleanDisk (state g new) → ShowsOwn g old → IsFalse (standing new).stopped → ShowsOwn g new
+  pub crash : ShowsOwn g old → LeavesEnd (state g new) (point_of (standing old)) session
 
 goes_asking : {S : Type 0} (g : Ghosts S) (old : Desk S g) (session : Session) (new : Desk S g) → Asks g old session new
     → Goes g old session new
@@ -227,35 +242,20 @@ goes_moving g old answer new it may = record {
   sure = λ runs. refl;
   clean = it.clean;
   stands = it.stands may;
-  crash = λ runs shows clean trees left. ends_nowhere (point_of (standing old)) trees (it.crash may shows clean trees left);
+  crash = λ shows clean trees left. ends_nowhere (point_of (standing old)) trees (it.crash may shows clean trees left);
 }
 
--- the tables stand for the event while the desk runs
-pub stands_after : {S : Type 0} (g : Ghosts S) (old new : Desk S g) (request : Request) (answer : Answer)
-    → AsksFor g old request answer new → IfMovable g old request (StandsOn g old new)
-stands_after g old new (Submit command) answer it = it.stands
-stands_after g old new Players answer it = it.stands
-stands_after g old new Standings answer it = it.stands
-stands_after g old new (Slips round) answer it = it.stands
-stands_after g old new Bracket answer it = it.stands
-stands_after g old new (Export kind) answer it = it.stands
-stands_after g old new Migrate answer it = it.stands
-
--- tables of version 2 may always be migrated, and are of it then
-movable : {S : Type 0} (g : Ghosts S) (desk : Desk S g) (request : Request) (P : Type 0) → version_in desk ≡ 2
-    → IfMovable g desk request P → P
-movable g desk (Submit command) P second it = it
-movable g desk Players P second it = it
-movable g desk Standings P second it = it
-movable g desk (Slips round) P second it = it
-movable g desk Bracket P second it = it
-movable g desk (Export kind) P second it = it
-movable g desk Migrate P second it = it (inl second)
-
+-- over tables of version 2 they stand for the event while the desk runs
 pub stands_second : {S : Type 0} (g : Ghosts S) (old new : Desk S g) (request : Request) (answer : Answer)
-    → AsksFor g old request answer new → version_in old ≡ 2 → StandsOn g old new
-stands_second g old new request answer it second =
-    movable g old request (StandsOn g old new) second (stands_after g old new request answer it)
+    → AsksFor g old request answer new → version_in old ≡ 2 → HasCleanDisk (state g new) → ShowsOwn g old → IsFalse (standing new).stopped
+    → ShowsOwn g new
+stands_second g old new (Submit command) answer it second = it.stands
+stands_second g old new Players answer it second = it.stands
+stands_second g old new Standings answer it second = it.stands
+stands_second g old new (Slips round) answer it second = it.stands
+stands_second g old new Bracket answer it second = it.stands
+stands_second g old new (Export kind) answer it second = it.stands
+stands_second g old new Migrate answer it second = it.stands (inl second)
 
 pub stays_second : {S : Type 0} (g : Ghosts S) (old new : Desk S g) (request : Request) (answer : Answer)
     → AsksFor g old request answer new → version_in old ≡ 2 → version_in new ≡ 2
@@ -268,64 +268,115 @@ stays_second g old new (Export kind) answer it second = it.version ∙ second
 stays_second g old new Migrate answer it second =
     still_second (standing old) (standing new) it.turn.0 it.turn.1 second
 
-module _ (law : NextSessions) (image : Image) (new first : Point) (ends : List Ended) (was : WasLeftBy image new ends first) where
+-- a desk that runs stands at its point
+runs_at : (old : Standing) (point : Point) → IsFalse old.stopped → point_of old ≡ point → old ≡ running_at point old.version
+runs_at old point runs is =
+    subst (λ (p : Point). old ≡ running_at p old.version) is (ap (λ (b : Bool). let it : Standing = record old { stopped = b } in it) runs)
+
+-- a session goes on from where the history has ended
+module _ (new first : Point) (ends : List Ended) (from : GoesOnFrom new first ends) where
   -- files at rest at this point are found by the next command line
   finds_next : (session : Session) (last : Point) → LeadsTo first session.kept last → session.doubt ≡ None → (left : Image)
       → IsAtRest left last → FindsNext new ends session last left
   finds_next session last leads sure left rest =
-      let it = law image new first ends was in
-      record { both = it.leaves session last left leads sure rest.both; alone = it.leaves session last _ leads sure rest.alone }
+      record { both = from.leaves session last left leads sure rest.both; alone = from.leaves session last _ leads sure rest.alone }
+
+  module _ {D : Type 0} (d : disk.Ghosts D) (desk last : Desk (FileStore D d) over_files) (session : Session)
+      (found : HasCleanDisk (state over_files desk) → FindsAgain over_files desk first)
+      (asked : Goes over_files desk session last) where
+    leads_there : HasCleanDisk (state over_files last) → LeadsTo first session.kept (point_of (standing last))
+    leads_there clean =
+        subst (λ (p : Point). LeadsTo p session.kept (point_of (standing last))) (found (asked.clean clean)).found asked.leads
+
+    rests_next : (closed : Result (Files D) (Error × FileStore D d)) → IsClosedAs last closed
+        → IfOk closed (λ files. AreClean d files.log files.db → IsFalse (standing last).stopped
+        → IsLeftNext d new ends session (point_of (standing last)) files)
+    rests_next (Ok files) it = λ clean runs.
+        let was_clean = it.clean clean in
+        let rest = it.rests clean (asked.stands was_clean (found (asked.clean was_clean)).shows runs) in
+        record {
+          seen = finds_next session (point_of (standing last)) (leads_there was_clean) (asked.sure runs) (image_of d files) rest.seen;
+          left = λ left may.
+              finds_next session (point_of (standing last)) (leads_there was_clean) (asked.sure runs) left (rest.left left may);
+        }
+    rests_next (Err why) it = tt
+
+    stays_next : (closed : Result (Files D) (Error × FileStore D d)) → IsClosedAs last closed
+        → MatchResult closed (λ files. (it : FileStore D d) × (store_files it ≡ (files.log, files.db)) × LeavesNoMore last it)
+        (λ it. LeavesNoMore last it.1)
+    stays_next (Ok files) it = it.spares
+    stays_next (Err why) it = it.fails.as_before
+
+    pub goes_to : (closed : Result (Files D) (Error × FileStore D d)) → IsClosedAs last closed → GoesTo d new ends session last
+    goes_to closed put_away = record {
+      next = λ clean trees may.
+          let again = found (asked.clean clean) in
+          from.begins session trees
+          (subst (λ (p : Point). IsStoredEnd p session trees) again.found (asked.crash again.shows clean trees may));
+      shows = λ clean runs. asked.stands clean (found (asked.clean clean)).shows runs;
+      closed = closed;
+      rests = rests_next closed put_away;
+      stays = stays_next closed put_away;
+    }
+
+    handed : (Did : Standing → Session → Standing → Type 0) → IsFalse (standing desk).stopped → Did (standing desk) session (standing last)
+        → (closed : Result (Files D) (Error × FileStore D d)) → IsClosedAs last closed → Handed d new ends first Did
+    handed Did runs did closed put_away = record {
+      last = last;
+      session = session;
+      goes = goes_to closed put_away;
+      did = λ clean. (
+        version_in desk,
+        subst (λ (s : Standing). Did s session (standing last))
+            (runs_at (standing desk) first runs (found (asked.clean clean)).found) did,
+      );
+    }
+
+-- ---- a new event
+
+first_point : (new : Point) (old : Standing) → old ≡ running_at new 2 → point_of old ≡ new
+first_point new old is = ap point_of is
+
+-- where an event was made in a file that held nothing, its empty history begins
+pub made_begins : NextSessions → {D : Type 0} (d : disk.Ghosts D) (image : Image) (name : List ℕ) (rounds cut : ℕ)
+    (desk : Desk (FileStore D d) over_files)
+    → IsSetUp name rounds cut → IsMade image (new_point name rounds cut) desk → Asks over_files desk no_session desk
+    → (closed : Result (Files D) (Error × FileStore D d)) → IsClosedAs desk closed → HoldsNothing image
+    → GoesTo d (new_point name rounds cut) [] no_session desk
+made_begins law d image name rounds cut desk set_up made asks closed put_away nothing =
+    let new = new_point name rounds cut in
+    goes_to new new [] (law new new [] (record { name = name; limits = (rounds, cut); is_new = refl; set_up = set_up }) refl) d desk desk
+    no_session
+    (λ clean. record {
+      found = first_point new (standing desk) made.is_new;
+      shows = made.stands nothing clean;
+      leaves = made.leaves nothing;
+    })
+    (goes_asking _ _ _ _ asks) closed put_away
+
+-- ---- a history that left the file
+
+module _ (law : NextSessions) (image : Image) (new first : Point) (ends : List Ended) (was : WasLeftBy image new ends first) where
+  from : GoesOnFrom new first ends
+  from = law new first ends was.begins was.history
 
   module _ {D : Type 0} (d : disk.Ghosts D) where
-    module _ (desk last : Desk (FileStore D d) over_files) (request : Request) (answer : Answer)
-        (found : HasCleanDisk (state over_files desk) → FindsAgain over_files desk first)
-        (asked : Goes over_files desk (session_at request answer (standing last).stopped) last) where
-      abbrev session : Session
-      session = session_at request answer (standing last).stopped
-
-      leads_there : HasCleanDisk (state over_files last) → LeadsTo first session.kept (point_of (standing last))
-      leads_there clean =
-          subst (λ (p : Point). LeadsTo p session.kept (point_of (standing last))) (found (asked.clean clean)).found asked.leads
-
-      rests_next : (closed : Result (Files D) (Error × FileStore D d)) → IsClosedAs last closed
-          → IfOk closed (λ files. AreClean d files.log files.db → IsFalse (standing last).stopped
-          → IsLeftNext d new ends session (point_of (standing last)) files)
-      rests_next (Ok files) it = λ clean runs.
-          let was_clean = it.clean clean in
-          let rest = it.rests clean (asked.stands was_clean (found (asked.clean was_clean)).shows runs) in
-          record {
-            seen = finds_next session (point_of (standing last)) (leads_there was_clean) (asked.sure runs) (image_of d files) rest.seen;
-            left = λ left may.
-                finds_next session (point_of (standing last)) (leads_there was_clean) (asked.sure runs) left (rest.left left may);
-          }
-      rests_next (Err why) it = tt
-
-      stays_next : (closed : Result (Files D) (Error × FileStore D d)) → IsClosedAs last closed
-          → MatchResult closed (λ files. (it : FileStore D d) × (store_files it ≡ (files.log, files.db)) × LeavesNoMore last it)
-          (λ it. LeavesNoMore last it.1)
-      stays_next (Ok files) it = it.spares
-      stays_next (Err why) it = it.fails.as_before
-
-      asked_goes_on : IsFalse (standing desk).stopped
-          → DeskAnswers (HasCleanDisk (state over_files last) × ShowsOwn over_files desk) (standing desk) request answer (standing last)
-          → (closed : Result (Files D) (Error × FileStore D d)) → IsClosedAs last closed → Answered d new ends first request answer
-      asked_goes_on runs answers closed put_away = record {
-        last = last;
-        next = λ clean trees may.
-            let again = found (asked.clean clean) in
-            (law image new first ends was).begins session trees
-            (subst (λ (p : Point). IsStoredEnd p session trees) again.found (asked.crash runs again.shows clean trees may));
-        lawful = λ clean.
-            let again = found (asked.clean clean) in
-            subst (λ (p : Point). IsAnswerAt p request answer) again.found
-            (answer_at _ (standing desk) (standing last) request answer (clean, again.shows) runs answers);
-        acknowledged = kept_alone _ (standing desk) (standing last) request answer answers;
-        doubt = λ clean stopped.
-            doubt_fault _ (standing desk) (standing last) request answer (clean, (found (asked.clean clean)).shows) runs answers stopped;
-        closed = closed;
-        rests = rests_next closed put_away;
-        stays = stays_next closed put_away;
-      }
+    asked_goes_on : (desk last : Desk (FileStore D d) over_files) (request : Request) (answer : Answer)
+        → (HasCleanDisk (state over_files desk) → FindsAgain over_files desk first)
+        → Goes over_files desk (session_at request answer (standing last).stopped) last → IsFalse (standing desk).stopped
+        → DeskAnswers (HasCleanDisk (state over_files last) × ShowsOwn over_files desk) (standing desk) request answer (standing last)
+        → (closed : Result (Files D) (Error × FileStore D d)) → IsClosedAs last closed → Answered d new ends first request answer
+    asked_goes_on desk last request answer found asked runs answers closed put_away = record {
+      last = last;
+      goes = goes_to new first ends from d desk last (session_at request answer (standing last).stopped) found asked closed put_away;
+      lawful = λ clean.
+          let again = found (asked.clean clean) in
+          subst (λ (p : Point). IsAnswerAt (version_in last) p request answer) again.found
+          (answer_at _ (standing desk) (standing last) request answer (clean, again.shows) runs answers);
+      acknowledged = kept_alone _ (standing desk) (standing last) request answer answers;
+      doubt = λ clean stopped.
+          doubt_fault _ (standing desk) (standing last) request answer (clean, (found (asked.clean clean)).shows) runs answers stopped;
+    }
 
     is_answered : (desk last : Desk (FileStore D d) over_files) (request : Request) (answer : Answer) → IsFound d image first desk
         → IsFalse (standing desk).stopped → AsksFor over_files desk request answer last
@@ -355,54 +406,49 @@ module _ (law : NextSessions) (image : Image) (new first : Point) (ends : List E
     refused_next (NotOpened refusal left) kept = tt
     refused_next (OpenedInVain conn refusal) kept = λ clean trees may.
         let same : trees ≡ was.left.0 = ∥∥₁_elim was.left.1 (Trees-set _ _) (λ holds. kept was.left.0 holds clean trees may) in
-        (law image new first ends was).begins no_session trees
+        from.begins no_session trees
         (ends_nowhere first trees (subst (IsStored first.event first.serial) (sym same) was.left.2))
 
-    module _ (Spares : Leftover D d → Type 0) (out out_then err err_then : Option (List ℕ)) (status : ℕ) where
+    module _ (Spares : Error → Option (Leftover D d) → Type 0) (out out_then err err_then : Option (List ℕ)) (status : ℕ) where
+      does_next : (task : Task) (desk : Desk (FileStore D d) over_files) → IsFalse (standing desk).stopped
+          → IsFound d image first desk → OpensFor d out out_then err err_then status task desk
+          → DoesNext d Spares image new ends first out out_then err err_then status task
+      does_next (Ask request) desk runs found it =
+          let (answer, answers, asked, tells) = it.does in
+          (answer, is_answered desk it.last request answer found runs asked answers it.put_away.0 it.put_away.1, tells)
+      does_next (Import list) desk runs found it =
+          let (session, imports, asked) = it.does in
+          handed new first ends from d desk it.last session found.finds (goes_asking _ _ _ _ asked) _ runs imports it.put_away.0 it.put_away.1
+      does_next (Serve port count) desk runs found it =
+          let (session, serves, asked) = it.does in
+          handed new first ends from d desk it.last session found.finds (goes_asking _ _ _ _ asked) _ runs serves it.put_away.0 it.put_away.1
+
       pub task_goes_on : (task : Task) (desk : Desk (FileStore D d) over_files) → IsFalse (standing desk).stopped
           → IsFound d image first desk → OpensFor d out out_then err err_then status task desk
-          → OnAsk task (GoesOn d Spares image new ends first out out_then err err_then status)
-      task_goes_on (Ask request) desk runs found it =
-          let (answer, answers, asked, tells) = it.does in
-          (answer, inr (is_answered desk it.last request answer found runs asked answers it.put_away.0 it.put_away.1), tells)
-      task_goes_on (Import list) desk runs found it = tt
-      task_goes_on (Serve port count) desk runs found it = tt
+          → GoesOn d Spares image new ends first out out_then err err_then status task
+      task_goes_on task desk runs found it = inr (does_next task desk runs found it)
 
       pub unopened_goes_on : (task : Task) (fault : OpenFault D d) (why : Refusal) → why ≡ why_of fault
           → (IsCleanFault fault → IsFault (why_of fault))
           → ((db : Trees) → HoldsDatabase image db → OnRefused fault (λ conn. Leaves (file_state conn) (λ trees. trees ≡ db)))
-          → OnLeft fault Spares → Tells (Refused why) out out_then err err_then status
-          → OnAsk task (GoesOn d Spares image new ends first out out_then err err_then status)
-      unopened_goes_on (Ask request) fault why is cause kept spared tells = (
+          → OnUnopened fault Spares → Tells (Refused why) out out_then err err_then status
+          → GoesOn d Spares image new ends first out out_then err err_then status task
+      unopened_goes_on task fault why is cause kept spared tells = inl (
         Refused why,
-        inl (record {
+        record {
           fault = fault;
           answered = ap (λ (w : Refusal). Refused w) is;
           why = cause;
           next = refused_next fault kept;
           spared = spared;
-        }),
+        },
         tells,
       )
-      unopened_goes_on (Import list) fault why is cause kept spared tells = tt
-      unopened_goes_on (Serve port count) fault why is cause kept spared tells = tt
 
 -- the file is not there, or memory is wanting for any words
-module _ {D : Type 0} (d : disk.Ghosts D) (Spares : Leftover D d → Type 0) (image : Image) (new : Point) (ends : List Ended) (first : Point)
+module _ {D : Type 0} (d : disk.Ghosts D) (Spares : Error → Option (Leftover D d) → Type 0) (image : Image) (new : Point) (ends : List Ended) (first : Point)
     (out out_then err err_then : Option (List ℕ)) (status : ℕ) where
-  absent_task : (answer : Answer) → IsAbsent answer → Tells answer out out_then err err_then status → (task : Task)
-      → OnAsk task (GoesOnIfThere d Spares image new ends first out out_then err err_then status)
-  absent_task answer absent tells (Ask request) = inl (answer, absent, tells)
-  absent_task answer absent tells (Import list) = tt
-  absent_task answer absent tells (Serve port count) = tt
-
   pub absent_goes_on : (answer : Answer) → IsAbsent answer → Tells answer out out_then err err_then status → (action : Action)
-      → OnAsked action (GoesOnIfThere d Spares image new ends first out out_then err err_then status)
+      → OnOpen action (GoesOnIfThere d Spares image new ends first out out_then err err_then status)
   absent_goes_on answer absent tells (Init name rounds cut) = tt
-  absent_goes_on answer absent tells (Open task) = absent_task answer absent tells task
-
-  pub there_goes_on : (task : Task) → OnAsk task (GoesOn d Spares image new ends first out out_then err err_then status)
-      → OnAsk task (GoesOnIfThere d Spares image new ends first out out_then err err_then status)
-  there_goes_on (Ask request) it = inr it
-  there_goes_on (Import list) it = tt
-  there_goes_on (Serve port count) it = tt
+  absent_goes_on answer absent tells (Open task) = inl (answer, absent, tells)

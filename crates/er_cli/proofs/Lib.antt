@@ -7,3 +7,4 @@ mod Connecting
 mod Enrolling
 mod Examples
 mod GoingOn
+mod Making

@@ -108,13 +108,3 @@ AsksFor g old (Slips round) answer new = Asks g old no_session new
 AsksFor g old Bracket answer new = Asks g old no_session new
 AsksFor g old (Export kind) answer new = Asks g old no_session new
 AsksFor g old Migrate answer new = Moves g old answer new
-
--- this; of a migration, where the tables may be migrated
-abbrev pub IfMovable : {S : Type 0} (g : Ghosts S) → Desk S g → Request → Type 0 → Type 0
-IfMovable g desk (Submit command) P = P
-IfMovable g desk Players P = P
-IfMovable g desk Standings P = P
-IfMovable g desk (Slips round) P = P
-IfMovable g desk Bracket P = P
-IfMovable g desk (Export kind) P = P
-IfMovable g desk Migrate P = MayMigrate g desk → P

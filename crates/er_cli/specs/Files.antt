@@ -1,21 +1,28 @@
 -- What a command line over the file of an event may be answered.
-use Rattle.std.specs.Prelude.{◌≡◌, ◌⊎◌, ◌≤◌, ℕ, false, IsFalse, List, Option, MatchOption, Result, Err, MatchResult}
+use Rattle.std.specs.Prelude.{◌≡◌, ◌⊎◌, ◌≤◌, ℕ, false, IsFalse, List, [], Option, MatchOption, Result, Err, MatchResult}
 use Rattle.sqlite_disk.specs.declared.Disk as disk
 use Rattle.sqlite_trees.specs.declared.store.Store.{Ghosts}
 use Rattle.sqlite_store.specs.declared.store.FileStore.{FileStore}
 use Rattle.sqlite.specs.State.{HasCleanDisk}
-use Rattle.sqlite.specs.Files.{over_files}
+use Rattle.sqlite.specs.Files.{file_state, over_files}
+use Rattle.sqlite_wal.specs.Recovery.{Image}
 use Rattle.er_event.specs.declared.refusals.Refusal.{Refusal}
 use Rattle.er_event.specs.declared.refusals.Refusal.TheVariants.{NoEvent, EventExists}
+use Rattle.er_event.specs.Sound.{IsSetUp}
 use Rattle.er_event.specs.declared.commands.TheConstants.{MAX_SERIAL}
 use Rattle.er_rules.specs.Commands.{first_refusal}
 use Rattle.er_rules.specs.Sound.{IsSound}
 use Rattle.er_store.specs.Fault.{IsFault, IsLoadFault}
-use Rattle.er_store.specs.Standing.{HasTables, AreKeyed}
+use Rattle.er_store.specs.Standing.{HasTables, AreKeyed, Either, IsStored, Leaves}
 use Rattle.er_desk.specs.declared.desk.Desk.{Desk}
-use Rattle.er_desk.specs.Desk.{Standing, ShowsOwn, running_at, standing, state, version_in}
+use Rattle.er_desk.specs.Asking.{AsksSome}
+use Rattle.er_desk.specs.Desk.{Point, Standing, ShowsOwn, running_at, standing, state, version_in}
+use Rattle.er_desk.specs.Headline.{LeavesJust}
+use Rattle.er_desk.specs.declared.opening.OpenFault.{OpenFault}
+use Rattle.er_desk.specs.Opening.{HoldsNothing, ListsNothing, OnRefused, why_of}
 use Rattle.er_desk.specs.History.{new_point}
 use Rattle.er_desk.specs.Reply.{receipt}
+use Rattle.er_desk.specs.Run.{Session, no_session}
 use Rattle.er_words.specs.declared.action.Action.{Action}
 use Rattle.er_words.specs.declared.action.Action.TheVariants.{Init, Open}
 use Rattle.er_words.specs.declared.action.Task.{Task}
@@ -27,36 +34,45 @@ use Rattle.er_cli.specs.declared.help.TheConstants.{CANNOT_LISTEN}
 use Rattle.er_cli.specs.Help.{Says, Tells}
 use Rattle.er_cli.specs.Importing.{Imports}
 use Rattle.er_cli.specs.Serving.{ConnectsUpTo, PrintsServed}
+use Rattle.er_cli.specs.Next.{GoesTo}
 use Rattle.er_cli.specs.Setup.{init_checks}
-use Rattle.er_cli.specs.Answers.{AsksFor, DeskAnswers, IfMovable}
+use Rattle.er_cli.specs.Answers.{AsksFor, DeskAnswers}
 use Rattle.er_cli.specs.Closing.{IsPutAway}
 
 -- there is no event in the file, or it is damaged, or memory or the device fails
 abbrev pub IsNotOpened : Answer → Type 0
 IsNotOpened answer = (why : Refusal) × ((why ≡ NoEvent) ⊎ IsLoadFault why) × (answer ≡ Refused why)
 
--- the file has an event, or memory or the store fails
-abbrev pub IsNotMade : Refusal → Type 0
-IsNotMade why = (why ≡ EventExists) ⊎ IsFault why
+-- The desk of an event that was just made. In a file that held nothing its tables stand for that event, and a crash leaves
+-- just that.
+pub record IsMade {D : Type 0} {g : disk.Ghosts D} (image : Image) (new : Point) (desk : Desk (FileStore D g) over_files) : Type 0 where
+  pub is_new : standing desk ≡ running_at new 2
+  pub stands : HoldsNothing image → HasCleanDisk (state over_files desk) → ShowsOwn over_files desk
+  pub leaves : HoldsNothing image → LeavesJust (state over_files desk) new
 
--- the desk of an event that was just made
-abbrev pub IsNew : {S : Type 0} {g : Ghosts S} → List ℕ → ℕ → ℕ → Desk S g → Type 0
-IsNew name rounds cut desk = standing desk ≡ running_at (new_point name rounds cut) 2
+-- No event was made: the file has one, or memory or the store fails. In a file that held nothing a crash leaves nothing
+-- then, or that event whole.
+pub record IsNotMade {D : Type 0} (g : disk.Ghosts D) (image : Image) (new : Point) (why : Refusal) : Type 0 where
+  pub cause : (why ≡ EventExists) ⊎ IsFault why
+  pub fault : OpenFault D g
+  pub is : why ≡ why_of fault
+  pub leaves : HoldsNothing image
+      → OnRefused fault (λ conn. Leaves (file_state conn) (Either ListsNothing (IsStored new.event new.serial)))
 
 -- What is checked of an event that is to be made comes before any file is touched.
-abbrev pub InitReplies : {S : Type 0} (g : Ghosts S) → List ℕ → ℕ → ℕ → Result (Desk S g) Refusal → Type 0
-InitReplies g name rounds cut made =
+abbrev pub InitReplies : {D : Type 0} (g : disk.Ghosts D) → Image → List ℕ → ℕ → ℕ → Result (Desk (FileStore D g) over_files) Refusal → Type 0
+InitReplies g image name rounds cut made =
     MatchOption (first_refusal (init_checks false name rounds cut))
-    (MatchResult made (IsNew name rounds cut) IsNotMade)
+    (IsSetUp name rounds cut × MatchResult made (IsMade image (new_point name rounds cut)) (IsNotMade g image (new_point name rounds cut)))
     (λ why. made ≡ Err why)
 
 module _ (out out_then err err_then : Option (List ℕ)) (status : ℕ) where
   -- clients were served, or the port can't be had
-  abbrev pub ServesClients : ℕ → Standing → Standing → Type 0
-  ServesClients count old new =
-      (PrintsServed count out out_then status × (err_then ≡ err) × ConnectsUpTo count old new)
+  abbrev pub ServesClients : ℕ → Standing → Session → Standing → Type 0
+  ServesClients count old session new =
+      (PrintsServed count out out_then status × (err_then ≡ err) × ConnectsUpTo count old session new)
       ⊎ (Says CANNOT_LISTEN.now DEVICE (record { meant = err; other = out }) (record { meant = err_then; other = out_then }) status
-      × (new ≡ old))
+      × (session ≡ no_session) × (new ≡ old))
 
 -- a desk that was just opened: its event is sound, and no fault of the store is behind
 pub record IsOpened {S : Type 0} (g : Ghosts S) (desk : Desk S g) : Type 0 where
@@ -74,41 +90,34 @@ Does g desk (Ask request) last out out_then err err_then status =
     × DeskAnswers (HasCleanDisk (state g last) × ShowsOwn g desk) (standing desk) request answer (standing last)
     × AsksFor g desk request answer last
     × Tells answer out out_then err err_then status
-Does g desk (Import list) last out out_then err err_then status = Imports (standing desk) (standing last) out out_then err err_then status
+Does g desk (Import list) last out out_then err err_then status =
+    AsksSome g desk (Imports out out_then err err_then status) last
 Does g desk (Serve port count) last out out_then err err_then status =
-    ServesClients out out_then err err_then status count (standing desk) (standing last)
-
--- while the desk runs, its tables stand for its event, where they stood for it before
-abbrev pub StandsOn : {S : Type 0} (g : Ghosts S) → Desk S g → Desk S g → Type 0
-StandsOn g old new = HasCleanDisk (state g new) → ShowsOwn g old → IsFalse (standing new).stopped → ShowsOwn g new
-
--- of what a desk is opened for; after a migration, where the tables might be migrated
-abbrev pub StandsAfter : {S : Type 0} (g : Ghosts S) → Desk S g → Task → Desk S g → Type 0
-StandsAfter g old (Ask request) new = IfMovable g old request (StandsOn g old new)
-StandsAfter g old (Import list) new = StandsOn g old new
-StandsAfter g old (Serve port count) new = StandsOn g old new
+    AsksSome g desk (ServesClients out out_then err err_then status count) last
 
 module _ {D : Type 0} (g : disk.Ghosts D) (out out_then err err_then : Option (List ℕ)) (status : ℕ) where
-  -- an event was made, and its file put away; or why it was not
-  abbrev pub Makes : List ℕ → ℕ → ℕ → Type 0
-  Makes name rounds cut =
-      (made : Result (Desk (FileStore D g) over_files) Refusal)
-      × InitReplies over_files name rounds cut made
-      × MatchResult made
-      (λ desk. IsPutAway g desk × Tells (Accepted (receipt 0)) out out_then err err_then status)
-      (λ why. Tells (Refused why) out out_then err err_then status)
-
   -- An event was opened by this desk, one thing was done with it, and its file put away.
   pub record OpensFor (task : Task) (desk : Desk (FileStore D g) over_files) : Type 0 where
     pub last : Desk (FileStore D g) over_files
     pub opened : IsOpened over_files desk
     pub does : Does over_files desk task last out out_then err err_then status
-    pub stands : StandsAfter over_files desk task last
     pub put_away : IsPutAway g last
+
+module _ {D : Type 0} (g : disk.Ghosts D) (image : Image) (out out_then err err_then : Option (List ℕ)) (status : ℕ) where
+  -- An event was made, and its file put away; or why it was not. In a file that held nothing this begins the empty history,
+  -- with which the next command line goes on.
+  abbrev pub Makes : List ℕ → ℕ → ℕ → Type 0
+  Makes name rounds cut =
+      (made : Result (Desk (FileStore D g) over_files) Refusal)
+      × InitReplies g image name rounds cut made
+      × MatchResult made
+      (λ desk. IsPutAway g desk × (HoldsNothing image → GoesTo g (new_point name rounds cut) [] no_session desk)
+      × Tells (Accepted (receipt 0)) out out_then err err_then status)
+      (λ why. Tells (Refused why) out out_then err err_then status)
 
   -- What a command line does to the output and the errors, and its status. An event is opened by a desk over such files.
   abbrev pub EndsLine : Action → Type 0
   EndsLine (Init name rounds cut) = Makes name rounds cut
   EndsLine (Open task) =
       ((answer : Answer) × IsNotOpened answer × Tells answer out out_then err err_then status)
-      ⊎ ((desk : Desk (FileStore D g) over_files) × OpensFor task desk)
+      ⊎ ((desk : Desk (FileStore D g) over_files) × OpensFor g out out_then err err_then status task desk)

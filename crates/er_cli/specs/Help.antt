@@ -85,12 +85,14 @@ streams (Refused why) out err = record { meant = err; other = out }
 streams Usage out err = record { meant = err; other = out }
 streams answer out err = record { meant = out; other = err }
 
--- The text goes to the one stream, and the other stays. Where a write fails, a beginning of the text is there, and the
--- status is the device's.
+-- The text goes to a stream, with the status that is due. Where a write fails, a beginning of the text is there, and the status
+-- is the device's.
+abbrev pub Puts : List ℕ → ℕ → (before after : Option (List ℕ)) → ℕ → Type 0
+Puts text due before after status = ((status ≡ due) × Appends before after text) ⊎ ((status ≡ DEVICE) × AppendsPart before after text)
+
+-- the text goes to the one stream, and the other stays
 abbrev pub Says : List ℕ → ℕ → (old new : Streams) → ℕ → Type 0
-Says text due old new status =
-    (((status ≡ due) × Appends old.meant new.meant text) ⊎ ((status ≡ DEVICE) × AppendsPart old.meant new.meant text))
-    × (new.other ≡ old.other)
+Says text due old new status = Puts text due old.meant new.meant status × (new.other ≡ old.other)
 
 abbrev pub Tells : Answer → (out out_then err err_then : Option (List ℕ)) → ℕ → Type 0
 Tells answer out out_then err err_then status =

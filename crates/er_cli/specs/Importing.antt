@@ -9,7 +9,7 @@ use Rattle.er_event.specs.declared.refusals.Refusal.{Refusal}
 use Rattle.er_event.specs.declared.refusals.Refusal.TheVariants.{NameTaken, Memory}
 use Rattle.er_desk.specs.Desk.{Standing}
 use Rattle.er_desk.specs.Reply.{Reply}
-use Rattle.er_desk.specs.Run.{Runs}
+use Rattle.er_desk.specs.Run.{Runs, Session, session_of, no_session}
 use Rattle.er_paper.specs.declared.imports.CsvFault.{CsvFault}
 use Rattle.er_paper.specs.declared.imports.CsvFault.TheVariants.{BadHeading, BadRow}
 use Rattle.er_paper.specs.declared.imports.CsvFault.TheVariants as csv
@@ -44,9 +44,12 @@ stopping None = []
 stopping (Some why) = Err why ∷ []
 
 -- Each name is one command, in order, until there is none or one is refused otherwise than as taken.
-pub record Enrols (names : List (List ℕ)) (old : Standing) (additions : Additions) (stop : Option Refusal) (new : Standing) : Type 0 where
+pub record Enrols (names : List (List ℕ)) (old : Standing) (additions : Additions) (stop : Option Refusal) (session : Session)
+    (new : Standing) : Type 0 where
   pub replies : List Reply
   pub ran : Runs old (map Enrol (take (length (replies ++ stopping stop)) names)) (replies ++ stopping stop) new
+  -- these commands are the session
+  pub asked : session ≡ session_of (map Enrol (take (length (replies ++ stopping stop)) names)) (replies ++ stopping stop) new.stopped
   pub counted : additions ≡ additions_of replies
   pub goes_on : IsFalse (list_any is_stop replies)
   pub all : stop ≡ None → length replies ≡ length names
@@ -73,26 +76,35 @@ fault_text BadHeading = codes "bad csv heading\n"
 fault_text (BadRow row) = codes "bad csv row " ++ (decimal row ++ (10 ∷ []))
 fault_text csv.Memory = []
 
-module _ (old new : Standing) (out out_then err err_then : Option (List ℕ)) (status : ℕ) where
-  -- the names are handed to the desk, and the additions is printed
-  pub record Hands (names : List (List ℕ)) : Type 0 where
+-- nobody is enrolled
+abbrev pub EnrolsNobody : Standing → Session → Standing → Type 0
+EnrolsNobody old session new = (new ≡ old) × (session ≡ no_session)
+
+module _ (out out_then err err_then : Option (List ℕ)) (status : ℕ) where
+  -- the names are handed to the desk, and the additions are printed
+  pub record Hands (names : List (List ℕ)) (old : Standing) (session : Session) (new : Standing) : Type 0 where
     pub additions : Additions
     pub stop : Option Refusal
-    pub enrols : Enrols names old additions stop new
+    pub enrols : Enrols names old additions stop session new
     pub prints : PrintsAdditions additions stop out out_then err err_then status
 
   -- the fault of a list is named; a list without one is enrolled
-  abbrev pub TakesList : List ℕ → Type 0
-  TakesList list =
-      ((fault : CsvFault) × (fault ≢ csv.Memory) × ReadsPlayers list (Err fault) × (new ≡ old)
+  abbrev pub TakesList : List ℕ → Standing → Session → Standing → Type 0
+  TakesList list old session new =
+      ((fault : CsvFault) × (fault ≢ csv.Memory) × ReadsPlayers list (Err fault) × EnrolsNobody old session new
       × Says (fault_text fault) REFUSED (record { meant = err; other = out }) (record { meant = err_then; other = out_then }) status)
-      ⊎ ((lines : List PlayerLine) × ReadsPlayers list (Ok lines) × Hands (names_of lines))
+      ⊎ ((lines : List PlayerLine) × ReadsPlayers list (Ok lines) × Hands (names_of lines) old session new)
+
+  -- Memory is wanting for a list, or it is taken.
+  abbrev pub ImportsList : List ℕ → Standing → Session → Standing → Type 0
+  ImportsList list old session new =
+      (EnrolsNobody old session new × Tells (Refused Memory) out out_then err err_then status) ⊎ TakesList list old session new
 
   -- The list can't be read, or memory is wanting for it, or it is taken. Nobody is enrolled but by the last.
-  abbrev pub Imports : Type 0
-  Imports =
-      ((new ≡ old)
+  abbrev pub Imports : Standing → Session → Standing → Type 0
+  Imports old session new =
+      (EnrolsNobody old session new
       × Says (codes "cannot read\n") DEVICE
       (record { meant = err; other = out }) (record { meant = err_then; other = out_then }) status)
-      ⊎ ((new ≡ old) × Tells (Refused Memory) out out_then err err_then status)
-      ⊎ ((list : List ℕ) × (length list ≤ MAX_LIST_BYTES) × TakesList list)
+      ⊎ (EnrolsNobody old session new × Tells (Refused Memory) out out_then err err_then status)
+      ⊎ ((list : List ℕ) × (length list ≤ MAX_LIST_BYTES) × TakesList list old session new)

@@ -4,17 +4,20 @@
 -- Answers is what a desk answers to a line; Files is a command line over a file, Closing how it leaves that, and Help
 -- one over none. Script and Input are a script and its lines, Status how it ends. Importing is a list of players, Serving the clients of a
 -- listener. Texts says what a writer holds after an answer, Setup what an event is set up with, and Complaints what a
--- person is told of words that are no line. GoingOn is a command line over the file that a history left.
+-- person is told of words that are no line. GoingOn is a command line over the file that a history
+-- left, and Next what it leaves there.
 pub mod Setup
 pub mod Texts
 pub mod Input
 pub mod Answers
 pub mod Script
 pub mod Closing
+pub mod Next
 pub mod Files
 pub mod Status
 pub mod Help
 pub mod Complaints
 pub mod Serving
 pub mod Importing
+pub mod Words
 pub mod GoingOn

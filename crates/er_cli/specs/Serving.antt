@@ -2,32 +2,41 @@
 use Rattle.std.specs.Global.{Global}
 use Rattle.std.specs.Prelude.{◌≡◌, ◌⊎◌, ◌≤◌, ℕ, zero, suc, List, [], ◌∷◌, ◌++◌, Option, Result, Vec, codes}
 use Rattle.std.specs.Fmt.{decimal}
-use Rattle.std.specs.Io.KnownBytes.{Appends}
 use Rattle.er_event.specs.declared.commands.Command.TheVariants.{Result as Hand}
 use Rattle.er_event.specs.declared.refusals.Refusal.{Refusal}
 use Rattle.er_event.specs.declared.scores.Games.{Games}
 use Rattle.er_event.specs.declared.slips.SlipRow.{SlipRow}
 use Rattle.er_rank.specs.declared.rows.Row.{Row}
+use Rattle.er_desk.specs.Asking.{joined}
 use Rattle.er_desk.specs.Desk.{Standing, Turn, ReadsRows, ReadsSlip}
 use Rattle.er_desk.specs.Reply.{Reply}
+use Rattle.er_desk.specs.Run.{Session, session_of, no_session}
 use Rattle.er_cli.specs.declared.TheConstants.{DONE, DEVICE}
-use Rattle.er_cli.specs.Texts.{AppendsPart}
+use Rattle.er_cli.specs.Help.{Puts}
 
--- one connection: the desk stays as it is, reads its standings or a slip, or is handed one score
-abbrev pub Connects : Standing → Standing → Type 0
-Connects old new =
-    (new ≡ old)
-    ⊎ ((read : Result (Vec Row Global) Refusal) × ReadsRows old read new)
-    ⊎ ((read : Result SlipRow Refusal) × ReadsSlip old read new)
-    ⊎ ((round table : ℕ) × (score : Games) × (reply : Reply) × Turn old (Hand round table score) reply new)
+-- One connection: the desk stays as it is, reads its standings or a slip, or is handed one score. Only the score is
+-- a command.
+abbrev pub Connects : Standing → Session → Standing → Type 0
+Connects old session new =
+    ((new ≡ old) × (session ≡ no_session))
+    ⊎ ((read : Result (Vec Row Global) Refusal) × ReadsRows old read new × (session ≡ no_session))
+    ⊎ ((read : Result SlipRow Refusal) × ReadsSlip old read new × (session ≡ no_session))
+    ⊎ ((round table : ℕ) × (score : Games) × (reply : Reply) × Turn old (Hand round table score) reply new
+    × (session ≡ session_of (Hand round table score ∷ []) (reply ∷ []) new.stopped))
 
 -- so many connections, one after the other
-abbrev pub ConnectsAll : ℕ → Standing → Standing → Type 0
-ConnectsAll zero old new = new ≡ old
-ConnectsAll (suc count) old new = (last : Standing) × ConnectsAll count old last × Connects last new
+abbrev pub ConnectsAll : ℕ → Standing → Session → Standing → Type 0
+ConnectsAll zero old session new = (new ≡ old) × (session ≡ no_session)
+ConnectsAll (suc count) old session new =
+    (last : Standing) × (before one : Session) × ConnectsAll count old before last × Connects last one new × (session ≡ joined before one)
 
-abbrev pub ConnectsUpTo : ℕ → Standing → Standing → Type 0
-ConnectsUpTo most old new = (count : ℕ) × (count ≤ most) × ConnectsAll count old new
+abbrev pub ConnectsUpTo : ℕ → Standing → Session → Standing → Type 0
+ConnectsUpTo most old session new = (count : ℕ) × (count ≤ most) × ConnectsAll count old session new
+
+-- all of them, or with status 3 some
+abbrev pub ServesAll : (count status : ℕ) → Standing → Session → Standing → Type 0
+ServesAll count status old session new =
+    ((status ≡ DONE) × ConnectsAll count old session new) ⊎ ((status ≡ DEVICE) × ConnectsUpTo count old session new)
 
 abbrev pub listening : ℕ → List ℕ
 listening port = codes "listening " ++ (decimal port ++ (10 ∷ []))
@@ -38,6 +47,4 @@ served count = codes "served " ++ (decimal count ++ (10 ∷ []))
 -- the port that is listened at, and at the end how many clients were served, or a beginning of this
 abbrev pub PrintsServed : ℕ → (before after : Option (List ℕ)) → ℕ → Type 0
 PrintsServed count before after status =
-    (port : ℕ) × (port ≤ 65535)
-    × (((status ≡ DONE) × Appends before after (listening port ++ served count))
-    ⊎ ((status ≡ DEVICE) × AppendsPart before after (listening port ++ served count)))
+    (port : ℕ) × (port ≤ 65535) × Puts (listening port ++ served count) DONE before after status

@@ -82,7 +82,7 @@ fn remove_empty(rt: &HostRuntime, log: &NewLog) {
 }
 
 /// Takes away what an opening that was refused has left beside the file. `log` is a log that this run made.
-pub fn clear_refused<D: Disk + Drop>(
+fn clear_refused<D: Disk + Drop>(
     rt: &HostRuntime,
     conn: Connection<FileStore<D>>,
     log: Option<&NewLog>,
@@ -97,7 +97,7 @@ pub fn clear_refused<D: Disk + Drop>(
 }
 
 /// The same where the file was not opened. Where nothing is left of it, it isn't held, and no log is removed; nor is that of a new database.
-pub fn clear_unopened<D: Disk + Drop>(
+fn clear_unopened<D: Disk + Drop>(
     rt: &HostRuntime,
     left: Option<Leftover<D>>,
     log: Option<&NewLog>,
@@ -117,14 +117,10 @@ pub fn clear_fault<D: Disk + Drop>(
 ) -> Refusal
     ensures { result ≡ why_of fault }
 {
+    let why = fault.refusal();
     match fault {
-        OpenFault::Unopened { refusal, left } => {
-            clear_unopened(rt, left, log);
-            refusal
-        }
-        OpenFault::Refused { conn, refusal } => {
-            clear_refused(rt, conn, log);
-            refusal
-        }
+        OpenFault::Unopened { left, .. } => clear_unopened(rt, left, log),
+        OpenFault::Refused { conn, .. } => clear_refused(rt, conn, log),
     }
+    why
 }

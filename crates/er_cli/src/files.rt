@@ -1,35 +1,37 @@
 ghost use Rattle.std.specs.Prelude.{List, ◌≡◌, ◌⊎◌, ◌≤◌, true, false, IsFalse, IfErr, MatchResult};
-ghost use Rattle.sqlite.specs.Files.{over_files, IsCleanLeft, LeavesFiles};
-ghost use Rattle.sqlite_std_file.specs.File.{IsFresh};
+ghost use Rattle.sqlite.specs.Files.{over_files};
 ghost use Rattle.sqlite_wal.specs.Files.{image_at};
 ghost use Rattle.er_event.specs.declared.commands.TheConstants.{MAX_SERIAL};
 ghost use Rattle.er_rules.specs.Sound.{IsSound};
 ghost use Rattle.er_event.specs.Sound.{AreLimits};
+ghost use Rattle.er_desk.specs.Asking.{Asks, AsksSome};
 ghost use Rattle.er_desk.specs.Desk.{Point, standing};
-ghost use Rattle.er_desk.specs.History.{Ended};
+ghost use Rattle.er_desk.specs.Run.{no_session};
+ghost use Rattle.er_desk.specs.History.{Ended, new_point};
 ghost use Rattle.er_desk.specs.Headline.{WasLeftBy};
-ghost use Rattle.er_cli.specs.GoingOn.{GoesOn, GoesOnIfThere, OnAsk, OnAsked};
+ghost use Rattle.er_desk.specs.Opening.{IsSpared};
+ghost use Rattle.er_cli.specs.GoingOn.{GoesOn, GoesOnIfThere, OnOpen};
 ghost use Rattle.er_desk.specs.Reply.{receipt};
 ghost use Rattle.er_words.specs.declared.action.Action.TheVariants.{Init, Open};
 ghost use Rattle.er_words.specs.Action.{action_of};
 ghost use Rattle.er_store.specs.Fault.{IsFault};
 ghost use Rattle.er_cli.specs.Closing.{IsPutAway};
-ghost use Rattle.er_cli.specs.Files.{Does, EndsLine, InitReplies, IsNew, IsNotMade, IsOpened, Makes, OpensFor, ServesClients, StandsAfter, StandsOn};
+ghost use Rattle.er_cli.specs.Files.{Does, EndsLine, InitReplies, IsMade, IsNotMade, IsOpened, Makes, OpensFor, ServesClients};
 ghost use Rattle.er_cli.specs.Help.{Tells};
 
 use crate::answers::answer;
-use crate::closing::{NewLog, clear_fault, clear_refused, clear_unopened, log_to_make, put_away};
+use crate::closing::{clear_fault, log_to_make, put_away};
 use crate::help::CANNOT_LISTEN;
 use crate::importing::import;
 use crate::serving::serve_on;
 use crate::setup::set_up;
 use crate::texts::Answer;
 use crate::{DEVICE, say_all, tell};
+use er_desk::Desk;
 use er_desk::laws::next_sessions;
-use er_desk::{Desk, opening_refusal};
 use er_event::{Cause, Name, Receipt, Refusal};
 use er_words::{Action, Line, Task};
-use sqlite::{Alter, Connection, FileFrom, FileStore, Start};
+use sqlite::{Alter, FileFrom, FileStore, Start};
 use sqlite_disk::Disk;
 use std::fs;
 use std::io::Write;
@@ -48,28 +50,6 @@ fn find_file(rt: &HostRuntime, path: &str) -> Result<(), Refusal>
     }
 }
 
-/// Makes an event over a connection. `log` is a log that this run made.
-fn create_once<D: Disk + Drop>(
-    rt: &HostRuntime,
-    conn: Connection<FileStore<D>>,
-    log: Option<&NewLog>,
-    name: Name,
-    rounds: u8,
-    cut: u8,
-) -> Result<Desk<FileStore<D>>, Refusal>
-    requires limits { AreLimits rounds cut }
-    requires mode { conn.in_transaction ≡ false }
-    ensures { MatchResult result (IsNew name rounds cut) IsNotMade }
-{
-    match Desk::create(rt.alloc(), conn, name, rounds, cut) {
-        Ok(desk) => Ok(desk),
-        Err((conn, why)) => {
-            clear_refused(rt, conn, log);
-            Err(why)
-        }
-    }
-}
-
 /// Makes an event in a file, which is made where it isn't there.
 fn create<S: Start>(
     rt: &HostRuntime,
@@ -80,15 +60,13 @@ fn create<S: Start>(
     start: S,
 ) -> Result<Desk<FileStore<FileFrom<S>>>, Refusal>
     requires limits { AreLimits rounds cut }
-    ensures { MatchResult result (IsNew name rounds cut) IsNotMade }
+    ensures { MatchResult result (IsMade (image_at S.Start) (new_point name rounds cut))
+        (IsNotMade ⟦<FileFrom<S> as Disk>⟧ (image_at S.Start) (new_point name rounds cut)) }
 {
     let log = log_to_make(rt, path);
-    match Connection::open_from(rt, path, false, start) {
-        Ok(conn) => create_once(rt, conn, log.as_ref(), name, rounds, cut),
-        Err((error, left)) => {
-            clear_unopened(rt, left, log.as_ref());
-            Err(opening_refusal(error))
-        }
+    match er_desk::create_in(rt, path, start, name, rounds, cut) {
+        Ok(desk) => Ok(desk),
+        Err(fault) => Err(clear_fault(rt, fault, log.as_ref())),
     }
 }
 
@@ -101,7 +79,7 @@ fn init<S: Start>(
     cut: u8,
     start: S,
 ) -> Result<Desk<FileStore<FileFrom<S>>>, Refusal>
-    ensures { InitReplies over_files name.now rounds cut result }
+    ensures { InitReplies ⟦<FileFrom<S> as Disk>⟧ (image_at S.Start) name.now rounds cut result }
 {
     let name = set_up(rt.alloc(), name, rounds, cut)?;
     create(rt, path, name, rounds, cut, start)
@@ -114,9 +92,12 @@ fn tell_made<D: Disk + Drop, O: Write, E: Write>(
     err: &mut E,
 ) -> u8
     ensures put_away { IsPutAway D.Disk desk }
+    ensures asks { Asks over_files desk no_session desk }
     ensures told { Tells (Answer.Accepted (receipt 0)) (O.contents out.old) (O.contents out.new)
         (E.contents err.old) (E.contents err.new) result }
 {
+    // A desk that is only looked at asks nothing of its file: this tells the proof.
+    desk.asks_nothing();
     let status = tell(out, err, &Answer::Accepted(Receipt { serial: 0 }));
     put_away(desk);
     status
@@ -133,9 +114,11 @@ fn make<S: Start, O: Write, E: Write>(
     out: &mut O,
     err: &mut E,
 ) -> u8
-    ensures { Makes ⟦<FileFrom<S> as Disk>⟧ (O.contents out.old) (O.contents out.new)
+    ensures { Makes ⟦<FileFrom<S> as Disk>⟧ (image_at S.Start) (O.contents out.old) (O.contents out.new)
         (E.contents err.old) (E.contents err.new) result name.now rounds cut }
 {
+    // What is begun here is the history that the next command line goes on with: this tells the proof.
+    next_sessions();
     match init(rt, path, name, rounds, cut, start) {
         Ok(desk) => tell_made(desk, out, err),
         Err(why) => tell_refusal(out, err, why),
@@ -151,10 +134,11 @@ fn listen<S: Alter, O: Write, E: Write>(
     out: &mut O,
     err: &mut E,
 ) -> u8
-    ensures serves { ServesClients (O.contents out.old) (O.contents out.new) (E.contents err.old)
-        (E.contents err.new) result count (standing desk.old) (standing desk.new) }
-    ensures stands { StandsOn S.Store desk.old desk.new }
+    ensures { AsksSome S.Store desk.old (ServesClients (O.contents out.old) (O.contents out.new)
+        (E.contents err.old) (E.contents err.new) result count) desk.new }
 {
+    // Where nobody is listened to, nothing is asked of the file: this tells the proof.
+    desk.asks_nothing();
     match TcpListener::bind(rt, (Ipv4Addr::LOCALHOST, port)) {
         Ok(listener) => serve_on(rt, desk, &listener, count, out),
         Err(_error) => say_all(err, CANNOT_LISTEN, DEVICE),
@@ -172,9 +156,8 @@ fn do_task<S: Alter, O: Write, E: Write>(
     requires sound { IsSound desk.old.event }
     requires low { desk.old.serial ≤ MAX_SERIAL }
     requires ready { IsFalse (standing desk.old).stopped }
-    ensures does { Does S.Store desk.old task desk.new (O.contents out.old) (O.contents out.new)
+    ensures { Does S.Store desk.old task desk.new (O.contents out.old) (O.contents out.new)
         (E.contents err.old) (E.contents err.new) result }
-    ensures stands { StandsAfter S.Store desk.old task desk.new }
 {
     match task {
         Task::Ask { request } => tell(out, err, &answer(rt.alloc(), desk, request)),
@@ -217,17 +200,14 @@ fn open<S: Start, O: Write, E: Write>(
     out: &mut O,
     err: &mut E,
 ) -> u8
-    ensures ends { EndsLine ⟦<FileFrom<S> as Disk>⟧ (O.contents out.old) (O.contents out.new)
+    ensures ends { EndsLine ⟦<FileFrom<S> as Disk>⟧ (image_at S.Start) (O.contents out.old) (O.contents out.new)
         (E.contents err.old) (E.contents err.new) result (Open task) }
     // Of a file that a history left, the history goes on with what the desk is asked.
     ensures goes_on { (new first : Point) (ends : List Ended)
         → WasLeftBy (image_at S.Start) new ends first
-        → OnAsk task
-        (λ request. GoesOn ⟦<FileFrom<S> as Disk>⟧
-        (λ left. (files : _) × IsFresh true files.log × IsFresh false files.db
-        × (IsCleanLeft left → LeavesFiles files left)) (image_at S.Start) new ends first
+        → GoesOn ⟦<FileFrom<S> as Disk>⟧ IsSpared (image_at S.Start) new ends first
         (O.contents out.old) (O.contents out.new) (E.contents err.old) (E.contents err.new) result
-        request) }
+        task }
 {
     // What a session leaves is an end of the history with that session: this tells the proof.
     next_sessions();
@@ -246,17 +226,14 @@ pub fn act<S: Start, O: Write, E: Write>(
     out: &mut O,
     err: &mut E,
 ) -> u8
-    ensures ends { EndsLine ⟦<FileFrom<S> as Disk>⟧ (O.contents out.old) (O.contents out.new)
+    ensures ends { EndsLine ⟦<FileFrom<S> as Disk>⟧ (image_at S.Start) (O.contents out.old) (O.contents out.new)
         (E.contents err.old) (E.contents err.new) result (action_of line) }
     // Of a file that a history left, the history goes on with what the desk is asked, or the system says that it isn't there.
     ensures goes_on { (new first : Point) (ends : List Ended)
         → WasLeftBy (image_at S.Start) new ends first
-        → OnAsked (action_of line)
-        (λ request. GoesOnIfThere ⟦<FileFrom<S> as Disk>⟧
-        (λ left. (files : _) × IsFresh true files.log × IsFresh false files.db
-        × (IsCleanLeft left → LeavesFiles files left)) (image_at S.Start) new ends first
-        (O.contents out.old) (O.contents out.new) (E.contents err.old) (E.contents err.new) result
-        request) }
+        → OnOpen (action_of line) (GoesOnIfThere ⟦<FileFrom<S> as Disk>⟧ IsSpared
+        (image_at S.Start) new ends first (O.contents out.old) (O.contents out.new)
+        (E.contents err.old) (E.contents err.new) result) }
 {
     let (file, action) = line.into_parts();
     match action {

@@ -1,16 +1,15 @@
-ghost use Rattle.std.specs.Prelude.{◌≡◌, ◌⊎◌, ◌≤◌, IsFalse, IfOk, vec_len, OnOk, OnErr};
-ghost use Rattle.std.specs.Io.KnownBytes.{Appends};
-ghost use Rattle.sqlite.specs.State.{HasCleanDisk};
+ghost use Rattle.std.specs.Prelude.{◌≡◌, ◌≤◌, [], ◌∷◌, IsFalse, IfOk, vec_len};
 ghost use Rattle.er_event.specs.declared.commands.Command.TheVariants.{Enrol};
-ghost use Rattle.er_desk.specs.Desk.{ShowsOwn, Turn, point_of, standing, state};
-ghost use Rattle.er_desk.specs.Headline.{LeavesJust};
-ghost use Rattle.er_cli.specs.Importing.{Enrols, Imports, PrintsAdditions, TakesList, fault_text, is_taken, names_of, additions_text};
-ghost use Rattle.er_cli.specs.Help.{Tells};
-ghost use Rattle.er_cli.specs.Texts.{AppendsPart};
+ghost use Rattle.er_desk.specs.Asking.{Asks, AsksSome};
+ghost use Rattle.er_desk.specs.Desk.{Turn, standing};
+ghost use Rattle.er_desk.specs.Run.{session_of};
+ghost use Rattle.er_cli.specs.Importing.{Enrols, Imports, ImportsList, PrintsAdditions, fault_text, is_taken, names_of, additions_text};
+ghost use Rattle.er_cli.specs.Help.{Puts};
 
 use crate::input::{InputFault, read_whole};
 use crate::texts::{Answer, WriteFault, print_line};
 use crate::{DEVICE, DONE, REFUSED, say_all, tell};
+use er_desk::laws::lists_grow;
 use er_desk::{Desk, Reply};
 use er_event::{Command, Items, Name, Refusal};
 use er_paper::{CsvFault, PlayerLine, ShortText, read_players_csv};
@@ -66,10 +65,7 @@ fn fault_line(fault: CsvFault) -> ShortText
 }
 
 fn say_fault<W: Write>(writer: &mut W, fault: CsvFault) -> u8
-    ensures { ((result ≡ REFUSED)
-        × Appends (W.contents writer.old) (W.contents writer.new) (fault_text fault))
-        ⊎ ((result ≡ DEVICE)
-        × AppendsPart (W.contents writer.old) (W.contents writer.new) (fault_text fault)) }
+    ensures { Puts (fault_text fault) REFUSED (W.contents writer.old) (W.contents writer.new) result }
 {
     match print_line(writer, &fault_line(fault)) {
         Ok(()) => REFUSED,
@@ -98,14 +94,11 @@ fn is_taken(why: &Refusal) -> bool
 fn enrol<S: Alter>(alloc: Global, desk: &mut Desk<S>, name: &Name) -> Reply
     requires { IsFalse (standing desk.old).stopped }
     ensures turn { Turn (standing desk.old) (Enrol name.now) result (standing desk.new) }
-    ensures clean { HasCleanDisk (state S.Store desk.new) → HasCleanDisk (state S.Store desk.old) }
-    ensures stands { HasCleanDisk (state S.Store desk.new) → ShowsOwn S.Store desk.old
-        → IsFalse (standing desk.new).stopped → ShowsOwn S.Store desk.new }
-    ensures leaves { ShowsOwn S.Store desk.old
-        → LeavesJust (state S.Store desk.old) (point_of (standing desk.old))
-        → IsFalse (standing desk.new).stopped
-        → LeavesJust (state S.Store desk.new) (point_of (standing desk.new)) }
+    ensures asked { Asks S.Store desk.old
+        (session_of (Enrol name.now ∷ []) (result ∷ []) (standing desk.new).stopped) desk.new }
 {
+    // A name that is not handed in asks nothing of the file: this tells the proof.
+    desk.asks_nothing();
     let Ok(name) = Vec::from_slice(alloc, name.as_bytes()) else {
         return Err(Refusal::Memory);
     };
@@ -116,18 +109,13 @@ fn enrol<S: Alter>(alloc: Global, desk: &mut Desk<S>, name: &Name) -> Reply
 /// Hands the names to the desk in order, until one is refused otherwise than as taken.
 fn enrol_all<S: Alter>(alloc: Global, desk: &mut Desk<S>, lines: &[PlayerLine]) -> Enrolled
     requires { IsFalse (standing desk.old).stopped }
-    ensures enrols { Enrols (names_of lines.now) (standing desk.old) result.additions result.stop
-        (standing desk.new) }
-    ensures clean { HasCleanDisk (state S.Store desk.new) → HasCleanDisk (state S.Store desk.old) }
-    ensures stands { HasCleanDisk (state S.Store desk.new) → ShowsOwn S.Store desk.old
-        → IsFalse (standing desk.new).stopped → ShowsOwn S.Store desk.new }
-
-    // While the desk runs, a crash leaves just the event that it stands at.
-    ensures leaves { ShowsOwn S.Store desk.old
-        → LeavesJust (state S.Store desk.old) (point_of (standing desk.old))
-        → IsFalse (standing desk.new).stopped
-        → LeavesJust (state S.Store desk.new) (point_of (standing desk.new)) }
+    ensures { AsksSome S.Store desk.old (λ first session last. Enrols (names_of lines.now) first
+        result.additions result.stop session last) desk.new }
 {
+    // The session grows by one command a name, from nothing: these tell the proof.
+    lists_grow();
+    desk.asks_then();
+    desk.asks_nothing();
     let mut additions = Additions {
         added: 0,
         already: 0,
@@ -173,19 +161,11 @@ fn import_list<S: Alter, O: Write, E: Write>(
     err: &mut E,
 ) -> u8
     requires { IsFalse (standing desk.old).stopped }
-    ensures imports { ((standing desk.new ≡ standing desk.old)
-        × Tells (Answer.Refused Refusal.Memory) (O.contents out.old) (O.contents out.new)
-        (E.contents err.old) (E.contents err.new) result)
-        ⊎ TakesList (standing desk.old) (standing desk.new) (O.contents out.old)
-        (O.contents out.new) (E.contents err.old) (E.contents err.new) result list.now }
-    ensures clean { HasCleanDisk (state S.Store desk.new) → HasCleanDisk (state S.Store desk.old) }
-    ensures stands { HasCleanDisk (state S.Store desk.new) → ShowsOwn S.Store desk.old
-        → IsFalse (standing desk.new).stopped → ShowsOwn S.Store desk.new }
-    ensures leaves { ShowsOwn S.Store desk.old
-        → LeavesJust (state S.Store desk.old) (point_of (standing desk.old))
-        → IsFalse (standing desk.new).stopped
-        → LeavesJust (state S.Store desk.new) (point_of (standing desk.new)) }
+    ensures { AsksSome S.Store desk.old (ImportsList (O.contents out.old) (O.contents out.new)
+        (E.contents err.old) (E.contents err.new) result list.now) desk.new }
 {
+    // Where nobody is enrolled, nothing is asked of the file: this tells the proof.
+    desk.asks_nothing();
     match read_players_csv(alloc, list) {
         Ok(lines) => {
             let enrolled = enrol_all(alloc, desk, &lines);
@@ -205,18 +185,11 @@ pub fn import<S: Alter, O: Write, E: Write>(
     err: &mut E,
 ) -> u8
     requires { IsFalse (standing desk.old).stopped }
-    ensures imports { Imports (standing desk.old) (standing desk.new) (O.contents out.old)
-        (O.contents out.new) (E.contents err.old) (E.contents err.new) result }
-    ensures clean { HasCleanDisk (state S.Store desk.new) → HasCleanDisk (state S.Store desk.old) }
-    ensures stands { HasCleanDisk (state S.Store desk.new) → ShowsOwn S.Store desk.old
-        → IsFalse (standing desk.new).stopped → ShowsOwn S.Store desk.new }
-
-    // While the desk runs, a crash leaves just the event that it stands at.
-    ensures leaves { ShowsOwn S.Store desk.old
-        → LeavesJust (state S.Store desk.old) (point_of (standing desk.old))
-        → IsFalse (standing desk.new).stopped
-        → LeavesJust (state S.Store desk.new) (point_of (standing desk.new)) }
+    ensures { AsksSome S.Store desk.old (Imports (O.contents out.old) (O.contents out.new)
+        (E.contents err.old) (E.contents err.new) result) desk.new }
 {
+    // Where nobody is enrolled, nothing is asked of the file: this tells the proof.
+    desk.asks_nothing();
     match read_list(rt, path) {
         Ok(list) => import_list(rt.alloc(), desk, &list, out, err),
         Err(InputFault::Memory) => tell(out, err, &Answer::Refused(Refusal::Memory)),

@@ -1,21 +1,20 @@
 //! Command lines over the file of an event, and scripts over one in memory: does what their words ask and prints the answers.
 #![tactic(auto)]
 
-ghost use Rattle.std.specs.Prelude.{List, ◌≡◌, ◌⊎◌, true, false, IfOk, IfSome, OnOk, OnErr, None, map, string_bytes};
+ghost use Rattle.std.specs.Prelude.{List, ◌≡◌, ◌⊎◌, IfOk, IfSome, OnOk, OnErr, None, map, string_bytes};
 ghost use Rattle.std.specs.Io.KnownBytes.{Appends};
 ghost use Rattle.er_cli.specs.Texts.{answer_text, AppendsPart};
-ghost use Rattle.sqlite.specs.Files.{IsCleanLeft, LeavesFiles};
-ghost use Rattle.sqlite_std_file.specs.File.{IsFresh};
 ghost use Rattle.sqlite_wal.specs.Files.{image_at};
 ghost use Rattle.er_desk.specs.Desk.{Point};
 ghost use Rattle.er_desk.specs.History.{Ended};
 ghost use Rattle.er_desk.specs.Headline.{WasLeftBy};
+ghost use Rattle.er_desk.specs.Opening.{IsSpared};
 ghost use Rattle.er_words.specs.Action.{action_of};
-ghost use Rattle.er_cli.specs.GoingOn.{GoesOnIfThere, OnAsked};
+ghost use Rattle.er_cli.specs.GoingOn.{GoesOnIfThere, OnOpen};
 ghost use Rattle.er_cli.specs.Complaints.{EndsAsUsage};
-ghost use Rattle.er_cli.specs.Files.{EndsLine};
+ghost use Rattle.er_cli.specs.Words.{EndsWords};
 ghost use Rattle.er_cli.specs.declared.help.TheConstants.{AWAITING};
-ghost use Rattle.er_cli.specs.Help.{Says, Tells, refusal_status, text_for};
+ghost use Rattle.er_cli.specs.Help.{Puts, Tells, refusal_status, text_for};
 ghost use Rattle.er_words.specs.Line.{line_of};
 ghost use Rattle.er_cli.specs.Status.{Ends, EndsUnread, UnreadPart, Breaks};
 
@@ -152,9 +151,7 @@ fn tell<O: Write, E: Write>(out: &mut O, err: &mut E, answer: &Answer) -> u8
 
 /// Says a text on the one stream, and gives the status that comes with it.
 fn say_all<W: Write>(writer: &mut W, text: &str, due: u8) -> u8
-    ensures { ((result ≡ due) × Appends (W.contents writer.old) (W.contents writer.new) text.now)
-        ⊎ ((result ≡ DEVICE)
-        × AppendsPart (W.contents writer.old) (W.contents writer.new) text.now) }
+    ensures { Puts text.now due (W.contents writer.old) (W.contents writer.new) result }
 {
     match say(writer, text) {
         Ok(()) => due,
@@ -177,22 +174,9 @@ fn say_usage<O: Write, E: Write>(alloc: Global, words: &[String], out: &mut O, e
 /// Does what the words of a command line ask, and gives the status to end with. The event's file is opened, asked and, once the answer is written,
 /// closed again, so that it holds the event without its log too.
 pub fn run<O: Write, E: Write>(rt: &HostRuntime, words: &[String], out: &mut O, err: &mut E) -> u8
-    // A text that the words ask for goes to the output.
-    ensures asked { IfSome (text_for (map string_bytes words.now))
-        (λ text. Says text DONE (record { meant = O.contents out.old; other = E.contents err.old })
-        (record { meant = O.contents out.new; other = E.contents err.new }) result) }
-    // Of what is no command line, the errors get what is wrong with it, and the output stays as it is.
-    ensures unread { text_for (map string_bytes words.now) ≡ None
-        → line_of (map string_bytes words.now) ≡ None
-        → EndsAsUsage (map string_bytes words.now) (O.contents out.old) (O.contents out.new)
-        (E.contents err.old) (E.contents err.new) result }
-    // What is one is answered as the event of the file has it, with the status of that answer. Memory may be wanting to read it.
-    ensures answered { text_for (map string_bytes words.now) ≡ None
-        → IfSome (line_of (map string_bytes words.now))
-        (λ line. EndsLine ⟦<FileFrom<Wary> as Disk>⟧ (O.contents out.old) (O.contents out.new)
-        (E.contents err.old) (E.contents err.new) result (action_of line)
-        ⊎ Tells (Answer.Refused Refusal.Memory) (O.contents out.old) (O.contents out.new)
-        (E.contents err.old) (E.contents err.new) result) }
+    ensures { EndsWords ⟦<FileFrom<Wary> as Disk>⟧ (image_at ⟦<Wary as Start>⟧)
+        (map string_bytes words.now) (O.contents out.old) (O.contents out.new) (E.contents err.old)
+        (E.contents err.new) result }
 {
     run_from(rt, words, Wary, out, err)
 }
@@ -205,34 +189,20 @@ pub fn run_from<S: Start, O: Write, E: Write>(
     out: &mut O,
     err: &mut E,
 ) -> u8
-    // A text that the words ask for goes to the output.
-    ensures asked { IfSome (text_for (map string_bytes words.now))
-        (λ text. Says text DONE (record { meant = O.contents out.old; other = E.contents err.old })
-        (record { meant = O.contents out.new; other = E.contents err.new }) result) }
-    // Of what is no command line, the errors get what is wrong with it, and the output stays as it is.
-    ensures unread { text_for (map string_bytes words.now) ≡ None
-        → line_of (map string_bytes words.now) ≡ None
-        → EndsAsUsage (map string_bytes words.now) (O.contents out.old) (O.contents out.new)
-        (E.contents err.old) (E.contents err.new) result }
-    // What is one is answered as the event of the file has it, with the status of that answer. Memory may be wanting to read it.
-    ensures answered { text_for (map string_bytes words.now) ≡ None
-        → IfSome (line_of (map string_bytes words.now))
-        (λ line. EndsLine ⟦<FileFrom<S> as Disk>⟧ (O.contents out.old) (O.contents out.new)
-        (E.contents err.old) (E.contents err.new) result (action_of line)
-        ⊎ Tells (Answer.Refused Refusal.Memory) (O.contents out.old) (O.contents out.new)
-        (E.contents err.old) (E.contents err.new) result) }
-    // Of a file that a history of a new event left, the history goes on with the one command that is asked, or with nothing; the answer is that
-    // of the event at its end; and in the file that is closed then the next command line finds it. Or the answer is one that comes before the
-    // file is opened: that it isn't there, or that memory or the device is wanting. Then no more is said.
+    ensures ends { EndsWords ⟦<FileFrom<S> as Disk>⟧ (image_at S.Start)
+        (map string_bytes words.now) (O.contents out.old) (O.contents out.new) (E.contents err.old)
+        (E.contents err.new) result }
+    // Of a file that a history of a new event left, the history goes on with what is asked of the desk: the one command, the names of a list, the
+    // scores that clients hand in, or nothing. The answer is that of the event at its end; and in the file that is closed then the next command
+    // line finds it. Or the answer is one that comes before the file is opened: that it isn't there, or that memory or the device is wanting.
+    // Then no more is said.
     ensures goes_on { (new first : Point) (ends : List Ended)
         → WasLeftBy (image_at S.Start) new ends first
         → text_for (map string_bytes words.now) ≡ None
-        → IfSome (line_of (map string_bytes words.now)) (λ line. OnAsked (action_of line)
-        (λ request. GoesOnIfThere ⟦<FileFrom<S> as Disk>⟧
-        (λ left. (files : _) × IsFresh true files.log × IsFresh false files.db
-        × (IsCleanLeft left → LeavesFiles files left)) (image_at S.Start) new ends first
-        (O.contents out.old) (O.contents out.new) (E.contents err.old) (E.contents err.new) result
-        request)) }
+        → IfSome (line_of (map string_bytes words.now)) (λ line. OnOpen (action_of line)
+        (GoesOnIfThere ⟦<FileFrom<S> as Disk>⟧ IsSpared (image_at S.Start) new ends first
+        (O.contents out.old) (O.contents out.new) (E.contents err.old) (E.contents err.new)
+        result)) }
 {
     if let Some(text) = text_for(words) {
         return say_all(out, text, DONE);
@@ -254,11 +224,8 @@ pub fn say_awaiting<E: Write>(err: &mut E)
 
 /// Answers where there was no memory to read the words of the command line, and gives the status to end with.
 pub fn refuse_memory<W: Write>(writer: &mut W) -> u8
-    ensures { ((result ≡ MEMORY)
-        × Appends (W.contents writer.old) (W.contents writer.new)
-        (answer_text (Answer.Refused Refusal.Memory)))
-        ⊎ ((result ≡ DEVICE) × AppendsPart (W.contents writer.old) (W.contents writer.new)
-        (answer_text (Answer.Refused Refusal.Memory))) }
+    ensures { Puts (answer_text (Answer.Refused Refusal.Memory)) MEMORY (W.contents writer.old)
+        (W.contents writer.new) result }
 {
     match print_fault(writer, InputFault::Memory) {
         Ok(status) => status,

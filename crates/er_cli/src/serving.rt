@@ -1,8 +1,6 @@
-ghost use Rattle.std.specs.Prelude.{◌≡◌, ◌⊎◌, ◌≤◌, IsTrue, IsFalse, MatchResult};
-ghost use Rattle.sqlite.specs.State.{HasCleanDisk};
-ghost use Rattle.er_desk.specs.Desk.{ShowsOwn, point_of, standing, state};
-ghost use Rattle.er_desk.specs.Headline.{LeavesJust};
-ghost use Rattle.er_cli.specs.Serving.{Connects, ConnectsAll, ConnectsUpTo, PrintsServed, listening, served};
+ghost use Rattle.std.specs.Prelude.{◌≡◌, MatchResult};
+ghost use Rattle.er_desk.specs.Asking.{AsksSome};
+ghost use Rattle.er_cli.specs.Serving.{Connects, ConnectsAll, ConnectsUpTo, PrintsServed, ServesAll, listening, served};
 
 use crate::client::Client;
 use crate::texts::{WriteFault, print_line};
@@ -36,16 +34,10 @@ fn served_line(count: u32) -> ShortText
 
 /// Serves the request of one client. One that goes away, or whose time is over, counts as served.
 fn serve_client<S: Alter>(rt: &HostRuntime, desk: &mut Desk<S>, stream: &TcpStream)
-    ensures turn { Connects (standing desk.old) (standing desk.new) }
-    ensures waits { IsTrue (standing desk.old).stopped → desk.new ≡ desk.old }
-    ensures clean { HasCleanDisk (state S.Store desk.new) → HasCleanDisk (state S.Store desk.old) }
-    ensures stands { HasCleanDisk (state S.Store desk.new) → ShowsOwn S.Store desk.old
-        → IsFalse (standing desk.new).stopped → ShowsOwn S.Store desk.new }
-    ensures leaves { ShowsOwn S.Store desk.old
-        → LeavesJust (state S.Store desk.old) (point_of (standing desk.old))
-        → IsFalse (standing desk.new).stopped
-        → LeavesJust (state S.Store desk.new) (point_of (standing desk.new)) }
+    ensures { AsksSome S.Store desk.old Connects desk.new }
 {
+    // A client without a connection asks nothing of the file: this tells the proof.
+    desk.asks_nothing();
     let Ok(client) = Client::new(rt, stream) else {
         return;
     };
@@ -64,18 +56,12 @@ fn serve_clients<S: Alter>(
     listener: &TcpListener,
     count: u32,
 ) -> Result<(), AcceptFault>
-    ensures turns { MatchResult result
-        (λ _. ConnectsAll count (standing desk.old) (standing desk.new))
-        (λ _. ConnectsUpTo count (standing desk.old) (standing desk.new)) }
-    ensures waits { IsTrue (standing desk.old).stopped → desk.new ≡ desk.old }
-    ensures clean { HasCleanDisk (state S.Store desk.new) → HasCleanDisk (state S.Store desk.old) }
-    ensures stands { HasCleanDisk (state S.Store desk.new) → ShowsOwn S.Store desk.old
-        → IsFalse (standing desk.new).stopped → ShowsOwn S.Store desk.new }
-    ensures leaves { ShowsOwn S.Store desk.old
-        → LeavesJust (state S.Store desk.old) (point_of (standing desk.old))
-        → IsFalse (standing desk.new).stopped
-        → LeavesJust (state S.Store desk.new) (point_of (standing desk.new)) }
+    ensures { MatchResult result (λ _. AsksSome S.Store desk.old (ConnectsAll count) desk.new)
+        (λ _. AsksSome S.Store desk.old (ConnectsUpTo count) desk.new) }
 {
+    // The session grows client by client, from nothing: these tell the proof.
+    desk.asks_then();
+    desk.asks_nothing();
     for _ in 0..count {
         let Ok((stream, _address)) = listener.accept() else {
             return Err(AcceptFault);
@@ -95,22 +81,12 @@ pub fn serve_on<S: Alter, W: Write>(
     count: u32,
     out: &mut W,
 ) -> u8
-    // Each client leaves the desk as it was, has it read its standings or a slip, or hands it one score.
-    ensures turns { ((result ≡ DONE) × ConnectsAll count (standing desk.old) (standing desk.new))
-        ⊎ ((result ≡ DEVICE) × ConnectsUpTo count (standing desk.old) (standing desk.new)) }
+    // Each client leaves the desk as it was, has it read its standings or a slip, or hands it one score: these scores are the session.
+    ensures turns { AsksSome S.Store desk.old (ServesAll count result) desk.new }
     ensures printed { PrintsServed count (W.contents out.old) (W.contents out.new) result }
-
-    ensures waits { IsTrue (standing desk.old).stopped → desk.new ≡ desk.old }
-    ensures clean { HasCleanDisk (state S.Store desk.new) → HasCleanDisk (state S.Store desk.old) }
-    ensures stands { HasCleanDisk (state S.Store desk.new) → ShowsOwn S.Store desk.old
-        → IsFalse (standing desk.new).stopped → ShowsOwn S.Store desk.new }
-
-    // While the desk runs, a crash leaves just the event that it stands at.
-    ensures leaves { ShowsOwn S.Store desk.old
-        → LeavesJust (state S.Store desk.old) (point_of (standing desk.old))
-        → IsFalse (standing desk.new).stopped
-        → LeavesJust (state S.Store desk.new) (point_of (standing desk.new)) }
 {
+    // Where nobody is served, nothing is asked of the file: this tells the proof.
+    desk.asks_nothing();
     let Ok(address) = listener.local_addr() else {
         return DEVICE;
     };

@@ -1,7 +1,24 @@
 -- What an opening makes of the tables that it finds.
-use Rattle.std.proofs.Common.{Option, Some, None, IfSome, inl, inr, ◌⊎◌, ◌≡◌, ℕ, is_ok, IsTrue, sym, ap, ap₂, subst, ◌∙◌}
+use Rattle.std.proofs.lemmas.Grind.{common_steps}
+use Rattle.std.proofs.Common.{arith, Option, Some, None, IfSome, inl, inr, ◌⊎◌, ◌≡◌, ℕ, List, [], ◌∷◌, is_ok, IsTrue, refl, sym, ap, ap₂, subst, ◌∙◌}
+use Rattle.std.specs.List.{AllZip}
+use Rattle.sqlite_catalog.specs.Listing.{IsTableRow, IsIndexRow, IsViewRow}
+use Rattle.sqlite_schema.specs.declared.schema.Table.{Table}
+use Rattle.sqlite_schema.specs.declared.schema.View.{View}
+use Rattle.sqlite_schema.specs.declared.schema.Index.{Index}
+use Rattle.sqlite_schema.specs.declared.schema.Schema.{Schema}
+use Rattle.sqlite_trees.specs.Objects.{catalog_tree}
+use Rattle.er_store.specs.Tables.{no_schema}
 use Rattle.std.proofs.Math.Logic.{∥∥₁_elim}
 use Rattle.sqlite_trees.specs.declared.store.Store.{Ghosts}
+use Rattle.sqlite_disk.specs.declared.Disk as disk
+use Rattle.sqlite_disk.specs.declared.calls.Calls as calls
+use Rattle.sqlite_disk.specs.declared.modelled.Modelled.{Modelled}
+use Rattle.sqlite_disk.specs.declared.start.Start as start
+use Rattle.sqlite_std_file.specs.declared.host.Host.{Host}
+use Rattle.sqlite.specs.declared.{error.Error.Error, error.Error.TheVariants.SqliteFailure, file.Leftover.Leftover}
+use Rattle.sqlite.specs.declared.error.ErrorCode.TheVariants.{CannotOpen, DatabaseBusy, OutOfMemory}
+use Rattle.er_store.specs.Fault.{IsFault, refusal_of}
 use Rattle.sqlite_trees.specs.Props.{Trees-set}
 use Rattle.sqlite.specs.{Tree.Trees, Effect.{Database, IsDatabase}, State.{State, Opens, IsLive, HasCleanDisk, IsUnchanged}, Start.FindsIn}
 use Rattle.sqlite.specs.{Files.HoldsDatabase, Held.{Held, state}}
@@ -10,7 +27,7 @@ use Rattle.er_event.specs.{Event.EventValue, declared.events.parts.Parts.Parts, 
 use Rattle.er_event.specs.declared.refusals.Refusal.TheVariants.{Memory, NoEvent, Damaged}
 use Rattle.er_store.specs.{Damage.ReadsParts, Reading.KeepsTables, Standing.{StandsFor, IsStored, IsStoredIn, Shows, Leaves, ReadsEvent}}
 use Rattle.er_store.specs.declared.Store.{Store}
-use Rattle.er_desk.specs.{Desk.Point, Headline.WasLeft, Opening.NamesFirstFault}
+use Rattle.er_desk.specs.{Desk.Point, Headline.{IsEmptyFile, WasLeft}, Opening.{HoldsNothing, IsSpared, LeavesAll, NamesFirstFault}}
 use Rattle.er_desk.proofs.Turns.{unchanged_keeps}
 use Rattle.er_store.specs.Store as tables
 
@@ -57,11 +74,22 @@ module _ {S : Type 0} (g : Ghosts S) (old : State) (back : Held S) (store : Stor
   pub back_clean : HasCleanDisk (state g back) → HasCleanDisk (tables.state g store)
   back_clean clean = subst (λ (h : Held S). HasCleanDisk (state g h)) is clean
 
-  pub back_keeps : IsUnchanged old (tables.state g store) → KeepsTables old (state g back)
-  back_keeps same = subst (λ (h : Held S). KeepsTables old (state g h)) (sym is) (unchanged_keeps old (tables.state g store) same)
+  pub back_leaves_all : LeavesAll old (tables.state g store) → LeavesAll old (state g back)
+  back_leaves_all left = subst (λ (h : Held S). LeavesAll old (state g h)) (sym is) left
 
-  pub back_leaves : (P : Trees → Type 0) → Leaves (tables.state g store) P → Leaves (state g back) P
-  back_leaves P left = subst (λ (h : Held S). Leaves (state g h) P) (sym is) left
+-- a store that only reads
+module _ (old new : State) (settled : (db : Trees) → IsTrue old.is_open → old.may_leave db → db ≡ old.committed.trees)
+    (clean : HasCleanDisk new → HasCleanDisk old) (crash : Leaves new old.may_leave) where
+  pub leaves_all : (HasCleanDisk new → KeepsTables old new) → LeavesAll old new
+  leaves_all kept = record {
+    clean = clean;
+    kept = kept;
+    crash = crash;
+    left = λ is_open late db may. settled db is_open (crash late db may);
+  }
+
+  pub unchanged_leaves_all : (HasCleanDisk new → IsUnchanged old new) → LeavesAll old new
+  unchanged_leaves_all same = leaves_all (λ late. unchanged_keeps old new (same late))
 
 -- ---- files
 
@@ -88,7 +116,38 @@ module _ (s : State) (image : Image) (opened : Opens s × IsLive s) (found : Fin
   sees_kept new db holds keeps is_open = let kept =
       keeps opened.0.clean is_open in (ap (λ (d : Database). d.trees) kept.0 ∙ sees db holds, kept.0 ∙ sym kept.1)
 
--- less is told of what is left
-pub if_left : {A : Type 0} (o : Option A) (P Q : A → Type 0) → ((a : A) → P a → Q a) → IfSome o P → IfSome o Q
-if_left (Some a) P Q more h = more a h
-if_left None P Q more h = tt
+-- ---- a file that holds nothing
+
+none_zipped : {A B : Type 0} (P : A → B → Type 0) (bs : List B) → AllZip P [] bs → bs ≡ []
+none_zipped P [] all = refl
+none_zipped P (b ∷ bs) all = absurd all
+
+-- where no object is listed there is none
+pub unlisted : (db : Database) → IsDatabase db → db.trees catalog_tree ≡ [] → db.schema ≡ no_schema
+unlisted db sound none =
+    let listed = sound.lists.listed in
+    let tables = none_zipped IsTableRow db.schema.tables (rw none at listed.tables) in
+    let indexes = none_zipped (IsIndexRow db.schema.tables) db.schema.indexes (rw none at listed.indexes) in
+    let views = none_zipped IsViewRow db.schema.views (rw none at listed.views) in
+    same_schema db.schema.tables db.schema.indexes db.schema.views tables indexes views
+  where
+    same_schema : (ts : List Table) (is : List Index) (vs : List View) → ts ≡ [] → is ≡ [] → vs ≡ []
+        → (let s : Schema = record { tables = ts; indexes = is; views = vs } in s) ≡ no_schema
+    same_schema ts is vs tables indexes views = rw (tables, indexes, views) refl
+
+module _ (s : State) (image : Image) (opened : Opens s × IsLive s) (found : FindsIn image s) (nothing : HoldsNothing image) where
+  pub opened_empty : IsEmptyFile s
+  opened_empty = unlisted s.now (opened.1 opened.0.is_open).0 (ap (λ (d : Database). d.trees catalog_tree) opened.0.clean
+      ∙ nothing s.committed.trees found.reads)
+
+-- ---- files that were not opened
+
+pub is_fault : (error : Error) → IsFault (refusal_of error)
+is_fault error = grind (arith, common_steps)
+
+module _ {S : Type 0} {g : calls.Ghosts Host} {first : start.Ghosts S} {d : disk.Ghosts (Modelled Host S g first)} where
+  pub is_spared : (error : Error) (left : Option (Leftover (Modelled Host S g first) d))
+      → (left ≡ None → (error ≡ SqliteFailure CannotOpen) ⊎ ((error ≡ SqliteFailure OutOfMemory) ⊎ (error ≡ SqliteFailure DatabaseBusy)))
+      → IfSome left (λ it. IsSpared error (Some it)) → IsSpared error left
+  is_spared error None none some = none refl
+  is_spared error (Some left) none some = some

@@ -1,18 +1,22 @@
 -- What a call does to the file, and two calls one after the other.
-use Rattle.std.proofs.{Common.{◌≡◌, inl, inr, Bool, true, false, IsTrue, IsFalse, List, [], ◌∷◌}}
-use Rattle.std.proofs.Common.{Option, Some, None, Ok, Err, IfErr, IfSome, OnOk, MatchOption, refl, sym, ap, subst, ◌∙◌, arith, true≢false}
-use Rattle.std.proofs.Common.{append-nil}
+use Rattle.std.proofs.{Common.{◌≡◌, inl, inr, ◌+◌, Bool, true, false, IsTrue, IsFalse, List, [], ◌∷◌, ◌++◌, Result, MatchResult}}
+use Rattle.std.proofs.Common.{Option, Some, None, Ok, Err, IfErr, IfSome, OnOk, OnErr, MatchOption, refl, sym, ap, ap₂, subst, ◌∙◌, arith}
+use Rattle.std.proofs.Common.{append-nil, true≢false}
+use Rattle.std.specs.Prelude.{if◌then◌else◌}
+use Rattle.er_event.specs.declared.refusals.Refusal.{Refusal}
 use Rattle.er_event.specs.declared.refusals.Refusal.TheVariants.{NeedsReopen}
 use Rattle.sqlite_trees.specs.declared.store.Store.{Ghosts}
-use Rattle.sqlite.specs.{Tree.Trees, State.HasCleanDisk}
+use Rattle.sqlite.specs.{Tree.Trees, State.{HasCleanDisk, IsUnchanged}}
 use Rattle.er_event.specs.{declared.commands.Command.Command, Event.EventValue}
 use Rattle.er_rules.specs.Step.{Steps}
-use Rattle.er_store.specs.Standing.{KeepsOthers}
-use Rattle.er_desk.specs.{Reply.Reply, Desk.{Point, Turn, ShowsOwn, point_of, state, standing, version_in}, declared.desk.Desk.Desk}
+use Rattle.er_store.specs.{Reading.KeepsTables, Standing.{KeepsOthers, Leaves, Shows}}
+use Rattle.er_desk.specs.{Reply.Reply, Desk.{Point, Standing, Turn, ShowsOwn, point_of, state, standing, version_in}, declared.desk.Desk.Desk}
 use Rattle.er_desk.specs.{Headline.{LeavesJust, LeavesEither, LeavesEnd}, Run.{Session, session_of, no_session, EndsAfterKept}}
-use Rattle.er_desk.specs.{Run.{EndsWithDoubt, IsStoredEnd}, History.LeadsTo, Asking.{Asks, joined, later_doubt}}
-use Rattle.er_desk.proofs.Running.{runs_lead, session_goes_on, session_stops, stays, stops_now, keeps_more}
-use Rattle.er_desk.proofs.Turns.{waits_of, keeps_self}
+use Rattle.er_desk.specs.{Run.{EndsWithDoubt, IsStoredEnd, Runs, acknowledged, last_tried, tried_or}, History.LeadsTo}
+use Rattle.er_desk.specs.Asking.{Asks, Submits, joined, later_doubt}
+use Rattle.er_desk.proofs.Running.{accepts_of, runs_lead, session_goes_on, session_stops, stays, stops_now, keeps_more, was_running, fault_tried}
+use Rattle.er_desk.proofs.Turns.{waits_of, stops_of, stopped_of, turn_fault, turn_asks, keeps_self, same_keeps}
+use Rattle.er_desk.proofs.Slips.{read_others, still_shows}
 use Rattle.er_desk.proofs.Histories.{leads_then}
 use Rattle.er_desk.proofs.NextSession.{quiet_end}
 
@@ -32,23 +36,6 @@ module _ {S : Type 0} (g : Ghosts S) (old new : Desk S g) (c : Command) where
       subst (λ (p : Point). LeavesJust (state g new) p) (sym (stays (standing old) (standing new) c why turn)) (refused runs)
 
   module _ (r : Reply) (turn : Turn (standing old) c r (standing new)) where
-    pub command_crash : (ShowsOwn g old → OnOk r (LeavesJust (state g new) (point_of (standing new))))
-        → (IsFalse (standing old).stopped → ShowsOwn g old → LeavesEither (state g new) (point_of (standing old)) c)
-        → (ShowsOwn g old
-        → IfErr r (λ _. IsFalse (standing new).stopped → LeavesJust (state g new) (point_of (standing old))))
-        → IsFalse (standing old).stopped → ShowsOwn g old
-        → LeavesEnd (state g new) (point_of (standing old)) (session_of (c ∷ []) (r ∷ []) (standing new).stopped)
-    command_crash done undecided refused runs shows clean trees may = by_stop (standing new).stopped refl
-      where
-        by_stop : (b : Bool) → (standing new).stopped ≡ b
-            → IsStoredEnd (point_of (standing old)) (session_of (c ∷ []) (r ∷ []) (standing new).stopped) trees
-        by_stop true is = subst (λ (b : Bool). IsStoredEnd (point_of (standing old)) (session_of (c ∷ []) (r ∷ []) b) trees) (sym is)
-            (session_stops (standing old) (standing old) (standing new) [] [] c r trees refl
-            (stops_now (standing old) (standing new) c r runs is turn) (undecided runs shows clean trees may))
-        by_stop false is = subst (λ (b : Bool). IsStoredEnd (point_of (standing old)) (session_of (c ∷ []) (r ∷ []) b) trees) (sym is)
-            (session_goes_on (standing old) (standing new) (c ∷ []) (r ∷ []) trees (standing new, turn, refl)
-            (stored_now r turn (done shows) (refused shows) is clean trees may))
-
     pub command_sure : IsFalse (standing new).stopped → (session_of (c ∷ []) (r ∷ []) (standing new).stopped).doubt ≡ None
     command_sure runs = rw runs refl
 
@@ -64,6 +51,32 @@ module _ {S : Type 0} (g : Ghosts S) (old new : Desk S g) (c : Command) where
           (sym (waits_of (standing old) (standing new) c r turn stopped)) (waited_session c (standing new).stopped),
     )
 
+    pub command_crash : (IsTrue (standing old).stopped → new ≡ old) → (ShowsOwn g old → LeavesJust (state g old) (point_of (standing old)))
+        → (ShowsOwn g old → OnOk r (LeavesJust (state g new) (point_of (standing new))))
+        → (IsFalse (standing old).stopped → ShowsOwn g old → LeavesEither (state g new) (point_of (standing old)) c)
+        → (ShowsOwn g old
+        → IfErr r (λ _. IsFalse (standing new).stopped → LeavesJust (state g new) (point_of (standing old))))
+        → ShowsOwn g old → LeavesEnd (state g new) (point_of (standing old)) (session_of (c ∷ []) (r ∷ []) (standing new).stopped)
+    command_crash same left done undecided refused shows clean trees may = by_start (standing old).stopped refl
+      where
+        by_stop : IsFalse (standing old).stopped → (b : Bool) → (standing new).stopped ≡ b
+            → IsStoredEnd (point_of (standing old)) (session_of (c ∷ []) (r ∷ []) (standing new).stopped) trees
+        by_stop runs true is = subst (λ (b : Bool). IsStoredEnd (point_of (standing old)) (session_of (c ∷ []) (r ∷ []) b) trees) (sym is)
+            (session_stops (standing old) (standing old) (standing new) [] [] c r trees refl
+            (stops_now (standing old) (standing new) c r runs is turn) (undecided runs shows clean trees may))
+        by_stop runs false is = subst (λ (b : Bool). IsStoredEnd (point_of (standing old)) (session_of (c ∷ []) (r ∷ []) b) trees) (sym is)
+            (session_goes_on (standing old) (standing new) (c ∷ []) (r ∷ []) trees (standing new, turn, refl)
+            (stored_now r turn (done shows) (refused shows) is clean trees may))
+
+        by_start : (b : Bool) → (standing old).stopped ≡ b
+            → IsStoredEnd (point_of (standing old)) (session_of (c ∷ []) (r ∷ []) (standing new).stopped) trees
+        by_start true is =
+            let waited = command_waits same is in
+            subst (λ (s : Session). IsStoredEnd (point_of (standing old)) s trees) (sym waited.1)
+            (quiet_end (point_of (standing old)) trees
+            (subst (λ (d : Desk S g). LeavesJust (state g d) (point_of (standing old))) (sym waited.0) (left shows) clean trees may))
+        by_start false is = by_stop is (standing new).stopped refl
+
 -- ---- two
 
 later_alone : (one two : Option Command) → one ≡ None → later_doubt one two ≡ two
@@ -73,6 +86,10 @@ later_alone one (Some later) is = refl
 in_doubt : (o : Option Command) (P Q : Command → Type 0) → ((d : Command) → P d → Q d) → MatchOption o ⊥ P → MatchOption o ⊥ Q
 in_doubt None P Q more it = absurd it
 in_doubt (Some d) P Q more it = more d it
+
+later_none : (two : Option Command) → two ≡ later_doubt None two
+later_none None = refl
+later_none (Some later) = refl
 
 -- from the point that the first session has surely led to
 module _ (first mid : Point) (s t : Session) (leads : LeadsTo first s.kept mid) (sure : s.doubt ≡ None) where
@@ -120,17 +137,17 @@ module _ {S : Type 0} (g : Ghosts S) (old mid new : Desk S g) (s t : Session) (o
             (subst (λ (b : Session). joined no_session b ≡ no_session) (sym after.1) refl),
       )
 
-  both_crash : IsFalse (standing old).stopped → ShowsOwn g old → LeavesEnd (state g new) (point_of (standing old)) (joined s t)
-  both_crash runs shows clean trees may = by_stop (standing mid).stopped refl
+  both_crash : ShowsOwn g old → LeavesEnd (state g new) (point_of (standing old)) (joined s t)
+  both_crash shows clean trees may = by_stop (standing mid).stopped refl
     where
       by_stop : (b : Bool) → (standing mid).stopped ≡ b → IsStoredEnd (point_of (standing old)) (joined s t) trees
       by_stop true is =
           let after = two.waits is in
           subst (λ (x : Session). IsStoredEnd (point_of (standing old)) x trees)
           (sym (subst (λ (b : Session). joined s b ≡ s) (sym after.1) (joined_none s)))
-          (one.crash runs shows (two.clean clean) trees (subst (λ (d : Desk S g). (state g d).may_leave trees) after.0 may))
+          (one.crash shows (two.clean clean) trees (subst (λ (d : Desk S g). (state g d).may_leave trees) after.0 may))
       by_stop false is = joined_end (point_of (standing old)) (point_of (standing mid)) s t one.leads (one.sure is) trees
-          (two.crash is (one.stands (two.clean clean) shows is) clean trees may)
+          (two.crash (one.stands (two.clean clean) shows is) clean trees may)
 
   pub asks_joined : Asks g old (joined s t) new
   asks_joined = record {
@@ -162,7 +179,7 @@ reading_asks g old new waits same clean stands others version crash = record {
   stands = stands;
   others = others;
   version = version;
-  crash = λ runs shows clean trees may. quiet_end (point_of (standing old)) trees (crash shows clean trees may);
+  crash = λ shows clean trees may. quiet_end (point_of (standing old)) trees (crash shows clean trees may);
 }
 
 -- a desk that reads nothing of its tables, as one that was just adopted
@@ -170,3 +187,120 @@ pub same_asks : {S : Type 0} (g : Ghosts S) (desk : Desk S g) → (ShowsOwn g de
     → Asks g desk no_session desk
 same_asks g desk crash = reading_asks g desk desk (λ _. refl) refl (λ clean. clean) (λ clean shows runs. shows)
     (λ clean shows is_open. keeps_self _ (state g desk).now) refl crash
+
+-- a desk whose store has read something
+module _ {S A : Type 0} (g : Ghosts S) (old new : Desk S g) (Fails : Refusal → Type 0) (read : Result A Refusal) where
+  pub read_asks : IsFalse (standing old).stopped → point_of (standing new) ≡ point_of (standing old) → version_in new ≡ version_in old
+      → MatchResult read (λ _. IsFalse (standing new).stopped) Fails → (HasCleanDisk (state g new) → HasCleanDisk (state g old))
+      → (HasCleanDisk (state g new) → IsFalse (standing new).stopped → IsUnchanged (state g old) (state g new))
+      → (HasCleanDisk (state g new) → OnErr read (KeepsTables (state g old) (state g new))) → Leaves (state g new) (state g old).may_leave
+      → (ShowsOwn g old → LeavesJust (state g old) (point_of (standing old))) → Asks g old no_session new
+  read_asks runs same version stops clean still kept crash left =
+      reading_asks g old new (λ stopped. absurd (true≢false (sym stopped ∙ runs))) same clean
+      (λ now shows runs. subst (λ (p : Point). Shows (version_in new) (state g new) p.event p.serial) (sym same)
+      (still_shows (version_in old) (version_in new) (state g old) (state g new) old.event old.serial version shows (still now runs)))
+      (λ now shows is_open. read_others Fails read (standing new).stopped (version_in old) (state g old) (state g new) shows.settled is_open
+      stops (still now) (kept now))
+      version (λ shows now trees may. left shows (clean now) trees (crash now trees may))
+
+-- ---- one command, whole
+
+module _ {S : Type 0} (g : Ghosts S) (old new : Desk S g) (c : Command) (r : Reply) (turn : Turn (standing old) c r (standing new)) where
+  -- what one command does to the file
+  pub command_asks : (IsTrue (standing old).stopped → new ≡ old) → (HasCleanDisk (state g new) → HasCleanDisk (state g old))
+      → (HasCleanDisk (state g new) → ShowsOwn g old → IsFalse (standing new).stopped → ShowsOwn g new)
+      → (HasCleanDisk (state g new) → ShowsOwn g old → IsTrue (state g new).is_open
+      → KeepsOthers (version_in old) (state g old).now (state g new).now)
+      → version_in new ≡ version_in old → (ShowsOwn g old → LeavesJust (state g old) (point_of (standing old)))
+      → (ShowsOwn g old → OnOk r (LeavesJust (state g new) (point_of (standing new))))
+      → (IsFalse (standing old).stopped → ShowsOwn g old → LeavesEither (state g new) (point_of (standing old)) c)
+      → (ShowsOwn g old
+      → IfErr r (λ _. IsFalse (standing new).stopped → LeavesJust (state g new) (point_of (standing old))))
+      → Asks g old (session_of (c ∷ []) (r ∷ []) (standing new).stopped) new
+  command_asks waits clean stands others version left done undecided refused = record {
+    waits = command_waits g old new c r turn waits;
+    leads = command_leads g old new c r turn;
+    sure = command_sure g old new c r turn;
+    clean = clean;
+    stands = stands;
+    others = others;
+    version = version;
+    crash = command_crash g old new c r turn waits left done undecided refused;
+  }
+
+-- a refusal that leaves the desk as it is
+module _ {S : Type 0} (g : Ghosts S) (desk : Desk S g) (c : Command) where
+  pub refused_submits : (r : Reply) → Turn (standing desk) c r (standing desk)
+      → (ShowsOwn g desk → LeavesJust (state g desk) (point_of (standing desk))) → Submits g desk c r desk
+  refused_submits (Ok it) turn left = absurd (no_more (accepts_of (standing desk) (standing desk) c it turn).serial_is)
+    where
+      no_more : desk.serial ≡ desk.serial + 1 → ⊥
+      no_more is = omega (arith, is)
+  refused_submits (Err why) turn left = record {
+    turn = turn;
+    stops = (stops_of _ _ _ _ turn, stopped_of _ _ _ _ turn);
+    fault = turn_fault _ _ _ _ turn;
+    asks = (turn_asks _ _ _ _ turn, waits_of _ _ _ _ turn);
+    asked = command_asks g desk desk c (Err why) turn (λ _. refl) (λ clean. clean) (λ clean shows runs. shows)
+        (λ clean shows is_open. keeps_self _ (state g desk).now) refl left (λ shows. tt)
+        (λ runs shows clean trees may. inl (left shows clean trees may)) (λ shows runs. left shows);
+    same = λ runs. refl;
+    kept = λ clean. same_keeps (state g desk);
+    acknowledged = λ shows. tt;
+    undecided = λ runs shows clean trees may. inl (left shows clean trees may);
+    refused = λ shows runs. left shows;
+  }
+
+-- ---- a list of commands
+
+tried_later : (one two : Option Command) (d : Command) (s : Reply) → tried_or (later_doubt one two) d s ≡ later_doubt (tried_or one d s) two
+tried_later one None d s = refl
+tried_later one (Some later) d s = refl
+
+kept_push : (old mid : Standing) (cs : List Command) (rs : List Reply) (c : Command) (r : Reply) → Runs old cs rs mid
+    → acknowledged (cs ++ c ∷ []) (rs ++ r ∷ []) ≡ acknowledged cs rs ++ acknowledged (c ∷ []) (r ∷ [])
+kept_push old mid [] [] c r is = refl
+kept_push old mid [] (s ∷ rs) c r is = absurd is
+kept_push old mid (d ∷ cs) [] c r is = absurd is
+kept_push old mid (d ∷ cs) (Ok it ∷ rs) c r is = ap (λ (xs : List Command). d ∷ xs) (kept_push is.0 mid cs rs c r is.2)
+kept_push old mid (d ∷ cs) (Err e ∷ rs) c r is = kept_push is.0 mid cs rs c r is.2
+
+tried_last : (old mid : Standing) (cs : List Command) (rs : List Reply) (c : Command) (r : Reply) → Runs old cs rs mid
+    → last_tried (cs ++ c ∷ []) (rs ++ r ∷ []) ≡ later_doubt (last_tried cs rs) (tried_or None c r)
+tried_last old mid [] [] c r is = later_none (tried_or None c r)
+tried_last old mid [] (s ∷ rs) c r is = absurd is
+tried_last old mid (d ∷ cs) [] c r is = absurd is
+tried_last old mid (d ∷ cs) (s ∷ rs) c r is =
+    ap (λ (o : Option Command). tried_or o d s) (tried_last is.0 mid cs rs c r is.2) ∙ tried_later (last_tried cs rs) (tried_or None c r) d s
+
+-- The session of a list and of one command more. A desk that was stopped tries no more of it, and one that runs has
+-- nothing in doubt.
+pub session_push : (old mid new : Standing) (cs : List Command) (rs : List Reply) (c : Command) (r : Reply) → Runs old cs rs mid
+    → Turn mid c r new
+    → joined (session_of cs rs mid.stopped) (session_of (c ∷ []) (r ∷ []) new.stopped)
+    ≡ session_of (cs ++ c ∷ []) (rs ++ r ∷ []) new.stopped
+session_push old mid new cs rs c r runs turn =
+    ap₂ (λ (ks : List Command) (o : Option Command). let it : Session = record { kept = ks; doubt = o } in it)
+    (sym (kept_push old mid cs rs c r runs)) (by_stops mid.stopped new.stopped refl refl)
+  where
+    by_stops : (b d : Bool) → mid.stopped ≡ b → new.stopped ≡ d
+        → later_doubt (if b then last_tried cs rs else None) (if d then tried_or None c r else None)
+        ≡ (if d then last_tried (cs ++ c ∷ []) (rs ++ r ∷ []) else None)
+    by_stops true true was is = sym (tried_last old mid cs rs c r runs)
+    by_stops false false was is = refl
+    by_stops true false was is = absurd (true≢false (sym was ∙ was_running mid new c r is turn))
+    by_stops false true was is =
+        let it = stops_now mid new c r was is turn in
+        let tried : tried_or None c r ≡ Some c =
+        subst (λ (x : Reply). tried_or None c x ≡ Some c) (sym it.answered) (fault_tried c it.why it.fault) in
+        ap (λ (o : Option Command). later_doubt None o) tried
+        ∙ sym (tried_last old mid cs rs c r runs ∙ ap (λ (o : Option Command). later_doubt (last_tried cs rs) o) tried)
+
+pub empty_asks : {S : Type 0} (g : Ghosts S) (desk : Desk S g)
+    → (ShowsOwn g desk → LeavesJust (state g desk) (point_of (standing desk)))
+    → Asks g desk (session_of [] [] (standing desk).stopped) desk
+empty_asks g desk crash = subst (λ (s : Session). Asks g desk s desk) (sym (empty (standing desk).stopped)) (same_asks g desk crash)
+  where
+    empty : (b : Bool) → session_of [] [] b ≡ no_session
+    empty true = refl
+    empty false = refl

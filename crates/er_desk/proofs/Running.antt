@@ -2,16 +2,16 @@
 use Rattle.std.proofs.{lemmas.Grind.common_steps, Common.{◌≡◌, inl, inr, ◌+◌, Bool, true, false, IsTrue, IsFalse, List, [], ◌∷◌, ◌++◌}}
 use Rattle.std.proofs.Common.{Option, Some, None, Ok, Err, IfSome, MatchOption, refl, sym, ap, subst, ◌∙◌, arith, true≢false}
 use Rattle.sqlite_trees.specs.declared.store.Store.{Ghosts}
-use Rattle.sqlite.specs.{Tree.Trees, State.HasCleanDisk}
+use Rattle.sqlite.specs.{Tree.Trees}
 use Rattle.er_event.specs.{declared.commands.Command.Command, declared.commands.Receipt.Receipt, declared.refusals.Refusal.Refusal}
 use Rattle.er_event.specs.{declared.refusals.Refusal.TheVariants.NeedsReopen, Event.EventValue}
 use Rattle.er_rules.specs.Step.{Steps, Answers}
 use Rattle.er_store.specs.{Fault.IsFault, Standing.{IsStored, Either, KeepsOthers}}
 use Rattle.er_desk.specs.{Reply.Reply}
 use Rattle.er_desk.specs.{Desk.{Point, Standing, Accepts, Stops, Turn, ShowsOwn, IsStoredAfter, point_of, state, standing, version_in}}
-use Rattle.er_desk.specs.{Headline.{LeavesJust, LeavesEither, LeavesEnd}, declared.desk.Desk.Desk, Run.{Runs, acknowledged, tried_or}}
+use Rattle.er_desk.specs.{declared.desk.Desk.Desk, Run.{Runs, acknowledged, tried_or}}
 use Rattle.er_desk.specs.{Run.{last_tried, Session, session_of, EndsAfterKept, EndsWithDoubt, IsStoredEnd}, History.LeadsTo}
-use Rattle.er_desk.proofs.Turns.{waits_of, stops_of, keeps_then}
+use Rattle.er_desk.proofs.Turns.{stops_of, keeps_then}
 
 -- ---- one turn
 
@@ -22,7 +22,7 @@ no_receipt receipt why is = cc
 pub steps_of : (event next : EventValue) (command : Command) → Answers event command (Ok next) → Steps event command (Ok next)
 steps_of event next command h1 = grind (arith, common_steps)
 
-accepts_of : (old new : Standing) (command : Command) (receipt : Receipt) → Turn old command (Ok receipt) new
+pub accepts_of : (old new : Standing) (command : Command) (receipt : Receipt) → Turn old command (Ok receipt) new
     → Accepts old command (Ok receipt) new
 accepts_of old new command receipt h1 = grind (arith, common_steps)
 
@@ -80,7 +80,7 @@ tried_push old mid [] (s ∷ rs) c r tried is = absurd is
 tried_push old mid (d ∷ cs) [] c r tried is = absurd is
 tried_push old mid (d ∷ cs) (s ∷ rs) c r tried is = ap (λ (o : Option Command). tried_or o d s) (tried_push is.0 mid cs rs c r tried is.2)
 
-fault_tried : (c : Command) (why : Refusal) → IsFault why → tried_or None c (Err why) ≡ Some c
+pub fault_tried : (c : Command) (why : Refusal) → IsFault why → tried_or None c (Err why) ≡ Some c
 fault_tried c why h1 = grind (arith, common_steps)
 
 -- ---- sessions
@@ -131,50 +131,6 @@ pub was_running : (old new : Standing) (command : Command) (reply : Reply) → I
 was_running old new command reply runs h1 = grind (arith, common_steps)
 
 -- ---- desks
-
-module _ {S : Type 0} (g : Ghosts S) (first : Desk S g) where
-  -- where the store has failed, a crash leaves an end of the session
-  abbrev pub CrashesAt : Desk S g → List Command → List Reply → Type 0
-  CrashesAt now cs rs =
-      IsFalse (standing first).stopped → ShowsOwn g first → HasCleanDisk (state g now) → IsTrue (standing now).stopped → (trees : Trees)
-      → (state g now).may_leave trees
-      → IsStoredEnd (point_of (standing first)) (session_of cs rs true) trees
-
-  module _ (old new : Desk S g) (cs : List Command) (rs : List Reply) (c : Command) (r : Reply) where
-    pub crash_more : Runs (standing first) cs rs (standing old) → Turn (standing old) c r (standing new)
-        → (IsTrue (standing old).stopped → new ≡ old)
-        → (IsFalse (standing old).stopped → ShowsOwn g old → LeavesEither (state g new) (point_of (standing old)) c)
-        → (HasCleanDisk (state g new) → HasCleanDisk (state g old))
-        → (HasCleanDisk (state g old) → ShowsOwn g first → IsFalse (standing old).stopped → ShowsOwn g old)
-        → CrashesAt old cs rs → CrashesAt new (cs ++ c ∷ []) (rs ++ r ∷ [])
-    crash_more runs turn waits undecided clean stands before going shows late stopped trees may = by_stop (standing old).stopped refl
-      where
-        by_stop : (b : Bool) → (standing old).stopped ≡ b
-            → IsStoredEnd (point_of (standing first)) (session_of (cs ++ c ∷ []) (rs ++ r ∷ []) true) trees
-        by_stop true is = grind (arith, common_steps, session_waits, waits_of)
-        by_stop false is =
-            session_stops (standing first) (standing old) (standing new) cs rs c r trees runs
-            (stops_now (standing old) (standing new) c r is stopped turn) (undecided is (stands (clean late) shows is) late trees may)
-
-  pub crash_end : (now : Desk S g) (cs : List Command) (rs : List Reply) → Runs (standing first) cs rs (standing now)
-      → (ShowsOwn g now → LeavesJust (state g now) (point_of (standing now)))
-      → (HasCleanDisk (state g now) → ShowsOwn g first → IsFalse (standing now).stopped → ShowsOwn g now) → CrashesAt now cs rs
-      → IsFalse (standing first).stopped → ShowsOwn g first
-      → LeavesEnd (state g now) (point_of (standing first)) (session_of cs rs (standing now).stopped)
-  crash_end now cs rs runs leaves stands crash going shows clean trees may = by_stop (standing now).stopped refl
-    where
-      by_stop : (b : Bool) → (standing now).stopped ≡ b
-          → IsStoredEnd (point_of (standing first)) (session_of cs rs (standing now).stopped) trees
-      by_stop true is = subst (λ (b : Bool). IsStoredEnd (point_of (standing first)) (session_of cs rs b) trees) (sym is)
-          (crash going shows clean is trees may)
-      by_stop false is = subst (λ (b : Bool). IsStoredEnd (point_of (standing first)) (session_of cs rs b) trees) (sym is)
-          (session_goes_on (standing first) (standing now) cs rs trees runs (leaves (stands clean shows is) clean trees may))
-
--- a desk that was stopped stays as it is
-module _ {S : Type 0} {g : Ghosts S} (first old new : Desk S g) where
-  pub waits_more : (IsTrue (standing first).stopped → old ≡ first) → (IsTrue (standing old).stopped → new ≡ old)
-      → IsTrue (standing first).stopped → new ≡ first
-  waits_more before more stopped = let is = before stopped in more (ap (λ (d : Desk S g). (standing d).stopped) is ∙ stopped) ∙ is
 
 -- other tables stay from one command to the next, also where the desk has stopped
 module _ {S : Type 0} (g : Ghosts S) (first old new : Desk S g) where

@@ -1,17 +1,21 @@
 -- What a call does to the file, where it asks a session of the desk: commands, or nothing.
-use Rattle.std.specs.Prelude.{◌≡◌, ◌++◌, List, IsTrue, IsFalse, Option, Some, None}
+use Rattle.std.specs.Prelude.{◌≡◌, ◌⊎◌, ◌↔◌, ◌++◌, List, [], ◌∷◌, IsTrue, IsFalse, Option, Some, None, Err, IfErr, OnOk, OnErr}
 use Rattle.sqlite_trees.specs.declared.store.Store.{Ghosts}
 use Rattle.sqlite.specs.State.{HasCleanDisk}
 use Rattle.er_event.specs.declared.commands.Command.{Command}
+use Rattle.er_event.specs.declared.refusals.Cause.{Cause}
+use Rattle.er_event.specs.declared.refusals.Refusal.TheVariants.{Store as StoreFault, NeedsReopen}
 use Rattle.er_rules.specs.Sound.{IsSound}
+use Rattle.er_store.specs.Reading.{KeepsTables}
 use Rattle.er_store.specs.Standing.{KeepsOthers}
 use Rattle.sqlite.specs.Tree.{Trees}
 use Rattle.sqlite_wal.specs.Recovery.{Image}
 use Rattle.er_desk.specs.declared.desk.Desk.{Desk}
-use Rattle.er_desk.specs.Desk.{Point, ShowsOwn, point_of, state, standing, version_in}
-use Rattle.er_desk.specs.Run.{Session, IsStoredEnd, no_session}
-use Rattle.er_desk.specs.History.{Ended, LeadsTo}
-use Rattle.er_desk.specs.Headline.{LeavesEnd, NextBegins, WasLeft, WasLeftBy, and_then}
+use Rattle.er_desk.specs.Desk.{Point, ShowsOwn, Standing, Stops, Turn, point_of, state, standing, version_in}
+use Rattle.er_desk.specs.Reply.{Reply}
+use Rattle.er_desk.specs.Run.{Runs, Session, IsStoredEnd, session_of, no_session}
+use Rattle.er_desk.specs.History.{Ended, IsHistory, LeadsTo}
+use Rattle.er_desk.specs.Headline.{LeavesJust, LeavesEither, LeavesEnd, NextBegins, IsBeginning, WasLeft, WasLeftBy, and_then}
 
 -- the later doubt, where there is one
 abbrev pub later_doubt : Option Command → Option Command → Option Command
@@ -37,13 +41,43 @@ pub record Asks {S : Type 0} (g : Ghosts S) (old : Desk S g) (session : Session)
   -- in the version that they were in
   pub version : version_in new ≡ version_in old
   -- a crash leaves an end of the session
-  pub crash : IsFalse (standing old).stopped → ShowsOwn g old → LeavesEnd (state g new) (point_of (standing old)) session
+  pub crash : ShowsOwn g old → LeavesEnd (state g new) (point_of (standing old)) session
 
--- the call asks two sessions, one after the other
-abbrev pub AsksThen : {S : Type 0} (g : Ghosts S) → Desk S g → Desk S g → Desk S g → Type 0
-AsksThen {S} g old mid new = (one two : Session) → Asks g old one mid → Asks g mid two new → Asks g old (joined one two) new
+-- Some session is asked, which does this to the desk.
+abbrev pub AsksSome : {S : Type 0} (g : Ghosts S) → Desk S g → (Standing → Session → Standing → Type 0) → Desk S g → Type 0
+AsksSome g old Does new = (session : Session) × Does (standing old) session (standing new) × Asks g old session new
 
--- Of a file that a history left. It ended at a sound event. Where what is left then is an end of a session that began
+-- What handing one command to a desk does.
+pub record Submits {S : Type 0} (g : Ghosts S) (old : Desk S g) (command : Command) (reply : Reply) (new : Desk S g) : Type 0 where
+  pub turn : Turn (standing old) command reply (standing new)
+  -- A fault of the store stops the desk, and nothing else does. `NeedsReopen` comes exactly where it was stopped.
+  pub stops : IsTrue (standing new).stopped ↔ (IsTrue (standing old).stopped ⊎ Stops (standing old) command reply (standing new))
+  pub fault : (cause : Cause) → reply ≡ Err (StoreFault cause) → IsTrue (standing new).stopped
+  pub asks : (reply ≡ Err NeedsReopen) ↔ IsTrue (standing old).stopped
+  -- a session of this one command
+  pub asked : Asks g old (session_of (command ∷ []) (reply ∷ []) (standing new).stopped) new
+  -- A refusal that is no fault of the store leaves all as it was, and none changes a table.
+  pub same : IfErr reply (λ _. IsFalse (standing new).stopped → new ≡ old)
+  pub kept : HasCleanDisk (state g new) → OnErr reply (KeepsTables (state g old) (state g new))
+  -- With a receipt a crash leaves the event after the command, after a fault of the store the event before or after it,
+  -- and else the event before it.
+  pub acknowledged : ShowsOwn g old → OnOk reply (LeavesJust (state g new) (point_of (standing new)))
+  pub undecided : IsFalse (standing old).stopped → ShowsOwn g old → LeavesEither (state g new) (point_of (standing old)) command
+  pub refused : ShowsOwn g old
+      → IfErr reply (λ _. IsFalse (standing new).stopped → LeavesJust (state g new) (point_of (standing old)))
+
+-- two calls of a desk, one after the other, ask the two sessions one behind the other
+abbrev pub AsksThen : {S : Type 0} → Ghosts S → Type 0
+AsksThen {S} g = (old mid new : Desk S g) (one two : Session) → Asks g old one mid → Asks g mid two new → Asks g old (joined one two) new
+
+-- the session of a list, and one command more behind it, are the session of the longer list
+abbrev pub ListsGrow : Type 0
+ListsGrow = (old mid new : Standing) (commands : List Command) (replies : List Reply) (command : Command) (reply : Reply)
+    → Runs old commands replies mid → Turn mid command reply new
+    → joined (session_of commands replies mid.stopped) (session_of (command ∷ []) (reply ∷ []) new.stopped)
+    ≡ session_of (commands ++ command ∷ []) (replies ++ reply ∷ []) new.stopped
+
+-- Of a history of a new event. It ended at a sound event. Where what is left then is an end of a session that began
 -- there, the next session begins at it. Files that stand for what the session surely led to were left by the history with this session behind it.
 pub record GoesOnFrom (new first : Point) (ends : List Ended) : Type 0 where
   pub sound : IsSound first.event
@@ -52,4 +86,4 @@ pub record GoesOnFrom (new first : Point) (ends : List Ended) : Type 0 where
       → WasLeft left last → WasLeftBy left new (and_then ends session last) last
 
 abbrev pub NextSessions : Type 0
-NextSessions = (image : Image) (new first : Point) (ends : List Ended) → WasLeftBy image new ends first → GoesOnFrom new first ends
+NextSessions = (new first : Point) (ends : List Ended) → IsBeginning new → IsHistory new ends first → GoesOnFrom new first ends

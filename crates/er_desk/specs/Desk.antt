@@ -1,5 +1,5 @@
 -- What a desk shows, and what a command does to it.
-use Rattle.std.specs.Prelude.{◌≡◌, ◌⊎◌, ℕ, ◌+◌, ◌<◌, Bool, true, false, IsTrue, IsFalse, Result, Ok, Err, IsOk}
+use Rattle.std.specs.Prelude.{◌≡◌, ◌⊎◌, ℕ, ◌+◌, ◌<◌, Bool, true, false, IsTrue, IsFalse, Result, Ok, Err, IsOk, MatchResult}
 use Rattle.sqlite_trees.specs.declared.store.Store.{Ghosts}
 use Rattle.sqlite.specs.State.{State}
 use Rattle.sqlite.specs.Tree.{Trees}
@@ -57,6 +57,10 @@ abbrev pub ShowsEvent : {A : Type 0} → (Refusal → A) → Standing → (Event
 ShowsEvent refused desk Shows answer =
     (IsFalse desk.stopped × (Shows desk.event answer ⊎ (answer ≡ refused Memory)))
     ⊎ (IsTrue desk.stopped × (answer ≡ refused NeedsReopen))
+
+-- of what only a desk that runs gives; one that was stopped asks for reopening
+abbrev pub IfRunning : {A : Type 0} → Standing → Result A Refusal → Type 0
+IfRunning desk result = MatchResult result (λ _. IsFalse desk.stopped) (λ why. IsTrue desk.stopped × (why ≡ NeedsReopen))
 
 -- a crash leaves the event after the command, whole
 abbrev pub IsStoredAfter : EventValue → ℕ → Command → Trees → Type 0

@@ -85,11 +85,15 @@ pub record NextBegins (new : Point) (ends : List Ended) (session : Session) (tre
   pub is_end : IsEndOf new (and_then ends session last) last
   pub stored : IsStored last.event last.serial trees
 
--- The file was left by a history of a new event.
-pub record WasLeftBy (image : Image) (new : Point) (ends : List Ended) (first : Point) : Type 0 where
+-- An event may be set up so, and is new.
+pub record IsBeginning (new : Point) : Type 0 where
   pub name : List ℕ
   pub limits : ℕ × ℕ
   pub is_new : new ≡ new_point name limits.0 limits.1
   pub set_up : IsSetUp name limits.0 limits.1
+
+-- The file was left by a history of a new event.
+pub record WasLeftBy (image : Image) (new : Point) (ends : List Ended) (first : Point) : Type 0 where
+  pub begins : IsBeginning new
   pub history : IsHistory new ends first
   pub left : WasLeft image first

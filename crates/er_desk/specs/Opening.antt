@@ -1,13 +1,26 @@
 -- Why a file was not opened.
-use Rattle.std.specs.Prelude.{◌≡◌, ◌⊎◌, ℕ, IsTrue, IfSome}
+use Rattle.std.specs.Prelude.{◌≡◌, ◌⊎◌, ℕ, [], true, false, IsTrue, Option, Some, None, Result, Ok, Err}
 use Rattle.sqlite_disk.specs.declared.Disk.{Ghosts}
+use Rattle.sqlite_disk.specs.declared.Files.{Files}
+use Rattle.sqlite_disk.specs.declared.calls.Calls as calls
+use Rattle.sqlite_disk.specs.declared.modelled.Modelled.{Modelled}
+use Rattle.sqlite_disk.specs.declared.start.Start as start
+use Rattle.sqlite_std_file.specs.File.{IsFresh}
+use Rattle.sqlite_std_file.specs.declared.host.Host.{Host}
 use Rattle.sqlite_store.specs.declared.store.FileStore.{FileStore}
+use Rattle.sqlite_trees.specs.Objects.{catalog_tree}
+use Rattle.sqlite_trees.specs.declared.store.Store as store
+use Rattle.sqlite_wal.specs.Recovery.{Image}
 use Rattle.sqlite.specs.Tree.{Trees}
 use Rattle.sqlite.specs.Effect.{Database}
 use Rattle.sqlite.specs.State.{State, HasCleanDisk}
 use Rattle.sqlite.specs.Held.{Held}
+use Rattle.sqlite.specs.Held as sqlite
+use Rattle.sqlite.specs.declared.error.Error.{Error}
+use Rattle.sqlite.specs.declared.error.Error.TheVariants.{SqliteFailure}
+use Rattle.sqlite.specs.declared.error.ErrorCode.TheVariants.{CannotOpen, DatabaseBusy, OutOfMemory}
 use Rattle.sqlite.specs.declared.file.Leftover.{Leftover}
-use Rattle.sqlite.specs.Files.{file_state}
+use Rattle.sqlite.specs.Files.{AreFoundIn, FailsToOpenFiles, IsCleanLeft, LeavesFiles, file_state, over_files}
 use Rattle.er_event.specs.declared.refusals.Refusal.{Refusal}
 use Rattle.er_event.specs.declared.refusals.Refusal.TheVariants.{NoEvent}
 use Rattle.er_event.specs.declared.refusals.Place.{Place}
@@ -17,8 +30,13 @@ use Rattle.er_event.specs.Parts.{parts_of}
 use Rattle.er_event.specs.Rows.{tally_rows}
 use Rattle.er_event.specs.Sound.{IsSoundButForSeeds}
 use Rattle.er_rules.specs.Sound.{HasSeeds}
+use Rattle.er_store.specs.Fault.{refusal_of}
 use Rattle.er_store.specs.Damage.{ReadsParts, ReadsTallies, IsAtFault, IfDamaged}
-use Rattle.er_store.specs.Standing.{ReadsEvent}
+use Rattle.er_store.specs.Reading.{KeepsTables}
+use Rattle.er_store.specs.Standing.{CanRead, Either, IsStored, Leaves, ReadsEvent}
+use Rattle.er_desk.specs.declared.desk.Desk.{Desk}
+use Rattle.er_desk.specs.Desk.{Point, state}
+use Rattle.er_desk.specs.Headline.{IsEmptyFile}
 use Rattle.er_desk.specs.declared.opening.OpenFault.{OpenFault}
 use Rattle.er_desk.specs.declared.opening.OpenFault.TheVariants.{Unopened, Refused}
 
@@ -38,18 +56,57 @@ pub record NamesFirstFault (db : Database) (why : Refusal) : Type 0 where
   pub readable : IfDamaged (λ _. ReadsEvent db.schema) why
   pub first : IfDamaged (IsFirstAtFault db) why
 
+-- what is seen of the file then: by the desk, or by the connection that comes back
+abbrev pub seen : {S : Type 0} (g : store.Ghosts S) → Result (Desk S g) (Held S × Refusal) → State
+seen g (Ok desk) = state g desk
+seen g (Err back) = sqlite.state g back.0
+
+-- The tables were read, and nothing else. None changes, and a crash leaves what it could before: the last commit, while the file
+-- was open.
+pub record LeavesAll (old new : State) : Type 0 where
+  pub clean : HasCleanDisk new → HasCleanDisk old
+  pub kept : HasCleanDisk new → KeepsTables old new
+  pub crash : Leaves new old.may_leave
+  pub left : IsTrue old.is_open → Leaves new (λ db. db ≡ old.committed.trees)
+
+-- An event was not made. No table changes. Where one can be read, a crash leaves what it could before; in an empty file that, or the
+-- new event whole.
+pub record MakesNothing (new_event : Point) (old new : State) : Type 0 where
+  pub kept : HasCleanDisk new → KeepsTables old new
+  pub spares : CanRead old.now.schema → Leaves new old.may_leave
+  pub crash : IsEmptyFile old → Leaves new (Either old.may_leave (IsStored new_event.event new_event.serial))
+  pub left : IsEmptyFile old → IsTrue old.is_open
+      → Leaves new (Either (λ db. db ≡ old.committed.trees) (IsStored new_event.event new_event.serial))
+
+-- whatever an opening finds in the file, it lists no table
+abbrev pub HoldsNothing : Image → Type 0
+HoldsNothing image = (db : Trees) → AreFoundIn image db → db catalog_tree ≡ []
+
+-- before an event is made in such a file, what a crash leaves lists none either
+abbrev pub ListsNothing : Trees → Type 0
+ListsNothing db = db catalog_tree ≡ []
+
 -- while the connection stays open, it sees these trees, and nothing is pending
 abbrev pub SeesStill : State → Trees → Type 0
 SeesStill s db = HasCleanDisk s → IsTrue s.is_open → (s.now.trees ≡ db) × (s.now ≡ s.committed)
 
+-- What the storage crate says of files that it did not open. Nothing is left of them only where they can't be had, by the
+-- system, for want of memory, or since another program holds them. What is left stands for what the files held, and they are why.
+abbrev pub IsSpared : {S : Type 0} {g : calls.Ghosts Host} {first : start.Ghosts S} {d : Ghosts (Modelled Host S g first)}
+    → Error → Option (Leftover (Modelled Host S g first) d) → Type 0
+IsSpared error None = (error ≡ SqliteFailure CannotOpen) ⊎ (error ≡ SqliteFailure OutOfMemory) ⊎ (error ≡ SqliteFailure DatabaseBusy)
+IsSpared {S} {g} {first} error (Some left) =
+    (files : Files (Modelled Host S g first)) × IsFresh true files.log × IsFresh false files.db
+    × (IsCleanLeft left → FailsToOpenFiles files left error × LeavesFiles files left)
+
 module _ {D : Type 0} {g : Ghosts D} where
   abbrev pub why_of : OpenFault D g → Refusal
-  why_of (Unopened refusal left) = refusal
+  why_of (Unopened error left) = refusal_of error
   why_of (Refused conn refusal) = refusal
 
   -- of the connection, where one comes back
   abbrev pub OnRefused : OpenFault D g → (Held (FileStore D g) → Type 0) → Type 0
-  OnRefused (Unopened refusal left) P = Unit {0}
+  OnRefused (Unopened error left) P = Unit {0}
   OnRefused (Refused conn refusal) P = P conn
 
   abbrev pub IsCleanFault : OpenFault D g → Type 0
@@ -57,10 +114,15 @@ module _ {D : Type 0} {g : Ghosts D} where
 
   -- where the files were not opened
   abbrev pub WhereUnopened : OpenFault D g → Type 0 → Type 0
-  WhereUnopened (Unopened refusal left) P = P
+  WhereUnopened (Unopened error left) P = P
   WhereUnopened (Refused conn refusal) P = Unit {0}
 
-  -- of what is left of files that were not opened
-  abbrev pub OnLeft : OpenFault D g → (Leftover D g → Type 0) → Type 0
-  OnLeft (Unopened refusal left) P = IfSome left P
-  OnLeft (Refused conn refusal) P = Unit {0}
+  -- what is seen of the file then: by the desk, or by the connection where one comes back
+  abbrev pub OnSeen : Result (Desk (FileStore D g) over_files) (OpenFault D g) → (State → Type 0) → Type 0
+  OnSeen (Ok desk) P = P (state over_files desk)
+  OnSeen (Err why) P = OnRefused why (λ conn. P (file_state conn))
+
+  -- of files that were not opened: why, and what is left of them
+  abbrev pub OnUnopened : OpenFault D g → (Error → Option (Leftover D g) → Type 0) → Type 0
+  OnUnopened (Unopened error left) P = P error left
+  OnUnopened (Refused conn refusal) P = Unit {0}

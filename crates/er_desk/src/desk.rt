@@ -58,10 +58,9 @@ pub struct Desk<S: Alter> {
 }
 
 impl<S: Alter> Desk<S> {
-    ghost use Rattle.std.specs.Prelude.{◌≡◌, ◌⊎◌, ◌+◌, ◌<◌, ◌≤◌, ◌↔◌, ℕ, true, false, Err, IfOk, IfErr, OnOk, OnErr, IsErr, IsErrAnd, MatchResult, IsTrue, IsFalse};
+    ghost use Rattle.std.specs.Prelude.{◌≡◌, ◌⊎◌, ◌+◌, ◌<◌, ◌≤◌, ℕ, true, false, Err, IfOk, IfErr, OnOk, OnErr, IsErr, IsErrAnd, MatchResult, IsTrue, IsFalse};
     ghost use Rattle.sqlite.specs.State.{HasCleanDisk, IsUnchanged};
     ghost use Rattle.sqlite.specs.Held as sqlite;
-    ghost use Rattle.er_event.specs.declared.refusals.Cause.{Cause};
     ghost use Rattle.er_event.specs.{Change.{created, after, Fits}, Version.CanTake};
     ghost use Rattle.er_event.specs.Sound.{AreLimits, IsSoundButForSeeds};
     ghost use Rattle.er_event.specs.declared.commands.TheConstants.{MAX_SERIAL};
@@ -73,14 +72,13 @@ impl<S: Alter> Desk<S> {
     ghost use Rattle.er_store.specs.Loading.{HoldsEvent};
     ghost use Rattle.er_store.specs.Slip.{FindsSlip};
     ghost use Rattle.er_store.specs.{Migrated.IsTaken, Reading.KeepsTables};
-    ghost use Rattle.er_desk.specs.Desk.{Point, Turn, Stops, ReadsRows, ReadsSlip, ShowsOwn, point_of, running_at, state, standing, version_in};
+    ghost use Rattle.er_desk.specs.Desk.{IfRunning, Point, ReadsRows, ReadsSlip, ShowsOwn, point_of, running_at, state, standing, version_in};
     ghost use Rattle.er_desk.specs.Run.{Runs, IsRun, session_of};
-    ghost use Rattle.er_desk.specs.Headline.{IsEmptyFile, LeavesJust, LeavesEither, LeavesEnd, FindsAgain, RepeatsNobody, AreTheStandings};
+    ghost use Rattle.er_desk.specs.Headline.{IsEmptyFile, LeavesJust, FindsAgain, RepeatsNobody, AreTheStandings};
     ghost use Rattle.er_desk.specs.History.{new_point};
-    ghost use Rattle.er_desk.specs.Opening.{NamesFirstFault};
-    ghost use Rattle.std.specs.Prelude.{[], ◌∷◌};
+    ghost use Rattle.er_desk.specs.Opening.{LeavesAll, MakesNothing, NamesFirstFault, seen};
     ghost use Rattle.er_desk.specs.Run.{no_session};
-    ghost use Rattle.er_desk.specs.Asking.{Asks};
+    ghost use Rattle.er_desk.specs.Asking.{Asks, AsksThen, Submits};
     ghost use Rattle.er_desk.specs.Migrating.{Migrates, MayMigrate};
 
     /// Makes the tables of a new event. Its limits are checked before the file is touched. A refusal gives the connection back.
@@ -116,6 +114,10 @@ impl<S: Alter> Desk<S> {
         ensures absent { IfOk result (λ made. HasCleanDisk (state S.Store made)
             → CanRead (sqlite.state S.Store conn).now.schema → ⊥) }
 
+        // The disk was clean if it is.
+        ensures clean { HasCleanDisk (seen S.Store result)
+            → HasCleanDisk (sqlite.state S.Store conn) }
+
         // In an empty file the tables then stand for the new event, and so does each thing that a crash may leave.
         ensures created { IfOk result (λ made. HasCleanDisk (state S.Store made)
             → IsEmptyFile (sqlite.state S.Store conn) → ShowsOwn S.Store made) }
@@ -124,13 +126,8 @@ impl<S: Alter> Desk<S> {
 
         // A refusal changes no table. A crash in it leaves what it could before, or the new event whole.
         ensures mode { IfErr result (λ e. e.0.in_transaction ≡ false) }
-        ensures kept { IfErr result (λ e. HasCleanDisk (sqlite.state S.Store e.0)
-            → KeepsTables (sqlite.state S.Store conn) (sqlite.state S.Store e.0)) }
-        ensures spares { IfErr result (λ e. CanRead (sqlite.state S.Store conn).now.schema
-            → Leaves (sqlite.state S.Store e.0) (sqlite.state S.Store conn).may_leave) }
-        ensures crash { IfErr result (λ e. IsEmptyFile (sqlite.state S.Store conn)
-            → Leaves (sqlite.state S.Store e.0)
-            (Either (sqlite.state S.Store conn).may_leave (IsStored (created name rounds cut) 0))) }
+        ensures left { IfErr result (λ e. MakesNothing (new_point name rounds cut)
+            (sqlite.state S.Store conn) (sqlite.state S.Store e.0)) }
     {
         let event = match Event::create(alloc, name, rounds, cut) {
             Ok(event) => event,
@@ -153,18 +150,12 @@ impl<S: Alter> Desk<S> {
         ensures ready { IfOk result (λ it. IsFalse (standing it).stopped) }
         ensures sound { IfOk result (λ it. IsSound it.event × (it.serial ≤ MAX_SERIAL)) }
         ensures repeats { IfOk result (λ it. RepeatsNobody it.event) }
-        ensures clean { MatchResult result (λ it. HasCleanDisk (state S.Store it)
-            → HasCleanDisk (sqlite.state S.Store conn))
-            (λ e. HasCleanDisk (sqlite.state S.Store e.0)
-            → HasCleanDisk (sqlite.state S.Store conn)) }
 
         // Of tables that stand for a sound event just that is found, or memory or the store fails.
         ensures found { (point : Point)
             → StandsFor (sqlite.state S.Store conn).now point.event point.serial
-            → IsSound point.event
-            → MatchResult result (λ it. HasCleanDisk (state S.Store it)
-            → FindsAgain S.Store it point) (λ e. HasCleanDisk (sqlite.state S.Store e.0)
-            → IsFault e.1) }
+            → IsSound point.event → HasCleanDisk (seen S.Store result)
+            → MatchResult result (λ it. FindsAgain S.Store it point) (λ e. IsFault e.1) }
         // Whatever the tables hold, what is found is what they show. Where they have the schema, they stand for it.
         ensures shows { IfOk result (λ it. HasCleanDisk (state S.Store it)
             → HasTables (version_in it) (sqlite.state S.Store conn).now.schema
@@ -180,24 +171,14 @@ impl<S: Alter> Desk<S> {
         ensures other_seeds { (point : Point)
             → StandsFor (sqlite.state S.Store conn).now point.event point.serial
             → IsSoundButForSeeds point.event → (HasSeeds point.event → ⊥)
-            → MatchResult result (λ it. HasCleanDisk (state S.Store it)
-            → ⊥) (λ e. HasCleanDisk (sqlite.state S.Store e.0) → IsFault e.1
+            → HasCleanDisk (seen S.Store result) → IsErrAnd result (λ e. IsFault e.1
             ⊎ (e.1 ≡ Refusal.Damaged Place.BracketTable)) }
 
         // Whatever the schema is, no table changes, and a crash leaves what it could before: the last commit, while the connection was open.
         ensures mode { IfErr result (λ e. e.0.in_transaction ≡ false) }
         ensures same { IfOk result (λ it. HasCleanDisk (state S.Store it)
             → IsUnchanged (sqlite.state S.Store conn) (state S.Store it)) }
-        ensures kept { IfErr result (λ e. HasCleanDisk (sqlite.state S.Store e.0)
-            → KeepsTables (sqlite.state S.Store conn) (sqlite.state S.Store e.0)) }
-        ensures crash { MatchResult result
-            (λ it. Leaves (state S.Store it) (sqlite.state S.Store conn).may_leave)
-            (λ e. Leaves (sqlite.state S.Store e.0) (sqlite.state S.Store conn).may_leave) }
-        ensures left { IsTrue (sqlite.state S.Store conn).is_open
-            → MatchResult result (λ it. Leaves (state S.Store it) (λ db. db
-            ≡ (sqlite.state S.Store conn).committed.trees))
-            (λ e. Leaves (sqlite.state S.Store e.0)
-            (λ db. db ≡ (sqlite.state S.Store conn).committed.trees)) }
+        ensures left { LeavesAll (sqlite.state S.Store conn) (seen S.Store result) }
     {
         let (store, event, serial) = Store::adopt(alloc, conn)?;
         match seeds_agree(alloc, &event) {
@@ -221,8 +202,7 @@ impl<S: Alter> Desk<S> {
     pub fn event(&self) -> Result<&Event, Refusal>
         ensures value { IfOk result (λ event. event.now ≡ self.now.event) }
         ensures repeats { IfOk result (λ event. RepeatsNobody event.now) }
-        ensures stopped { MatchResult result (λ _. IsFalse (standing self.now).stopped)
-            (λ why. IsTrue (standing self.now).stopped × (why ≡ Refusal.NeedsReopen)) }
+        ensures stopped { IfRunning (standing self.now) result }
     {
         if self.needs_reopen {
             return Err(Refusal::NeedsReopen);
@@ -233,8 +213,7 @@ impl<S: Alter> Desk<S> {
     /// How many commands were accepted, where no fault of the store is behind.
     pub fn serial(&self) -> Result<u32, Refusal>
         ensures value { IfOk result (λ serial. (serial ≡ self.now.serial) × (serial ≤ MAX_SERIAL)) }
-        ensures stopped { MatchResult result (λ _. IsFalse (standing self.now).stopped)
-            (λ why. IsTrue (standing self.now).stopped × (why ≡ Refusal.NeedsReopen)) }
+        ensures stopped { IfRunning (standing self.now) result }
     {
         if self.needs_reopen {
             return Err(Refusal::NeedsReopen);
@@ -260,7 +239,6 @@ impl<S: Alter> Desk<S> {
     pub fn stored_standings(&mut self, alloc: Global) -> Result<Vec<Row>, Refusal>
         ensures turn { ReadsRows (standing self.old) result (standing self.new) }
         ensures asked { Asks S.Store self.old no_session self.new }
-        ensures waits { IsTrue (standing self.old).stopped → self.new ≡ self.old }
 
         // Where the tables stand for the event, they are its standings. Of a desk that runs, memory or the store fails else.
         ensures found { HasCleanDisk (state S.Store self.new) → ShowsOwn S.Store self.old
@@ -268,20 +246,8 @@ impl<S: Alter> Desk<S> {
         ensures fails { IsFalse (standing self.old).stopped → HasCleanDisk (state S.Store self.new)
             → ShowsOwn S.Store self.old → IfErr result IsFault }
 
-        // The tables stand for the event, and those of others stay.
-        ensures clean { HasCleanDisk (state S.Store self.new)
-            → HasCleanDisk (state S.Store self.old) }
-        ensures stands { HasCleanDisk (state S.Store self.new) → ShowsOwn S.Store self.old
-            → IsFalse (standing self.new).stopped → ShowsOwn S.Store self.new }
         ensures kept { HasCleanDisk (state S.Store self.new)
             → OnErr result (KeepsTables (state S.Store self.old) (state S.Store self.new)) }
-        ensures others { HasCleanDisk (state S.Store self.new) → ShowsOwn S.Store self.old
-            → IsTrue (state S.Store self.new).is_open
-            → KeepsOthers (version_in self.old) (state S.Store self.old).now
-            (state S.Store self.new).now }
-        ensures version { version_in self.new ≡ version_in self.old }
-        ensures crash { ShowsOwn S.Store self.old
-            → LeavesJust (state S.Store self.new) (point_of (standing self.old)) }
     {
         // What the tables stand for, a crash leaves, and an event is always sound: these tell the proof.
         shown_is_stored(&self.store);
@@ -298,7 +264,6 @@ impl<S: Alter> Desk<S> {
     pub fn slip(&mut self, alloc: Global, round: u8, table: u16) -> Result<SlipRow, Refusal>
         ensures turn { ReadsSlip (standing self.old) result (standing self.new) }
         ensures asked { Asks S.Store self.old no_session self.new }
-        ensures waits { IsTrue (standing self.old).stopped → self.new ≡ self.old }
 
         // Where the tables stand for the event, what is found is its slip. Of a desk that runs there is no such match else, or memory or the store fails.
         ensures found { HasCleanDisk (state S.Store self.new) → ShowsOwn S.Store self.old
@@ -307,20 +272,8 @@ impl<S: Alter> Desk<S> {
             → ShowsOwn S.Store self.old
             → IfErr result (λ why. (why ≡ Refusal.NoSuchMatch) ⊎ IsFault why) }
 
-        // The tables stand for the event, and those of others stay.
-        ensures clean { HasCleanDisk (state S.Store self.new)
-            → HasCleanDisk (state S.Store self.old) }
-        ensures stands { HasCleanDisk (state S.Store self.new) → ShowsOwn S.Store self.old
-            → IsFalse (standing self.new).stopped → ShowsOwn S.Store self.new }
         ensures kept { HasCleanDisk (state S.Store self.new)
             → OnErr result (KeepsTables (state S.Store self.old) (state S.Store self.new)) }
-        ensures others { HasCleanDisk (state S.Store self.new) → ShowsOwn S.Store self.old
-            → IsTrue (state S.Store self.new).is_open
-            → KeepsOthers (version_in self.old) (state S.Store self.old).now
-            (state S.Store self.new).now }
-        ensures version { version_in self.new ≡ version_in self.old }
-        ensures crash { ShowsOwn S.Store self.old
-            → LeavesJust (state S.Store self.new) (point_of (standing self.old)) }
     {
         // What the tables stand for, a crash leaves, and an event is always sound: these tell the proof.
         shown_is_stored(&self.store);
@@ -341,11 +294,15 @@ impl<S: Alter> Desk<S> {
         shown_is_stored(&self.store);
     }
 
+    /// Two calls of a desk, one after the other, ask the two sessions one behind the other. It is a law, with no code of its own.
+    pub fn asks_then(&self)
+        ensures { AsksThen S.Store }
+    {}
+
     /// The version in which the tables are kept, 1 or 2, where no fault of the store is behind.
     pub fn version(&self) -> Result<u8, Refusal>
         ensures value { IfOk result (λ version. version ≡ version_in self.now) }
-        ensures stopped { MatchResult result (λ _. IsFalse (standing self.now).stopped)
-            (λ why. IsTrue (standing self.now).stopped × (why ≡ Refusal.NeedsReopen)) }
+        ensures stopped { IfRunning (standing self.now) result }
     {
         if self.needs_reopen {
             return Err(Refusal::NeedsReopen);
@@ -471,45 +428,13 @@ impl<S: Alter> Desk<S> {
 
     /// Takes a command that is lent.
     fn take(&mut self, alloc: Global, command: &Command) -> Reply
-        ensures turn { Turn (standing self.old) command.now result (standing self.new) }
-        // A fault of the store stops the desk, and nothing else does. `NeedsReopen` comes exactly where it was stopped.
-        ensures stops { IsTrue (standing self.new).stopped
-            ↔ (IsTrue (standing self.old).stopped
-            ⊎ Stops (standing self.old) command.now result (standing self.new)) }
-        ensures fault { (cause : Cause) → result ≡ Err (Refusal.Store cause)
-            → IsTrue (standing self.new).stopped }
-        ensures asks { (result ≡ Err Refusal.NeedsReopen) ↔ IsTrue (standing self.old).stopped }
-        ensures waits { IsTrue (standing self.old).stopped → self.new ≡ self.old }
-        ensures same { IfErr result (λ _. IsFalse (standing self.new).stopped
-            → self.new ≡ self.old) }
-
-        // The tables stand for the event, and those of others stay. No refusal changes a table.
-        ensures clean { HasCleanDisk (state S.Store self.new)
-            → HasCleanDisk (state S.Store self.old) }
-        ensures stands { HasCleanDisk (state S.Store self.new) → ShowsOwn S.Store self.old
-            → IsFalse (standing self.new).stopped → ShowsOwn S.Store self.new }
-        ensures kept { HasCleanDisk (state S.Store self.new)
-            → OnErr result (KeepsTables (state S.Store self.old) (state S.Store self.new)) }
-        ensures others { HasCleanDisk (state S.Store self.new) → ShowsOwn S.Store self.old
-            → IsTrue (state S.Store self.new).is_open
-            → KeepsOthers (version_in self.old) (state S.Store self.old).now
-            (state S.Store self.new).now }
-        ensures version { version_in self.new ≡ version_in self.old }
-
-        // With a receipt a crash leaves the event after the command, after a fault of the store the event before or after it, and else the event before it.
-        ensures acknowledged { ShowsOwn S.Store self.old
-            → OnOk result (LeavesJust (state S.Store self.new) (point_of (standing self.new))) }
-        ensures undecided { IsFalse (standing self.old).stopped → ShowsOwn S.Store self.old
-            → LeavesEither (state S.Store self.new) (point_of (standing self.old)) command.now }
-        ensures refused { ShowsOwn S.Store self.old
-            → IfErr result (λ _. IsFalse (standing self.new).stopped
-            → LeavesJust (state S.Store self.new) (point_of (standing self.old))) }
+        ensures { Submits S.Store self.old command.now result self.new }
     {
+        // What the tables stand for, a crash leaves: this tells the proof.
+        shown_is_stored(&self.store);
         if self.needs_reopen {
             return Err(Refusal::NeedsReopen);
         }
-        // What the tables stand for, a crash leaves: this tells the proof.
-        shown_is_stored(&self.store);
         let change = decide(alloc, &self.event, command)?;
         if self.serial == MAX_SERIAL {
             return Err(Refusal::SerialFull);
@@ -523,49 +448,13 @@ impl<S: Alter> Desk<S> {
 
     /// Takes a command. Where it is refused, and the store has no fault, all stays as it was.
     pub fn submit(&mut self, alloc: Global, command: Command) -> Reply
-        ensures turn { Turn (standing self.old) command result (standing self.new) }
-        // What it does to the file: a session of this one command.
-        ensures asked { Asks S.Store self.old
-            (session_of (command ∷ []) (result ∷ []) (standing self.new).stopped) self.new }
-        // A fault of the store stops the desk, and nothing else does. `NeedsReopen` comes exactly where it was stopped.
-        ensures stops { IsTrue (standing self.new).stopped
-            ↔ (IsTrue (standing self.old).stopped
-            ⊎ Stops (standing self.old) command result (standing self.new)) }
-        ensures fault { (cause : Cause) → result ≡ Err (Refusal.Store cause)
-            → IsTrue (standing self.new).stopped }
-        ensures asks { (result ≡ Err Refusal.NeedsReopen) ↔ IsTrue (standing self.old).stopped }
-        ensures waits { IsTrue (standing self.old).stopped → self.new ≡ self.old }
-        ensures same { IfErr result (λ _. IsFalse (standing self.new).stopped
-            → self.new ≡ self.old) }
-
+        ensures submits { Submits S.Store self.old command result self.new }
         // `Budget` comes exactly where the search for a round needs more than its steps, but for memory.
         ensures budget { (steps : ℕ) → result ≡ Err (Refusal.Budget steps)
             → NeedsMoreSteps self.old.event command }
         ensures searched { IsFalse (standing self.old).stopped
             → NeedsMoreSteps self.old.event command → (result ≡ Err Refusal.Memory)
             ⊎ ((steps : ℕ) × (result ≡ Err (Refusal.Budget steps))) }
-
-        // The tables stand for the event, and those of others stay. No refusal changes a table.
-        ensures clean { HasCleanDisk (state S.Store self.new)
-            → HasCleanDisk (state S.Store self.old) }
-        ensures stands { HasCleanDisk (state S.Store self.new) → ShowsOwn S.Store self.old
-            → IsFalse (standing self.new).stopped → ShowsOwn S.Store self.new }
-        ensures kept { HasCleanDisk (state S.Store self.new)
-            → OnErr result (KeepsTables (state S.Store self.old) (state S.Store self.new)) }
-        ensures others { HasCleanDisk (state S.Store self.new) → ShowsOwn S.Store self.old
-            → IsTrue (state S.Store self.new).is_open
-            → KeepsOthers (version_in self.old) (state S.Store self.old).now
-            (state S.Store self.new).now }
-        ensures version { version_in self.new ≡ version_in self.old }
-
-        // With a receipt a crash leaves the event after the command, after a fault of the store the event before or after it, and else the event before it.
-        ensures acknowledged { ShowsOwn S.Store self.old
-            → OnOk result (LeavesJust (state S.Store self.new) (point_of (standing self.new))) }
-        ensures undecided { IsFalse (standing self.old).stopped → ShowsOwn S.Store self.old
-            → LeavesEither (state S.Store self.new) (point_of (standing self.old)) command }
-        ensures refused { ShowsOwn S.Store self.old
-            → IfErr result (λ _. IsFalse (standing self.new).stopped
-            → LeavesJust (state S.Store self.new) (point_of (standing self.old))) }
     {
         // What `Budget` says tells the proof this.
         budget_searches();
@@ -581,25 +470,13 @@ impl<S: Alter> Desk<S> {
             (λ replies. IsRun (standing self.old) commands.items replies.items
             (standing self.new)) }
         ensures untouched { IfErr result (λ _. self.new ≡ self.old) }
-        ensures waits { IsTrue (standing self.old).stopped → self.new ≡ self.old }
-
-        // The tables stand for the fold of the acknowledged commands, and those of others stay.
-        ensures clean { HasCleanDisk (state S.Store self.new)
-            → HasCleanDisk (state S.Store self.old) }
-        ensures stands { HasCleanDisk (state S.Store self.new) → ShowsOwn S.Store self.old
-            → IsFalse (standing self.new).stopped → ShowsOwn S.Store self.new }
-        ensures others { HasCleanDisk (state S.Store self.new) → ShowsOwn S.Store self.old
-            → IsTrue (state S.Store self.new).is_open
-            → KeepsOthers (version_in self.old) (state S.Store self.old).now
-            (state S.Store self.new).now }
-        ensures version { version_in self.new ≡ version_in self.old }
-
-        // A crash leaves the fold of the acknowledged commands, or that with the one in doubt.
-        ensures crash { IsFalse (standing self.old).stopped → ShowsOwn S.Store self.old
-            → IfOk result (λ replies. LeavesEnd (state S.Store self.new)
-            (point_of (standing self.old))
-            (session_of commands.items replies.items (standing self.new).stopped)) }
+        // What it does to the file: a session of these commands, or nothing where there was no memory for the replies.
+        ensures asked { MatchResult result (λ replies. Asks S.Store self.old
+            (session_of commands.items replies.items (standing self.new).stopped) self.new)
+            (λ _. Asks S.Store self.old no_session self.new) }
     {
+        // What the tables stand for, a crash leaves: this tells the proof.
+        shown_is_stored(&self.store);
         let mut replies = Vec::with_capacity(alloc, commands.len())?;
         for command in &commands {
             let reply = self.take(alloc, command);
@@ -607,8 +484,6 @@ impl<S: Alter> Desk<S> {
                 unreachable!()
             };
         }
-        // What the tables stand for, a crash leaves: this tells the proof.
-        shown_is_stored(&self.store);
         Ok(replies)
     }
 }

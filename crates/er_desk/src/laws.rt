@@ -1,14 +1,12 @@
 //! Laws of runs and histories, over the definitions alone. A law is a function with no code of its own, whose contract is the law.
 
 ghost use Rattle.er_desk.specs.Headline.{Histories};
-ghost use Rattle.er_desk.specs.Asking.{AsksThen, NextSessions};
+ghost use Rattle.er_desk.specs.Asking.{ListsGrow, NextSessions};
 ghost use Rattle.er_desk.specs.Migrations.{MovingHistories};
 ghost use Rattle.er_desk.specs.Resuming.{Resuming};
 ghost use Rattle.er_rules.specs.Retry.{NoDoubleEffect};
 
-use crate::desk::Desk;
 use er_rules::laws::{no_double_effect as step_has_no_double_effect, step_keeps_sound};
-use sqlite::Alter;
 
 /// After any sessions, each stopped anywhere, the event is sound, and is what the accepted commands make of a new one.
 pub fn histories()
@@ -17,7 +15,7 @@ pub fn histories()
     step_keeps_sound();
 }
 
-/// What a session leaves is an end of the history that its file came from, with the session behind it.
+/// What a session leaves is an end of the history that it goes on with, with the session behind it.
 pub fn next_sessions()
     ensures { NextSessions }
 {
@@ -31,9 +29,9 @@ pub fn histories_with_migrations()
     histories();
 }
 
-/// Two calls of one desk ask the two sessions one behind the other.
-pub fn asks_then<S: Alter>(old: &Desk<S>, mid: &Desk<S>, new: &Desk<S>)
-    ensures { AsksThen S.Store old.now mid.now new.now }
+/// A list of commands and one command more make the session of the longer list.
+pub fn lists_grow()
+    ensures { ListsGrow }
 {}
 
 /// Sessions that send from one list go on where the one before ended.

@@ -6,10 +6,8 @@ mod closing;
 mod desk;
 pub mod laws;
 mod opening;
-mod sessions;
 mod stored;
 
 pub use closing::close_file;
 pub use desk::{Desk, Reply};
-pub use opening::{OpenFault, open, opening_refusal};
-pub use sessions::session;
+pub use opening::{OpenFault, create_in, open};

@@ -1,19 +1,20 @@
-ghost use Rattle.std.specs.Prelude.{◌≡◌, ◌≤◌, ◌⊎◌, IfOk, IfErr, MatchResult, true, false, IsTrue, IsFalse};
+ghost use Rattle.std.specs.Prelude.{◌≡◌, ◌≤◌, ◌⊎◌, IfOk, IfErr, MatchResult, false, IsTrue, IsFalse};
 ghost use Rattle.sqlite.specs.State.{HasCleanDisk};
-ghost use Rattle.sqlite.specs.Files.{HoldsDatabase, over_files, file_state, IsCleanLeft, LeavesFiles};
-ghost use Rattle.sqlite_std_file.specs.File.{IsFresh};
+ghost use Rattle.sqlite.specs.Files.{HoldsDatabase, over_files, file_state};
 ghost use Rattle.sqlite_wal.specs.Files.{image_at};
 ghost use Rattle.sqlite.specs.Tree.{Trees};
 ghost use Rattle.er_event.specs.declared.commands.TheConstants.{MAX_SERIAL};
 ghost use Rattle.er_rules.specs.Sound.{IsSound};
 ghost use Rattle.er_store.specs.Fault.{refusal_of, IsFault, IsLoadFault};
-ghost use Rattle.er_store.specs.Standing.{HasTables, AreKeyed, Leaves};
-ghost use Rattle.er_desk.specs.Desk.{Point, ShowsOwn, state, standing, version_in};
-ghost use Rattle.er_desk.specs.Headline.{WasLeft, FindsAgain, RepeatsNobody};
-ghost use Rattle.er_desk.specs.Opening.{NamesFirstFault, SeesStill, why_of, OnRefused, WhereUnopened, OnLeft, IsCleanFault};
+ghost use Rattle.er_store.specs.Standing.{HasTables, AreKeyed, Either, IsStored, Leaves};
+ghost use Rattle.er_event.specs.{Change.created, Sound.AreLimits};
+ghost use Rattle.er_desk.specs.Desk.{Point, ShowsOwn, running_at, state, standing, version_in};
+ghost use Rattle.er_desk.specs.History.{new_point};
+ghost use Rattle.er_desk.specs.Headline.{WasLeft, FindsAgain, LeavesJust, RepeatsNobody};
+ghost use Rattle.er_desk.specs.Opening.{HoldsNothing, IsSpared, ListsNothing, NamesFirstFault, SeesStill, why_of, OnRefused, OnSeen, OnUnopened, WhereUnopened, IsCleanFault};
 
 use crate::desk::Desk;
-use er_event::{Cause, Refusal};
+use er_event::{Cause, Name, Refusal};
 use er_store::laws::stored_stands;
 use sqlite::{Alter, Connection, Error, ErrorCode, FileFrom, FileStore, Leftover, Start};
 use sqlite_disk::Disk;
@@ -23,7 +24,7 @@ use sqlite_disk::Disk;
 pub enum OpenFault<D: Disk + Drop> {
     /// The files were not opened. What is left of them comes back, where they are there.
     Unopened {
-        refusal: Refusal,
+        error: Error,
         left: Option<Leftover<D>>,
     },
     /// The file was opened, and has no event that can be served.
@@ -33,33 +34,8 @@ pub enum OpenFault<D: Disk + Drop> {
     },
 }
 
-/// The refusal alone. The connection is closed.
-fn close_and_refuse<S: Alter + Drop>(_conn: Connection<S>, refusal: Refusal) -> Refusal
-    ensures { result ≡ refusal }
-{
-    refusal
-}
-
-impl<D: Disk + Drop> OpenFault<D> {
-    ghost use Rattle.std.specs.Prelude.{◌≡◌};
-    ghost use Rattle.er_desk.specs.Opening.{why_of};
-
-    /// Why the file was not opened. What is left of it is closed.
-    pub fn into_refusal(self) -> Refusal
-        ensures { result ≡ why_of self }
-    {
-        match self {
-            OpenFault::Unopened {
-                refusal,
-                left: _left,
-            } => refusal,
-            OpenFault::Refused { conn, refusal } => close_and_refuse(conn, refusal),
-        }
-    }
-}
-
 /// What it means to a caller that a file was not opened: want of memory, or a fault of the store.
-pub fn opening_refusal(error: Error) -> Refusal
+fn opening_refusal(error: Error) -> Refusal
     ensures value { result ≡ refusal_of error }
     ensures fault { IsFault result }
 {
@@ -68,6 +44,18 @@ pub fn opening_refusal(error: Error) -> Refusal
         _ => Refusal::Store {
             cause: Cause::Refused,
         },
+    }
+}
+
+impl<D: Disk + Drop> OpenFault<D> {
+    /// What it means to a caller. That files were not opened is want of memory, or a fault of the store.
+    pub fn refusal(&self) -> Refusal
+        ensures value { result ≡ why_of self.now }
+    {
+        match self {
+            OpenFault::Unopened { error, .. } => opening_refusal(*error),
+            OpenFault::Refused { refusal, .. } => *refusal,
+        }
     }
 }
 
@@ -101,29 +89,58 @@ pub fn open<S: Start>(
 
     // Whatever the file held, no table changes, and a crash leaves just that.
     ensures kept { (db : Trees) → HoldsDatabase (image_at S.Start) db
-        → MatchResult result (λ it. SeesStill (state over_files it) db)
-        (λ why. OnRefused why (λ conn. SeesStill (file_state conn) db)) }
+        → OnSeen result (λ s. SeesStill s db) }
     ensures left { (db : Trees) → HoldsDatabase (image_at S.Start) db
-        → MatchResult result (λ it. Leaves (state over_files it) (λ trees. trees
-        ≡ db)) (λ why. OnRefused why (λ conn. Leaves (file_state conn) (λ trees. trees
-        ≡ db))) }
-    // Of files that were not opened, what is left stands for what they held, as the storage crate has it.
-    ensures spared { IfErr result (λ why. OnLeft why (λ left. (files : _) × IsFresh true files.log
-        × IsFresh false files.db × (IsCleanLeft left → LeavesFiles files left))) }
+        → OnSeen result (λ s. Leaves s (λ trees. trees ≡ db)) }
+    // Of files that were not opened, what is left stands for what they held, and says why.
+    ensures spared { IfErr result (λ why. OnUnopened why IsSpared) }
 {
     // What a crash left stands for the event again: this tells the proof.
     stored_stands();
     let conn = match Connection::open_from(rt, path, false, start) {
         Ok(conn) => conn,
-        Err((error, left)) => {
-            return Err(OpenFault::Unopened {
-                refusal: opening_refusal(error),
-                left,
-            });
-        }
+        Err((error, left)) => return Err(OpenFault::Unopened { error, left }),
     };
     match Desk::adopt(rt.alloc(), conn) {
         Ok(desk) => Ok(desk),
         Err((conn, refusal)) => Err(OpenFault::Refused { conn, refusal }),
+    }
+}
+
+/// Makes an event in a file, which is made where it isn't there. Whoever calls has checked the limits.
+pub fn create_in<S: Start>(
+    rt: &HostRuntime,
+    path: &str,
+    start: S,
+    name: Name,
+    rounds: u8,
+    cut: u8,
+) -> Result<Desk<FileStore<FileFrom<S>>>, OpenFault<FileFrom<S>>>
+    requires limits { AreLimits rounds cut }
+
+    ensures made { IfOk result (λ it. standing it ≡ running_at (new_point name rounds cut) 2) }
+    ensures why { IfErr result (λ why. (why_of why ≡ Refusal.EventExists)
+        ⊎ IsFault (why_of why)) }
+    ensures unopened { IfErr result (λ why. WhereUnopened why (IsFault (why_of why))) }
+
+    // In a file that holds nothing the tables then stand for the new event, and so does each thing that a crash may leave. A refusal leaves nothing
+    // there, or that event whole.
+    ensures created { HoldsNothing (image_at S.Start)
+        → IfOk result (λ it. HasCleanDisk (state over_files it) → ShowsOwn over_files it) }
+    ensures acknowledged { HoldsNothing (image_at S.Start)
+        → IfOk result (λ it. LeavesJust (state over_files it) (new_point name rounds cut)) }
+    ensures crash { HoldsNothing (image_at S.Start)
+        → IfErr result (λ why. OnRefused why (λ conn. Leaves (file_state conn)
+        (Either ListsNothing (IsStored (created name rounds cut) 0)))) }
+    // Of files that were not opened, what is left stands for what they held, and says why.
+    ensures spared { IfErr result (λ why. OnUnopened why IsSpared) }
+{
+    let conn = match Connection::open_from(rt, path, false, start) {
+        Ok(conn) => conn,
+        Err((error, left)) => return Err(OpenFault::Unopened { error, left }),
+    };
+    match Desk::create(rt.alloc(), conn, name, rounds, cut) {
+        Ok(desk) => Ok(desk),
+        Err((conn, why)) => Err(OpenFault::Refused { conn, refusal: why }),
     }
 }

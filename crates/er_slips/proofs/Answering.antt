@@ -1,20 +1,18 @@
 -- What the desk answers, and how serving an input ends.
-use Rattle.std.proofs.{lemmas.Grind.common_steps, Common.{◌≡◌, ◌⊎◌, inl, inr, ℕ, ◌==◌, false, true≢false, arith, List, [], ◌∷◌, Option}}
-use Rattle.std.proofs.Common.{Some, None, Result, Ok, Err, IsTrue, IsFalse, IfOk, IfErr, OnOk, IfSome, MatchResult, Vec, Global, is_ok}
+use Rattle.std.proofs.{lemmas.Grind.common_steps, Common.{◌≡◌, ◌⊎◌, inl, inr, ℕ, ◌==◌, false, true≢false, arith, List, Option}}
+use Rattle.std.proofs.Common.{Some, None, Result, Ok, Err, IsTrue, IsFalse, IfOk, IfSome, MatchResult, Vec, Global, is_ok}
 use Rattle.std.proofs.{Common.{refl, sym, ap, subst, ◌∙◌}, lemmas.Bool.Decides.nat_tests}
-use Rattle.std.specs.{Io.KnownBytes.Keeps, List.AllByRecursion, declared.alloc.AllocError.AllocError}
-use Rattle.sqlite.specs.{Table.Table, Effect.Database}
+use Rattle.std.specs.{Io.KnownBytes.Keeps, declared.alloc.AllocError.AllocError}
 use Rattle.er_event.specs.{declared.refusals.Refusal.Refusal, declared.refusals.Refusal.TheVariants.{Memory, NeedsReopen, NoSuchMatch}}
 use Rattle.er_event.specs.{declared.commands.TheConstants.MAX_SERIAL, declared.scores.Games.Games, declared.slips.SlipRow.SlipRow}
 use Rattle.er_event.specs.Event.{EventValue}
 use Rattle.er_json.specs.Slip.{slip_text}
 use Rattle.er_paper.specs.Texts.{rows_text}
 use Rattle.er_rank.specs.declared.rows.Row.{Row}
-use Rattle.er_store.specs.{Fault.IsReadFault, Slip.FindsSlip, Standing.{IsOther, KeepsOthers}, Layout.Layout}
-use Rattle.sqlite_trees.specs.declared.store.Store.{Ghosts}
-use Rattle.er_desk.specs.{declared.desk.Desk.Desk, Desk.{Standing, Turn, ShowsEvent, ShowsOwn, point_of, standing, state}}
-use Rattle.er_desk.specs.Desk.{Reads, ReadsRows, ReadsSlip}
-use Rattle.er_desk.specs.{Headline.{LeavesJust, AreTheStandings}, Reply.{Reply, receipt, reply_to, IsDue}}
+use Rattle.er_store.specs.{Fault.IsReadFault, Slip.FindsSlip}
+use Rattle.er_desk.specs.Desk.{Standing, Turn, ShowsEvent}
+use Rattle.er_desk.specs.Desk.{ReadsRows, ReadsSlip}
+use Rattle.er_desk.specs.{Headline.AreTheStandings, Reply.{Reply, receipt, reply_to, IsDue}, Run.{Session, no_session}}
 use Rattle.er_slips.specs.{declared.answer.Answer.Answer, declared.request.asked.Asked.Asked}
 use Rattle.er_slips.specs.{declared.request.asked.Asked.TheVariants.{Standings, Pairings, Slip, Report}, declared.request.asked.Fault.Fault}
 use Rattle.er_slips.specs.{declared.request.asked.Unasked.Unasked, declared.request.asked.Unasked.TheVariants.Refused}
@@ -61,9 +59,10 @@ rows-answered rows old new answer (inr (inr (stopped, same, e))) due = absurd (t
 
 -- ---- how serving ends
 
-module _ (Stood : Type 0) (input : Option (List ℕ)) (old new : Standing) (before after : Option (List ℕ)) (answer : AnswerValue) where
-  ends : (served : Served) → Writes before after served answer → IsServed Stood input old answer new ⊎ IsUnserved old answer new
-      → EndsServing Stood input old new before after served
+module _ (Stood : Type 0) (input : Option (List ℕ)) (old : Standing) (session : Session) (new : Standing) (before after : Option (List ℕ))
+    (answer : AnswerValue) where
+  ends : (served : Served) → Writes before after served answer → IsServed Stood input old answer session new ⊎ IsUnserved old answer session new
+      → EndsServing Stood input old session new before after served
   ends h1 wrote due = grind (arith, common_steps)
 
   asks : (i : Option (List ℕ)) (asked : Asked) → IfSome i (λ xs. TellsAsked xs (Ok asked)) → IfSome i (λ xs. Asks xs (Ok asked))
@@ -74,18 +73,18 @@ module _ (Stood : Type 0) (input : Option (List ℕ)) (old new : Standing) (befo
   asks-fault h1 fault told = grind (arith, common_steps)
 
   pub ends-asked : (served : Served) (asked : Asked) → IfSome input (λ xs. TellsAsked xs (Ok asked))
-      → AnswersRequest Stood old (Ok asked) answer new
-      → Writes before after served answer → EndsServing Stood input old new before after served
+      → AnswersRequest Stood old (Ok asked) answer session new
+      → Writes before after served answer → EndsServing Stood input old session new before after served
   ends-asked served asked told answers wrote = ends served wrote (inl (Ok asked, asks input asked told, answers))
 
   pub ends-refused : (served : Served) (why : Unasked) (fault : Fault) → why ≡ Refused fault → IfSome input (λ xs. TellsAsked xs (Err why))
-      → answer ≡ fault_answer fault → new ≡ old
-      → Writes before after served answer → EndsServing Stood input old new before after served
-  ends-refused served why fault of told is same wrote =
+      → answer ≡ fault_answer fault → session ≡ no_session → new ≡ old
+      → Writes before after served answer → EndsServing Stood input old session new before after served
+  ends-refused served why fault of told is nothing same wrote =
       ends served wrote (inl (
         Err fault,
         asks-fault input fault (subst (λ u. IfSome input (λ xs. TellsAsked xs (Err u))) of told),
-        (is, same),
+        (is, nothing, same),
       ))
 
 pub keeps : (known : Option (List ℕ)) → Keeps known known
@@ -96,7 +95,7 @@ written-unread h1 h2 h3 before = grind (arith, common_steps)
 
 pub ends-unserved : (Stood : Type 0) (input : Option (List ℕ)) (old : Standing) (before after : Option (List ℕ)) (answer : AnswerValue)
     (served : Served)
-    → answer ≡ refusal_answer Memory → Writes before after served answer → EndsServing Stood input old old before after served
+    → answer ≡ refusal_answer Memory → Writes before after served answer → EndsServing Stood input old no_session old before after served
 ends-unserved Stood input old before after answer served is wrote = grind (arith, common_steps)
 
 -- ---- the answer of a desk that runs, over tables that stand
@@ -104,7 +103,7 @@ ends-unserved Stood input old before after answer served is wrote = grind (arith
 same-refusal : {A : Type 0} (why other : Refusal) → ◌≡◌ {A = Result A Refusal} (Err why) (Err other) → why ≡ other
 same-refusal why other is = cc
 
-module _ (old new : Standing) (input : List ℕ) (answer : AnswerValue) (runs : IsFalse old.stopped) where
+module _ (old : Standing) (session : Session) (new : Standing) (input : List ℕ) (answer : AnswerValue) (runs : IsFalse old.stopped) where
   exact : (asked : Result Asked Fault) → Asks input asked → IsAnswered old.event old.serial asked answer
       → IsAnswerUnless503 old.event old.serial input answer
   exact asked is answered = inl (submitted asked, record { asked = asked; asks = is; answered = answered; command = refl })
@@ -172,58 +171,28 @@ module _ (old new : Standing) (input : List ℕ) (answer : AnswerValue) (runs : 
       faulty why (subst IsReadFault (sym (same-refusal why other f)) fault) e
   slip-by round table (Err why) is (inr (inr (stopped, same, f))) found e = runs-on stopped
 
-  answered-by : (Stood : Type 0) → Stood → (asked : Result Asked Fault) → Asks input asked → AnswersRequest Stood old asked answer new
+  answered-by : (Stood : Type 0) → Stood → (asked : Result Asked Fault) → Asks input asked → AnswersRequest Stood old asked answer session new
       → IsAnswerUnless503 old.event old.serial input answer
   answered-by Stood stood (Err fault) is answers = exact (Err fault) is answers.0
-  answered-by Stood stood (Ok Standings) is (read, reads, found, e) = rows-by read is reads (found stood) e
-  answered-by Stood stood (Ok (Pairings round)) is (inl (running, inl shown), same) = exact (Ok (Pairings round)) is shown
-  answered-by Stood stood (Ok (Pairings round)) is (inl (running, inr memory), same) = hindered Memory refl memory
-  answered-by Stood stood (Ok (Pairings round)) is (inr (stopped, e), same) = runs-on stopped
-  answered-by Stood stood (Ok (Slip round table)) is (read, reads, found, e) = slip-by round table read is reads (found stood) e
-  answered-by Stood stood (Ok (Report round table score)) is (reply, turn, e) = reply-by round table score reply is turn e
+  answered-by Stood stood (Ok Standings) is (read, reads, found, e, _) = rows-by read is reads (found stood) e
+  answered-by Stood stood (Ok (Pairings round)) is (inl (running, inl shown), _, _) = exact (Ok (Pairings round)) is shown
+  answered-by Stood stood (Ok (Pairings round)) is (inl (running, inr memory), _, _) = hindered Memory refl memory
+  answered-by Stood stood (Ok (Pairings round)) is (inr (stopped, e), _, _) = runs-on stopped
+  answered-by Stood stood (Ok (Slip round table)) is (read, reads, found, e, _) = slip-by round table read is reads (found stood) e
+  answered-by Stood stood (Ok (Report round table score)) is (reply, turn, e, _) = reply-by round table score reply is turn e
 
-  due-by : (Stood : Type 0) → Stood → IsServed Stood (Some input) old answer new ⊎ IsUnserved old answer new
+  due-by : (Stood : Type 0) → Stood → IsServed Stood (Some input) old answer session new ⊎ IsUnserved old answer session new
       → IsAnswerUnless503 old.event old.serial input answer
   due-by Stood stood (inl (asked, is, answers)) = answered-by Stood stood asked is answers
   due-by Stood stood (inr unserved) = hindered Memory refl unserved.0
 
-pub written : (Stood : Type 0) (input : Option (List ℕ)) (old new : Standing) (before after : Option (List ℕ)) (served : Served)
-    → EndsServing Stood input old new before after served
+pub written : (Stood : Type 0) (input : Option (List ℕ)) (old : Standing) (session : Session) (new : Standing)
+    (before after : Option (List ℕ)) (served : Served)
+    → EndsServing Stood input old session new before after served
     → IfSome input (λ xs. IsFalse old.stopped → Stood → IsWritten old xs before after served)
-written Stood None old new before after served e = tt
-written Stood (Some xs) old new before after ReadFault e = λ runs stood. e.0
-written Stood (Some xs) old new before after (Answered status) (answer, wrote, due) =
-    λ runs stood. (answer, wrote, due-by old new xs answer runs Stood stood due)
-written Stood (Some xs) old new before after (WriteFault sent) (answer, wrote, due) =
-    λ runs stood. (answer, wrote, due-by old new xs answer runs Stood stood due)
-
--- ---- tables that stay
-
-keeps_all : (l : Layout) (db : Database) (tables : List Table)
-    → AllByRecursion (λ t. IsOther l t.tree → db.trees t.tree ≡ db.trees t.tree) tables
-keeps_all l db [] = tt
-keeps_all l db (t ∷ ts) = (λ _. refl, keeps_all l db ts)
-
-pub keeps_self : (version : ℕ) (db : Database) → KeepsOthers version db db
-keeps_self version db =
-    record { schema = refl; rest = λ l is has. record { schema = refl; rows = keeps_all l db db.schema.tables } }
-
--- ---- what a crash leaves
-
-module _ {S : Type 0} (g : Ghosts S) (old new : Desk S g) where
-  -- after a reply, while the desk runs
-  pub replied-leaves : (reply : Reply) → (ShowsOwn g old → OnOk reply (LeavesJust (state g new) (point_of (standing new))))
-      → IfErr reply (λ _. IsFalse (standing new).stopped → new ≡ old)
-      → ShowsOwn g old → LeavesJust (state g old) (point_of (standing old)) → IsFalse (standing new).stopped
-      → LeavesJust (state g new) (point_of (standing new))
-  replied-leaves h1 acknowledged same shows before runs = grind (arith, common_steps)
-
-  -- after reading, the desk stands where it stood
-  pub read-leaves : {A : Type 0} (passing : Refusal) (read : Result A Refusal) → Reads passing (standing old) read (standing new)
-      → LeavesJust (state g new) (point_of (standing old)) → LeavesJust (state g new) (point_of (standing new))
-  read-leaves passing read (inl (running, same, ended)) leaves =
-      subst (λ (s : Standing). LeavesJust (state g new) (point_of s)) (sym same) leaves
-  read-leaves passing read (inr (inl (running, same, why, fault, stops))) leaves =
-      subst (λ (s : Standing). LeavesJust (state g new) (point_of s)) (sym same) leaves
-  read-leaves passing read (inr (inr (stopped, same, waits))) leaves =
-      subst (λ (s : Standing). LeavesJust (state g new) (point_of s)) (sym same) leaves
+written Stood None old session new before after served e = tt
+written Stood (Some xs) old session new before after ReadFault e = λ runs stood. e.0
+written Stood (Some xs) old session new before after (Answered status) (answer, wrote, due) =
+    λ runs stood. (answer, wrote, due-by old session new xs answer runs Stood stood due)
+written Stood (Some xs) old session new before after (WriteFault sent) (answer, wrote, due) =
+    λ runs stood. (answer, wrote, due-by old session new xs answer runs Stood stood due)

@@ -1,7 +1,9 @@
 -- What serving one request does: to the desk, and to what is written.
 use Rattle.std.specs.Global.{Global}
-use Rattle.std.specs.Prelude.{◌≡◌, ◌⊎◌, ◌≤◌, ℕ, List, length, take, Option, Some, Result, Ok, Err, IfOk, IfSome, Vec}
+use Rattle.std.specs.Prelude.{◌≡◌, ◌⊎◌, ◌≤◌, ℕ, List, [], ◌∷◌, length, take, Option, Some, Result, Ok, Err, IfOk, IfSome, Vec}
 use Rattle.std.specs.Io.KnownBytes.{Appends, Keeps}
+use Rattle.sqlite_trees.specs.declared.store.Store.{Ghosts}
+use Rattle.sqlite.specs.State.{HasCleanDisk}
 use Rattle.er_event.specs.declared.commands.Command.TheVariants.{Result as Hand}
 use Rattle.er_event.specs.declared.refusals.Refusal.{Refusal}
 use Rattle.er_event.specs.declared.refusals.Refusal.TheVariants.{Memory}
@@ -10,9 +12,12 @@ use Rattle.er_event.specs.Event.{EventValue}
 use Rattle.er_paper.specs.Texts.{rows_text}
 use Rattle.er_rank.specs.declared.rows.Row.{Row}
 use Rattle.er_store.specs.Slip.{FindsSlip}
-use Rattle.er_desk.specs.Desk.{Standing, Turn, ReadsRows, ReadsSlip, ShowsEvent}
+use Rattle.er_desk.specs.declared.desk.Desk.{Desk}
+use Rattle.er_desk.specs.Asking as desk
+use Rattle.er_desk.specs.Desk.{Standing, Turn, ReadsRows, ReadsSlip, ShowsEvent, ShowsOwn, standing, state}
 use Rattle.er_desk.specs.Headline.{AreTheStandings}
 use Rattle.er_desk.specs.Reply.{Reply}
+use Rattle.er_desk.specs.Run.{Session, session_of, no_session}
 use Rattle.er_slips.specs.declared.request.asked.Asked.{Asked}
 use Rattle.er_slips.specs.declared.request.asked.Asked.TheVariants.{Standings, Pairings, Slip, Report}
 use Rattle.er_slips.specs.declared.request.asked.Fault.{Fault}
@@ -34,29 +39,38 @@ abbrev pub IsRowsAnswer : EventValue → Result (Vec Row Global) Refusal → Ans
 IsRowsAnswer event (Ok rows) answer = (answer ≡ text_answer (rows_text event rows.items)) ⊎ (answer ≡ refusal_answer Memory)
 IsRowsAnswer event (Err why) answer = answer ≡ refusal_answer why
 
--- What is asked of the desk, its answer, and where it stands then. `Stood` is that its tables stood for its event, on a
--- clean disk: on this rests what is read of them.
-abbrev pub AnswersRequest : Type 0 → Standing → Result Asked Fault → AnswerValue → Standing → Type 0
-AnswersRequest Stood old (Err fault) answer new = (answer ≡ fault_answer fault) × (new ≡ old)
-AnswersRequest Stood old (Ok Standings) answer new =
+-- What is asked of the desk, its answer, the session that it asks of the file, and where it stands then. `Stood` is that
+-- its tables stood for its event, on a clean disk: on this rests what is read of them. Only a score is a command.
+abbrev pub AnswersRequest : Type 0 → Standing → Result Asked Fault → AnswerValue → Session → Standing → Type 0
+AnswersRequest Stood old (Err fault) answer session new = (answer ≡ fault_answer fault) × (session ≡ no_session) × (new ≡ old)
+AnswersRequest Stood old (Ok Standings) answer session new =
     (read : Result (Vec Row Global) Refusal) × ReadsRows old read new
-    × (Stood → IfOk read (λ rows. AreTheStandings old.event rows.items)) × IsRowsAnswer old.event read answer
-AnswersRequest Stood old (Ok (Pairings round)) answer new = ShowsEvent refusal_answer old (ShowsPairings round) answer × (new ≡ old)
-AnswersRequest Stood old (Ok (Slip round table)) answer new =
+    × (Stood → IfOk read (λ rows. AreTheStandings old.event rows.items)) × IsRowsAnswer old.event read answer × (session ≡ no_session)
+AnswersRequest Stood old (Ok (Pairings round)) answer session new =
+    ShowsEvent refusal_answer old (ShowsPairings round) answer × (session ≡ no_session) × (new ≡ old)
+AnswersRequest Stood old (Ok (Slip round table)) answer session new =
     (read : Result SlipRow Refusal) × ReadsSlip old read new × (Stood → FindsSlip old.event round table read) × IsSlipAnswer read answer
-AnswersRequest Stood old (Ok (Report round table score)) answer new =
+    × (session ≡ no_session)
+AnswersRequest Stood old (Ok (Report round table score)) answer session new =
     (reply : Reply) × Turn old (Hand round table score) reply new × (answer ≡ reply_answer reply)
+    × (session ≡ session_of (Hand round table score ∷ []) (reply ∷ []) new.stopped)
+
+-- a desk is asked this, answers so, and its file takes the session
+pub record Answers {S : Type 0} (g : Ghosts S) (old : Desk S g) (asked : Asked) (answer : AnswerValue) (new : Desk S g) : Type 0 where
+  pub session : Session
+  pub answers : AnswersRequest (HasCleanDisk (state g new) × ShowsOwn g old) (standing old) (Ok asked) answer session (standing new)
+  pub asks : desk.Asks g old session new
 
 -- ---- one request
 
 -- the desk was asked what the input asks for
-abbrev pub IsServed : Type 0 → Option (List ℕ) → Standing → AnswerValue → Standing → Type 0
-IsServed Stood input old answer new =
-    (asked : Result Asked Fault) × IfSome input (λ xs. Asks xs asked) × AnswersRequest Stood old asked answer new
+abbrev pub IsServed : Type 0 → Option (List ℕ) → Standing → AnswerValue → Session → Standing → Type 0
+IsServed Stood input old answer session new =
+    (asked : Result Asked Fault) × IfSome input (λ xs. Asks xs asked) × AnswersRequest Stood old asked answer session new
 
 -- or memory was wanting before it was asked, and it stays as it is
-abbrev pub IsUnserved : Standing → AnswerValue → Standing → Type 0
-IsUnserved old answer new = (answer ≡ refusal_answer Memory) × (new ≡ old)
+abbrev pub IsUnserved : Standing → AnswerValue → Session → Standing → Type 0
+IsUnserved old answer session new = (answer ≡ refusal_answer Memory) × (session ≡ no_session) × (new ≡ old)
 
 -- what was written of an answer
 abbrev pub Writes : Option (List ℕ) → Option (List ℕ) → Served → AnswerValue → Type 0
@@ -66,14 +80,21 @@ Writes before after ReadFault answer = ⊥
 
 -- how serving an input ends: with an answer, of which all or the first bytes were written, or by a read that failed,
 -- with nothing submitted or written
-abbrev pub EndsServing : Type 0 → Option (List ℕ) → Standing → Standing → Option (List ℕ) → Option (List ℕ) → Served → Type 0
-EndsServing Stood input old new before after ReadFault = Keeps before after × (new ≡ old)
-EndsServing Stood input old new before after (Answered status) =
+abbrev pub EndsServing : Type 0 → Option (List ℕ) → Standing → Session → Standing → (before after : Option (List ℕ)) → Served → Type 0
+EndsServing Stood input old session new before after ReadFault = Keeps before after × (session ≡ no_session) × (new ≡ old)
+EndsServing Stood input old session new before after (Answered status) =
     (answer : AnswerValue) × Writes before after (Answered status) answer
-    × (IsServed Stood input old answer new ⊎ IsUnserved old answer new)
-EndsServing Stood input old new before after (WriteFault sent) =
+    × (IsServed Stood input old answer session new ⊎ IsUnserved old answer session new)
+EndsServing Stood input old session new before after (WriteFault sent) =
     (answer : AnswerValue) × Writes before after (WriteFault sent) answer
-    × (IsServed Stood input old answer new ⊎ IsUnserved old answer new)
+    × (IsServed Stood input old answer session new ⊎ IsUnserved old answer session new)
+
+-- What serving one request does: one score is the session, or nothing is.
+pub record Serves {S : Type 0} (g : Ghosts S) (input : Option (List ℕ)) (old new : Desk S g) (before after : Option (List ℕ)) (served : Served)
+    : Type 0 where
+  pub session : Session
+  pub ends : EndsServing (HasCleanDisk (state g new) × ShowsOwn g old) input (standing old) session (standing new) before after served
+  pub asks : desk.Asks g old session new
 
 -- What was written where the desk runs and its tables stand for its event: the answer to the input on that event and
 -- serial, and nothing else but a 503.

@@ -1,14 +1,11 @@
-ghost use Rattle.std.specs.Prelude.{◌≡◌, ◌⊎◌, Ok, IfSome, IsTrue, IsFalse, MatchResult};
+ghost use Rattle.std.specs.Prelude.{◌≡◌, ◌⊎◌, IfSome, IsFalse, MatchResult};
 ghost use Rattle.sqlite.specs.State.{HasCleanDisk};
-ghost use Rattle.er_event.specs.declared.commands.Command.TheVariants as command;
-ghost use Rattle.er_store.specs.Standing.{KeepsOthers};
-ghost use Rattle.er_desk.specs.Desk.{Turn, ShowsEvent, ShowsOwn, point_of, standing, state, version_in};
-ghost use Rattle.er_desk.specs.Headline.{LeavesJust};
+ghost use Rattle.er_desk.specs.Desk.{ShowsEvent, ShowsOwn, standing, state};
 ghost use Rattle.er_paper.specs.Texts.{rows_text};
 ghost use Rattle.er_slips.specs.declared.request.asked.Asked.TheVariants as asked;
 ghost use Rattle.er_slips.specs.Answer.{answer_value, refusal_answer, text_answer};
 ghost use Rattle.er_slips.specs.Whole.{ShowsPairings, reply_answer};
-ghost use Rattle.er_slips.specs.Serving.{IsSlipAnswer, AnswersRequest, Writes, EndsServing, IsWritten};
+ghost use Rattle.er_slips.specs.Serving.{IsSlipAnswer, Answers, Writes, Serves, IsWritten};
 
 mod sending;
 
@@ -59,21 +56,7 @@ fn rows_answer<S: Alter>(alloc: Global, desk: &Desk<S>, rows: &[Row]) -> Answer
 }
 
 fn standings<S: Alter>(alloc: Global, desk: &mut Desk<S>) -> Answer
-    ensures answers { AnswersRequest (HasCleanDisk (state S.Store desk.new)
-        × ShowsOwn S.Store desk.old) (standing desk.old) (Ok asked.Standings) (answer_value result)
-        (standing desk.new) }
-    ensures waits { IsTrue (standing desk.old).stopped → desk.new ≡ desk.old }
-    ensures clean { HasCleanDisk (state S.Store desk.new) → HasCleanDisk (state S.Store desk.old) }
-    ensures stands { HasCleanDisk (state S.Store desk.new) → ShowsOwn S.Store desk.old
-        → IsFalse (standing desk.new).stopped → ShowsOwn S.Store desk.new }
-    ensures others { HasCleanDisk (state S.Store desk.new) → ShowsOwn S.Store desk.old
-        → IsTrue (state S.Store desk.new).is_open
-        → KeepsOthers (version_in desk.old) (state S.Store desk.old).now
-        (state S.Store desk.new).now }
-    ensures leaves { ShowsOwn S.Store desk.old
-        → LeavesJust (state S.Store desk.old) (point_of (standing desk.old))
-        → IsFalse (standing desk.new).stopped
-        → LeavesJust (state S.Store desk.new) (point_of (standing desk.new)) }
+    ensures { Answers S.Store desk.old asked.Standings (answer_value result) desk.new }
 {
     match desk.stored_standings(alloc) {
         Ok(rows) => rows_answer(alloc, desk, rows.as_slice()),
@@ -102,21 +85,7 @@ fn slip_row_answer(alloc: Global, read: &Result<SlipRow, Refusal>) -> Answer
 }
 
 fn slip<S: Alter>(alloc: Global, desk: &mut Desk<S>, round: u8, table: u16) -> Answer
-    ensures answers { AnswersRequest (HasCleanDisk (state S.Store desk.new)
-        × ShowsOwn S.Store desk.old) (standing desk.old) (Ok (asked.Slip round table))
-        (answer_value result) (standing desk.new) }
-    ensures waits { IsTrue (standing desk.old).stopped → desk.new ≡ desk.old }
-    ensures clean { HasCleanDisk (state S.Store desk.new) → HasCleanDisk (state S.Store desk.old) }
-    ensures stands { HasCleanDisk (state S.Store desk.new) → ShowsOwn S.Store desk.old
-        → IsFalse (standing desk.new).stopped → ShowsOwn S.Store desk.new }
-    ensures others { HasCleanDisk (state S.Store desk.new) → ShowsOwn S.Store desk.old
-        → IsTrue (state S.Store desk.new).is_open
-        → KeepsOthers (version_in desk.old) (state S.Store desk.old).now
-        (state S.Store desk.new).now }
-    ensures leaves { ShowsOwn S.Store desk.old
-        → LeavesJust (state S.Store desk.old) (point_of (standing desk.old))
-        → IsFalse (standing desk.new).stopped
-        → LeavesJust (state S.Store desk.new) (point_of (standing desk.new)) }
+    ensures { Answers S.Store desk.old (asked.Slip round table) (answer_value result) desk.new }
 {
     let read = desk.slip(alloc, round, table);
     slip_row_answer(alloc, &read)
@@ -139,21 +108,8 @@ fn report<S: Alter>(
     table: u16,
     score: Games,
 ) -> Answer
-    ensures answers { AnswersRequest (HasCleanDisk (state S.Store desk.new)
-        × ShowsOwn S.Store desk.old) (standing desk.old) (Ok (asked.Report round table score))
-        (answer_value result) (standing desk.new) }
-    ensures waits { IsTrue (standing desk.old).stopped → desk.new ≡ desk.old }
-    ensures clean { HasCleanDisk (state S.Store desk.new) → HasCleanDisk (state S.Store desk.old) }
-    ensures stands { HasCleanDisk (state S.Store desk.new) → ShowsOwn S.Store desk.old
-        → IsFalse (standing desk.new).stopped → ShowsOwn S.Store desk.new }
-    ensures others { HasCleanDisk (state S.Store desk.new) → ShowsOwn S.Store desk.old
-        → IsTrue (state S.Store desk.new).is_open
-        → KeepsOthers (version_in desk.old) (state S.Store desk.old).now
-        (state S.Store desk.new).now }
-    ensures leaves { ShowsOwn S.Store desk.old
-        → LeavesJust (state S.Store desk.old) (point_of (standing desk.old))
-        → IsFalse (standing desk.new).stopped
-        → LeavesJust (state S.Store desk.new) (point_of (standing desk.new)) }
+    ensures { Answers S.Store desk.old (asked.Report round table score) (answer_value result)
+        desk.new }
 {
     let reply = desk.submit(
         alloc,
@@ -168,22 +124,10 @@ fn report<S: Alter>(
 
 /// What the desk answers. It is asked once.
 fn answer<S: Alter>(alloc: Global, desk: &mut Desk<S>, asked: Asked) -> Answer
-    ensures answers { AnswersRequest (HasCleanDisk (state S.Store desk.new)
-        × ShowsOwn S.Store desk.old) (standing desk.old) (Ok asked) (answer_value result)
-        (standing desk.new) }
-    ensures waits { IsTrue (standing desk.old).stopped → desk.new ≡ desk.old }
-    ensures clean { HasCleanDisk (state S.Store desk.new) → HasCleanDisk (state S.Store desk.old) }
-    ensures stands { HasCleanDisk (state S.Store desk.new) → ShowsOwn S.Store desk.old
-        → IsFalse (standing desk.new).stopped → ShowsOwn S.Store desk.new }
-    ensures others { HasCleanDisk (state S.Store desk.new) → ShowsOwn S.Store desk.old
-        → IsTrue (state S.Store desk.new).is_open
-        → KeepsOthers (version_in desk.old) (state S.Store desk.old).now
-        (state S.Store desk.new).now }
-    ensures leaves { ShowsOwn S.Store desk.old
-        → LeavesJust (state S.Store desk.old) (point_of (standing desk.old))
-        → IsFalse (standing desk.new).stopped
-        → LeavesJust (state S.Store desk.new) (point_of (standing desk.new)) }
+    ensures { Answers S.Store desk.old asked (answer_value result) desk.new }
 {
+    // To look at a desk asks nothing of its file: this tells the proof.
+    desk.asks_nothing();
     match asked {
         Asked::Standings => standings(alloc, desk),
         Asked::Pairings { round } => pairings(alloc, desk, round),
@@ -216,30 +160,17 @@ pub fn serve_one<S: Alter, R: Read, W: Write>(
     reader: &mut R,
     writer: &mut W,
 ) -> Served
-    ensures ends { EndsServing (HasCleanDisk (state S.Store desk.new)
-        × ShowsOwn S.Store desk.old) (R.remaining reader.old) (standing desk.old)
-        (standing desk.new) (W.contents writer.old) (W.contents writer.new) result }
-    // Where the desk runs and its tables stand for its event, that is the answer to the input, or a 503.
+    // One score is handed to the desk, or nothing is, and the file takes just that.
+    ensures serves { Serves S.Store (R.remaining reader.old) desk.old desk.new
+        (W.contents writer.old) (W.contents writer.new) result }
+    // Where the desk runs and its tables stand for its event, what is written is the answer to the input, or a 503.
     ensures written { IfSome (R.remaining reader.old) (λ input. IsFalse (standing desk.old).stopped
         → HasCleanDisk (state S.Store desk.new) × ShowsOwn S.Store desk.old
         → IsWritten (standing desk.old) input (W.contents writer.old)
         (W.contents writer.new) result) }
-
-    ensures waits { IsTrue (standing desk.old).stopped → desk.new ≡ desk.old }
-    ensures clean { HasCleanDisk (state S.Store desk.new) → HasCleanDisk (state S.Store desk.old) }
-    ensures stands { HasCleanDisk (state S.Store desk.new) → ShowsOwn S.Store desk.old
-        → IsFalse (standing desk.new).stopped → ShowsOwn S.Store desk.new }
-    ensures others { HasCleanDisk (state S.Store desk.new) → ShowsOwn S.Store desk.old
-        → IsTrue (state S.Store desk.new).is_open
-        → KeepsOthers (version_in desk.old) (state S.Store desk.old).now
-        (state S.Store desk.new).now }
-
-    // While it runs, a crash leaves just the event that it stands at.
-    ensures leaves { ShowsOwn S.Store desk.old
-        → LeavesJust (state S.Store desk.old) (point_of (standing desk.old))
-        → IsFalse (standing desk.new).stopped
-        → LeavesJust (state S.Store desk.new) (point_of (standing desk.new)) }
 {
+    // A desk that is not asked leaves its file as it is: this tells the proof.
+    desk.asks_nothing();
     match read_request(alloc, reader) {
         Ok(asked) => deliver(writer, &answer(alloc, desk, asked)),
         Err(Unasked::Refused(fault)) => deliver(writer, &fault_answer(fault)),

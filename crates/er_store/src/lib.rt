@@ -92,6 +92,10 @@ impl<S: Alter> Store<S> {
             → (CanRead (state S.Store conn).now.schema → ⊥)
             × ((version : ℕ) → HasTables version (state S.Store conn).now.schema → ⊥)) }
 
+        // The disk was clean if it is.
+        ensures clean { MatchResult result
+            (λ made. HasCleanDisk (store.state S.Store made) → HasCleanDisk (state S.Store conn))
+            (λ e. HasCleanDisk (state S.Store e.0) → HasCleanDisk (state S.Store conn)) }
         ensures why { IfErr result (λ e. (e.1 ≡ Refusal.EventExists) ⊎ IsFault e.1) }
         ensures exists { IfErr result (λ e. e.1 ≡ Refusal.EventExists
             → HasCleanDisk (state S.Store e.0) → CanRead (state S.Store conn).now.schema
@@ -140,6 +144,10 @@ impl<S: Alter> Store<S> {
             → (CanRead (state S.Store conn).now.schema → ⊥)
             × ((version : ℕ) → HasTables version (state S.Store conn).now.schema → ⊥)) }
 
+        // The disk was clean if it is.
+        ensures clean { MatchResult result
+            (λ made. HasCleanDisk (store.state S.Store made) → HasCleanDisk (state S.Store conn))
+            (λ e. HasCleanDisk (state S.Store e.0) → HasCleanDisk (state S.Store conn)) }
         ensures why { IfErr result (λ e. (e.1 ≡ Refusal.EventExists) ⊎ IsFault e.1) }
         ensures exists { IfErr result (λ e. e.1 ≡ Refusal.EventExists
             → HasCleanDisk (state S.Store e.0) → CanRead (state S.Store conn).now.schema
@@ -183,6 +191,10 @@ impl<S: Alter> Store<S> {
             → (CanRead (state S.Store conn).now.schema → ⊥)
             × ((version : ℕ) → HasTables version (state S.Store conn).now.schema → ⊥)) }
 
+        // The disk was clean if it is.
+        ensures clean { MatchResult result
+            (λ made. HasCleanDisk (store.state S.Store made) → HasCleanDisk (state S.Store conn))
+            (λ e. HasCleanDisk (state S.Store e.0) → HasCleanDisk (state S.Store conn)) }
         ensures why { IfErr result (λ e. (e.1 ≡ Refusal.EventExists) ⊎ IsFault e.1) }
         ensures exists { IfErr result (λ e. e.1 ≡ Refusal.EventExists
             → HasCleanDisk (state S.Store e.0) → CanRead (state S.Store conn).now.schema

@@ -1,4 +1,4 @@
-use Rattle.std.proofs.Common.{inl, inr, refl, map, Option, Some, None, IfSome, string_bytes}
+use Rattle.std.proofs.Common.{inl, inr, refl, map, Option, Some, None, IfSome, string_bytes, rules}
 use Rattle.er_words.specs.Line.{line_of}
 use Rattle.er_words.specs.Action.{action_of}
 use Rattle.er_event.specs.declared.refusals.Refusal.TheVariants.{Memory}
@@ -11,10 +11,14 @@ always None it = tt
 always (Some x) it = it x
 
 -- memory may be wanting for any words
-pub returns-clause-answered : goal.returns-clause-answered
-returns-clause-answered g c asked =
+pub returns-clause-ends : goal.returns-clause-ends
+returns-clause-ends g c =
     let tell = c.tell in
-    always (line_of (map string_bytes c.args.words.now)) (λ line. inr tell.ensures)
+    record {
+      asked = search rules;
+      unread = search rules;
+      answered = λ asked. always (line_of (map string_bytes c.args.words.now)) (λ line. inr tell.ensures);
+    }
 
 pub returns-clause-goes_on : goal.returns-clause-goes_on
 returns-clause-goes_on g c new first ends was asked =

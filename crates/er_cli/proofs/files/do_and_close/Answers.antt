@@ -4,7 +4,6 @@ pub returns : goal.returns
 returns g c = record {
   last = c.do_task-status.new.desk;
   opened = c.requires.opened;
-  does = c.do_task-status.ensures.does;
-  stands = c.do_task-status.ensures.stands;
+  does = c.do_task-status.ensures;
   put_away = c.put_away.ensures;
 }

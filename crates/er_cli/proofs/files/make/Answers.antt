@@ -1,7 +1,18 @@
+use Rattle.er_cli.proofs.{GoingOn.made_begins, Making.made_so}
 use Rattle.er_cli.proofs.files.make.Goals as goal
 
 pub returns-in-Ok : goal.returns-in-Ok
-returns-in-Ok g c = (c.init.result, c.init.ensures, rw c.in-Ok.is (c.tell_made.ensures.put_away, c.tell_made.ensures.told))
+returns-in-Ok g c =
+    let told = c.tell_made.ensures in
+    let it = made_so _ _ _ _ _ c.init.result c.in-Ok.desk c.in-Ok.is c.init.ensures in (
+      c.init.result,
+      c.init.ensures,
+      rw c.in-Ok.is (
+        told.put_away,
+        made_begins c.next_sessions.ensures _ _ _ _ _ c.in-Ok.desk it.0 it.1 told.asks told.put_away.0 told.put_away.1,
+        told.told,
+      ),
+    )
 
 pub returns-in-Err : goal.returns-in-Err
 returns-in-Err g c = (c.init.result, c.init.ensures, rw c.in-Err.is c.tell_refusal.ensures)

@@ -20,7 +20,7 @@ returns-in-Err-clause-goes_on g c new first ends was =
     let law = c.next_sessions.ensures in
     let image = image_at g.S.Start in
     unopened_goes_on law image new first ends was _ _ _ _ _ _ _ c.args.task c.in-Err.fault c.clear_fault.result c.clear_fault.ensures
-    (c.in-Err.ensures.found first was.left (law image new first ends was).sound) c.in-Err.ensures.left c.in-Err.ensures.spared
+    (c.in-Err.ensures.found first was.left (law new first ends was.begins was.history).sound) c.in-Err.ensures.left c.in-Err.ensures.spared
     c.tell_refusal.ensures
 
 pub returns-in-Ok-clause-ends : goal.returns-in-Ok-clause-ends
@@ -31,5 +31,5 @@ returns-in-Ok-clause-goes_on g c new first ends was =
     let law = c.next_sessions.ensures in
     let image = image_at g.S.Start in
     task_goes_on law image new first ends was _ _ _ _ _ _ _ c.args.task c.in-Ok.desk c.in-Ok.ensures.ready
-    (record { finds = c.in-Ok.ensures.found first was.left (law image new first ends was).sound; sees = c.in-Ok.ensures.kept })
+    (record { finds = c.in-Ok.ensures.found first was.left (law new first ends was.begins was.history).sound; sees = c.in-Ok.ensures.kept })
     c.do_and_close.ensures

@@ -1,10 +1,8 @@
-use Rattle.std.proofs.Common.{inl, refl}
+use Rattle.std.proofs.Common.{inl, inr, refl}
 use Rattle.er_cli.proofs.importing.import.Goals as goal
 
 pub returns-in-Err-TooLong : goal.returns-in-Err-TooLong
-returns-in-Err-TooLong g c = record {
-  imports = inl (refl, (c.say_all.ensures, refl));
-  clean = λ clean. clean;
-  stands = λ clean shows runs. shows;
-  leaves = λ shows left runs. left;
-}
+returns-in-Err-TooLong g c = (_, inl ((refl, refl), (c.say_all.ensures, refl)), c.asks_nothing.ensures)
+
+pub returns-in-Err-Memory : goal.returns-in-Err-Memory
+returns-in-Err-Memory g c = (_, inr (inl ((refl, refl), c.tell.ensures)), c.asks_nothing.ensures)

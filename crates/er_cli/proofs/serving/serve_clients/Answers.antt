@@ -1,29 +1,35 @@
-use Rattle.std.proofs.Common.{arith, refl}
-use Rattle.er_desk.specs.Desk.{standing}
-use Rattle.er_cli.proofs.Connecting.{connects_more, leaves_more, ran_before, waits_more}
+use Rattle.std.proofs.Common.{◌≡◌, ℕ, arith, refl, subst}
+use Rattle.er_desk.specs.{Asking.joined, Desk.standing}
+use Rattle.er_cli.specs.Serving.{ConnectsAll}
+use Rattle.er_cli.proofs.Connecting.{connects_more}
 use Rattle.er_cli.proofs.serving.serve_clients.Goals as goal
 
 pub loop-init : goal.loop-init
-loop-init g c = record {
-  within = omega arith;
-  turns = refl;
-  waits = λ stopped. refl;
-  clean = λ clean. clean;
-  stands = λ clean shows runs. shows;
-  leaves = λ shows leaves runs. leaves;
-}
+loop-init g c = record { within = omega arith; turns = (_, (refl, refl), c.asks_nothing.ensures) }
 
 pub loop-preserved : goal.loop-preserved
 loop-preserved g c =
+    let first = c.args.desk.now in
     let old = c.loop.desk in
     let new = c.serve_client.new.desk in
-    let inv = c.loop.invariant in
+    let before = c.loop.invariant.turns in
     let one = c.serve_client.ensures in
     record {
       within = omega (arith, c.loop-test.true);
-      turns = connects_more c.loop.counter (standing c.args.desk.now) (standing old) (standing new) inv.turns one.turn;
-      waits = waits_more c.args.desk.now old new inv.waits one.waits;
-      clean = λ clean. inv.clean (one.clean clean);
-      stands = λ clean shows runs. one.stands clean (inv.stands (one.clean clean) shows (ran_before old new one.waits runs)) runs;
-      leaves = leaves_more g.S.Store c.args.desk.now old new inv.stands inv.leaves one.waits one.clean one.leaves;
+      turns = (
+        joined before.0 one.0,
+        connects_more c.loop.counter (standing first) before.0 (standing old) one.0 (standing new) before.1 one.1,
+        c.asks_then.ensures first old new before.0 one.0 before.2 one.2,
+      );
     }
+
+-- the listener gave no connection
+pub returns-in_default : goal.returns-in_default
+returns-in_default g c =
+    let it = c.loop.invariant.turns in (it.0, (c.loop.counter, c.loop.invariant.within, it.1), it.2)
+
+pub returns : goal.returns
+returns g c =
+    let it = c.loop.invariant.turns in
+    let all : c.loop.counter ≡ c.args.count = omega (arith, c.loop.invariant.within, c.loop-test.false) in
+    (it.0, subst (λ (n : ℕ). ConnectsAll n (standing c.args.desk.now) it.0 (standing c.loop.desk)) all it.1, it.2)

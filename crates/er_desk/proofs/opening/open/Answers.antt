@@ -2,23 +2,23 @@ use Rattle.std.proofs.Common.{inl, inr, sym, subst, ◌∙◌}
 use Rattle.sqlite.specs.{Effect.Database, Files.{over_files, file_state}}
 use Rattle.er_store.specs.Standing.{HasTables, AreKeyed}
 use Rattle.er_desk.specs.{Desk.{state, version_in}, Opening.NamesFirstFault}
-use Rattle.er_desk.proofs.Adopting.{if_left, opened_stands, sees_unchanged, sees_kept}
+use Rattle.er_desk.proofs.Adopting.{is_fault, is_spared, opened_stands, sees_unchanged, sees_kept}
 use Rattle.er_desk.proofs.opening.open.Goals as goal
 
 pub returns-in-Ok-adopt-clause-found : goal.returns-in-Ok-adopt-clause-found
 returns-in-Ok-adopt-clause-found g c point was sound clean =
-    let early = c.in-Ok-adopt.ensures.clean clean in
+    let early = c.in-Ok-adopt.ensures.left.clean clean in
     c.in-Ok-adopt.ensures.found point (opened_stands (file_state c.in-Ok.conn) _ (c.in-Ok.ensures.opened early)
     (c.in-Ok.ensures.found early) point c.stored_stands.ensures was) sound clean
 
 pub returns-in-Ok-adopt-clause-left : goal.returns-in-Ok-adopt-clause-left
 returns-in-Ok-adopt-clause-left g c db holds clean trees may =
-    let early = c.in-Ok-adopt.ensures.clean clean in
-    c.in-Ok-adopt.ensures.left (c.in-Ok.ensures.opened early).0.is_open clean trees may ∙ (c.in-Ok.ensures.found early).holds db holds
+    let early = c.in-Ok-adopt.ensures.left.clean clean in
+    c.in-Ok-adopt.ensures.left.left (c.in-Ok.ensures.opened early).0.is_open clean trees may ∙ (c.in-Ok.ensures.found early).holds db holds
 
 pub returns-in-Ok-adopt-clause-kept : goal.returns-in-Ok-adopt-clause-kept
 returns-in-Ok-adopt-clause-kept g c db holds clean is_open =
-    let early = c.in-Ok-adopt.ensures.clean clean in
+    let early = c.in-Ok-adopt.ensures.left.clean clean in
     sees_unchanged (file_state c.in-Ok.conn) _ (c.in-Ok.ensures.opened early) (c.in-Ok.ensures.found early)
     (state over_files c.in-Ok-adopt.desk) db holds (c.in-Ok-adopt.ensures.same clean)
 
@@ -30,30 +30,29 @@ returns-in-Ok-adopt-clause-stands g c clean has keyed =
 
 pub returns-in-Err-adopt-clause-found : goal.returns-in-Err-adopt-clause-found
 returns-in-Err-adopt-clause-found g c point was sound clean =
-    let early = c.in-Err-adopt.ensures.clean clean in
+    let early = c.in-Err-adopt.ensures.left.clean clean in
     c.in-Err-adopt.ensures.found point (opened_stands (file_state c.in-Ok.conn) _ (c.in-Ok.ensures.opened early)
     (c.in-Ok.ensures.found early) point c.stored_stands.ensures was) sound clean
 
 pub returns-in-Err-adopt-clause-left : goal.returns-in-Err-adopt-clause-left
 returns-in-Err-adopt-clause-left g c db holds clean trees may =
-    let early = c.in-Err-adopt.ensures.clean clean in
-    c.in-Err-adopt.ensures.left (c.in-Ok.ensures.opened early).0.is_open clean trees may ∙ (c.in-Ok.ensures.found early).holds db holds
+    let early = c.in-Err-adopt.ensures.left.clean clean in
+    c.in-Err-adopt.ensures.left.left (c.in-Ok.ensures.opened early).0.is_open clean trees may ∙ (c.in-Ok.ensures.found early).holds db holds
 
 pub returns-in-Err-adopt-clause-kept : goal.returns-in-Err-adopt-clause-kept
 returns-in-Err-adopt-clause-kept g c db holds clean is_open =
-    let early = c.in-Err-adopt.ensures.clean clean in
+    let early = c.in-Err-adopt.ensures.left.clean clean in
     sees_kept (file_state c.in-Ok.conn) _ (c.in-Ok.ensures.opened early) (c.in-Ok.ensures.found early) (file_state c.in-Err-adopt.conn) db
-    holds (c.in-Err-adopt.ensures.kept clean) is_open
+    holds (c.in-Err-adopt.ensures.left.kept clean) is_open
 
 pub returns-in-Err-adopt-clause-first : goal.returns-in-Err-adopt-clause-first
 returns-in-Err-adopt-clause-first g c clean is_open =
-    let opened = c.in-Ok.ensures.opened (c.in-Err-adopt.ensures.clean clean) in
-    subst (λ (d : Database). NamesFirstFault d c.in-Err-adopt.refusal) (sym (c.in-Err-adopt.ensures.kept clean opened.0.clean is_open).0)
+    let opened = c.in-Ok.ensures.opened (c.in-Err-adopt.ensures.left.clean clean) in
+    subst (λ (d : Database). NamesFirstFault d c.in-Err-adopt.refusal) (sym (c.in-Err-adopt.ensures.left.kept clean opened.0.clean is_open).0)
     (c.in-Err-adopt.ensures.first clean)
 
 pub returns-in-Err-clause-spared : goal.returns-in-Err-clause-spared
-returns-in-Err-clause-spared g c = if_left c.in-Err.left _ _
-    (λ left told. (told.0, told.1, told.2, λ clean. (told.3 clean).1)) c.in-Err.ensures.cause
+returns-in-Err-clause-spared g c = is_spared c.in-Err.error c.in-Err.left c.in-Err.ensures.unopened c.in-Err.ensures.cause
 
 -- ---- what `adopt` says
 
@@ -72,10 +71,10 @@ returns-in-Err-adopt-clause-why g c = c.in-Err-adopt.ensures.why
 -- ---- the files were not opened
 
 pub returns-in-Err-clause-why : goal.returns-in-Err-clause-why
-returns-in-Err-clause-why g c = inr (inl c.opening_refusal.ensures.fault)
+returns-in-Err-clause-why g c = inr (inl (is_fault c.in-Err.error))
 
 pub returns-in-Err-clause-unopened : goal.returns-in-Err-clause-unopened
-returns-in-Err-clause-unopened g c = c.opening_refusal.ensures.fault
+returns-in-Err-clause-unopened g c = is_fault c.in-Err.error
 
 pub returns-in-Err-clause-found : goal.returns-in-Err-clause-found
-returns-in-Err-clause-found g c point was sound clean = c.opening_refusal.ensures.fault
+returns-in-Err-clause-found g c point was sound clean = is_fault c.in-Err.error

@@ -1,50 +1,14 @@
 use Rattle.std.proofs.Common.{refl}
-use Rattle.er_slips.proofs.Answering.{keeps_self}
 use Rattle.er_slips.proofs.serve.answer.Goals as goal
 
 pub returns-in-Standings : goal.returns-in-Standings
-returns-in-Standings g c =
-    let one = c.standings.ensures in
-    record {
-      answers = rw c.in-Standings.is one.answers;
-      waits = one.waits;
-      clean = one.clean;
-      stands = one.stands;
-      others = one.others;
-      leaves = one.leaves;
-    }
+returns-in-Standings g c = rw c.in-Standings.is c.standings.ensures
 
 pub returns-in-Slip : goal.returns-in-Slip
-returns-in-Slip g c =
-    let one = c.slip.ensures in
-    record {
-      answers = rw c.in-Slip.is one.answers;
-      waits = one.waits;
-      clean = one.clean;
-      stands = one.stands;
-      others = one.others;
-      leaves = one.leaves;
-    }
+returns-in-Slip g c = rw c.in-Slip.is c.slip.ensures
 
 pub returns-in-Report : goal.returns-in-Report
-returns-in-Report g c =
-    let one = c.report.ensures in
-    record {
-      answers = rw c.in-Report.is one.answers;
-      waits = one.waits;
-      clean = one.clean;
-      stands = one.stands;
-      others = one.others;
-      leaves = one.leaves;
-    }
+returns-in-Report g c = rw c.in-Report.is c.report.ensures
 
 pub returns-in-Pairings : goal.returns-in-Pairings
-returns-in-Pairings g c =
-    record {
-      answers = rw c.in-Pairings.is (c.pairings.ensures, refl);
-      waits = λ stopped. refl;
-      clean = λ clean. clean;
-      stands = λ clean shows runs. shows;
-      others = λ clean shows is_open. keeps_self _ _;
-      leaves = λ shows leaves runs. leaves;
-    }
+returns-in-Pairings g c = rw c.in-Pairings.is (record { session = _; answers = (c.pairings.ensures, refl, refl); asks = c.asks_nothing.ensures })

@@ -1,5 +1,7 @@
-use Rattle.er_slips.proofs.Answering.{replied-leaves}
+use Rattle.std.proofs.Common.{refl}
 use Rattle.er_slips.proofs.serve.report.Goals as goal
 
-pub returns-clause-leaves : goal.returns-clause-leaves
-returns-clause-leaves g c = replied-leaves g.S.Store _ _ _ c.submit-reply.ensures.acknowledged c.submit-reply.ensures.same
+pub returns : goal.returns
+returns g c =
+    let it = c.submit-reply.ensures.submits in
+    record { session = _; answers = (c.submit-reply.result, it.turn, c.answer_to.ensures, refl); asks = it.asked }

@@ -1,6 +1,11 @@
-use Rattle.er_slips.proofs.Answering.{read-leaves}
+use Rattle.std.proofs.Common.{refl}
 use Rattle.er_slips.proofs.serve.slip.Goals as goal
 
-pub returns-clause-leaves : goal.returns-clause-leaves
-returns-clause-leaves g c = λ shows before runs. read-leaves g.S.Store c.args.desk.now c.slip-read.new.self _ _ c.slip-read.ensures.turn
-    (c.slip-read.ensures.crash shows)
+pub returns : goal.returns
+returns g c =
+    let it = c.slip-read.ensures in
+    record {
+      session = _;
+      answers = (c.slip-read.result, it.turn, (λ stood. it.found stood.0 stood.1), c.slip_row_answer.ensures, refl);
+      asks = it.asked;
+    }

@@ -1,5 +1,5 @@
 use Rattle.er_store.proofs.Prelude.{inl, inr, refl, sym, subst, ◌∙◌, true≢false, state, no_schema, CanRead}
-use Rattle.er_store.proofs.{LoadLemmas.{schema_kept, unchanged_keeps, then_keeps}, Meaning.unreadable, Effects.can_read, Crash.only}
+use Rattle.er_store.proofs.{LoadLemmas.{schema_kept, unchanged_keeps, then_keeps}, Meaning.unreadable, Effects.can_read, Crash.{only, was_clean}}
 use Rattle.er_store.proofs.Store.create_in.Goals as goal
 
 pub returns-in-Ok-clause-created : goal.returns-in-Ok-clause-created
@@ -50,3 +50,17 @@ returns-in-Err-create_tables-clause-kept g c clean =
     let found = c.in-Ok-false.ensures.found (c.in-Err-create_tables.ensures.clean clean) in
     then_keeps (state g.S.Store c.args.conn) (state g.S.Store c.has_event.new.conn) (state g.S.Store c.create_tables.new.conn) found.1
     (c.in-Err-create_tables.ensures.kept clean)
+
+-- ---- a clean disk
+
+pub returns-in-Ok-clause-clean : goal.returns-in-Ok-clause-clean
+returns-in-Ok-clause-clean g c clean = was_clean c.in-Ok-false.ensures.survives (c.in-Ok.ensures.clean clean)
+
+pub returns-in-Err-create_tables-clause-clean : goal.returns-in-Err-create_tables-clause-clean
+returns-in-Err-create_tables-clause-clean g c clean = was_clean c.in-Ok-false.ensures.survives (c.in-Err-create_tables.ensures.clean clean)
+
+pub returns-in-Ok-true-clause-clean : goal.returns-in-Ok-true-clause-clean
+returns-in-Ok-true-clause-clean g c clean = was_clean c.in-Ok-true.ensures.survives clean
+
+pub returns-in-Err-clause-clean : goal.returns-in-Err-clause-clean
+returns-in-Err-clause-clean g c clean = was_clean c.in-Err.ensures.survives clean

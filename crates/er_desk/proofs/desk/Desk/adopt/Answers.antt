@@ -3,16 +3,11 @@ use Rattle.std.proofs.lemmas.Result.{err_from_is_err_and}
 use Rattle.sqlite.specs.Held.{state}
 use Rattle.er_rules.specs.Sound.{HasSeeds}
 use Rattle.er_desk.proofs.Adopting.{point_is, shows_as, read_whole, memory_names, damage_tells, same_place}
-use Rattle.er_desk.proofs.Adopting.{back_clean, back_keeps, back_leaves}
+use Rattle.er_desk.proofs.Adopting.{back_clean, back_leaves_all, leaves_all, unchanged_leaves_all}
 use Rattle.er_store.specs.Store as tables
 use Rattle.er_desk.proofs.desk.Desk.adopt.Goals as goal
 
 -- ---- the tables are refused
-
-pub returns-in_err-store-clause-clean : goal.returns-in_err-store-clause-clean
-returns-in_err-store-clause-clean g c =
-    let p = err_from_is_err_and c.from_residual.result c.from_residual.ensures.1 in
-    rw (p.1, p.2) c.in_err-store.ensures.clean
 
 pub returns-in_err-store-clause-found : goal.returns-in_err-store-clause-found
 returns-in_err-store-clause-found g c point stands sound =
@@ -33,21 +28,6 @@ returns-in_err-store-clause-other_seeds g c point stands sound none =
     let p = err_from_is_err_and c.from_residual.result c.from_residual.ensures.1 in
     rw (p.1, p.2) (λ clean. inl (c.in_err-store.ensures.found point.event point.serial stands sound clean))
 
-pub returns-in_err-store-clause-kept : goal.returns-in_err-store-clause-kept
-returns-in_err-store-clause-kept g c =
-    let p = err_from_is_err_and c.from_residual.result c.from_residual.ensures.1 in
-    rw (p.1, p.2) c.in_err-store.ensures.kept
-
-pub returns-in_err-store-clause-crash : goal.returns-in_err-store-clause-crash
-returns-in_err-store-clause-crash g c =
-    let p = err_from_is_err_and c.from_residual.result c.from_residual.ensures.1 in
-    rw (p.1, p.2) c.in_err-store.ensures.crash
-
-pub returns-in_err-store-clause-left : goal.returns-in_err-store-clause-left
-returns-in_err-store-clause-left g c is_open =
-    let p = err_from_is_err_and c.from_residual.result c.from_residual.ensures.1 in
-    rw (p.1, p.2) (λ clean db may. g.met.S.Store.settled c.args.conn.store db is_open (c.in_err-store.ensures.crash clean db may))
-
 pub returns-in_err-store-clause-why : goal.returns-in_err-store-clause-why
 returns-in_err-store-clause-why g c =
     let p = err_from_is_err_and c.from_residual.result c.from_residual.ensures.1 in
@@ -58,13 +38,17 @@ returns-in_err-store-clause-mode g c =
     let p = err_from_is_err_and c.from_residual.result c.from_residual.ensures.1 in
     rw (p.1, p.2) c.in_err-store.ensures.mode
 
+pub returns-in_err-store-clause-left : goal.returns-in_err-store-clause-left
+returns-in_err-store-clause-left g c =
+    let p = err_from_is_err_and c.from_residual.result c.from_residual.ensures.1 in
+    rw (p.1, p.2) (leaves_all (state g.S.Store c.args.conn) (state g.S.Store c.in_err-store.field-0.0.0)
+    (λ db is_open may. g.met.S.Store.settled c.args.conn.store db is_open may)
+    c.in_err-store.ensures.clean c.in_err-store.ensures.crash c.in_err-store.ensures.kept)
+
 -- ---- the seeds agree
 
 pub returns-in-Ok-true-clause-ready : goal.returns-in-Ok-true-clause-ready
 returns-in-Ok-true-clause-ready g c = c.in_ok-store.ensures.ready
-
-pub returns-in-Ok-true-clause-clean : goal.returns-in-Ok-true-clause-clean
-returns-in-Ok-true-clause-clean g c = c.in_ok-store.ensures.clean
 
 pub returns-in-Ok-true-clause-shows : goal.returns-in-Ok-true-clause-shows
 returns-in-Ok-true-clause-shows g c = c.in_ok-store.ensures.shows
@@ -75,8 +59,10 @@ returns-in-Ok-true-clause-stands g c = c.in_ok-store.ensures.stands
 pub returns-in-Ok-true-clause-same : goal.returns-in-Ok-true-clause-same
 returns-in-Ok-true-clause-same g c = c.in_ok-store.ensures.same
 
-pub returns-in-Ok-true-clause-crash : goal.returns-in-Ok-true-clause-crash
-returns-in-Ok-true-clause-crash g c = c.in_ok-store.ensures.crash_ok
+pub returns-in-Ok-true-clause-left : goal.returns-in-Ok-true-clause-left
+returns-in-Ok-true-clause-left g c = unchanged_leaves_all (state g.S.Store c.args.conn) (tables.state g.S.Store c.in_ok-store.store)
+    (λ db is_open may. g.met.S.Store.settled c.args.conn.store db is_open may)
+    c.in_ok-store.ensures.clean c.in_ok-store.ensures.crash_ok c.in_ok-store.ensures.same
 
 pub invariant_of-result-clause-sound : goal.invariant_of-result-clause-sound
 invariant_of-result-clause-sound g c = ∣ record {
@@ -111,10 +97,6 @@ pub returns-in-Ok-true-clause-other_seeds : goal.returns-in-Ok-true-clause-other
 returns-in-Ok-true-clause-other_seeds g c point stands sound none clean =
     none (subst HasSeeds (c.in_ok-store.ensures.found point.event point.serial stands sound clean).0
     (c.in-Ok-true.ensures.0 c.in-Ok-true.field-0-test))
-
-pub returns-in-Ok-true-clause-left : goal.returns-in-Ok-true-clause-left
-returns-in-Ok-true-clause-left g c is_open clean db may =
-    g.met.S.Store.settled c.args.conn.store db is_open (c.in_ok-store.ensures.crash_ok clean db may)
 
 -- ---- they do not
 
@@ -156,24 +138,12 @@ returns-in-Ok-false-clause-first g c clean =
 pub returns-in-Ok-false-clause-other_seeds : goal.returns-in-Ok-false-clause-other_seeds
 returns-in-Ok-false-clause-other_seeds g c point stands sound none clean = inr refl
 
-pub returns-in-Ok-false-clause-clean : goal.returns-in-Ok-false-clause-clean
-returns-in-Ok-false-clause-clean g c clean =
-    c.in_ok-store.ensures.clean (back_clean g.S.Store (state g.S.Store c.args.conn) c.into_connection.result c.in_ok-store.store
-    c.into_connection.ensures.same clean)
-
-pub returns-in-Ok-false-clause-kept : goal.returns-in-Ok-false-clause-kept
-returns-in-Ok-false-clause-kept g c clean = back_keeps g.S.Store (state g.S.Store c.args.conn) c.into_connection.result c.in_ok-store.store
-    c.into_connection.ensures.same (c.in_ok-store.ensures.same
-    (back_clean g.S.Store (state g.S.Store c.args.conn) c.into_connection.result c.in_ok-store.store c.into_connection.ensures.same clean))
-
-pub returns-in-Ok-false-clause-crash : goal.returns-in-Ok-false-clause-crash
-returns-in-Ok-false-clause-crash g c = back_leaves g.S.Store (state g.S.Store c.args.conn) c.into_connection.result c.in_ok-store.store
-    c.into_connection.ensures.same _ c.in_ok-store.ensures.crash_ok
-
 pub returns-in-Ok-false-clause-left : goal.returns-in-Ok-false-clause-left
-returns-in-Ok-false-clause-left g c is_open =
-    back_leaves g.S.Store (state g.S.Store c.args.conn) c.into_connection.result c.in_ok-store.store c.into_connection.ensures.same _
-    (λ clean db may. g.met.S.Store.settled c.args.conn.store db is_open (c.in_ok-store.ensures.crash_ok clean db may))
+returns-in-Ok-false-clause-left g c =
+    back_leaves_all g.S.Store (state g.S.Store c.args.conn) c.into_connection.result c.in_ok-store.store c.into_connection.ensures.same
+    (unchanged_leaves_all (state g.S.Store c.args.conn) (tables.state g.S.Store c.in_ok-store.store)
+    (λ db is_open may. g.met.S.Store.settled c.args.conn.store db is_open may)
+    c.in_ok-store.ensures.clean c.in_ok-store.ensures.crash_ok c.in_ok-store.ensures.same)
 
 -- ---- memory is wanting
 
@@ -192,24 +162,10 @@ returns-in-Err-clause-first g c clean = memory_names (state g.S.Store c.args.con
 pub returns-in-Err-clause-other_seeds : goal.returns-in-Err-clause-other_seeds
 returns-in-Err-clause-other_seeds g c point stands sound none clean = inl (inl refl)
 
-pub returns-in-Err-clause-clean : goal.returns-in-Err-clause-clean
-returns-in-Err-clause-clean g c clean =
-    c.in_ok-store.ensures.clean (back_clean g.S.Store (state g.S.Store c.args.conn) c.into_connection-in-Err.result c.in_ok-store.store
-    c.into_connection-in-Err.ensures.same clean)
-
-pub returns-in-Err-clause-kept : goal.returns-in-Err-clause-kept
-returns-in-Err-clause-kept g c clean =
-    back_keeps g.S.Store (state g.S.Store c.args.conn) c.into_connection-in-Err.result c.in_ok-store.store
-    c.into_connection-in-Err.ensures.same (c.in_ok-store.ensures.same
-    (back_clean g.S.Store (state g.S.Store c.args.conn) c.into_connection-in-Err.result c.in_ok-store.store
-    c.into_connection-in-Err.ensures.same clean))
-
-pub returns-in-Err-clause-crash : goal.returns-in-Err-clause-crash
-returns-in-Err-clause-crash g c = back_leaves g.S.Store (state g.S.Store c.args.conn) c.into_connection-in-Err.result c.in_ok-store.store
-    c.into_connection-in-Err.ensures.same _ c.in_ok-store.ensures.crash_ok
-
 pub returns-in-Err-clause-left : goal.returns-in-Err-clause-left
-returns-in-Err-clause-left g c is_open =
-    back_leaves g.S.Store (state g.S.Store c.args.conn) c.into_connection-in-Err.result c.in_ok-store.store
-    c.into_connection-in-Err.ensures.same _ (λ clean db may. g.met.S.Store.settled c.args.conn.store db is_open
-    (c.in_ok-store.ensures.crash_ok clean db may))
+returns-in-Err-clause-left g c =
+    back_leaves_all g.S.Store (state g.S.Store c.args.conn) c.into_connection-in-Err.result c.in_ok-store.store
+    c.into_connection-in-Err.ensures.same
+    (unchanged_leaves_all (state g.S.Store c.args.conn) (tables.state g.S.Store c.in_ok-store.store)
+    (λ db is_open may. g.met.S.Store.settled c.args.conn.store db is_open may)
+    c.in_ok-store.ensures.clean c.in_ok-store.ensures.crash_ok c.in_ok-store.ensures.same)

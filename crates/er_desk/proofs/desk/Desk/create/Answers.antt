@@ -1,12 +1,12 @@
 use Rattle.std.proofs.Common.{◌≡◌, ◌⊎◌, inl, inr, ℕ, List, refl, sym, subst, ◌∙◌, true≢false}
 use Rattle.std.proofs.lemmas.{Option.none-some, Result.err_from_is_err_and}
-use Rattle.sqlite.specs.Held.{state}
+use Rattle.sqlite.specs.{Held.state, Tree.Trees}
 use Rattle.er_event.specs.declared.refusals.Refusal.{Refusal, TheVariants.{BadSetup, EventExists}}
 use Rattle.er_event.specs.{Event.EventValue, Change.created, Sound.IsSoundButForSeeds}
 use Rattle.er_rules.specs.Sound.{IsSound, HasSeeds}
-use Rattle.er_store.specs.{Fault.IsFault, Standing.{IsStored, Shows, Leaves, Either}}
+use Rattle.er_store.specs.{Fault.IsFault, Standing.{IsStored, Shows}}
 use Rattle.er_store.specs.Store as tables
-use Rattle.er_desk.proofs.{Adopting.{stored_either, stored_or}, Turns.{same_keeps, standing_same}}
+use Rattle.er_desk.proofs.{Adopting.{stored_either}, Turns.{same_keeps, standing_same}}
 use Rattle.er_desk.proofs.desk.Desk.create.Goals as goal
 
 setup_exists : BadSetup ≡ EventExists → ⊥
@@ -34,28 +34,32 @@ returns-in-Err-clause-why g c = inl c.in-Err.ensures.refused
 pub returns-in-Err-clause-exists : goal.returns-in-Err-clause-exists
 returns-in-Err-clause-exists g c is = absurd (setup_exists (sym c.in-Err.ensures.refused ∙ is))
 
-pub returns-in-Err-clause-crash : goal.returns-in-Err-clause-crash
-returns-in-Err-clause-crash g c none clean trees may = inl may
+-- while the connection was open, a crash could leave its last commit alone
+pub returns-in-Err-clause-left : goal.returns-in-Err-clause-left
+returns-in-Err-clause-left g c = record {
+  kept = λ clean. same_keeps (state g.S.Store c.args.conn);
+  spares = λ reads clean trees may. may;
+  crash = λ none clean trees may. inl may;
+  left = λ none is_open clean trees may. inl (g.met.S.Store.settled c.args.conn.store trees is_open may);
+}
 
-pub returns-in-Err-clause-kept : goal.returns-in-Err-clause-kept
-returns-in-Err-clause-kept g c clean = same_keeps (state g.S.Store c.args.conn)
-
-pub returns-in_err-store-clause-crash : goal.returns-in_err-store-clause-crash
-returns-in_err-store-clause-crash g c =
+pub returns-in_err-store-clause-left : goal.returns-in_err-store-clause-left
+returns-in_err-store-clause-left g c =
     let p = err_from_is_err_and c.from_residual.result c.from_residual.ensures.1 in
-    rw (p.1, p.2) (λ none. subst (λ (e : EventValue). Leaves (state g.S.Store c.in_err-store.field-0.0.0)
-    (Either (state g.S.Store c.args.conn).may_leave (IsStored e 0))) c.in-Ok.ensures.value
-    (λ clean trees may. stored_or (c.in_err-store.ensures.crash none clean trees may)))
-
-pub returns-in_err-store-clause-spares : goal.returns-in_err-store-clause-spares
-returns-in_err-store-clause-spares g c =
-    let p = err_from_is_err_and c.from_residual.result c.from_residual.ensures.1 in
-    rw (p.1, p.2) c.in_err-store.ensures.spares
-
-pub returns-in_err-store-clause-kept : goal.returns-in_err-store-clause-kept
-returns-in_err-store-clause-kept g c =
-    let p = err_from_is_err_and c.from_residual.result c.from_residual.ensures.1 in
-    rw (p.1, p.2) c.in_err-store.ensures.kept
+    let stored = λ (trees : Trees) (made : IsStored c.in-Ok.event 0 trees). (let new : IsStored (created c.args.name c.args.rounds c.args.cut) 0 trees =
+    subst (λ (e : EventValue). IsStored e 0 trees) c.in-Ok.ensures.value made in new) in
+    rw (p.1, p.2) (record {
+      kept = c.in_err-store.ensures.kept;
+      spares = c.in_err-store.ensures.spares;
+      crash = λ none clean trees may. elim (c.in_err-store.ensures.crash none clean trees may) [
+        | inl before ↦ inl before
+        | inr made ↦ inr (stored trees (stored_either made))
+      ];
+      left = λ none is_open clean trees may. elim (c.in_err-store.ensures.crash none clean trees may) [
+        | inl before ↦ inl (g.met.S.Store.settled c.args.conn.store trees is_open before)
+        | inr made ↦ inr (stored trees (stored_either made))
+      ];
+    })
 
 pub returns-in_err-store-clause-exists : goal.returns-in_err-store-clause-exists
 returns-in_err-store-clause-exists g c =
@@ -110,3 +114,8 @@ pub returns-clause-acknowledged : goal.returns-clause-acknowledged
 returns-clause-acknowledged g c none clean trees may =
     subst (λ (e : EventValue). IsStored e 0 trees) c.in-Ok.ensures.value
     (stored_either (c.in_ok-store.ensures.acknowledged clean none trees may))
+
+pub returns-in_err-store-clause-clean : goal.returns-in_err-store-clause-clean
+returns-in_err-store-clause-clean g c =
+    let p = err_from_is_err_and c.from_residual.result c.from_residual.ensures.1 in
+    rw (p.1, p.2) c.in_err-store.ensures.clean

@@ -1,10 +1,13 @@
-use Rattle.std.proofs.{Common.{◌≡◌, ◌++◌, ◌∷◌, [], ◌+◌, List, take, sym, ap, subst, ◌∙◌, refl, arith, true≢false}, lemmas.List.take_more}
-use Rattle.std.proofs.lemmas.List.{take_all}
+use Rattle.std.proofs.Common.{◌≡◌, ◌++◌, ◌∷◌, [], ◌+◌, List, Result, Ok, Err, IsErrAnd, MatchResult, take, sym, ap, subst, ◌∙◌, refl, arith}
+use Rattle.std.proofs.lemmas.List.{take_all, take_more}
 use Rattle.er_event.specs.declared.commands.Command.{Command}
-use Rattle.er_desk.specs.{Reply.Reply, Desk.{state, standing}, Run.Runs}
-use Rattle.er_desk.proofs.{Plain.runs_plain, Turns.keeps_self, Running.{CrashesAt, runs_push, was_running, crash_more, crash_end}}
-use Rattle.er_desk.proofs.Running.{waits_more, keeps_more}
+use Rattle.er_desk.specs.{Reply.Reply, Desk.standing, Run.{Runs, Session, session_of}, Asking.Asks}
+use Rattle.er_desk.proofs.{Plain.runs_plain, Running.runs_push, Asking.{asks_joined, same_asks, session_push, empty_asks}}
 use Rattle.er_desk.proofs.desk.Desk.run.Goals as goal
+
+refused : {A E : Type 0} (r : Result A E) (P : A → Type 0) {Q : Type 0} (W : E → Type 0) → IsErrAnd r W → Q → MatchResult r P (λ _. Q)
+refused (Ok a) P W is q = absurd is
+refused (Err e) P W is q = q
 
 pub loop-command-init : goal.loop-command-init
 loop-command-init g c = record {
@@ -12,12 +15,8 @@ loop-command-init g c = record {
       refl;
   count = c.in_ok-replies.ensures.len;
   room = omega (arith, c.in_ok-replies.ensures.capacity, c.len.ensures, c.deref-command-items.ensures.len);
-  waits = λ stopped. refl;
-  clean = λ clean. clean;
-  stands = λ clean shows runs. shows;
-  version = refl;
-  others = λ clean shows is_open. keeps_self _ (state g.S.Store c.args.self.now).now;
-  crash = λ runs shows clean stopped. absurd (true≢false (sym stopped ∙ runs));
+  asked = subst (λ (rs : List Reply). Asks g.S.Store c.args.self.now (session_of [] rs (standing c.args.self.now).stopped) c.args.self.now)
+      (sym c.in_ok-replies.ensures.items) (empty_asks g.S.Store c.args.self.now (c.shown_is_stored.ensures _ _ _));
 }
 
 pub loop-command-preserved : goal.loop-command-preserved
@@ -35,24 +34,18 @@ loop-command-preserved g c =
     let more : take (at + 1) items ≡ take at items ++ cmd ∷ [] = take_more items at cmd c.loop-command-test.true ∙ ap
     (λ (x : Command). take at items ++ x ∷ []) (sym c.command-item.is) in
     let pushed : c.push.new.self.items ≡ rs ++ reply ∷ [] = c.in-Ok.ensures.items in
-    let ran = runs_push (standing first) (standing old) (standing new) (take at items) rs cmd reply inv.ran took.turn in
     record {
-      ran = rw (more, pushed) ran;
+      ran = rw (more, pushed) (runs_push (standing first) (standing old) (standing new) (take at items) rs cmd reply inv.ran took.turn);
       count = omega (arith, inv.count, c.in-Ok.ensures.len);
       room = omega (arith, inv.room, c.in-Ok.ensures.capacity);
-      waits = waits_more first old new inv.waits took.waits;
-      clean = λ clean. inv.clean (took.clean clean);
-      stands = λ clean shows runs. took.stands clean
-          (inv.stands (took.clean clean) shows (was_running (standing old) (standing new) cmd reply runs took.turn)) runs;
-      version = took.version ∙ inv.version;
-      others = λ clean shows is_open. keeps_more g.S.Store first old new inv.version took.waits (inv.stands (took.clean clean) shows)
-          (inv.others (took.clean clean) shows) (took.others clean) is_open;
-      crash = rw (more, pushed) (crash_more g.S.Store first old new (take at items) rs cmd reply inv.ran took.turn took.waits took.undecided
-          took.clean inv.stands inv.crash);
+      asked = rw (more, pushed) (subst (λ (s : Session). Asks g.S.Store first s new)
+          (session_push (standing first) (standing old) (standing new) (take at items) rs cmd reply inv.ran took.turn)
+          (asks_joined g.S.Store first old new _ _ inv.asked took.asked));
     }
 
-pub returns-in_err-replies-clause-others : goal.returns-in_err-replies-clause-others
-returns-in_err-replies-clause-others g c clean shows is_open = keeps_self _ (state g.S.Store c.args.self.now).now
+pub returns-in_err-replies-clause-asked : goal.returns-in_err-replies-clause-asked
+returns-in_err-replies-clause-asked g c =
+    refused c.from_residual.result _ _ c.from_residual.ensures.1 (same_asks g.S.Store c.args.self.now (c.shown_is_stored.ensures _ _ _))
 
 pub returns : goal.returns
 returns g c =
@@ -68,12 +61,5 @@ returns g c =
       ran = ran;
       lawful = runs_plain (standing first) (standing now) c.args.commands.items rs ran;
       untouched = tt;
-      waits = inv.waits;
-      clean = inv.clean;
-      stands = inv.stands;
-      version = inv.version;
-      others = inv.others;
-      crash = λ runs shows clean trees may.
-          crash_end g.S.Store first now c.args.commands.items rs ran (c.shown_is_stored.ensures _ _ _) inv.stands
-          (subst (λ (cs : List Command). CrashesAt g.S.Store first now cs rs) all inv.crash) runs shows clean trees may;
+      asked = subst (λ (cs : List Command). Asks g.S.Store first (session_of cs rs (standing now).stopped) now) all inv.asked;
     }
