@@ -1,0 +1,42 @@
+"""Holds the man page and the completions in `extras/` against what `--help` of the program as it is built lists: the subcommands, and the words of
+each. The completion for bash is run.
+"""
+import re
+import subprocess
+import sys
+
+from scripts.clients.tally import check, end
+
+program, folder = sys.argv[1:]
+KINDS = ["players", "results"]
+
+
+def text_of(name):
+    return open(f"{folder}/event_reporter.{name}", encoding="utf-8").read()
+
+
+def completed(*words):
+    """What bash offers for the last word."""
+    script = '. "$1"; shift; COMP_WORDS=(event_reporter "$@"); COMP_CWORD=$#; _event_reporter; printf "%s\\n" "${COMPREPLY[@]}"'
+    ran = subprocess.run(["bash", "-c", script, "bash", f"{folder}/event_reporter.bash", *words], capture_output=True, text=True, timeout=60, check=True)
+    return ran.stdout.split()
+
+
+shown = subprocess.run([program, "--help"], capture_output=True, text=True, timeout=60, check=True).stdout
+listed = re.findall(r"^  ([a-z]+) (FILE(?: [A-Z]+)*)  ", shown, re.M)
+names = [name for name, _ in listed]
+check("each subcommand has its own help", [subprocess.run([program, it, "--help"], capture_output=True, timeout=60).returncode for it in names], [0] * 17)
+check("man", re.findall(r'^\.BI ([a-z]+) " ([A-Z ]+)"$', text_of("1"), re.M), listed)
+version = subprocess.run([program, "--version"], capture_output=True, text=True, timeout=60, check=True).stdout.strip()
+check("man, the version", f'"{version}"' in text_of("1"), True)
+check("zsh", re.findall(r"^    '([a-z]+):([A-Z ]+)'$", text_of("zsh"), re.M), listed)
+check("zsh, kinds", re.findall(r"4,export\) compadd (.*) ;;", text_of("zsh")), [" ".join(KINDS)])
+check("fish", re.findall(r"-a ([a-z]+) -d '([A-Z ]+)'$", text_of("fish"), re.M), listed)
+check("fish, kinds", re.findall(r"seen_subcommand_from export' -a '(.*)'$", text_of("fish"), re.M), [" ".join(KINDS)])
+check("bash", completed(""), [*names, "--help", "--version"])
+check("bash, a beginning", completed("st"), ["start", "standings"])
+check("bash, kinds", completed("export", "friday.event", ""), KINDS)
+check("bash, a file", completed("import", f"{folder}/event_reporter.f"), [f"{folder}/event_reporter.fish"])
+check("bash, a second one", completed("import", "friday.event", f"{folder}/event_reporter.z"), [f"{folder}/event_reporter.zsh"])
+check("bash, no more", completed("start", "friday.event", ""), [])
+end("the man page and completions")

@@ -1,0 +1,391 @@
+"""Runs `extras/sheets.py` over the program as it is built: on random events of 2 to 512 players, each as far on as an event can be, with odd numbers,
+drops, byes, players who come late, and names of many kinds. Each number and each name of a page has to be that of the plain reading of the rules, once
+in each list. Then what it says where an event can't be read, the board and how it is kept up to date, and the same over HTTP.
+
+Where a browser and `pdftotext` are installed, pages are laid out on A4 and on Letter and read back: each part on pages of its own, the heading on each
+page of a list, each name whole on one page and within the margins. Where one of the two isn't there, that is left out, and a line says so.
+"""
+import os
+import random
+import re
+import shutil
+import signal
+import subprocess
+import sys
+import tempfile
+import time
+
+from scripts.clients.event_files import run
+from scripts.clients.random_evenings import COMPLETE, ENDED, ENROLLING, HOSTILE, IN_PLAYOFF, OPEN, STARTED, WAYS, evening, laid
+from scripts.clients.serving import Serving, free_port, hear_interrupts
+from scripts.clients.tally import check, end, left_out
+from scripts.models.plain_event import Event
+from scripts.models.plain_page import (
+    Page,
+    bracket_due,
+    heading,
+    name_rows,
+    parts_due,
+    rounds_counted,
+    shown_bracket,
+    shown_rows,
+    shown_slips,
+    shown_standings,
+    slips_due,
+    standings_due,
+    table_rows,
+)
+
+program, sheets = os.path.abspath(sys.argv[1]), os.path.abspath(sys.argv[2])
+BROWSERS = "chromium", "chromium-browser", "google-chrome"
+PATIENCE = 20
+# without any package beside: the standard library is all that they need
+PYTHON = sys.executable, "-S", "-B"
+
+
+def printed(file, *words, **how):
+    """The status, the page or what else is printed, and the errors."""
+    ran = subprocess.run(
+        [*PYTHON, sheets, file, "--program", program, *words], stdin=subprocess.DEVNULL, capture_output=True, timeout=60, **how
+    )
+    return ran.returncode, ran.stdout.decode(), ran.stderr.decode()
+
+
+def page_of(name, file, *words):
+    status, text, errors = printed(file, *words)
+    check(f"{name}, status and errors", (status, errors), (0, ""))
+    page = Page(text)
+    check(f"{name}, each tag is ended", page.faults, [])
+    check_alone(name, text, page)
+    return page
+
+
+def check_alone(name, text, page):
+    """The page has no script, and asks for nothing outside of it."""
+    tags = {it.tag for it in page.root.nodes()}
+    check(
+        f"{name}, tags that ask for something",
+        tags & {"script", "link", "img", "iframe", "object", "embed", "base", "a", "form", "use", "image"},
+        set(),
+    )
+    names = {name for it in page.root.nodes() for name in it.attributes}
+    check(
+        f"{name}, attributes that do so", {it for it in names if it.startswith("on") or it in ("src", "href", "xlink:href", "data", "action")}, set()
+    )
+    style = "".join(it.text() for it in page.root.of("style"))
+    check(f"{name}, a style that does so", re.findall(r"url\(|@import|@font-face", style), [])
+    check(f"{name}, its letters", text.count("\ufffd") + text.count("\r"), 0)
+
+
+def check_page(name, page, event, number, title, is_board=False, has_bracket=True):
+    """Each list of a page beside the plain reading."""
+    parts = page.parts()
+    due = parts_due(event, number, is_board, has_bracket)
+    check(f"{name}, parts", list(parts), due)
+    if list(parts) != due:
+        return
+    if "players" in parts:
+        due = sorted((it, str(at)) for at, it in enumerate(event.names, 1))
+        check(f"{name}, players", sorted((name, number) for number, name in shown_rows(parts["players"])), due)
+    if number:
+        check(
+            f"{name}, by table",
+            (heading(parts["tables"]), shown_rows(parts["tables"])),
+            ((title, f"Round {number}, by table"), [*table_rows(event, number)]),
+        )
+        check(
+            f"{name}, by name", (heading(parts["names"]), shown_rows(parts["names"])), ((title, f"Round {number}, by name"), name_rows(event, number))
+        )
+    if "slips" in parts:
+        check(f"{name}, slips", shown_slips(parts["slips"]), slips_due(event, number, title))
+    if "standings" in parts:
+        due = standings_due(event)
+        check(f"{name}, standings", heading(parts["standings"]), (title, f"Standings after round {rounds_counted(event)}"))
+        check(f"{name}, the ranks and their bars", shown_standings(parts["standings"]), (due, [it[5:] for it in due]))
+    if "bracket" in parts:
+        check(f"{name}, bracket", (heading(parts["bracket"]), shown_bracket(parts["bracket"])), ((title, "Playoff"), bracket_due(event)))
+
+
+def run_random(room, dice, count):
+    """Random events, as sheets and as a board, of the newest round and of another one."""
+    sizes = [2, 3, 4, 5, 8, 9, 11, 16, 23, 24, 31, 50, 65, 128]
+    for at in range(count):
+        way, players = WAYS[at % len(WAYS)], dice.choice(sizes)
+        cut = (
+            dice.choice([it for it in (0, 2, 4, 8) if it <= players])
+            if way not in (IN_PLAYOFF, ENDED)
+            else dice.choice([it for it in (2, 4, 8) if it <= players])
+        )
+        event = evening(dice, players, way, dice.randint(1, 5), cut, at % 3 == 0)
+        check_event(f"event {at}, {players} players, {way}", f"{room}/{at}.event", event, dice)
+
+
+def check_event(name, file, event, dice):
+    title = f"Evening {dice.choice(HOSTILE)}"[:40].strip()
+    laid(program, file, event, "E")
+    check_page(name, page_of(name, file, "--title", title), event, len(event.stored), title)
+    if len(event.stored) > 1:
+        number = dice.randint(1, len(event.stored) - 1)
+        check_page(f"{name}, round {number}", page_of(name, file, "--round", str(number), "--title", title), event, number, title)
+    board = page_of(f"{name}, board", file, "--board", "--title", title)
+    check_page(f"{name}, board", board, event, len(event.stored), title, is_board=True)
+    check(
+        f"{name}, the board reloads itself", [it.attributes.get("content") for it in board.root.of("meta") if "http-equiv" in it.attributes], ["20"]
+    )
+
+
+def run_large(room, dice):
+    """As many players as an event may have, and all names of the other kind among them."""
+    event = evening(dice, 509, OPEN, 2, 8, True)
+    while len(event.names) < 512 and event.enrol(f"Late {len(event.names)}")[0].startswith("ok "):
+        pass
+    check_event("a large event", f"{room}/large.event", event, dice)
+
+
+def run_titles(room):
+    """What the sheets are headed with."""
+    event = Event(3, 0)
+    event.enrol("Ana")
+    file = laid(program, f"{room}/friday.event", event, "E")
+    headed = lambda *words: heading(page_of("titles", file, *words).parts()["players"])
+    check("titled by the file", headed(), ("friday", "Players: 1"))
+    with open(f"{file}.title", "w", encoding="utf-8") as it:
+        it.write("Friday <Night> & more\n")
+    check("titled by the text beside it", headed(), ("Friday <Night> & more", "Players: 1"))
+    check("titled by the words", headed("--title", "Sunday"), ("Sunday", "Players: 1"))
+
+
+def run_parts(room, dice):
+    event = evening(dice, 11, OPEN, 3, 0)
+    file = laid(program, f"{room}/e.event", event, "E")
+    check("parts that are named", list(page_of("parts", file, "--parts", "standings,tables").parts()), ["standings", "tables"])
+
+
+def run_refused(room, dice):
+    """What is said where there is nothing to show. Nothing goes to the page then."""
+    event = evening(dice, 4, COMPLETE, 3, 0)
+    file = laid(program, f"{room}/e.event", event, "E")
+    last = len(event.stored)
+    cases = [
+        ("no file", [f"{room}/none.event"], 1, "refused 27 NoEvent"),
+        ("a text", [sheets], 3, "refused 25 Store"),
+        ("no such round", [file, "--round", "9"], 1, f"Round 9 is not paired. The newest round is {last}."),
+        ("round 0", [file, "--round", "0"], 1, "Round 0 is not paired."),
+        ("no such part", [file, "--parts", "tables,nope"], 2, "there is no part 'nope'"),
+        ("no such port", [file, "--port", "99999"], 2, "is no port"),
+        ("nobody at the port", [file, "--port", str(free_port())], 3, "No answer at port"),
+        ("a word too many", [file, "more"], 2, "unrecognized arguments"),
+        ("no program", [file, "--program", f"{room}/none"], 3, "Name the program by --program PATH"),
+    ]
+    for name, words, status, said in cases:
+        got = printed(*words)
+        check(f"refused, {name}", (got[0], got[1], said in got[2]), (status, "", True))
+    for name in ("--help", "--version"):
+        status, text, errors = printed(file, name, env={**os.environ, "COLUMNS": "80"})
+        check(f"{name}", (status, errors, text.startswith(("usage: ", "sheets.py "))), (0, "", True))
+        check(f"{name} fits 80 columns", [it for it in text.split("\n") if len(it) > 80], [])
+
+
+def run_over_http(room, dice):
+    """The same over HTTP, while the program holds the file; the bracket isn't handed out."""
+    for way in (ENROLLING, STARTED, OPEN, ENDED):
+        event = evening(dice, 9, way, 3, 4, True)
+        file = laid(program, f"{room}/{way}.event", event, "E")
+        with Serving(program, file, 1000) as serving:
+            if way == OPEN:
+                status, text, errors = printed(file)
+                check("held by serve", (status, text, "--port" in errors), (3, "", True))
+            page = page_of(f"over HTTP, {way}", file, "--port", str(serving.port), "--title", "E")
+        parts = page.parts()
+        note = parts.pop("bracket", None)
+        check(f"over HTTP, {way}, the bracket", "while `serve` holds the file" in note.text() if note else None, True)
+        has_slips = "slips" in parts
+        event.stages = []
+        check(f"over HTTP, {way}, slips", has_slips, slips_due(event, len(event.stored), "E") != [])
+        note.parent.children.remove(note)
+        check_page(f"over HTTP, {way}", page, event, len(event.stored), "E", has_bracket=False)
+
+
+def run_watch_over_http(room, dice):
+    """A board that is kept up to date over HTTP."""
+    event = evening(dice, 8, STARTED, 3, 0)
+    file, page = laid(program, f"{room}/e.event", event, "E"), f"{room}/board.html"
+    run(program, ["pair", file, "1", "0" * 64])
+    with Serving(program, file, 10000) as serving:
+        words = [*PYTHON, sheets, file, "--port", str(serving.port), "--board", "--watch", page]
+        process = subprocess.Popen(words, stdin=subprocess.DEVNULL, stdout=subprocess.PIPE, stderr=subprocess.PIPE)
+        wait_for("watch over HTTP, the page comes", lambda: os.path.exists(page))
+        serving.ask(b'POST /rounds/1/tables/1 HTTP/1.1\r\nContent-Length: 19\r\n\r\n{"a":2,"b":1,"d":0}')
+        wait_for("watch over HTTP, a score shows", lambda: 'class="score">2-1-0<' in open(page, encoding="utf-8").read())
+        process.send_signal(signal.SIGINT)
+        out, errors = process.communicate(timeout=PATIENCE)
+    check("watch over HTTP, ended by Ctrl-C", (process.returncode, out, errors), (0, b"", b""))
+
+
+def wait_for(name, is_so):
+    until = time.monotonic() + PATIENCE
+    while not is_so():
+        if time.monotonic() > until:
+            check(name, "it did not come", "it comes")
+            return
+        time.sleep(0.02)
+    check(name, True, True)
+
+
+def run_watch(room, dice):
+    """A page that is kept up to date: never half of it is there, and a command shows in it."""
+    event = evening(dice, 64, STARTED, 3, 0)
+    file, page = laid(program, f"{room}/e.event", event, "E"), f"{room}/board.html"
+    run(program, ["pair", file, "1", "0" * 64])
+    event.pair(1, bytes(32))
+    words = [*PYTHON, sheets, file, "--program", program, "--board", "--watch", page, "--title", "E"]
+    process = subprocess.Popen(words, stdin=subprocess.DEVNULL, stdout=subprocess.PIPE, stderr=subprocess.PIPE)
+    seen = []
+
+    def shows(score):
+        try:
+            with open(page, encoding="utf-8") as it:
+                text = it.read()
+        except FileNotFoundError:
+            return False
+        seen.append(text.endswith("</html>\n"))
+        return f'class="score">{score}<' in text
+
+    wait_for("watch, the page comes", lambda: shows(""))
+    for table, score in ((1, (2, 1, 0)), (2, (0, 2, 1))):
+        check(f"watch, a result at table {table}", run(program, ["result", file, "1", str(table), *map(str, score)])[0], 0)
+        event.report(1, table, score, True)
+        wait_for(f"watch, it shows at table {table}", lambda: shows("-".join(map(str, score))))
+    check_page("watch", Page(open(page, encoding="utf-8").read()), event, 1, "E", is_board=True)
+    check("watch, no page was half", all(seen), True)
+    os.rename(file, f"{file}.gone")
+    time.sleep(1.5)
+    os.rename(f"{file}.gone", file)
+    run(program, ["result", file, "1", "3", "2", "0", "0"])
+    wait_for("watch, it goes on where the file was away", lambda: shows("2-0-0"))
+    process.send_signal(signal.SIGINT)
+    out, errors = process.communicate(timeout=PATIENCE)
+    check("watch, ended by Ctrl-C", (process.returncode, out, b"Traceback" in errors), (0, b"", False))
+    check("watch, nothing is left beside", sorted(it for it in os.listdir(room) if it.startswith(".")), [])
+
+
+# ---- paper
+
+
+def joined(text):
+    """Without any space, since a name may go on in a second line."""
+    return "".join(text.split())
+
+
+class Paper:
+    """A page as a browser lays it out on paper: the text of each sheet, and whether all of it lies within the margins."""
+
+    def __init__(self, browser, room, text, size):
+        path, pdf = f"{room}/{size}.html", f"{room}/{size}.pdf"
+        with open(path, "w", encoding="utf-8") as it:
+            it.write(text.replace("</head>", f"<style>@page {{ size: {size}; }}</style></head>"))
+        words = [
+            browser,
+            "--headless",
+            "--no-sandbox",
+            "--disable-gpu",
+            f"--user-data-dir={room}/browser",
+            "--no-pdf-header-footer",
+            f"--print-to-pdf={pdf}",
+            f"file://{path}",
+        ]
+        subprocess.run(words, stdin=subprocess.DEVNULL, stdout=subprocess.DEVNULL, stderr=subprocess.DEVNULL, timeout=120, check=True)
+        self.sheets = self.read(pdf, "-raw").split("\f")[:-1]
+        self.boxes = self.read(pdf, "-bbox")
+
+    def read(self, pdf, *words):
+        return subprocess.run(["pdftotext", "-enc", "UTF-8", *words, pdf, "-"], capture_output=True, timeout=60, check=True).stdout.decode()
+
+    def size(self):
+        width, height = re.search(r'<page width="([\d.]+)" height="([\d.]+)"', self.boxes).groups()
+        return round(float(width)), round(float(height))
+
+    def outside(self, margin=20):
+        """The words that lie nearer to an edge than the margin, in points, or beyond it."""
+        width, height = self.size()
+        words = re.findall(r'<word xMin="([-\d.]+)" yMin="([-\d.]+)" xMax="([-\d.]+)" yMax="([-\d.]+)">(.*?)</word>', self.boxes)
+        is_within = (
+            lambda it: margin <= float(it[0]) and float(it[2]) <= width - margin and margin <= float(it[1]) and float(it[3]) <= height - margin
+        )
+        return [it[4] for it in words if not is_within(it)]
+
+    def kinds(self):
+        """Which part each sheet is of, by its heading; slips have none, and have signatures."""
+        names = {"bytable": "tables", "byname": "names", "Standingsafter": "standings", "Playoff": "bracket"}
+        found = []
+        for text in map(joined, self.sheets):
+            found.append("slips" if "signature" in text else next((names[it] for it in names if it in text[:80]), "?"))
+        return found
+
+
+SIZES = {"A4": (595, 842), "letter": (612, 792)}
+# what pdftotext gives back letter by letter, in the order in which it stands
+PLAIN = [it for it in HOSTILE if it.isascii()]
+
+
+def run_paper(room, dice, browser):
+    finished = evening(dice, 23, ENDED, 4, 8)
+    finished.names[: len(PLAIN)] = PLAIN
+    large = evening(dice, 256, STARTED, 3, 0)
+    large.pair(1, bytes(32))
+    large.names[: len(PLAIN)] = PLAIN
+    for name, event in (("a finished event", finished), ("a large event", large)):
+        file = laid(program, f"{room}/{len(event.names)}.event", event, "E")
+        _, text, _ = printed(file, "--title", "Friday Night")
+        for size in SIZES:
+            check_paper(f"{name} on {size}", Paper(browser, room, text, size), event, size)
+
+
+def check_paper(name, paper, event, size):
+    number = len(event.stored)
+    kinds = paper.kinds()
+    width, height = paper.size()
+    check(f"{name}, the paper", max(abs(width - SIZES[size][0]), abs(height - SIZES[size][1])) <= 1, True)
+    check(f"{name}, each part on sheets of its own", [it for at, it in enumerate(kinds) if at == 0 or kinds[at - 1] != it], parts_due(event, number))
+    check(f"{name}, nothing beyond the margins", paper.outside(), [])
+    of = {kind: [joined(text) for text, it in zip(paper.sheets, kinds) if it == kind] for kind in set(kinds)}
+    for kind, rows in (
+        ("tables", [(it[0] + it[1] + it[2], it[4]) for it in table_rows(event, number)]),
+        ("names", [(it[0], it[3]) for it in name_rows(event, number)]),
+    ):
+        missing = [it for it in rows if not any(all(joined(word) in text for word in it) for text in of[kind])]
+        check(f"{name}, {kind}, each line whole on one sheet", missing, [])
+    missing = [it for it in standings_due(event) if not any(joined(it[2]) in text and it[5] in text for text in of["standings"])]
+    check(f"{name}, standings, each line whole on one sheet", missing, [])
+    if "slips" in of:
+        slips = [(f"Round{number}Table{it[0]}", it[2], it[4]) for it in table_rows(event, number) if it[3] and not it[5]]
+        missing = [it for it in slips if not any(all(joined(word) in text for word in it) for text in of["slips"])]
+        check(f"{name}, slips, each whole on one sheet", missing, [])
+        check(f"{name}, slips, several a sheet", sum(it.count("signature") for it in of["slips"]), 2 * len(slips))
+        check(f"{name}, slips, few sheets", len(of["slips"]) <= len(slips) // 4 + 1, True)
+    if "bracket" in of:
+        seats = bracket_due(event)[1]
+        check(f"{name}, the bracket on one sheet", [it for it in seats if joined(it[1]) not in of["bracket"][0]] + of["bracket"][1:], [])
+    print(f"{name}: {', '.join(f'{kinds.count(it)} of {it}' for it in dict.fromkeys(kinds))}")
+
+
+def main(count, seed):
+    hear_interrupts()
+    dice = random.Random(seed)
+    with tempfile.TemporaryDirectory() as room:
+        run_random(room, dice, count)
+    for part in (run_large, run_parts, run_refused, run_over_http, run_watch, run_watch_over_http):
+        with tempfile.TemporaryDirectory() as room:
+            part(room, dice)
+    with tempfile.TemporaryDirectory() as room:
+        run_titles(room)
+    browser = next(filter(None, map(shutil.which, BROWSERS)), None)
+    if browser and shutil.which("pdftotext"):
+        with tempfile.TemporaryDirectory() as room:
+            run_paper(room, dice, browser)
+    else:
+        left_out("sheets on paper", "chromium is not installed" if not browser else "pdftotext is not installed")
+    end(f"sheets of {count} random events and of a large one")
+
+
+main(int(sys.argv[3]), int(sys.argv[4]))

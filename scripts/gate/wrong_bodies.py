@@ -1,0 +1,487 @@
+"""Tries the wrong bodies of crates/NAME/wrong-bodies: each has to be refused by the proof of the function that it changes, at a goal about
+its contract.
+
+A wrong body is an edit in the form of must-fail edits: a line `file: src/NAME.rt`, and then pairs of lines `old:` and `new:`. A line
+`in: MODULE::FUNCTION` names the function that must be refused, where that is not the one around the change. As many as don't touch the same
+function are put into one copy of the crate, and one check says of each function whether it is still proved. What that check could not
+judge, as a function that calls another one that is refused, is tried again without these beside it, and at last alone.
+
+Beside the gate, which leaves processors idle while crates wait for those below them, a crate's wrong bodies are tried as soon as the gate
+has proved it, over copies of the libraries that it made. There those with a line `tried: always` are tried each time, and of each other public
+function one. The rest comes in turns; so do those of constants, since the facts that refuse them are proved by the gate each time. The turns go
+on every three hours, by the time of the commit, so that the commits of a day do not all try the same ones. With no turn given, all are tried.
+Where time is short, on a machine that others use, what is left is named, and not tried.
+"""
+import argparse
+import concurrent.futures
+import dataclasses
+import os
+import re
+import shutil
+import signal
+import subprocess
+import sys
+import tempfile
+import threading
+import time
+
+from scripts.gate import toolchain
+
+
+rt = toolchain.load()
+printing = threading.Lock()
+# a crate with more wrong bodies than this is tried in two parts, side by side
+MANY = 60
+# the free memory, in bytes, below which no check is begun beside others
+ROOM = 8_000_000_000
+# those of private functions and of constants are tried in so many turns
+TURNS = 5
+# What was not begun before the time was over.
+NOT_TRIED = "not tried"
+# What a proof file says of a name that it lost, and not of the contract.
+LOST_NAME = re.compile(r"has no field|is not in scope|has no `|was not admitted|was rejected|was not checked|were not checked|which is not proved")
+# What says that the text was not read, so that nothing was tried.
+UNREAD = re.compile(r"^(?:\./)?(src|specs)/\S+:\d+:\d+: error", re.M)
+
+# Where the wrong value of a constant shows.
+EXAMPLES = "Examples"
+CONSTANT = re.compile(r"\bconst [A-Z_0-9]+:")
+
+
+@dataclasses.dataclass
+class WrongBody:
+    name: str
+    pairs: list
+    functions: set
+    is_always: bool
+
+    def applied(self, texts, crate):
+        """The texts of the crate with this edit too, or None where it does not fit beside the others."""
+        made = dict(texts)
+        for file, old, new in self.pairs:
+            text = made.get(file) or open(f"{crate.folder}/{file}", encoding="utf-8").read()
+            if text.count(old) != 1:
+                return None
+            made[file] = text.replace(old, new)
+        return made
+
+
+def module_of(file):
+    inner = re.sub(r"^src/|\.rt$", "", file)
+    return "" if inner in ("lib", "main") else inner.replace("/", "::")
+
+
+HEAD = re.compile(r"^ *(?:pub(?:\([^)]*\))? )?(?:const )?fn (\w+)", re.M)
+IMPL = re.compile(r"^impl(?:<[^{]*?>)? (?:([\w:]+)(?:<[^{]*?>)? for )?(\w+)", re.M)
+
+
+def path_of(crate, text, head, file):
+    """A pattern for the path of a function, without its crate: `module::Type::name`."""
+    impls = [*IMPL.finditer(text[: head.start()])]
+    if not impls or re.search(r"^}", text[impls[-1].end() : head.start()], re.M):
+        return "::".join([*filter(None, [module_of(file)]), head[1]])
+    trait, owner = impls[-1][1], impls[-1][2]
+    if trait:
+        # the parts are written one behind the other, as `ShareOrd` and `RefusalFromPairFault`
+        return "::".join([*filter(None, [module_of(file)]), owner + trait.split("::")[-1] + r"\w*", head[1]])
+    # a method goes by the module of its type, wherever it stands
+    return "::".join([*filter(None, [module_with(crate, owner)]), owner, head[1]])
+
+
+def sources_of(crate):
+    for folder, _, names in os.walk(f"{crate.folder}/src"):
+        for name in sorted(names):
+            if name.endswith(".rt"):
+                file = os.path.relpath(f"{folder}/{name}", crate.folder)
+                yield file, open(f"{folder}/{name}", encoding="utf-8").read()
+
+
+def module_with(crate, owner):
+    """The module that has this type."""
+    return next((module_of(file) for file, text in sources_of(crate) if re.search(rf"^pub(?:\([^)]*\))? (?:struct|enum) {owner}\b|^(?:struct|enum) {owner}\b", text, re.M)), "")
+
+
+def function_at(crate, text, end, file):
+    """The function that a text before this place is in."""
+    heads = [*HEAD.finditer(text[:end])]
+    return path_of(crate, text, heads[-1], file) if heads else None
+
+
+def is_asked(text, head):
+    """Whether a trait asks for the function, which then has no proof of its own."""
+    traits = [*re.finditer(r"^(?:pub(?:\([^)]*\))? )?trait \w", text[: head.start()], re.M)]
+    return traits and not re.search(r"^}", text[traits[-1].end() : head.start()], re.M)
+
+
+def functions_of(crate):
+    """The functions of the crate that a hole can stand for: those that are no method of a trait, and in no cycle of calls."""
+    found = {path_of(crate, text, it, file) for file, text in sources_of(crate) for it in HEAD.finditer(text) if not is_asked(text, it)}
+    return {it for it in found if "\\" not in it and not os.path.isdir(proof_of(crate.folder, it, "+"))}
+
+
+def proof_of(folder, function, mark=""):
+    *modules, name = function.split("::")
+    return "/".join([folder, "proofs", *modules, mark + name])
+
+
+def read(path, crate):
+    file, old, pairs, functions, named, is_always = "", None, [], set(), False, False
+    for line in open(path, encoding="utf-8").read().split("\n"):
+        if line.startswith("file: "):
+            file = line[6:].strip()
+        elif line.startswith("in: "):
+            functions, named = {line[4:].strip()}, True
+        elif line == "tried: always":
+            is_always = True
+        elif line.startswith("old: "):
+            old = line[5:]
+        elif line.startswith("new:"):
+            text = open(f"{crate.folder}/{file}", encoding="utf-8").read()
+            if old is None or text.count(old) != 1:
+                sys.exit(f"{path}: an `old:` text stands {text.count(old or '')} times in {file}, and not once")
+            pairs.append((file, old, re.sub("^new: ?", "", line)))
+            if not named:
+                functions.add(EXAMPLES if CONSTANT.search(old) else function_at(crate, text, text.index(old) + len(old), file))
+            old = None
+    if not pairs or None in functions:
+        sys.exit(f"{path}: no function is around the change: name one by a line `in: MODULE::FUNCTION`")
+    return WrongBody(os.path.splitext(os.path.basename(path))[0], pairs, functions, is_always)
+
+
+def handed_out(root):
+    """The names that a crate's root hands out: those that are public there, and the last ones of the paths that it uses publicly."""
+    uses = [re.sub(r"\w+::", "", it) for it in re.findall(r"^pub use ([^;]*);", root, re.M)]
+    return {*re.findall(r"\w+", " ".join(uses)), *re.findall(r"^pub (?:mod|fn|struct|enum) (\w+)", root, re.M)}
+
+
+def is_public(crate, function):
+    """Whether other crates may call the function: a trait's, or one that is public in a module or of a type which the crate hands out."""
+    if function == EXAMPLES or "\\" in function:
+        return True
+    *path, name = function.split("::")
+    sources = dict(sources_of(crate))
+    owner = path[-1] if path and path[-1][0].isupper() else name
+    is_declared = any(re.search(rf"^ *pub (?:const )?fn {name}\b", text, re.M) for text in sources.values())
+    return is_declared and bool(handed_out(sources["src/lib.rt"]) & {owner, *path[:1]})
+
+
+def of_turn(crate, bodies, turn):
+    """The wrong bodies that are tried in this turn: those that are tried each time, one of each public function that none of these changes, and
+    a part of the others. Those of constants take a check of their own, and so do those beside one that is tried each time, in its function: they
+    come together, in one turn."""
+    always = [it for it in bodies if it.is_always]
+    changed = {function for body in always for function in body.functions}
+    constants, beside, private, public = [], [], [], {}
+    for body in (it for it in bodies if not it.is_always):
+        called = sorted(function for function in body.functions if is_public(crate, function))
+        if EXAMPLES in body.functions:
+            constants.append(body)
+        elif body.functions & changed:
+            beside.append(body)
+        elif called:
+            public.setdefault(called[0], []).append(body)
+        else:
+            private.append(body)
+    private.sort(key=lambda it: min(it.functions))
+    part = [*([it] for it in private), constants, beside][turn % TURNS :: TURNS]
+    return always + [its[turn % len(its)] for its in public.values()] + [it for its in part for it in its]
+
+
+OPEN_GOAL = re.compile(r"^note: (?:\./)?(src/\S+?\.rt):(\d+):\d+: it is not proved that .*? \(`([^`]+)`\)", re.M)
+
+
+def clause_of(goal):
+    """The clause that a goal is of, or the empty text where it is all of them."""
+    return goal.rpartition("-clause-")[2] if "-clause-" in goal else ""
+
+
+def answered_in(crate, function):
+    """The clauses of a function that its own answers are about."""
+    file = f"{proof_of(crate.folder, function)}/Answers.antt"
+    text = open(file, encoding="utf-8").read() if os.path.isfile(file) else ""
+    return {clause_of(it) for it in re.findall(r"goal\.(returns[\w-]*)", text)}
+
+
+def left_open(crate, texts, output):
+    """The functions of which a goal stayed open that no answer of theirs is about. With it a clause is refused, whatever names their answers lost."""
+    found = set()
+    for file, line, goal in OPEN_GOAL.findall(output):
+        text = texts.get(file) or open(f"{crate.folder}/{file}", encoding="utf-8").read()
+        function = function_at(crate, text, sum(len(it) for it in text.splitlines(True)[: int(line)]), file)
+        if function and goal.startswith("returns") and not answered_in(crate, function) & {"", clause_of(goal)}:
+            found.add(function)
+    return found
+
+
+def said_of(crate, function, output, constants, open_in):
+    """What the check said of a function: `proved`, `refused` at a goal of its contract, or `unclear`."""
+    if function == EXAMPLES:
+        told = re.findall(r"^(?:\./)?proofs/Examples\.antt:\d+:\d+: error: (.*)$", output, re.M)
+        if sum(not LOST_NAME.search(it) for it in told) >= constants:
+            return "refused"
+        return "unclear" if told else "proved"
+    line = re.search(rf"^fn {crate.name}::{function}: (.*)$", output, re.M)
+    if not line:
+        return "unclear"
+    if line[1].startswith(("proved", "no holes", "depends on a hole")):
+        return "proved"
+    if "did not prove" in line[1] or function in open_in:
+        return "refused"
+    *folders, name = function.split("::")
+    folder = "/".join(["proofs", *folders, rf"\+?{name}"])
+    told = re.findall(rf"^(?:\./)?{folder}/\S+?:\d+:\d+: error: (.*)$", output, re.M)
+    return "refused" if any(not LOST_NAME.search(it) for it in told) else "unclear"
+
+
+def verdict(crate, body, output, constants, open_in):
+    said = {said_of(crate, it, output, constants, open_in) for it in body.functions}
+    return "refused" if "refused" in said else "passed" if said == {"proved"} else "unclear"
+
+
+def together(crate, bodies):
+    """The first of these that go into one copy, and its texts."""
+    taken, texts, touched = [], {}, set()
+    of_functions = [it for it in bodies if EXAMPLES not in it.functions]
+    for body in of_functions or bodies:
+        made = None if body.functions & touched - {EXAMPLES} else body.applied(texts, crate)
+        if made is not None:
+            taken, texts, touched = [*taken, body], made, touched | body.functions
+    return taken, texts
+
+
+def only(bodies, holes):
+    """Has a check go through these functions and what they call, and leave the rest."""
+    functions = {it for body in bodies for it in body.functions}
+    if EXAMPLES in functions:
+        # the facts of a constant are of no function: a hole brings them in
+        return ["--only", min(holes)] if holes else []
+    # a method of a trait goes by its module
+    paths = sorted({it.split("::")[0] if "\\" in it else it for it in functions})
+    return [word for path in paths for word in ("--only", path)]
+
+
+def leave_hole(crate, room, function, fact=None):
+    """Puts a hole in place of the proof of a function, which reads this fact of the examples too."""
+    folder = proof_of(room, function)
+    shutil.rmtree(folder, ignore_errors=True)
+    os.makedirs(folder)
+    name = function.split("::")[-1]
+    with open(f"{folder}/Proof.antt", "w", encoding="utf-8") as it:
+        it.write(f"use Rattle.{crate.name}.proofs.{function.replace('::', '.')}.Statement.{{statement}}\n")
+        if fact:
+            it.write(f"use Rattle.{crate.name}.proofs.{EXAMPLES}.{{{fact}}}\n")
+        it.write("\n")
+        it.write(f"pub {name}_spec : {{M : Type 1}} → statement M\n{name}_spec = ?\n")
+
+
+def fact_of(crate):
+    """A fact of the examples that a proof can name."""
+    file = f"{crate.folder}/proofs/{EXAMPLES}.antt"
+    found = os.path.isfile(file) and re.search(r"^pub (\w+) :", open(file, encoding="utf-8").read(), re.M)
+    return found[1] if found else None
+
+
+def checked(crate, texts, holes, flags, kept):
+    """What a check says of a copy of the crate with these texts, and a hole for each of these functions."""
+    with tempfile.TemporaryDirectory(prefix="rt-edit-") as room:
+        for part in ("src", "specs", "proofs"):
+            if os.path.isdir(f"{crate.folder}/{part}"):
+                shutil.copytree(f"{crate.folder}/{part}", f"{room}/{part}")
+        for path, text in texts.items():
+            with open(f"{room}/{path}", "w", encoding="utf-8") as it:
+                it.write(text)
+        for function in holes:
+            leave_hole(crate, room, function, fact_of(crate) if function == min(holes) else None)
+        flags = ["--jobs", "1", *flags, *(["--allow-holes"] if holes else [])]
+        words = [rt.rtlib.RATTLE, "check", *crate.words(flags, keeps=False), "--incremental", kept]
+        how = {"cwd": room, "stdin": subprocess.DEVNULL, "stdout": subprocess.PIPE, "stderr": subprocess.STDOUT, "errors": "replace"}
+        ran = subprocess.run([*rt.rtlib.guarded(), *words], **how)
+        if ran.returncode == -signal.SIGKILL:
+            # most likely for memory, which the gate may have taken too
+            ran = subprocess.run([*rt.rtlib.guarded(), *words], **how)
+        return ran.stdout
+
+
+def tried(crate, bodies, kept, has_holes=True):
+    """Tries these in one check, and returns what it said of each."""
+    taken, texts = together(crate, bodies)
+    touched = {it for body in taken for it in body.functions}
+    holes = functions_of(crate) - touched if has_holes else set()
+    output = checked(crate, texts, holes, only(taken, holes), kept)
+    if re.search(UNREAD, output) or not re.search(r"^(logic|only|holes)=", output, re.M):
+        said = {it.name: "unclear" for it in taken}
+        if len(taken) == 1 and not has_holes:
+            said = {taken[0].name: "unread"}
+    else:
+        constants = sum(EXAMPLES in it.functions for it in taken)
+        open_in = left_open(crate, texts, output)
+        said = {it.name: verdict(crate, it, output, constants, open_in) for it in taken}
+    return said, output
+
+
+def parts_of(bodies):
+    """Halves of many wrong bodies: the crate that takes longest would else be tried on one processor while the others have no work. Those
+    that change the same function stay together, as they go into checks of their own anyway."""
+    if len(bodies) <= MANY:
+        return [bodies]
+    functions = sorted({min(it.functions) for it in bodies})
+    return [[it for it in bodies if min(it.functions) in functions[half::2]] for half in (0, 1)]
+
+
+# when no check is begun any more, by the clock of `time.monotonic`
+deadline = float("inf")
+
+
+def has_time():
+    return time.monotonic() < deadline
+
+
+def try_all(crate, bodies, shows):
+    """What was found of each of these wrong bodies of a crate, by name."""
+    found, alone = {}, []
+    with tempfile.TemporaryDirectory(prefix="wrong-bodies-") as kept:
+        left, again = bodies, []
+        while left and has_time():
+            said, output = tried(crate, left, kept)
+            if shows:
+                print(output)
+            refused = [name for name, what in said.items() if what == "refused"]
+            unclear = [it for it in left if it.name in said and it.name not in refused]
+            found.update(dict.fromkeys(refused, "refused"))
+            left = [it for it in left if it.name not in said]
+            # those may have waited for others that were refused
+            again += unclear if refused else []
+            alone += [] if refused else unclear
+            if not left:
+                left, again = again, []
+        # what was not refused so is tried alone, over the proofs of the whole crate
+        for body in alone:
+            if has_time():
+                said, output = tried(crate, [body], kept, has_holes=False)
+                if shows:
+                    print(output)
+                found.update(said)
+    found.update({it.name: NOT_TRIED for it in bodies if it.name not in found})
+    with printing:
+        for name, what in sorted(found.items()):
+            if what != "refused":
+                print(f"{crate.name}/{name}: {what.upper()}", flush=True)
+        print(f"{crate.name}: {told([found])}", flush=True)
+    return found
+
+
+def told(found):
+    """How many were refused, passed, and were not tried."""
+    all_said = [it for said in found for it in said.values()]
+    refused, left = all_said.count("refused"), all_said.count(NOT_TRIED)
+    return f"{refused} refused, {len(all_said) - refused - left} passed" + (f", {left} not tried for want of time" if left else "")
+
+
+# What the gate says of a crate that it has proved, and what its log ends with.
+PROVED = re.compile(r"^rt: (\w+) (?:proved$|is kept: )", re.M)
+ENDED = "the gate has ended\n"
+
+
+class Gate:
+    """The gate that runs beside this, by its log."""
+
+    def __init__(self, log, room):
+        self.log, self.room, self.taken = log, room, set()
+
+    def said(self):
+        with open(self.log, encoding="utf-8", errors="replace") as it:
+            return it.read()
+
+    def has_ended(self):
+        return self.said().endswith(ENDED)
+
+    def has_proved(self, crate):
+        """Whether it has proved the crate and the libraries below, whose copies are taken then: the gate puts others in their place at its end."""
+        wanted, proved = {it.name for it in [*crate.below(), crate]}, {*PROVED.findall(self.said())}
+        if not wanted <= proved:
+            return False
+        for it in crate.below():
+            if it.name not in self.taken:
+                made = f"{self.room}/{it.name}/{it.name}.rlib"
+                shutil.copytree(it.rlib, made, copy_function=linked)
+                it.rlib = made
+                self.taken.add(it.name)
+        return True
+
+
+def linked(one, other):
+    """Copies a file, by a link where it can be one."""
+    try:
+        os.link(one, other)
+    except OSError:
+        shutil.copy2(one, other)
+
+
+def try_beside(gate, work, shows):
+    """Tries each part once the gate has proved its crate: with half of the processors until the gate has ended, and then with all."""
+    os.nice(10)
+    found, left, running = [], [*work], set()
+    with concurrent.futures.ThreadPoolExecutor(rt.processors()) as pool:
+        while left or running:
+            has_ended = gate.has_ended()
+            lanes = rt.processors() if has_ended else max(1, rt.processors() // 2)
+            ready = [it for it in left if gate.has_proved(it[0])]
+            if has_ended and not ready and not running:
+                sys.exit(f"the gate did not prove {left[0][0].name}")
+            places = lanes - len(running)
+            if rt.free() < ROOM:
+                # one goes on even so
+                places = 0 if running else 1
+            for it in ready[:places]:
+                left.remove(it)
+                running.add(pool.submit(try_all, *it, shows))
+            ended, running = concurrent.futures.wait(running, timeout=5, return_when=concurrent.futures.FIRST_COMPLETED)
+            found += [it.result() for it in ended]
+            if not running and not ready:
+                time.sleep(5)
+    return found
+
+
+def try_now(work, shows):
+    """Tries all parts with all processors, over the libraries below as the session builds them."""
+    if any(it.build_rlib(["--jobs", "1"], anew=False) for crate, bodies in work if bodies for it in crate.below()):
+        sys.exit("a library below could not be built")
+    with concurrent.futures.ThreadPoolExecutor(rt.processors()) as pool:
+        return list(pool.map(lambda it: try_all(*it, shows), work))
+
+
+def main():
+    words = argparse.ArgumentParser(description="Tries the wrong bodies of each crate, or of those that are named.")
+    words.add_argument("names", nargs="*", metavar="NAME")
+    words.add_argument("--beside-gate", metavar="LOG", help="begin with each crate once rt ci, whose output goes to LOG, has proved it")
+    words.add_argument("--turn", metavar="NUMBER", type=int, help="try what is tried each time, and of the others those whose turn this is")
+    words.add_argument("--minutes", metavar="NUMBER", type=int, help="begin no check after so many; what is left is named, and is no fault")
+    words.add_argument("--only", metavar="EDIT", action="append", help="try this one, and no other that is not named so too")
+    words.add_argument("--show", action="store_true", help="print what each check said")
+    given = words.parse_args()
+    if given.minutes:
+        global deadline
+        deadline = time.monotonic() + 60 * given.minutes
+    os.environ.pop(rt.rtlib.ALLOW_C, None)
+    rt.rtlib.guarded()
+    work = []
+    for crate in rt.rtlib.crates_below(os.getcwd()):
+        folder = f"{crate.folder}/wrong-bodies"
+        if os.path.isdir(folder) and (not given.names or crate.name in given.names):
+            bodies = [read(f"{folder}/{it}", crate) for it in sorted(os.listdir(folder)) if it.endswith(".edit")]
+            bodies = [it for it in bodies if not given.only or it.name in given.only]
+            work.append((crate, bodies if given.turn is None else of_turn(crate, bodies, given.turn)))
+    work.sort(key=lambda it: -it[0].count(rb"\n"))
+    work = [(crate, part) for crate, bodies in work for part in parts_of(bodies)]
+    if given.beside_gate:
+        with tempfile.TemporaryDirectory(prefix="gate-libraries-") as room:
+            found = try_beside(Gate(given.beside_gate, room), work, given.show)
+    else:
+        found = try_now(work, given.show)
+    print(f"wrong bodies: {told(found)}")
+    all_said = {it for said in found for it in said.values()}
+    return 1 if all_said - {"refused", NOT_TRIED} or "refused" not in all_said else 0
+
+
+if __name__ == "__main__":
+    sys.exit(main())
