@@ -24,9 +24,9 @@ module _ (Stood : Type 0) (old : Standing) (session : Session) (new : Standing) 
   asked_connects (Ok (Report round table score)) answer (reply, turn, is, asks) = inr (inr (inr (round, table, score, reply, turn, asks)))
 
   served_connects : (input : Option (List ℕ)) (answer : AnswerValue)
-      → IsServed Stood input old answer session new ⊎ IsUnserved old answer session new → Connects old session new
+      → IsServed Stood input old answer session new ⊎ IsUnserved input old answer session new → Connects old session new
   served_connects input answer (inl (asked, is, answers)) = asked_connects asked answer answers
-  served_connects input answer (inr it) = inl (it.2, it.1)
+  served_connects input answer (inr it) = inl (it.3, it.2)
 
   ends_connecting : (input before after : Option (List ℕ)) (served : Served)
       → EndsServing Stood input old session new before after served → Connects old session new

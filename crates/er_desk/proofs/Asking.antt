@@ -16,7 +16,7 @@ use Rattle.er_desk.specs.{Run.{EndsWithDoubt, IsStoredEnd, Runs, acknowledged, l
 use Rattle.er_desk.specs.Asking.{Asks, Submits, joined, later_doubt}
 use Rattle.er_desk.proofs.Running.{accepts_of, runs_lead, session_goes_on, session_stops, stays, stops_now, keeps_more, was_running, fault_tried}
 use Rattle.er_desk.proofs.Turns.{waits_of, stops_of, stopped_of, turn_fault, turn_asks, keeps_self, same_keeps}
-use Rattle.er_desk.proofs.Slips.{read_others, still_shows}
+use Rattle.er_desk.proofs.Slips.{read_keeps, read_others, still_shows}
 use Rattle.er_desk.proofs.Histories.{leads_then}
 use Rattle.er_desk.proofs.NextSession.{quiet_end}
 
@@ -119,6 +119,14 @@ module _ (first mid : Point) (s t : Session) (leads : LeadsTo first s.kept mid) 
 joined_none : (s : Session) → joined s no_session ≡ s
 joined_none s = ap (λ (ks : List Command). let it : Session = record { kept = ks; doubt = s.doubt } in it) (append-nil s.kept)
 
+none_first : (xs ys : List Command) → xs ++ ys ≡ [] → xs ≡ []
+none_first [] ys none = refl
+none_first (x ∷ xs) ys none = absurd (cc)
+
+none_then : (xs ys : List Command) → xs ++ ys ≡ [] → ys ≡ []
+none_then [] ys none = none
+none_then (x ∷ xs) ys none = absurd (cc)
+
 module _ {S : Type 0} (g : Ghosts S) (old mid new : Desk S g) (s t : Session) (one : Asks g old s mid) (two : Asks g mid t new) where
   -- a desk that runs has run before
   ran : IsFalse (standing new).stopped → IsFalse (standing mid).stopped
@@ -149,6 +157,20 @@ module _ {S : Type 0} (g : Ghosts S) (old mid new : Desk S g) (s t : Session) (o
       by_stop false is = joined_end (point_of (standing old)) (point_of (standing mid)) s t one.leads (one.sure is) trees
           (two.crash (one.stands (two.clean clean) shows is) clean trees may)
 
+  both_kept : (joined s t).kept ≡ [] → HasCleanDisk (state g new) → ShowsOwn g old → KeepsTables (state g old) (state g new)
+  both_kept none clean shows = by_stop (standing mid).stopped refl
+    where
+      before : KeepsTables (state g old) (state g mid)
+      before = one.kept (none_first s.kept t.kept none) (two.clean clean) shows
+
+      by_stop : (b : Bool) → (standing mid).stopped ≡ b → KeepsTables (state g old) (state g new)
+      by_stop true is = subst (λ (d : Desk S g). KeepsTables (state g old) (state g d)) (sym (two.waits is).0) before
+      by_stop false is = λ settled is_open.
+          let here = one.stands (two.clean clean) shows is in
+          let first = before settled here.is_open in
+          let later = two.kept (none_then s.kept t.kept none) clean here here.settled is_open in
+          (later.0 ∙ first.0, later.1 ∙ first.0)
+
   pub asks_joined : Asks g old (joined s t) new
   asks_joined = record {
     waits = both_wait;
@@ -158,6 +180,7 @@ module _ {S : Type 0} (g : Ghosts S) (old mid new : Desk S g) (s t : Session) (o
     stands = λ clean shows runs. two.stands clean (one.stands (two.clean clean) shows (ran runs)) runs;
     others = λ clean shows. keeps_more g old mid new one.version (λ stopped. (two.waits stopped).0) (one.stands (two.clean clean) shows)
         (one.others (two.clean clean) shows) (two.others clean);
+    kept = both_kept;
     version = two.version ∙ one.version;
     crash = both_crash;
   }
@@ -170,14 +193,16 @@ pub reading_asks : {S : Type 0} (g : Ghosts S) (old new : Desk S g) → (IsTrue 
     → (HasCleanDisk (state g new) → ShowsOwn g old → IsFalse (standing new).stopped → ShowsOwn g new)
     → (HasCleanDisk (state g new) → ShowsOwn g old → IsTrue (state g new).is_open
     → KeepsOthers (version_in old) (state g old).now (state g new).now)
+    → (HasCleanDisk (state g new) → KeepsTables (state g old) (state g new))
     → version_in new ≡ version_in old → (ShowsOwn g old → LeavesJust (state g new) (point_of (standing old))) → Asks g old no_session new
-reading_asks g old new waits same clean stands others version crash = record {
+reading_asks g old new waits same clean stands others kept version crash = record {
   waits = λ stopped. (waits stopped, refl);
   leads = record { event = ap (λ (p : Point). p.event) same; serial = ap (λ (p : Point). p.serial) same ∙ omega arith };
   sure = λ runs. refl;
   clean = clean;
   stands = stands;
   others = others;
+  kept = λ none now shows. kept now;
   version = version;
   crash = λ shows clean trees may. quiet_end (point_of (standing old)) trees (crash shows clean trees may);
 }
@@ -186,7 +211,7 @@ reading_asks g old new waits same clean stands others version crash = record {
 pub same_asks : {S : Type 0} (g : Ghosts S) (desk : Desk S g) → (ShowsOwn g desk → LeavesJust (state g desk) (point_of (standing desk)))
     → Asks g desk no_session desk
 same_asks g desk crash = reading_asks g desk desk (λ _. refl) refl (λ clean. clean) (λ clean shows runs. shows)
-    (λ clean shows is_open. keeps_self _ (state g desk).now) refl crash
+    (λ clean shows is_open. keeps_self _ (state g desk).now) (λ clean. same_keeps (state g desk)) refl crash
 
 -- a desk whose store has read something
 module _ {S A : Type 0} (g : Ghosts S) (old new : Desk S g) (Fails : Refusal → Type 0) (read : Result A Refusal) where
@@ -201,9 +226,15 @@ module _ {S A : Type 0} (g : Ghosts S) (old new : Desk S g) (Fails : Refusal →
       (still_shows (version_in old) (version_in new) (state g old) (state g new) old.event old.serial version shows (still now runs)))
       (λ now shows is_open. read_others Fails read (standing new).stopped (version_in old) (state g old) (state g new) shows.settled is_open
       stops (still now) (kept now))
+      (λ now. read_keeps Fails read (standing new).stopped (state g old) (state g new) stops (still now) (kept now))
       version (λ shows now trees may. left shows (clean now) trees (crash now trees may))
 
 -- ---- one command, whole
+
+-- a command that was kept is one
+unless_kept : (c : Command) (r : Reply) (P : Type 0) → acknowledged (c ∷ []) (r ∷ []) ≡ [] → OnErr r P → P
+unless_kept c (Ok it) P none kept = absurd (cc)
+unless_kept c (Err why) P none kept = kept
 
 module _ {S : Type 0} (g : Ghosts S) (old new : Desk S g) (c : Command) (r : Reply) (turn : Turn (standing old) c r (standing new)) where
   -- what one command does to the file
@@ -211,19 +242,21 @@ module _ {S : Type 0} (g : Ghosts S) (old new : Desk S g) (c : Command) (r : Rep
       → (HasCleanDisk (state g new) → ShowsOwn g old → IsFalse (standing new).stopped → ShowsOwn g new)
       → (HasCleanDisk (state g new) → ShowsOwn g old → IsTrue (state g new).is_open
       → KeepsOthers (version_in old) (state g old).now (state g new).now)
+      → (HasCleanDisk (state g new) → OnErr r (KeepsTables (state g old) (state g new)))
       → version_in new ≡ version_in old → (ShowsOwn g old → LeavesJust (state g old) (point_of (standing old)))
       → (ShowsOwn g old → OnOk r (LeavesJust (state g new) (point_of (standing new))))
       → (IsFalse (standing old).stopped → ShowsOwn g old → LeavesEither (state g new) (point_of (standing old)) c)
       → (ShowsOwn g old
       → IfErr r (λ _. IsFalse (standing new).stopped → LeavesJust (state g new) (point_of (standing old))))
       → Asks g old (session_of (c ∷ []) (r ∷ []) (standing new).stopped) new
-  command_asks waits clean stands others version left done undecided refused = record {
+  command_asks waits clean stands others kept version left done undecided refused = record {
     waits = command_waits g old new c r turn waits;
     leads = command_leads g old new c r turn;
     sure = command_sure g old new c r turn;
     clean = clean;
     stands = stands;
     others = others;
+    kept = λ none now shows. unless_kept c r (KeepsTables (state g old) (state g new)) none (kept now);
     version = version;
     crash = command_crash g old new c r turn waits left done undecided refused;
   }
@@ -242,7 +275,7 @@ module _ {S : Type 0} (g : Ghosts S) (desk : Desk S g) (c : Command) where
     fault = turn_fault _ _ _ _ turn;
     asks = (turn_asks _ _ _ _ turn, waits_of _ _ _ _ turn);
     asked = command_asks g desk desk c (Err why) turn (λ _. refl) (λ clean. clean) (λ clean shows runs. shows)
-        (λ clean shows is_open. keeps_self _ (state g desk).now) refl left (λ shows. tt)
+        (λ clean shows is_open. keeps_self _ (state g desk).now) (λ clean. same_keeps (state g desk)) refl left (λ shows. tt)
         (λ runs shows clean trees may. inl (left shows clean trees may)) (λ shows runs. left shows);
     same = λ runs. refl;
     kept = λ clean. same_keeps (state g desk);

@@ -6,7 +6,7 @@ use Rattle.er_event.specs.declared.refusals.Refusal.{Refusal}
 use Rattle.er_event.specs.Event.{EventValue}
 use Rattle.er_store.specs.{Fault.IsReadFault, Reading.KeepsTables, Standing.{KeepsOthers, StandsIn, Shows}}
 use Rattle.er_desk.specs.Desk.{Standing, Reads}
-use Rattle.er_desk.proofs.Turns.{keeps_self}
+use Rattle.er_desk.proofs.Turns.{keeps_self, unchanged_keeps}
 
 keeps_same : (version : ℕ) (old new : Database) → new ≡ old → KeepsOthers version old new
 keeps_same version old new same = subst (KeepsOthers version old) (sym same) (keeps_self version old)
@@ -19,6 +19,12 @@ read_others Fails (Ok row) stopped version old new settled is_open still same ke
     keeps_same version old.now new.now (same still).0.now_is
 read_others Fails (Err why) stopped version old new settled is_open stops same kept =
     keeps_same version old.now new.now (kept settled is_open).0
+
+pub read_keeps : {A : Type 0} (Fails : Refusal → Type 0) (read : Result A Refusal) (stopped : Bool) (old new : State)
+    → MatchResult read (λ _. IsFalse stopped) Fails → (IsFalse stopped → IsUnchanged old new) → OnErr read (KeepsTables old new)
+    → KeepsTables old new
+read_keeps Fails (Ok row) stopped old new still same kept = unchanged_keeps old new (same still)
+read_keeps Fails (Err why) stopped old new stops same kept = kept
 
 -- what is read leaves the desk as it is, or stops it
 pub reads : {A : Type 0} (passing : Refusal) (old : Standing) (v : ℕ) (is : Bool) (read : Result A Refusal) → IsFalse old.stopped

@@ -38,6 +38,8 @@ pub record Asks {S : Type 0} (g : Ghosts S) (old : Desk S g) (session : Session)
   pub stands : HasCleanDisk (state g new) → ShowsOwn g old → IsFalse (standing new).stopped → ShowsOwn g new
   pub others : HasCleanDisk (state g new) → ShowsOwn g old → IsTrue (state g new).is_open
       → KeepsOthers (version_in old) (state g old).now (state g new).now
+  -- and all of them, where no command was kept
+  pub kept : session.kept ≡ [] → HasCleanDisk (state g new) → ShowsOwn g old → KeepsTables (state g old) (state g new)
   -- in the version that they were in
   pub version : version_in new ≡ version_in old
   -- a crash leaves an end of the session

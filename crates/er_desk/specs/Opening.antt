@@ -1,5 +1,5 @@
 -- Why a file was not opened.
-use Rattle.std.specs.Prelude.{◌≡◌, ◌⊎◌, ℕ, [], true, false, IsTrue, Option, Some, None, Result, Ok, Err}
+use Rattle.std.specs.Prelude.{◌≡◌, ◌⊎◌, ◌≤◌, ℕ, [], true, false, IsTrue, Option, Some, None, Result, Ok, Err}
 use Rattle.sqlite_disk.specs.declared.Disk.{Ghosts}
 use Rattle.sqlite_disk.specs.declared.Files.{Files}
 use Rattle.sqlite_disk.specs.declared.calls.Calls as calls
@@ -12,7 +12,7 @@ use Rattle.sqlite_trees.specs.Objects.{catalog_tree}
 use Rattle.sqlite_trees.specs.declared.store.Store as store
 use Rattle.sqlite_wal.specs.Recovery.{Image}
 use Rattle.sqlite.specs.Tree.{Trees}
-use Rattle.sqlite.specs.Effect.{Database}
+use Rattle.sqlite.specs.Effect.{Database, IsDatabase}
 use Rattle.sqlite.specs.State.{State, HasCleanDisk}
 use Rattle.sqlite.specs.Held.{Held}
 use Rattle.sqlite.specs.Held as sqlite
@@ -25,6 +25,7 @@ use Rattle.er_event.specs.declared.refusals.Refusal.{Refusal}
 use Rattle.er_event.specs.declared.refusals.Refusal.TheVariants.{NoEvent}
 use Rattle.er_event.specs.declared.refusals.Place.{Place}
 use Rattle.er_event.specs.declared.refusals.Place.TheVariants.{BracketTable}
+use Rattle.er_event.specs.declared.commands.TheConstants.{MAX_SERIAL}
 use Rattle.er_event.specs.Event.{EventValue}
 use Rattle.er_event.specs.Parts.{parts_of}
 use Rattle.er_event.specs.Rows.{tally_rows}
@@ -44,7 +45,7 @@ use Rattle.er_desk.specs.declared.opening.OpenFault.TheVariants.{Unopened, Refus
 abbrev pub HasOtherSeeds : Database → Type 0
 HasOtherSeeds db =
     (event : EventValue) × (serial : ℕ) × (version : ℕ) × ReadsParts db (parts_of version event serial) × ReadsTallies db (tally_rows event)
-    × IsSoundButForSeeds event × (HasSeeds event → ⊥)
+    × IsSoundButForSeeds event × (serial ≤ MAX_SERIAL) × (HasSeeds event → ⊥)
 
 -- this table is the first at fault, where seeds are looked at last
 abbrev pub IsFirstAtFault : Database → Place → Type 0
@@ -77,6 +78,10 @@ pub record MakesNothing (new_event : Point) (old new : State) : Type 0 where
   pub crash : IsEmptyFile old → Leaves new (Either old.may_leave (IsStored new_event.event new_event.serial))
   pub left : IsEmptyFile old → IsTrue old.is_open
       → Leaves new (Either (λ db. db ≡ old.committed.trees) (IsStored new_event.event new_event.serial))
+
+-- the first fault of what an opening finds in the file
+abbrev pub NamesFirstFaultIn : Image → Refusal → Type 0
+NamesFirstFaultIn image why = (db : Database) × IsDatabase db × AreFoundIn image db.trees × NamesFirstFault db why
 
 -- whatever an opening finds in the file, it lists no table
 abbrev pub HoldsNothing : Image → Type 0

@@ -246,8 +246,10 @@ impl<S: Alter> Desk<S> {
         ensures fails { IsFalse (standing self.old).stopped → HasCleanDisk (state S.Store self.new)
             → ShowsOwn S.Store self.old → IfErr result IsFault }
 
-        ensures kept { HasCleanDisk (state S.Store self.new)
-            → OnErr result (KeepsTables (state S.Store self.old) (state S.Store self.new)) }
+        // Whatever the schema is, nothing is written.
+        ensures same { HasCleanDisk (state S.Store self.new) → IsFalse (standing self.new).stopped
+            → IsUnchanged (state S.Store self.old) (state S.Store self.new) }
+        ensures left { LeavesAll (state S.Store self.old) (state S.Store self.new) }
     {
         // What the tables stand for, a crash leaves, and an event is always sound: these tell the proof.
         shown_is_stored(&self.store);
@@ -272,8 +274,10 @@ impl<S: Alter> Desk<S> {
             → ShowsOwn S.Store self.old
             → IfErr result (λ why. (why ≡ Refusal.NoSuchMatch) ⊎ IsFault why) }
 
-        ensures kept { HasCleanDisk (state S.Store self.new)
-            → OnErr result (KeepsTables (state S.Store self.old) (state S.Store self.new)) }
+        // Whatever the schema is, nothing is written.
+        ensures same { HasCleanDisk (state S.Store self.new) → IsFalse (standing self.new).stopped
+            → IsUnchanged (state S.Store self.old) (state S.Store self.new) }
+        ensures left { LeavesAll (state S.Store self.old) (state S.Store self.new) }
     {
         // What the tables stand for, a crash leaves, and an event is always sound: these tell the proof.
         shown_is_stored(&self.store);
@@ -456,7 +460,7 @@ impl<S: Alter> Desk<S> {
             → NeedsMoreSteps self.old.event command → (result ≡ Err Refusal.Memory)
             ⊎ ((steps : ℕ) × (result ≡ Err (Refusal.Budget steps))) }
     {
-        // What `Budget` says tells the proof this.
+        // When `Budget` comes is a law of the rules: it tells the proof.
         budget_searches();
         self.take(alloc, &command)
     }

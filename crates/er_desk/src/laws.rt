@@ -35,7 +35,7 @@ pub fn lists_grow()
 {}
 
 /// Sessions that send from one list go on where the one before ended.
-pub fn sessions_resume()
+pub fn resuming()
     ensures { Resuming }
 {}
 

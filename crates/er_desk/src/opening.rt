@@ -11,7 +11,7 @@ ghost use Rattle.er_event.specs.{Change.created, Sound.AreLimits};
 ghost use Rattle.er_desk.specs.Desk.{Point, ShowsOwn, running_at, state, standing, version_in};
 ghost use Rattle.er_desk.specs.History.{new_point};
 ghost use Rattle.er_desk.specs.Headline.{WasLeft, FindsAgain, LeavesJust, RepeatsNobody};
-ghost use Rattle.er_desk.specs.Opening.{HoldsNothing, IsSpared, ListsNothing, NamesFirstFault, SeesStill, why_of, OnRefused, OnSeen, OnUnopened, WhereUnopened, IsCleanFault};
+ghost use Rattle.er_desk.specs.Opening.{HoldsNothing, IsSpared, ListsNothing, NamesFirstFaultIn, SeesStill, why_of, OnRefused, OnSeen, OnUnopened, WhereUnopened, IsCleanFault};
 
 use crate::desk::Desk;
 use er_event::{Cause, Name, Refusal};
@@ -84,8 +84,7 @@ pub fn open<S: Start>(
     ensures why { IfErr result (λ why. (why_of why ≡ Refusal.NoEvent) ⊎ IsLoadFault (why_of why)) }
     ensures unopened { IfErr result (λ why. WhereUnopened why (IsFault (why_of why))) }
     ensures first { IfErr result (λ why. OnRefused why (λ conn. HasCleanDisk (file_state conn)
-        → IsTrue (file_state conn).is_open
-        → NamesFirstFault (file_state conn).now (why_of why))) }
+        → NamesFirstFaultIn (image_at S.Start) (why_of why))) }
 
     // Whatever the file held, no table changes, and a crash leaves just that.
     ensures kept { (db : Trees) → HoldsDatabase (image_at S.Start) db

@@ -4,6 +4,8 @@ mod PlayerLemmas
 mod DropLemmas
 mod Pairs
 mod SeatLemmas
+mod SeatTables
+mod Swapped
 mod SlotLemmas
 mod RoundLemmas
 mod Absent
@@ -25,6 +27,7 @@ mod EndLemmas
 mod Examples
 mod TotalLemmas
 mod MissedLemmas
+mod PlayedLemmas
 mod OverLemmas
 mod RescoredLemmas
 mod RecountedLemmas

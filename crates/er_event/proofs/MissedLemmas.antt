@@ -21,7 +21,7 @@ complete first rounds = length (filter Counted (take first rounds))
 
 -- ---- lists of lines one after the other
 
-totals_of-append : (xs ys : List Line) → totals_of (xs ++ ys) ≡ plus (totals_of xs) (totals_of ys)
+pub totals_of-append : (xs ys : List Line) → totals_of (xs ++ ys) ≡ plus (totals_of xs) (totals_of ys)
 totals_of-append xs ys = grind (
   arith,
   common_steps,

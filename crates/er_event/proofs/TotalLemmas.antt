@@ -70,7 +70,7 @@ pub lines_from-push : (n : ℕ) (rs : List Round) (r : Round)
 lines_from-push n [] r = grind (arith, common_steps)
 lines_from-push n (first ∷ rs) r = grind (arith, common_steps, lines_from-push (n + 1) rs r)
 
-own-more : (player : ℕ) (rounds : List Round) (i : ℕ) (r : Round) → i < length rounds → r ≡ get_or rounds i r
+pub own-more : (player : ℕ) (rounds : List Round) (i : ℕ) (r : Round) → i < length rounds → r ≡ get_or rounds i r
     → own player (lines_from 1 (take (i + 1) rounds)) ≡ own player (lines_from 1 (take i rounds)) ++ own player
     (counted_lines (1 + length (take i rounds)) r)
 own-more player rounds i r below is = grind (arith, common_steps, counted_lines, lines_from, lines_from-push, own-append, take_more)

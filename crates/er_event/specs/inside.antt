@@ -3,4 +3,6 @@ pub mod EventFields
 pub mod Stages
 pub mod Reading
 pub mod Seen
+pub mod Seats
+pub mod Played
 pub mod Joined

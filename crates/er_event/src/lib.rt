@@ -15,6 +15,7 @@ mod refusals;
 mod rounds;
 mod rows;
 mod scores;
+mod seats;
 mod slips;
 mod tallies;
 mod totals;
@@ -37,4 +38,4 @@ pub use rows::{
 pub use scores::{Games, Score};
 pub use slips::SlipRow;
 pub use tallies::{Meeting, Recount, Tally};
-pub use totals::Totals;
+pub use totals::{AllTotals, Totals};

@@ -1,13 +1,14 @@
 ghost use Rattle.std.specs.Prelude.{◌≡◌, ◌≢◌, ◌↔◌, ◌==◌, ◌||◌, ◌&&◌, nat_le, Some, is_some, flat_map, find, option_map, AllPairs, IsTrue};
-ghost use Rattle.std.specs.List.{list_all, list_any, range_with_len};
+ghost use Rattle.std.specs.List.{list_all, range_with_len};
 ghost use Rattle.er_event.specs.Bracket.{winner};
 ghost use Rattle.er_event.specs.Score.{bye_score};
 ghost use Rattle.er_event.specs.Round.{is_bye, is_counted, match_in, seats};
 ghost use Rattle.er_event.specs.Rows.{reported_games};
-ghost use Rattle.er_event.specs.Match.{is_known, is_lawful_match, MayStand, shares_seat};
+ghost use Rattle.er_event.specs.Match.{is_known, is_lawful_match, MayStand};
 
 use crate::players::MAX_PLAYERS;
 use crate::scores::{Games, Score, is_swiss};
+use crate::seats::Seats;
 
 /// Two players at one table, or one player with a bye.
 #[derive(Clone, Copy, Debug, PartialEq, Eq)]
@@ -89,23 +90,11 @@ pub(crate) fn are_lawful(count: u16, matches: &[Match]) -> bool
     matches.iter().all(|played| is_lawful(count, played))
 }
 
-/// Whether one of the earlier matches has one of this match's seats.
-fn is_seat_taken(earlier: &[Match], played: &Match) -> bool
-    ensures { result ≡ list_any (λ m. shares_seat m played.now) earlier.now }
-{
-    earlier.iter().any(|m| m.a == played.a || m.a == played.b || m.b == played.a || m.b == played.b)
-}
-
 /// Whether nobody sits at two tables, or opposite to themself.
 pub(crate) fn are_seated_once(matches: &[Match]) -> bool
     ensures { IsTrue result ↔ AllPairs (λ p q. p ≢ q) (flat_map seats matches.now) }
 {
-    for (place, played) in matches.iter().enumerate() {
-        if played.a == played.b || is_seat_taken(&matches[..place], played) {
-            return false;
-        }
-    }
-    true
+    Seats::of(matches).is_some()
 }
 
 fn bye_of(matches: &[Match]) -> Option<&Match>

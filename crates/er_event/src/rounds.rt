@@ -8,6 +8,7 @@ ghost use Rattle.er_event.specs.inside.Reading.{MayFollow, is_absent, has_missed
 use crate::items::Items;
 use crate::matches::{Match, are_lawful, are_seated_once, is_complete};
 use crate::players::Player;
+use crate::seats::Seats;
 use std::alloc::{AllocError, Global};
 
 /// A Swiss round: the matches of tables 1, 2, .., and then the bye, if there is one.
@@ -54,31 +55,29 @@ fn is_round(count: u16, matches: &[Match]) -> bool
     is_bye_last(matches)
 }
 
-fn has_pairing(matches: &[Match], played: &Match) -> bool
-    ensures { result ≡ list_any (λ m. is_same_pairing m played.now) matches.now }
+/// Whether one of the matches is of two who are paired in the new round, or of the player who has the bye there.
+fn has_repeat(matches: &[Match], new: &Seats<'_>) -> bool
+    ensures { result ≡ list_any (λ m. list_any (λ n. is_same_pairing m n) new.now) matches.now }
 {
-    matches.iter().any(|m| {
-        (m.a == played.a && m.b == played.b) || (m.a == played.b && m.b == played.a)
-    })
+    matches.iter().any(|played| new.has_pairing(played))
 }
 
-/// Whether the two players of the match, or the player and the bye, have met in a stored round.
-fn have_met(stored: &[Round], played: &Match) -> bool
-    ensures { result ≡ list_any (λ r. list_any (λ m. is_same_pairing m played.now) r.matches)
-        stored.now }
+/// Whether one of the stored rounds has such a match.
+fn have_repeat(stored: &[Round], new: &Seats<'_>) -> bool
+    ensures { result ≡ list_any (λ r. list_any (λ m. list_any (λ n. is_same_pairing m n) new.now)
+        r.matches) stored.now }
 {
     stored
         .iter()
-        .any(|round| has_pairing(round.matches.as_slice(), played))
+        .any(|round| has_repeat(round.matches.as_slice(), new))
 }
 
 /// Whether nobody meets an opponent, or has a bye, again.
-fn are_new(stored: &[Round], matches: &[Match]) -> bool
+fn are_new(stored: &[Round], new: &Seats<'_>) -> bool
     ensures { result ≡ list_all (λ m.
-        not (list_any (λ r. list_any (λ n. is_same_pairing n m) r.matches) stored.now))
-        matches.now }
+        not (list_any (λ r. list_any (λ n. is_same_pairing n m) r.matches) stored.now)) new.now }
 {
-    matches.iter().all(|played| !have_met(stored, played))
+    !have_repeat(stored, new)
 }
 
 /// Whether each match of the rounds has a score.
@@ -98,7 +97,10 @@ pub(crate) fn may_follow(count: u16, earlier: &[Round], matches: &[Match]) -> bo
     if !is_round(count, matches) {
         return false;
     }
-    are_new(earlier, matches)
+    match Seats::of(matches) {
+        Some(new) => are_new(earlier, &new),
+        None => false,
+    }
 }
 
 /// Whether each round may come behind those before it, with so many players.

@@ -13,6 +13,7 @@ use crate::matches::{Match, is_complete};
 use crate::players::{Player, PlayerNo};
 use crate::rows::{TallyRow, is_row_of};
 use crate::scores::Score;
+use crate::seats::Seats;
 use crate::totals::{Totals, is_complete_with};
 use std::marker::Model;
 
@@ -87,24 +88,46 @@ fn is_missed(round: u8, player: &Player) -> bool
 #[derive(Debug, Drop)]
 pub struct Recount<'a> {
     matches: &'a [Match],
+    /// Where players sit at these, if nobody sits at two of them.
+    seats: Option<Seats<'a>>,
     /// The round, or 0 for none.
     completed: u8,
 }
 
 impl<'a> Model for Recount<'a> {
+    ghost use Rattle.std.specs.Prelude.{◌≡◌, IfSome};
     ghost use Rattle.er_event.specs.Recounted.{Recounting};
 
     ghost Value = { Recounting };
 
     ghost view = { λ r. record { matches = r.matches.now; completed = r.completed } };
+
+    ghost invariant = { λ r. IfSome r.seats (λ seats. seats ≡ r.matches.now) };
 }
 
 impl Recount<'_> {
+    /// Whether nothing counts anew, so that nobody's totals are to be set.
+    pub fn is_empty(&self) -> bool
+        ensures { IsTrue result ↔ ((self.now.matches ≡ []) × (self.now.completed ≡ 0)) }
+    {
+        self.matches.is_empty() && self.completed == 0
+    }
+
+    /// Whether somebody of this number sits at one of the matches.
+    fn sits(&self, player: u16) -> bool
+        ensures { result ≡ sits self.now.matches player }
+    {
+        match &self.seats {
+            Some(seats) => seats.at(player).is_some(),
+            None => sits(self.matches, player),
+        }
+    }
+
     /// Whether the totals of a player of the event are to be set.
     pub fn includes(&self, player: &Player) -> bool
         ensures { result ≡ includes self.now player.now }
     {
-        sits(self.matches, player.no.get()) || is_missed(self.completed, player)
+        self.sits(player.no.get()) || is_missed(self.completed, player)
     }
 }
 
@@ -117,8 +140,9 @@ impl Event {
         if rows.len() != players.len() {
             return false;
         }
+        let all = self.all_totals();
         for (at, player) in players.iter().enumerate() {
-            if !is_row_of(&rows[at], player.no, self.totals(player.no)) {
+            if !is_row_of(&rows[at], player.no, all.of(player)) {
                 return false;
             }
         }
@@ -178,8 +202,10 @@ impl Event {
         ensures others { All (λ p. IsFalse (includes result p)
             → totals (after self.now change.now) p.no ≡ totals self.now p.no) self.now.players }
     {
+        let matches = self.matches_to_recount(change);
         Recount {
-            matches: self.matches_to_recount(change),
+            matches,
+            seats: Seats::of(matches),
             completed: self.completed(change),
         }
     }

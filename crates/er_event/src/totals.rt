@@ -10,12 +10,15 @@ ghost use Rattle.er_event.specs.Round.{is_counted};
 ghost use Rattle.er_event.specs.Change.{scored_slot, after, Fits};
 ghost use Rattle.er_event.specs.inside.Seen.{AreSeen, AreFew, AreOver, IsSeatedOnce, HasTable, rescored};
 
+mod all;
+
 use crate::changes::Change;
 use crate::events::Event;
 use crate::matches::{Match, is_complete};
 use crate::players::{Player, PlayerNo, joined_of};
 use crate::rounds::Round;
 use crate::scores::{Games, Score};
+pub use all::AllTotals;
 use er_share::MAX_ROUNDS;
 use std::cmp::Ordering;
 

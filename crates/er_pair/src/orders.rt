@@ -16,13 +16,14 @@ fn entrants(alloc: Global, event: &Event, keys: &[u32]) -> Result<Vec<Entrant>, 
     ensures sound { IsSoundButForSeeds event.now }
 {
     let players = event.players();
+    let all = event.all_totals();
     let mut entrants = Vec::with_capacity(alloc, keys.len())?;
     for player in players {
         if player.dropped {
             continue;
         }
         entrants.push(Entrant {
-            points: Reverse(event.totals(player.no).points),
+            points: Reverse(all.of(player).points),
             key: keys[entrants.len()],
             number: player.no.get(),
         })?;

@@ -74,6 +74,10 @@ pub record IsTop (event : EventValue) (k : ℕ) (players : List ℕ) : Type 0 wh
 abbrev pub OneStandings : EventValue → List Row → Type 0
 OneStandings event rows = (other : List Row) → AreStandings event other → other ≡ rows
 
+-- a sound event has one list of standings
+abbrev pub HasOneStandings : Type 0
+HasOneStandings = (event : EventValue) (rows : List Row) → IsSoundButForSeeds event → AreStandings event rows → OneStandings event rows
+
 -- and one top
 abbrev pub OneTop : EventValue → ℕ → List ℕ → Type 0
 OneTop event k players = (other : List ℕ) → IsTop event k other → other ≡ players

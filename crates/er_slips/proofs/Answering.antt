@@ -15,8 +15,9 @@ use Rattle.er_desk.specs.Desk.{ReadsRows, ReadsSlip}
 use Rattle.er_desk.specs.{Headline.AreTheStandings, Reply.{Reply, receipt, reply_to, IsDue}, Run.{Session, no_session}}
 use Rattle.er_slips.specs.{declared.answer.Answer.Answer, declared.request.asked.Asked.Asked}
 use Rattle.er_slips.specs.{declared.request.asked.Asked.TheVariants.{Standings, Pairings, Slip, Report}, declared.request.asked.Fault.Fault}
-use Rattle.er_slips.specs.{declared.request.asked.Unasked.Unasked, declared.request.asked.Unasked.TheVariants.Refused}
-use Rattle.er_slips.specs.{declared.serve.Served.Served, declared.serve.Served.TheVariants.{Answered, ReadFault, WriteFault}, Request.Asks}
+use Rattle.er_slips.specs.{declared.request.asked.Unasked.Unasked, declared.request.asked.Unasked.TheVariants.Refused, Head.HasNoHead}
+use Rattle.er_slips.specs.declared.request.asked.Unasked.TheVariants as unasked
+use Rattle.er_slips.specs.{declared.serve.Served.Served, declared.serve.Served.TheVariants.{Answered, ReadFault, WriteFault}, Request.{Asks, headed, headless}}
 use Rattle.er_slips.specs.{Request.TellsAsked, Answer.{AnswerValue, answer_value, fault_answer, refusal_answer, slip_answer, text_answer}}
 use Rattle.er_slips.specs.{Answer.status_of, Whole.{reply_answer, row_answer, IsAnswered, submitted, IsAnswerUnless503}}
 use Rattle.er_slips.specs.Serving.{IsRowsAnswer, IsSlipAnswer, AnswersRequest, IsServed, IsUnserved, Writes, EndsServing, IsWritten}
@@ -61,7 +62,7 @@ rows-answered rows old new answer (inr (inr (stopped, same, e))) due = absurd (t
 
 module _ (Stood : Type 0) (input : Option (List ℕ)) (old : Standing) (session : Session) (new : Standing) (before after : Option (List ℕ))
     (answer : AnswerValue) where
-  ends : (served : Served) → Writes before after served answer → IsServed Stood input old answer session new ⊎ IsUnserved old answer session new
+  ends : (served : Served) → Writes before after served answer → IsServed Stood input old answer session new ⊎ IsUnserved input old answer session new
       → EndsServing Stood input old session new before after served
   ends h1 wrote due = grind (arith, common_steps)
 
@@ -94,9 +95,11 @@ pub written-unread : (Runs Stood : Type 0) (input before : Option (List ℕ)) �
 written-unread h1 h2 h3 before = grind (arith, common_steps)
 
 pub ends-unserved : (Stood : Type 0) (input : Option (List ℕ)) (old : Standing) (before after : Option (List ℕ)) (answer : AnswerValue)
-    (served : Served)
+    (served : Served) (why : Unasked) → why ≡ unasked.Memory → IfSome input (λ xs. TellsAsked xs (Err why))
     → answer ≡ refusal_answer Memory → Writes before after served answer → EndsServing Stood input old no_session old before after served
-ends-unserved Stood input old before after answer served is wrote = grind (arith, common_steps)
+ends-unserved Stood input old before after answer served why of told is wrote =
+    ends Stood input old no_session old before after answer served wrote
+    (inr (is, subst (λ u. IfSome input (λ xs. TellsAsked xs (Err u))) of told, refl, refl))
 
 -- ---- the answer of a desk that runs, over tables that stand
 
@@ -108,13 +111,19 @@ module _ (old : Standing) (session : Session) (new : Standing) (input : List ℕ
       → IsAnswerUnless503 old.event old.serial input answer
   exact asked is answered = inl (submitted asked, record { asked = asked; asks = is; answered = answered; command = refl })
 
-  hindered : (why : Refusal) → status_of why ≡ 503 → answer ≡ refusal_answer why → IsAnswerUnless503 old.event old.serial input answer
-  hindered why is same = inr (ap (λ (a : AnswerValue). a.status) same ∙ is)
+  -- something is asked for behind a head alone
+  headed_so : (asked : Asked) → Asks input (Ok asked) → HasNoHead input → ⊥
+  headed_so asked (headed head rest is e) none = none head rest is
+  headed_so asked (headless so e) none = absurd (true≢false (ap is_ok e))
 
-  faulty : (why : Refusal) → IsReadFault why → answer ≡ refusal_answer why → IsAnswerUnless503 old.event old.serial input answer
-  faulty why (inl (inl memory)) e = hindered why (ap status_of memory) e
-  faulty why (inl (inr refused)) e = hindered why (ap status_of refused) e
-  faulty why (inr row) e = hindered why (ap status_of row) e
+  module _ (asked : Asked) (of : Asks input (Ok asked)) where
+    hindered : (why : Refusal) → status_of why ≡ 503 → answer ≡ refusal_answer why → IsAnswerUnless503 old.event old.serial input answer
+    hindered why is same = inr (ap (λ (a : AnswerValue). a.status) same ∙ is, headed_so asked of)
+
+    faulty : (why : Refusal) → IsReadFault why → answer ≡ refusal_answer why → IsAnswerUnless503 old.event old.serial input answer
+    faulty why (inl (inl memory)) e = hindered why (ap status_of memory) e
+    faulty why (inl (inr refused)) e = hindered why (ap status_of refused) e
+    faulty why (inr row) e = hindered why (ap status_of row) e
 
   runs-on : {A : Type 0} → IsTrue old.stopped → A
   runs-on stopped = absurd (true≢false (sym stopped ∙ runs))
@@ -127,12 +136,12 @@ module _ (old : Standing) (session : Session) (new : Standing) (input : List ℕ
     record { rows = rows.items; standings = are.0; lines = refl },
     e,
   )
-  rows-by (Ok rows) is reads are (inr memory) = hindered Memory refl memory
+  rows-by (Ok rows) is reads are (inr memory) = hindered Standings is Memory refl memory
   rows-by (Err why) is (inl (running, same, inl ok)) are e = absurd (true≢false (sym ok))
   rows-by (Err why) is (inl (running, same, inr memory)) are e =
-      hindered Memory refl (e ∙ ap refusal_answer (same-refusal why Memory memory))
+      hindered Standings is Memory refl (e ∙ ap refusal_answer (same-refusal why Memory memory))
   rows-by (Err why) is (inr (inl (running, same, other, fault, f))) are e =
-      faulty why (subst IsReadFault (sym (same-refusal why other f)) fault) e
+      faulty Standings is why (subst IsReadFault (sym (same-refusal why other f)) fault) e
   rows-by (Err why) is (inr (inr (stopped, same, f))) are e = runs-on stopped
 
   reply-by : (round table : ℕ) (score : Games) (reply : Reply) → Asks input (Ok (Report round table score))
@@ -154,21 +163,21 @@ module _ (old : Standing) (session : Session) (new : Standing) (input : List ℕ
 
       by : (it.why ≡ Memory) ⊎ IsDue old.version old.event old.serial (Hand round table score) (Err it.why)
           → IsAnswerUnless503 old.event old.serial input answer
-      by (inl memory) = hindered Memory refl (e ∙ ap reply_answer it.answered ∙ ap refusal_answer memory)
+      by (inl memory) = hindered (Report round table score) is Memory refl (e ∙ ap reply_answer it.answered ∙ ap refusal_answer memory)
       by (inr is_due) = exact (Ok (Report round table score)) is (Err it.why, due is_due, e ∙ ap reply_answer it.answered)
-  reply-by round table score reply is (inr (inr (inl it))) e = faulty it.why (inl it.fault) (e ∙ ap reply_answer it.answered)
+  reply-by round table score reply is (inr (inr (inl it))) e = faulty (Report round table score) is it.why (inl it.fault) (e ∙ ap reply_answer it.answered)
   reply-by round table score reply is (inr (inr (inr it))) e = runs-on it.was_stopped
 
   slip-by : (round table : ℕ) (read : Result SlipRow Refusal) → Asks input (Ok (Slip round table)) → ReadsSlip old read new
       → FindsSlip old.event round table read → IsSlipAnswer read answer → IsAnswerUnless503 old.event old.serial input answer
   slip-by round table (Ok row) is reads found (inl e) = exact (Ok (Slip round table)) is (e ∙ ap row_answer (sym found))
-  slip-by round table (Ok row) is reads found (inr memory) = hindered Memory refl memory
+  slip-by round table (Ok row) is reads found (inr memory) = hindered (Slip round table) is Memory refl memory
   slip-by round table (Err why) is (inl (running, same, inl ok)) found e = absurd (true≢false (sym ok))
   slip-by round table (Err why) is (inl (running, same, inr passes)) found e =
       let no_match = same-refusal why NoSuchMatch passes in
       exact (Ok (Slip round table)) is (e ∙ ap refusal_answer no_match ∙ ap row_answer (sym (found no_match)))
   slip-by round table (Err why) is (inr (inl (running, same, other, fault, f))) found e =
-      faulty why (subst IsReadFault (sym (same-refusal why other f)) fault) e
+      faulty (Slip round table) is why (subst IsReadFault (sym (same-refusal why other f)) fault) e
   slip-by round table (Err why) is (inr (inr (stopped, same, f))) found e = runs-on stopped
 
   answered-by : (Stood : Type 0) → Stood → (asked : Result Asked Fault) → Asks input asked → AnswersRequest Stood old asked answer session new
@@ -176,15 +185,15 @@ module _ (old : Standing) (session : Session) (new : Standing) (input : List ℕ
   answered-by Stood stood (Err fault) is answers = exact (Err fault) is answers.0
   answered-by Stood stood (Ok Standings) is (read, reads, found, e, _) = rows-by read is reads (found stood) e
   answered-by Stood stood (Ok (Pairings round)) is (inl (running, inl shown), _, _) = exact (Ok (Pairings round)) is shown
-  answered-by Stood stood (Ok (Pairings round)) is (inl (running, inr memory), _, _) = hindered Memory refl memory
+  answered-by Stood stood (Ok (Pairings round)) is (inl (running, inr memory), _, _) = hindered (Pairings round) is Memory refl memory
   answered-by Stood stood (Ok (Pairings round)) is (inr (stopped, e), _, _) = runs-on stopped
   answered-by Stood stood (Ok (Slip round table)) is (read, reads, found, e, _) = slip-by round table read is reads (found stood) e
   answered-by Stood stood (Ok (Report round table score)) is (reply, turn, e, _) = reply-by round table score reply is turn e
 
-  due-by : (Stood : Type 0) → Stood → IsServed Stood (Some input) old answer session new ⊎ IsUnserved old answer session new
+  due-by : (Stood : Type 0) → Stood → IsServed Stood (Some input) old answer session new ⊎ IsUnserved (Some input) old answer session new
       → IsAnswerUnless503 old.event old.serial input answer
   due-by Stood stood (inl (asked, is, answers)) = answered-by Stood stood asked is answers
-  due-by Stood stood (inr unserved) = hindered Memory refl unserved.0
+  due-by Stood stood (inr unserved) = inr (ap (λ (a : AnswerValue). a.status) unserved.0, unserved.1)
 
 pub written : (Stood : Type 0) (input : Option (List ℕ)) (old : Standing) (session : Session) (new : Standing)
     (before after : Option (List ℕ)) (served : Served)

@@ -12,7 +12,7 @@ use Rattle.er_slips.specs.{declared.request.head.Head.Head, declared.request.hea
 use Rattle.er_slips.specs.{declared.request.asked.Fault.Fault, declared.request.Next.Next, declared.request.Next.TheVariants.{Get, Body}}
 use Rattle.er_slips.specs.{declared.request.asked.Asked.Asked, declared.request.asked.Unasked.Unasked}
 use Rattle.er_slips.specs.{declared.request.asked.Fault.TheVariants.BadRequest, declared.request.head.TheConstants.MAX_HEAD, Head.ShowsHead}
-use Rattle.er_slips.specs.{Head.IfFound, Request.{path_of, next_of, asked_with, asked_of, reported, Asks, headed, IsDueUnlessMemory}}
+use Rattle.er_slips.specs.{Head.{HasNoHead, IfFound, IsHead}, Request.{path_of, next_of, asked_with, asked_of, reported, Asks, headed, IsDueUnlessMemory}}
 use Rattle.er_slips.specs.Request.{TellsAsked}
 use Rattle.er_slips.specs.declared.request.asked.Unasked.TheVariants as unasked
 
@@ -53,12 +53,12 @@ wide n m hs le all = λ k d below. let h = all k d below in ((h.0.0, omega (arit
 
 module _ (input after : Option (List ℕ)) (bytes : List ℕ) (headers : List HeaderSpan) (spans : RequestSpans)
     (came : Consumes input after bytes) (few : length bytes ≤ MAX_HEAD) (shows : ShowsHead bytes headers spans) where
-  -- what a whole input asks for, by what its head says
-  pub asks-by : (result : Result Asked Fault) → ((xs : List ℕ) → input ≡ Some xs → result ≡ asked_of shows.head (drop spans.len xs))
-      → IfSome input (λ xs. Asks xs result)
-  asks-by result is = by input after refl came
+  -- of a whole input, by its head
+  of-head : (P : List ℕ → Type 0) → ((xs : List ℕ) → input ≡ Some xs → IsHead xs shows.head (drop spans.len xs) → P xs)
+      → IfSome input P
+  of-head P is = by input after refl came
     where
-      by : (i a : Option (List ℕ)) → i ≡ input → Consumes i a bytes → IfSome i (λ xs. Asks xs result)
+      by : (i a : Option (List ℕ)) → i ≡ input → Consumes i a bytes → IfSome i P
       by None a e c = tt
       by (Some xs) None e c = absurd c
       by (Some xs) (Some ys) e c =
@@ -66,7 +66,15 @@ module _ (input after : Option (List ℕ)) (bytes : List ℕ) (headers : List He
           let rest : drop spans.len xs ≡ drop spans.len bytes ++ ys = ap (drop spans.len) c ∙ drop-append-le spans.len bytes ys size in
           let reads : ReadsRequest xs shows.head (drop spans.len xs) =
           rw (rest, c) (ReadsRequest-append bytes shows.head (drop spans.len bytes) ys shows.at.reads) in
-          headed shows.head (drop spans.len xs) (reads, omega (arith, shows.at.len, size, few), shows.few) (is xs (sym e))
+          is xs (sym e) (reads, omega (arith, shows.at.len, size, few), shows.few)
+
+  -- what it asks for, by what its head says
+  pub asks-by : (result : Result Asked Fault) → ((xs : List ℕ) → input ≡ Some xs → result ≡ asked_of shows.head (drop spans.len xs))
+      → IfSome input (λ xs. Asks xs result)
+  asks-by result is = of-head (λ xs. Asks xs result) (λ xs e head. headed shows.head (drop spans.len xs) head (is xs e))
+
+  pub has-head : IfSome input (λ xs. HasNoHead xs → ⊥)
+  has-head = of-head (λ xs. HasNoHead xs → ⊥) (λ xs e head none. none shows.head (drop spans.len xs) head)
 
   pub asks-get : (asked : Asked) → next_of shows.head ≡ Ok (Get asked) → IfSome input (λ xs. Asks xs (Ok asked))
   asks-get asked e = asks-by (Ok asked) (λ xs is. ap (λ n. asked_with n (drop spans.len xs)) (sym e))
@@ -79,20 +87,18 @@ module _ (input after : Option (List ℕ)) (bytes : List ℕ) (headers : List He
   asks-next (Ok n) u t e = absurd (cc)
   asks-next (Err (unasked.Refused fault)) u t e = let is : unasked.Refused fault ≡ u =
       cc in subst (λ v. IfSome input (λ xs. TellsAsked xs (Err v))) is (asks-fault fault t)
-  asks-next (Err unasked.Memory) u t e = grind (arith, common_steps)
+  asks-next (Err unasked.Memory) u t e = let is : unasked.Memory ≡ u =
+      cc in subst (λ v. IfSome input (λ xs. TellsAsked xs (Err v))) is has-head
   asks-next (Err unasked.Unread) u t e = absurd t
 
   -- ---- with a body
 
-  tells-asked : (xs : List ℕ) (due : Result Asked Fault) (r : Result Asked Unasked) → IsDueUnlessMemory due r → Asks xs due
-      → TellsAsked xs r
-  tells-asked xs due (Ok asked) t is = subst (Asks xs) t is
-  tells-asked xs due (Err (unasked.Refused fault)) t is = subst (Asks xs) t is
-  tells-asked xs due (Err unasked.Memory) t is = tt
-  tells-asked xs due (Err unasked.Unread) t is = absurd t
-
-  if-some : (i : Option (List ℕ)) (P Q : List ℕ → Type 0) → ((xs : List ℕ) → P xs → Q xs) → IfSome i P → IfSome i Q
-  if-some h1 h2 h3 f p = grind (arith, common_steps)
+  tells-asked : (xs : List ℕ) (due : Result Asked Fault) (r : Result Asked Unasked) → IsDueUnlessMemory due r → (HasNoHead xs → ⊥)
+      → Asks xs due → TellsAsked xs r
+  tells-asked xs due (Ok asked) t head is = subst (Asks xs) t is
+  tells-asked xs due (Err (unasked.Refused fault)) t head is = subst (Asks xs) t is
+  tells-asked xs due (Err unasked.Memory) t head is = head
+  tells-asked xs due (Err unasked.Unread) t head is = absurd t
 
   behind : (xs : List ℕ) (a : Option (List ℕ)) (front : List ℕ) → Consumes (Some xs) a front
       → (ys : List ℕ) × (xs ≡ front ++ ys) × (IsAtEnd a → ys ≡ [])
@@ -114,7 +120,8 @@ module _ (input after : Option (List ℕ)) (bytes : List ℕ) (headers : List He
         → IsDueUnlessMemory (reported round table (slip_games (slice_range buf spans.len end))) r → IfSome input (λ xs. TellsAsked xs r)
     asks-body end sum enough r t =
         let due = reported round table (slip_games (slice_range buf spans.len end)) in
-        if-some input (λ xs. Asks xs due) (λ xs. TellsAsked xs r) (λ xs is. tells-asked xs due r t is) (asks-by due (λ xs is.
+        of-head (λ xs. TellsAsked xs r) (λ xs is head.
+        tells-asked xs due r t (λ none. none shows.head (drop spans.len xs) head) (headed shows.head (drop spans.len xs) head (
         let more = behind xs later (take count buf) (subst (λ i. Consumes i later (take count buf)) is came-on) in
         let left : end - spans.len ≡ n = omega arith in
         let rest : drop spans.len xs ≡ drop spans.len (take count buf) ++ more.0 =
@@ -129,7 +136,7 @@ module _ (input after : Option (List ℕ)) (bytes : List ℕ) (headers : List He
         ap (λ k. take k (drop spans.len buf)) left ∙ sym part ∙ sym (take-append-le n (drop spans.len (take count buf)) more.0 long)
         ∙ ap (take n) (sym rest) in
         ap (λ b. reported round table (slip_games b)) body ∙ sym (long-enough round table n (drop spans.len xs) whole) ∙ ap
-        (λ (k : Result Next Fault). asked_with k (drop spans.len xs)) (sym is-next)))
+        (λ (k : Result Next Fault). asked_with k (drop spans.len xs)) (sym is-next))))
 
     pub asks-short : spans.len ≤ count → count < spans.len + n → IsAtEnd later → IfSome input (λ xs. Asks xs (Err BadRequest))
     asks-short past few-came ended = asks-by (Err BadRequest) (λ xs is.

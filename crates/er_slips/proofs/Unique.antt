@@ -1,8 +1,17 @@
--- A whole input asks for one thing.
-use Rattle.std.proofs.Common.{◌≡◌, List, ℕ, Result, sym, ap₂, ◌∙◌}
+-- A whole input asks for one thing, and has one answer.
+use Rattle.std.proofs.Common.{◌≡◌, inl, inr, List, ℕ, Result, Ok, Err, sym, ap, ap₂, subst, ◌∙◌}
 use Rattle.httparse.proofs.GrammarLemmas.{request_unique}
 use Rattle.er_slips.specs.{declared.request.asked.Asked.Asked, declared.request.asked.Fault.Fault, Request.{Asks, headed, headless}}
 use Rattle.er_slips.specs.Request.{asked_of}
+use Rattle.er_event.specs.declared.commands.Command.{Command}
+use Rattle.er_event.specs.declared.commands.Command.TheVariants.{Result as Hand}
+use Rattle.er_event.specs.{declared.refusals.Refusal.Refusal, declared.scores.Games.Games, Event.EventValue, Sound.IsSoundButForSeeds}
+use Rattle.er_rank.specs.Standings.{HasOneStandings}
+use Rattle.er_rules.specs.Step.{Steps}
+use Rattle.er_paper.specs.Texts.{rows_text}
+use Rattle.er_desk.specs.Reply.{Reply, IsDue, reply_to}
+use Rattle.er_slips.specs.declared.request.asked.Asked.TheVariants.{Standings, Pairings, Slip, Report}
+use Rattle.er_slips.specs.{Answer.{AnswerValue, text_answer}, Whole.{IsAnswered, OneAnswer, reply_answer, submitted}}
 
 pub one_asked : (input : List ℕ) (r q : Result Asked Fault) → Asks input r → Asks input q → r ≡ q
 one_asked input r q (headed h rest is e) (headed k more also f) =
@@ -11,3 +20,35 @@ one_asked input r q (headed h rest is e) (headed k more also f) =
 one_asked input r q (headed h rest is e) (headless none f) = absurd (none h rest is)
 one_asked input r q (headless none e) (headed h rest is f) = absurd (none h rest is)
 one_asked input r q (headless none e) (headless also f) = e ∙ sym f
+
+-- ---- the answer
+
+abbrev OneStep : Type 0
+OneStep = (event : EventValue) (command : Command) (one other : Result EventValue Refusal) → IsSoundButForSeeds event
+    → Steps event command one → Steps event command other → one ≡ other
+
+module _ (standings : HasOneStandings) (step : OneStep) (event : EventValue) (serial : ℕ) (sound : IsSoundButForSeeds event) where
+  one_reply : (round table : ℕ) (score : Games) (r q : Reply) → IsDue 2 event serial (Hand round table score) r
+      → IsDue 2 event serial (Hand round table score) q → r ≡ q
+  one_reply round table score r q (result, inl (steps, few), due) (other, inl (also, least), same) =
+      due ∙ ap (reply_to 2 event serial (Hand round table score)) (step event (Hand round table score) result other sound steps also) ∙ sym same
+  one_reply round table score r q (result, inr (over, needs), due) (other, answers, same) = absurd needs
+  one_reply round table score r q (result, inl (steps, few), due) (other, inr (over, needs), same) = absurd needs
+
+  one_answered : (asked : Result Asked Fault) (a b : AnswerValue) → IsAnswered event serial asked a → IsAnswered event serial asked b → a ≡ b
+  one_answered (Err fault) a b is also = is ∙ sym also
+  one_answered (Ok Standings) a b (text, of, is) (other, it, also) =
+      let rows = standings event of.rows sound of.standings it.rows it.standings in
+      is ∙ ap text_answer (of.lines ∙ ap (rows_text event) (sym rows) ∙ sym it.lines) ∙ sym also
+  one_answered (Ok (Pairings round)) a b is also = is ∙ sym also
+  one_answered (Ok (Slip round table)) a b is also = is ∙ sym also
+  one_answered (Ok (Report round table score)) a b (reply, due, is) (other, same, also) =
+      is ∙ ap reply_answer (one_reply round table score reply other due same) ∙ sym also
+
+pub one_answer : HasOneStandings → OneStep → OneAnswer
+one_answer standings step event serial input one other submits also sound is it =
+    let asked = one_asked input is.asked it.asked is.asks it.asks in (
+      one_answered standings step event serial sound it.asked one other
+          (subst (λ (r : Result Asked Fault). IsAnswered event serial r one) asked is.answered) it.answered,
+      is.command ∙ ap submitted asked ∙ sym it.command,
+    )

@@ -130,11 +130,11 @@ pub data Asks (input : List ℕ) (result : Result Asked Fault) : Type 0 where
   headed : (head : RequestHead) (rest : List ℕ) → IsHead input head rest → result ≡ asked_of head rest → Asks input result
   headless : HasNoHead input → result ≡ Err BadRequest → Asks input result
 
--- what reading an input tells of it
+-- what reading an input tells of it: memory is wanting only behind a head
 abbrev pub TellsAsked : List ℕ → Result Asked Unasked → Type 0
 TellsAsked input (Ok asked) = Asks input (Ok asked)
 TellsAsked input (Err (unasked.Refused fault)) = Asks input (Err fault)
-TellsAsked input (Err unasked.Memory) = Unit {0}
+TellsAsked input (Err unasked.Memory) = HasNoHead input → ⊥
 TellsAsked input (Err unasked.Unread) = Unit {0}
 
 -- what is due, or want of memory

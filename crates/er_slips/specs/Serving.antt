@@ -23,6 +23,7 @@ use Rattle.er_slips.specs.declared.request.asked.Asked.TheVariants.{Standings, P
 use Rattle.er_slips.specs.declared.request.asked.Fault.{Fault}
 use Rattle.er_slips.specs.declared.serve.Served.{Served}
 use Rattle.er_slips.specs.declared.serve.Served.TheVariants.{Answered, ReadFault, WriteFault}
+use Rattle.er_slips.specs.Head.{HasNoHead}
 use Rattle.er_slips.specs.Request.{Asks}
 use Rattle.er_slips.specs.Answer.{AnswerValue, fault_answer, refusal_answer, text_answer}
 use Rattle.er_slips.specs.Whole.{ShowsPairings, row_answer, reply_answer, IsAnswerUnless503}
@@ -68,9 +69,10 @@ abbrev pub IsServed : Type 0 → Option (List ℕ) → Standing → AnswerValue 
 IsServed Stood input old answer session new =
     (asked : Result Asked Fault) × IfSome input (λ xs. Asks xs asked) × AnswersRequest Stood old asked answer session new
 
--- or memory was wanting before it was asked, and it stays as it is
-abbrev pub IsUnserved : Standing → AnswerValue → Session → Standing → Type 0
-IsUnserved old answer session new = (answer ≡ refusal_answer Memory) × (session ≡ no_session) × (new ≡ old)
+-- or memory was wanting before it was asked, and it stays as it is; of an input that has no head that needs none
+abbrev pub IsUnserved : Option (List ℕ) → Standing → AnswerValue → Session → Standing → Type 0
+IsUnserved input old answer session new =
+    (answer ≡ refusal_answer Memory) × IfSome input (λ xs. HasNoHead xs → ⊥) × (session ≡ no_session) × (new ≡ old)
 
 -- what was written of an answer
 abbrev pub Writes : Option (List ℕ) → Option (List ℕ) → Served → AnswerValue → Type 0
@@ -84,10 +86,10 @@ abbrev pub EndsServing : Type 0 → Option (List ℕ) → Standing → Session �
 EndsServing Stood input old session new before after ReadFault = Keeps before after × (session ≡ no_session) × (new ≡ old)
 EndsServing Stood input old session new before after (Answered status) =
     (answer : AnswerValue) × Writes before after (Answered status) answer
-    × (IsServed Stood input old answer session new ⊎ IsUnserved old answer session new)
+    × (IsServed Stood input old answer session new ⊎ IsUnserved input old answer session new)
 EndsServing Stood input old session new before after (WriteFault sent) =
     (answer : AnswerValue) × Writes before after (WriteFault sent) answer
-    × (IsServed Stood input old answer session new ⊎ IsUnserved old answer session new)
+    × (IsServed Stood input old answer session new ⊎ IsUnserved input old answer session new)
 
 -- What serving one request does: one score is the session, or nothing is.
 pub record Serves {S : Type 0} (g : Ghosts S) (input : Option (List ℕ)) (old new : Desk S g) (before after : Option (List ℕ)) (served : Served)

@@ -6,12 +6,14 @@ use Rattle.er_event.specs.declared.refusals.Refusal.TheVariants.{NoSuchMatch}
 use Rattle.er_event.specs.declared.slips.SlipRow.{SlipRow}
 use Rattle.er_event.specs.Event.{EventValue}
 use Rattle.er_event.specs.Slip.{slip_of}
+use Rattle.er_event.specs.Sound.{IsSoundButForSeeds}
 use Rattle.er_json.specs.Slip.{slip_text}
 use Rattle.er_paper.specs.Texts.{IsStandingsText, pairings_text}
 use Rattle.er_desk.specs.Reply.{Reply, IsDue}
 use Rattle.er_slips.specs.declared.request.asked.Asked.{Asked}
 use Rattle.er_slips.specs.declared.request.asked.Asked.TheVariants.{Standings, Pairings, Slip, Report}
 use Rattle.er_slips.specs.declared.request.asked.Fault.{Fault}
+use Rattle.er_slips.specs.Head.{HasNoHead}
 use Rattle.er_slips.specs.Request.{Asks}
 use Rattle.er_slips.specs.Answer.{AnswerValue, fault_answer, refusal_answer, receipt_answer, text_answer, slip_answer}
 
@@ -60,7 +62,14 @@ pub record IsAnswer (event : EventValue) (serial : ℕ) (input : List ℕ) (answ
   pub answered : IsAnswered event serial asked answer
   pub command : submits ≡ submitted asked
 
--- the answer to the input on this event, and else a 503: memory was wanting, or the store has a fault
+-- Of a sound event, a serial and an input there is one answer, and one command at most.
+abbrev pub OneAnswer : Type 0
+OneAnswer = (event : EventValue) (serial : ℕ) (input : List ℕ) (one other : AnswerValue) (submits also : Option Command)
+    → IsSoundButForSeeds event → IsAnswer event serial input one submits → IsAnswer event serial input other also
+    → (one ≡ other) × (submits ≡ also)
+
+-- The answer to the input on this event, and else a 503: memory was wanting, or the store has a fault. An input that has
+-- no head is never answered so.
 abbrev pub IsAnswerUnless503 : EventValue → ℕ → List ℕ → AnswerValue → Type 0
 IsAnswerUnless503 event serial input answer =
-    ((submits : Option Command) × IsAnswer event serial input answer submits) ⊎ (answer.status ≡ 503)
+    ((submits : Option Command) × IsAnswer event serial input answer submits) ⊎ ((answer.status ≡ 503) × (HasNoHead input → ⊥))

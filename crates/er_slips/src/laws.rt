@@ -1,8 +1,19 @@
-//! A law of answers, over the definitions alone. It is a function with no code of its own, whose contract is the law.
+//! Laws of answers, over the definitions alone. A law is a function with no code of its own, whose contract is the law.
 
 ghost use Rattle.er_slips.specs.Retry.{Retries};
+ghost use Rattle.er_slips.specs.Whole.{OneAnswer};
 
 use er_desk::laws::no_double_effect;
+use er_rank::laws::one_standings;
+use er_rules::laws::one_step;
+
+/// Of a sound event, a serial and an input there is one answer, and one command at most is submitted for it.
+pub fn one_answer()
+    ensures { OneAnswer }
+{
+    one_standings();
+    one_step();
+}
 
 /// A score that was taken once, and whose answer was lost, is answered at every later point with the stored one, or that the event is no longer in
 /// its Swiss rounds: handing it in again does nothing a second time.

@@ -14,7 +14,7 @@ ghost use Rattle.er_event.specs.declared.totals.Totals.{Totals};
 ghost use Rattle.er_event.specs.Recounted.{includes};
 ghost use Rattle.er_event.specs.Rows.{tally_row, tally_rows_by};
 ghost use Rattle.er_event.specs.Sound.{numbers};
-ghost use Rattle.er_event.specs.Totals.{totals};
+ghost use Rattle.er_event.specs.Totals.{totals, gathered_of};
 ghost use Rattle.er_event.specs.Version.{CanTake, IsVersion, Keeps};
 ghost use Rattle.er_store.specs.inside.Totals.{set_for};
 ghost use Rattle.er_event.specs.declared.matches.Match.{Match};
@@ -33,8 +33,8 @@ use crate::statements::{
 use crate::tables::TableRow;
 use er_event::laws::{events_are_sound, others_keep_totals};
 use er_event::{
-    BracketRow, Change, Event, EventRow, Items, Match, PairingRow, Phase, Player, PlayerNo,
-    Recount, Score, TallyRow,
+    AllTotals, BracketRow, Change, Event, EventRow, Items, Match, PairingRow, Phase, Player,
+    PlayerNo, Recount, Score, TallyRow, Totals,
 };
 use sqlite::{Alter, Connection, Error, Transaction};
 
@@ -229,14 +229,12 @@ fn change_rows<S: Alter>(
     }
 }
 
-/// Sets the totals of one player to what their lines come to after the change.
+/// Sets the totals of one player.
 fn recount_player<S: Alter>(
     tx: &mut Transaction<'_, S>,
-    event: &Event,
-    change: &Change,
     player: PlayerNo,
+    now: Totals,
 ) -> Result<(), Error>
-    requires fits { Fits event.now change.now }
     ensures same_reference { tx.new.conn.ghost_name ≡ tx.old.conn.ghost_name }
     ensures makes { HasCleanDisk (state S.Store tx.new.conn.now)
         → (l : Layout) (e : EventValue) (s : ℕ) (before : ℕ → Totals)
@@ -245,41 +243,37 @@ fn recount_player<S: Alter>(
         → Contains (numbers e.players) player
         → OnOk result (BringsToWith l (state S.Store tx.old.conn.now)
         (state S.Store tx.new.conn.now) e s
-        (tally_rows_by (set_for player (totals (after event.now change.now) player) before)
-        e.players)) }
+        (tally_rows_by (set_for player now before) e.players)) }
     ensures stays { Stays (state S.Store tx.old.conn.now) (state S.Store tx.new.conn.now) }
 {
-    let row = TallyRow::of(player, event.totals_after(change, player));
+    let row = TallyRow::of(player, now);
     set_tally(tx, &row)
 }
 
-/// Sets the totals of one player of the event, where the change alters them.
+/// Sets the totals of one player of the event to those among all of them, where they count anew.
 fn recount_one<S: Alter>(
     tx: &mut Transaction<'_, S>,
-    event: &Event,
-    change: &Change,
     recount: &Recount<'_>,
+    all: &AllTotals,
     player: &Player,
 ) -> Result<(), Error>
-    requires fits { Fits event.now change.now }
-    requires others { IsFalse (includes recount.now player.now)
-        → totals (after event.now change.now) player.now.no ≡ totals event.now player.now.no }
     ensures same_reference { tx.new.conn.ghost_name ≡ tx.old.conn.ghost_name }
     ensures makes { HasCleanDisk (state S.Store tx.new.conn.now)
         → (l : Layout) (e : EventValue) (s : ℕ) (before : ℕ → Totals)
         → numbers e.players ≡ range_with_len 1 (length e.players)
         → Contains (numbers e.players) player.now.no
-        → before player.now.no ≡ totals event.now player.now.no
+        → (IsFalse (includes recount.now player.now)
+        → before player.now.no ≡ gathered_of all.now player.now)
         → Moves l (state S.Store tx.old.conn.now) (state S.Store tx.old.conn.now)
         → StandsWith l (state S.Store tx.old.conn.now).now e s (tally_rows_by before e.players)
         → OnOk result (BringsToWith l (state S.Store tx.old.conn.now)
         (state S.Store tx.new.conn.now) e s
-        (tally_rows_by (set_for player.now.no (totals (after event.now change.now) player.now.no)
-        before) e.players)) }
+        (tally_rows_by (set_for player.now.no (gathered_of all.now player.now) before)
+        e.players)) }
     ensures stays { Stays (state S.Store tx.old.conn.now) (state S.Store tx.new.conn.now) }
 {
     if recount.includes(player) {
-        recount_player(tx, event, change, player.no)?;
+        recount_player(tx, player.no, all.of(player))?;
     }
     Ok(())
 }
@@ -303,9 +297,14 @@ fn recount<S: Alter>(
         (tally_rows_by (totals (after event.now change.now)) e.players)) }
     ensures stays { Stays (state S.Store tx.old.conn.now) (state S.Store tx.new.conn.now) }
 {
+    let players = event.players();
     let recount = event.recount_of(change);
-    for player in event.players() {
-        recount_one(tx, event, change, &recount, player)?;
+    if recount.is_empty() {
+        return Ok(());
+    }
+    let all = event.all_totals_after(change);
+    for player in players {
+        recount_one(tx, &recount, &all, player)?;
     }
     Ok(())
 }

@@ -1,3 +1,4 @@
+use crate::wires::{Break, Sink};
 use std::io::BufWriter;
 use std::test::Fail;
 
@@ -33,5 +34,58 @@ fn version_flushes(rt: &HostRuntime) -> Option<bool> {
 #[test]
 fn a_text_is_flushed(rt: HostRuntime) -> Result<(), Fail> {
     assert_eq!(rt; version_flushes(&rt), Some(true));
+    Ok(())
+}
+
+/// Takes so many bytes, and then neither more of them nor a flush.
+fn flushing_in_vain(rt: &HostRuntime, room: usize) -> Sink {
+    Sink {
+        taken: Vec::new(rt.alloc()),
+        room,
+        then: Break::FailsToFlush,
+    }
+}
+
+/// How a script ends over a writer that takes its answers and fails to pass them on: with its status, and what was taken.
+fn script_in_vain(rt: &HostRuntime, mut script: &[u8]) -> (u8, Vec<u8>) {
+    let mut out = flushing_in_vain(rt, 64);
+    let status = er_cli::run_script(rt, &mut script, &mut out);
+    (status, out.taken)
+}
+
+/// A flush that fails at the end of a script is a fault of the device, though its answers were taken.
+#[test]
+fn a_script_that_is_not_flushed_fails(rt: HostRuntime) -> Result<(), Fail> {
+    let (status, taken) = script_in_vain(&rt, b"players\n");
+    assert_eq!(rt; status, 3);
+    assert_eq!(rt; taken.as_slice(), b"refused 27 NoEvent\n".as_slice());
+    Ok(())
+}
+
+/// How `--version` ends over a writer that holds its text back, where the stream behind it takes so many bytes alone: with its status, what that
+/// stream has taken, and what the errors have.
+fn version_in_vain(rt: &HostRuntime, room: usize) -> Option<(u8, Vec<u8>, Vec<u8>)> {
+    let version = String::from_str(rt.alloc(), "--version").ok()?;
+    let mut out = BufWriter::new(rt.alloc(), flushing_in_vain(rt, room)).ok()?;
+    let mut err = Vec::new(rt.alloc());
+    let status = er_cli::run(rt, &[version], &mut out, &mut err);
+    let mut taken = Vec::new(rt.alloc());
+    taken
+        .extend_from_slice(out.get_ref().taken.as_slice())
+        .ok()?;
+    Some((status, taken, err))
+}
+
+/// So is one behind an answer: of a text that a writer has held back a beginning has gone out, or all of it.
+#[test]
+fn an_answer_that_is_not_flushed_fails(rt: HostRuntime) -> Result<(), Fail> {
+    let part = version_in_vain(&rt, 5);
+    let whole = version_in_vain(&rt, 64);
+    assert!(rt;
+        matches!(&part, Some((3, taken, err)) if taken.as_slice() == b"event".as_slice() && err.is_empty())
+    );
+    assert!(rt;
+        matches!(&whole, Some((3, taken, err)) if taken.as_slice() == b"event_reporter 0.1.0\n".as_slice() && err.is_empty())
+    );
     Ok(())
 }

@@ -1,7 +1,8 @@
 use Rattle.std.proofs.Common.{inl, inr, sym, subst, ◌∙◌}
-use Rattle.sqlite.specs.{Effect.Database, Files.{over_files, file_state}}
+use Rattle.sqlite_wal.specs.Files.{image_at}
+use Rattle.sqlite.specs.{Effect.Database, Files.{AreFoundIn, over_files, file_state}}
 use Rattle.er_store.specs.Standing.{HasTables, AreKeyed}
-use Rattle.er_desk.specs.{Desk.{state, version_in}, Opening.NamesFirstFault}
+use Rattle.er_desk.specs.{Desk.{state, version_in}}
 use Rattle.er_desk.proofs.Adopting.{is_fault, is_spared, opened_stands, sees_unchanged, sees_kept}
 use Rattle.er_desk.proofs.opening.open.Goals as goal
 
@@ -46,10 +47,14 @@ returns-in-Err-adopt-clause-kept g c db holds clean is_open =
     holds (c.in-Err-adopt.ensures.left.kept clean) is_open
 
 pub returns-in-Err-adopt-clause-first : goal.returns-in-Err-adopt-clause-first
-returns-in-Err-adopt-clause-first g c clean is_open =
-    let opened = c.in-Ok.ensures.opened (c.in-Err-adopt.ensures.left.clean clean) in
-    subst (λ (d : Database). NamesFirstFault d c.in-Err-adopt.refusal) (sym (c.in-Err-adopt.ensures.left.kept clean opened.0.clean is_open).0)
-    (c.in-Err-adopt.ensures.first clean)
+returns-in-Err-adopt-clause-first g c clean =
+    let early = c.in-Err-adopt.ensures.left.clean clean in
+    let opened = c.in-Ok.ensures.opened early in (
+      (file_state c.in-Ok.conn).now,
+      (opened.1 opened.0.is_open).0,
+      subst (λ (db : Database). AreFoundIn (image_at g.S.Start) db.trees) (sym opened.0.clean) (c.in-Ok.ensures.found early).reads,
+      c.in-Err-adopt.ensures.first clean,
+    )
 
 pub returns-in-Err-clause-spared : goal.returns-in-Err-clause-spared
 returns-in-Err-clause-spared g c = is_spared c.in-Err.error c.in-Err.left c.in-Err.ensures.unopened c.in-Err.ensures.cause

@@ -8,12 +8,13 @@ returns-then-not-are_counted c = grind (arith, common_steps, is_counted, of-All)
 pub returns-then-not-is_round : goal.returns-then-not-is_round
 returns-then-not-is_round c = grind arith
 
-pub returns : goal.returns
-returns c = (
-  λ yes. record {
-    done = grind (arith, common_steps, All-of);
-    round = grind arith;
-    new = All-new c.args.earlier.now c.args.matches.now (sym c.are_new.ensures ∙ yes);
-  },
-  λ follows. c.are_new.ensures ∙ new-All c.args.earlier.now c.args.matches.now follows.new,
-)
+pub returns-in-Some : goal.returns-in-Some
+returns-in-Some c =
+    let new = rw (c.in-Some.ensures.value) at c.are_new.ensures in (
+      λ yes. record {
+        done = grind (arith, common_steps, All-of);
+        round = grind arith;
+        new = All-new c.args.earlier.now c.args.matches.now (sym new ∙ yes);
+      },
+      λ follows. new ∙ new-All c.args.earlier.now c.args.matches.now follows.new,
+    )

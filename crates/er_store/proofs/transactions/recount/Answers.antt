@@ -2,6 +2,9 @@ use Rattle.er_store.proofs.Prelude.{◌≡◌, ◌+◌, ◌<◌, length, refl, a
 use Rattle.er_store.proofs.{Crash.{stays_self, stays_then, was_clean}, Together.makes_then}
 use Rattle.er_store.proofs.Tallying.{numbered_too, rows_agree, none_set, not_yet, set_more, all_set, moves_self, contains_numbered, number-at}
 use Rattle.er_store.proofs.Tallying.{length-numbers}
+use Rattle.er_store.proofs.Tallying.{none-set, others-at, totals-at}
+use Rattle.er_store.proofs.Prelude.{get_or, sym}
+use Rattle.er_event.specs.Totals.{gathered_of}
 use Rattle.er_store.proofs.transactions.recount.Goals as goal
 
 pub loop-player-init : goal.loop-player-init
@@ -12,7 +15,7 @@ loop-player-init g c =
       refl,
       stays_self old,
       λ clean l e s same moves stands.
-          let numbered = numbered_too e.players c.args.event.now.players same c.players-player-items.ensures.sound.players.numbered in
+          let numbered = numbered_too e.players c.args.event.now.players same c.players-players.ensures.sound.players.numbered in
           rw (← rows_agree before (set_up_to 0 now before) e.players numbered (λ q low high. none_set now before q low))
           (record { moves = moves; stands = stands }),
     )
@@ -30,10 +33,14 @@ loop-player-preserved g c =
     let before = totals event in
     let k = c.loop-player.player-index in
     let so_far = c.loop-player.invariant in
-    let sound = c.players-player-items.ensures.sound in
-    let value = c.players-player-items.ensures.value in
+    let sound = c.players-players.ensures.sound in
+    let value = c.players-players.ensures.value in
     let below : k < length event.players = rw value at c.loop-player-test.true in
     let it = c.player-item.result in
+    let is : it ≡ get_or event.players k it = rw value at c.player-item.is in
+    let others = c.recount_of-recount.ensures.others in
+    let due : gathered_of c.all_totals_after-all.result it ≡ now it.no =
+    totals-at (after event c.args.change.now) event.players c.all_totals_after-all.result c.all_totals_after-all.ensures k it below is in
     let no : it.no ≡ k + 1 = ap (λ (p : Player). p.no) (rw value at c.player-item.is) ∙ (number-at event sound k it below ∙ omega arith) in (
       c.recount_one.ensures.same_reference ∙ so_far.0,
       stays_then so_far.1 c.recount_one.ensures.stays,
@@ -43,10 +50,12 @@ loop-player-preserved g c =
           let many = length-numbers e.players event.players same in
           let known = contains_numbered e.players it.no numbered (omega (arith, no)) (omega (arith, no, many, below)) in
           let made = c.in_ok-recount_one.ensures.makes clean l e s (set_up_to k now before) numbered known
-          (not_yet now before k it.no no) (moves_self was.moves) was.stands in
+          (λ left. not_yet now before k it.no no
+          ∙ (sym (others-at event now before c.recount_of-recount.result others k it below is left) ∙ sym due))
+          (moves_self was.moves) was.stands in
           rw (← rows_agree (set_for it.no (now it.no) (set_up_to k now before)) (set_up_to (k + 1) now before) e.players numbered
           (λ q low high. set_more now before k it.no q no))
-          (makes_then was made),
+          (makes_then was (rw due at made)),
     )
 
 pub returns-clause-same_reference : goal.returns-clause-same_reference
@@ -58,11 +67,24 @@ returns-clause-makes g c clean l e s same moves stands =
     let now = totals (after event c.args.change.now) in
     let before = totals event in
     let k = c.loop-player.player-index in
-    let numbered = numbered_too e.players event.players same c.players-player-items.ensures.sound.players.numbered in
+    let numbered = numbered_too e.players event.players same c.players-players.ensures.sound.players.numbered in
     let many = length-numbers e.players event.players same in
     rw (← rows_agree (set_up_to k now before) now e.players numbered
-    (λ q low high. all_set now before k q (omega (arith, many, high, ap length c.players-player-items.ensures.value, c.loop-player-test.false))))
+    (λ q low high. all_set now before k q (omega (arith, many, high, ap length c.players-players.ensures.value, c.loop-player-test.false))))
     (c.loop-player.invariant.2 clean l e s same moves stands)
 
 pub returns-clause-stays : goal.returns-clause-stays
 returns-clause-stays g c = c.loop-player.invariant.1
+
+pub returns-then-is_empty-clause-makes : goal.returns-then-is_empty-clause-makes
+returns-then-is_empty-clause-makes g c clean l e s same moves stands =
+    let event = c.args.event.now in
+    let now = totals (after event c.args.change.now) in
+    let before = totals event in
+    let sound = c.players-players.ensures.sound in
+    let numbered = numbered_too e.players event.players same sound.players.numbered in
+    let many = length-numbers e.players event.players same in
+    let none = c.is_empty.ensures.0 c.if-is_empty.true in
+    rw (← rows_agree before now e.players numbered (λ q low high. none-set event now before c.recount_of-recount.result
+    c.recount_of-recount.ensures.others none sound q low (omega (arith, many, high))))
+    (record { moves = moves; stands = stands })

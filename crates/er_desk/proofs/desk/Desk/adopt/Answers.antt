@@ -130,6 +130,7 @@ returns-in-Ok-false-clause-first g c clean =
           reads.0,
           reads.1,
           c.in_ok-store.ensures.sound,
+          c.in_ok-store.ensures.low,
           λ has. true≢false (sym (c.in-Ok-false.ensures.1 has) ∙ c.in-Ok-false.field-0-test),
         ),
       );

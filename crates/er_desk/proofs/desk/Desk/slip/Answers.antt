@@ -1,8 +1,8 @@
 use Rattle.std.proofs.Common.{◌≡◌, inr, refl, sym, ◌∙◌, true≢false}
 use Rattle.er_event.specs.declared.refusals.Refusal.{Refusal, TheVariants.{NoSuchMatch, NeedsReopen}}
 use Rattle.er_store.specs.Store as tables
-use Rattle.er_desk.specs.Desk.{state, standing}
-use Rattle.er_desk.proofs.{Turns.same_keeps, Slips.reads}
+use Rattle.er_desk.specs.Desk.{standing}
+use Rattle.er_desk.proofs.{Adopting.leaves_all, Turns.same_keeps, Slips.{read_keeps, reads}}
 use Rattle.er_desk.proofs.Asking.{read_asks, same_asks}
 use Rattle.er_desk.proofs.desk.Desk.slip.Goals as goal
 
@@ -22,8 +22,17 @@ returns-clause-fails g c runs clean shows =
     c.slip-read.ensures.good (sym c.args.self.now.told ∙ c.if-self.false) clean c.args.self.now.event c.args.self.now.serial shows.stands
     c.events_are_sound.ensures
 
-pub returns-clause-kept : goal.returns-clause-kept
-returns-clause-kept g c = c.slip-read.ensures.kept
+pub returns-clause-same : goal.returns-clause-same
+returns-clause-same g c = c.slip-read.ensures.same
+
+pub returns-clause-left : goal.returns-clause-left
+returns-clause-left g c =
+    let read = c.slip-read.ensures in
+    let runs = sym c.args.self.now.told ∙ c.if-self.false in
+    let old = tables.state g.S.Store c.args.self.now.store in
+    let new = tables.state g.S.Store c.slip-read.new.self in
+    leaves_all old new (λ db is_open may. g.met.S.Store.settled (tables.connection c.args.self.now.store).store db is_open may)
+    read.clean read.crash (λ clean. read_keeps _ c.slip-read.result _ old new (read.stops runs) (read.same clean) (read.kept clean))
 
 -- ---- the desk was stopped
 
@@ -39,8 +48,14 @@ returns-then-self-clause-found g c clean shows is = absurd (other is)
 pub returns-then-self-clause-fails : goal.returns-then-self-clause-fails
 returns-then-self-clause-fails g c runs = absurd (true≢false (sym c.if-self.true ∙ (c.args.self.now.told ∙ runs)))
 
-pub returns-then-self-clause-kept : goal.returns-then-self-clause-kept
-returns-then-self-clause-kept g c clean = same_keeps (state g.S.Store c.args.self.now)
+pub returns-then-self-clause-left : goal.returns-then-self-clause-left
+returns-then-self-clause-left g c =
+    let old = tables.state g.S.Store c.args.self.now.store in
+    leaves_all old old (λ db is_open may. g.met.S.Store.settled (tables.connection c.args.self.now.store).store db is_open may)
+    (λ clean. clean) (λ clean db may. may) (λ clean. same_keeps old)
+
+pub returns-then-self-clause-same : goal.returns-then-self-clause-same
+returns-then-self-clause-same g c clean runs = absurd (true≢false (sym c.if-self.true ∙ (c.args.self.now.told ∙ runs)))
 
 -- ---- what it does to the file
 

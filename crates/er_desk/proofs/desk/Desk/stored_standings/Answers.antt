@@ -1,8 +1,8 @@
 use Rattle.std.proofs.Common.{inr, refl, sym, ◌∙◌, true≢false}
 use Rattle.er_event.specs.declared.refusals.Refusal.TheVariants.{Memory}
 use Rattle.er_store.specs.Store as tables
-use Rattle.er_desk.specs.Desk.{state, standing}
-use Rattle.er_desk.proofs.{Turns.same_keeps, Slips.{if_err, if_ok, reads}}
+use Rattle.er_desk.specs.Desk.{standing}
+use Rattle.er_desk.proofs.{Adopting.leaves_all, Turns.same_keeps, Slips.{if_err, if_ok, read_keeps, reads}}
 use Rattle.er_desk.proofs.Asking.{read_asks, same_asks}
 use Rattle.er_desk.proofs.desk.Desk.stored_standings.Goals as goal
 
@@ -23,8 +23,17 @@ returns-clause-fails g c runs clean shows =
     if_err _ _ c.read_standings-read.result (c.read_standings-read.ensures.found clean c.args.self.now.event c.args.self.now.serial
     shows.stands c.events_are_sound.ensures)
 
-pub returns-clause-kept : goal.returns-clause-kept
-returns-clause-kept g c = c.read_standings-read.ensures.kept
+pub returns-clause-same : goal.returns-clause-same
+returns-clause-same g c = c.read_standings-read.ensures.same
+
+pub returns-clause-left : goal.returns-clause-left
+returns-clause-left g c =
+    let read = c.read_standings-read.ensures in
+    let runs = sym c.args.self.now.told ∙ c.if-self.false in
+    let old = tables.state g.S.Store c.args.self.now.store in
+    let new = tables.state g.S.Store c.read_standings-read.new.store in
+    leaves_all old new (λ db is_open may. g.met.S.Store.settled (tables.connection c.args.self.now.store).store db is_open may)
+    read.clean read.crash (λ clean. read_keeps _ c.read_standings-read.result _ old new (read.stops) (read.same clean) (read.kept clean))
 
 -- ---- the desk was stopped
 
@@ -34,8 +43,14 @@ returns-then-self-clause-turn g c = inr (inr (sym c.args.self.now.told ∙ c.if-
 pub returns-then-self-clause-fails : goal.returns-then-self-clause-fails
 returns-then-self-clause-fails g c runs = absurd (true≢false (sym c.if-self.true ∙ (c.args.self.now.told ∙ runs)))
 
-pub returns-then-self-clause-kept : goal.returns-then-self-clause-kept
-returns-then-self-clause-kept g c clean = same_keeps (state g.S.Store c.args.self.now)
+pub returns-then-self-clause-left : goal.returns-then-self-clause-left
+returns-then-self-clause-left g c =
+    let old = tables.state g.S.Store c.args.self.now.store in
+    leaves_all old old (λ db is_open may. g.met.S.Store.settled (tables.connection c.args.self.now.store).store db is_open may)
+    (λ clean. clean) (λ clean db may. may) (λ clean. same_keeps old)
+
+pub returns-then-self-clause-same : goal.returns-then-self-clause-same
+returns-then-self-clause-same g c clean runs = absurd (true≢false (sym c.if-self.true ∙ (c.args.self.now.told ∙ runs)))
 
 -- ---- what it does to the file
 

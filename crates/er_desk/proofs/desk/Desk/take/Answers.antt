@@ -71,7 +71,7 @@ returns g c =
       asked = command_asks g.S.Store desk new command c.write.result turn
           (λ stopped. absurd (true≢false (sym stopped ∙ runs))) wrote.clean
           (λ clean shows. stands_after g.S.Store desk new c.write.result shows (wrote.written clean shows) wrote.refused)
-          wrote.others wrote.version left wrote.acknowledged undecided refused;
+          wrote.others wrote.kept wrote.version left wrote.acknowledged undecided refused;
       same = same_unless g.S.Store desk new c.write.result wrote.refused;
       kept = wrote.kept;
       acknowledged = wrote.acknowledged;
