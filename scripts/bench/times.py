@@ -1,40 +1,14 @@
 """Times two programs on the same scripts, one run of each in turn, and prints the best of each and the ratio. What they print has to be equal
 to the byte.
 """
-import hashlib
 import subprocess
 import sys
 import time
 
+from scripts.bench.evenings import enrolled, played, to_the_champion
+
 ours, peer = sys.argv[1:3]
 RUNS = int(sys.argv[3]) if len(sys.argv) > 3 else 7
-
-
-def seed(round):
-    return hashlib.sha256(b"round %d" % round).hexdigest()
-
-
-def enrolled(players, rounds, cut=0):
-    return [f"init\tFriday\t{rounds}\t{cut}", *(f"enrol\tN{it}" for it in range(1, players + 1))]
-
-
-def played(players, rounds, cut=0, after_each=()):
-    """All rounds of an event, with each result: the first-named player wins at two tables of three."""
-    lines = [*enrolled(players, rounds, cut), "start"]
-    for round in range(1, rounds + 1):
-        lines.append(f"pair\t{round}\t{seed(round)}")
-        for table in range(1, players // 2 + 1):
-            score = ("2\t0\t0", "1\t2\t0", "2\t1\t0")[(table + round) % 3]
-            lines += [f"result\t{round}\t{table}\t{score}", *after_each]
-    return lines
-
-
-def to_the_champion(players, rounds, cut):
-    lines, stage, slots = [*played(players, rounds, cut), "cut"], 1, cut // 2
-    while slots:
-        lines += [f"playoff\t{stage}\t{slot}\t2\t1\t0" for slot in range(1, slots + 1)]
-        stage, slots = stage + 1, slots // 2
-    return [*lines, "bracket", "standings"]
 
 
 CASES = {
