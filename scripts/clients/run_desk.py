@@ -307,6 +307,14 @@ class Terminal:
         self.keys(f"{line}\r")
         return self.read()
 
+    def interrupt(self):
+        """Ctrl-C, and what is said then. Python passes over one that comes just before it waits for a key, so it is pressed until something is said."""
+        for _ in range(PATIENCE // 5):
+            self.keys("\x03")
+            if select.select([self.master], [], [], 5)[0]:
+                break
+        return self.read()
+
     def end(self, keys="\x04"):
         """The status, and what is said at the end."""
         self.keys(keys)
@@ -342,11 +350,9 @@ def run_terminal(room):
     check_said("the line before comes again", prompt.read(), "standings", "Rank   No Pts")
     prompt.keys("drop 1")
     time.sleep(0.2)
-    prompt.keys("\x03")
-    check_said("Ctrl-C takes a line away", prompt.read(), "Ctrl-D ends.", "desk> ")
+    check_said("Ctrl-C takes a line away", prompt.interrupt(), "Ctrl-D ends.", "desk> ")
     prompt.send("drop 1")
-    prompt.keys("\x03")
-    check_said("Ctrl-C is no yes", prompt.read(), "Nobody was dropped.")
+    check_said("Ctrl-C is no yes", prompt.interrupt(), "Nobody was dropped.")
     played.play()
     status, text = prompt.end()
     check("Ctrl-D ends it", (status, "Traceback" in text), (0, False))

@@ -5,10 +5,14 @@ import re
 import subprocess
 import sys
 
+from scripts.clients import subcommands
 from scripts.clients.tally import check, end
 
 program, folder = sys.argv[1:]
-KINDS = ["players", "results"]
+
+
+def printed(*words):
+    return subprocess.run([program, *words], capture_output=True, text=True, timeout=60, check=True).stdout
 
 
 def text_of(name):
@@ -22,12 +26,12 @@ def completed(*words):
     return ran.stdout.split()
 
 
-shown = subprocess.run([program, "--help"], capture_output=True, text=True, timeout=60, check=True).stdout
-listed = re.findall(r"^  ([a-z]+) (FILE(?: [A-Z]+)*)  ", shown, re.M)
+listed = subcommands.listed(printed("--help"))
 names = [name for name, _ in listed]
-check("each subcommand has its own help", [subprocess.run([program, it, "--help"], capture_output=True, timeout=60).returncode for it in names], [0] * 17)
+KINDS = subcommands.kinds(printed("export", "--help"))
+check("each subcommand has its own help", [printed(it, "--help").split()[:3] for it in names], [["usage:", "event_reporter", it] for it in names])
 check("man", re.findall(r'^\.BI ([a-z]+) " ([A-Z ]+)"$', text_of("1"), re.M), listed)
-version = subprocess.run([program, "--version"], capture_output=True, text=True, timeout=60, check=True).stdout.strip()
+version = printed("--version").strip()
 check("man, the version", f'"{version}"' in text_of("1"), True)
 check("zsh", re.findall(r"^    '([a-z]+):([A-Z ]+)'$", text_of("zsh"), re.M), listed)
 check("zsh, kinds", re.findall(r"4,export\) compadd (.*) ;;", text_of("zsh")), [" ".join(KINDS)])

@@ -40,6 +40,11 @@ TURNS = 5
 NOT_TRIED = "not tried"
 # What a proof file says of a name that it lost, and not of the contract.
 LOST_NAME = re.compile(r"has no field|is not in scope|has no `|was not admitted|was rejected|was not checked|were not checked|which is not proved")
+# What a proof file says of its own text, where that no longer fits the names or the shape of what it is about.
+OWN_TEXT = re.compile(r"stands by its signature alone|\(nearest: ")
+# What was refused by such a text alone, and by no goal.
+BY_TEXT = "refused by a proof's text alone"
+REFUSED = ("refused", BY_TEXT)
 # What says that the text was not read, so that nothing was tried.
 UNREAD = re.compile(r"^(?:\./)?(src|specs)/\S+:\d+:\d+: error", re.M)
 
@@ -214,7 +219,7 @@ def left_open(crate, texts, output):
 
 
 def said_of(crate, function, output, constants, open_in):
-    """What the check said of a function: `proved`, `refused` at a goal of its contract, or `unclear`."""
+    """What the check said of a function: `proved`, `refused` at a goal of its contract, by a proof's text alone, or `unclear`."""
     if function == EXAMPLES:
         told = re.findall(r"^(?:\./)?proofs/Examples\.antt:\d+:\d+: error: (.*)$", output, re.M)
         if sum(not LOST_NAME.search(it) for it in told) >= constants:
@@ -229,13 +234,15 @@ def said_of(crate, function, output, constants, open_in):
         return "refused"
     *folders, name = function.split("::")
     folder = "/".join(["proofs", *folders, rf"\+?{name}"])
-    told = re.findall(rf"^(?:\./)?{folder}/\S+?:\d+:\d+: error: (.*)$", output, re.M)
-    return "refused" if any(not LOST_NAME.search(it) for it in told) else "unclear"
+    told = [it for it in re.findall(rf"^(?:\./)?{folder}/\S+?:\d+:\d+: error: (.*)$", output, re.M) if not LOST_NAME.search(it)]
+    if not told:
+        return "unclear"
+    return BY_TEXT if all(OWN_TEXT.search(it) for it in told) else "refused"
 
 
 def verdict(crate, body, output, constants, open_in):
     said = {said_of(crate, it, output, constants, open_in) for it in body.functions}
-    return "refused" if "refused" in said else "passed" if said == {"proved"} else "unclear"
+    return next((it for it in REFUSED if it in said), "passed" if said == {"proved"} else "unclear")
 
 
 def together(crate, bodies):
@@ -345,9 +352,9 @@ def try_all(crate, bodies, shows):
             said, output = tried(crate, left, kept)
             if shows:
                 print(output)
-            refused = [name for name, what in said.items() if what == "refused"]
+            refused = {name: what for name, what in said.items() if what in REFUSED}
             unclear = [it for it in left if it.name in said and it.name not in refused]
-            found.update(dict.fromkeys(refused, "refused"))
+            found.update(refused)
             left = [it for it in left if it.name not in said]
             # those may have waited for others that were refused
             again += unclear if refused else []
@@ -373,8 +380,11 @@ def try_all(crate, bodies, shows):
 def told(found):
     """How many were refused, passed, and were not tried."""
     all_said = [it for said in found for it in said.values()]
-    refused, left = all_said.count("refused"), all_said.count(NOT_TRIED)
-    return f"{refused} refused, {len(all_said) - refused - left} passed" + (f", {left} not tried for want of time" if left else "")
+    at_a_goal, by_text, left = all_said.count("refused"), all_said.count(BY_TEXT), all_said.count(NOT_TRIED)
+    passed = len(all_said) - at_a_goal - by_text - left
+    parts = [f"{at_a_goal} refused at a goal", f"{passed} passed"]
+    parts += [f"{by_text} {BY_TEXT}"] * (by_text > 0) + [f"{left} not tried for want of time"] * (left > 0)
+    return ", ".join(parts)
 
 
 # What the gate says of a crate that it has proved, and what its log ends with.
@@ -480,7 +490,7 @@ def main():
         found = try_now(work, given.show)
     print(f"wrong bodies: {told(found)}")
     all_said = {it for said in found for it in said.values()}
-    return 1 if all_said - {"refused", NOT_TRIED} or "refused" not in all_said else 0
+    return 1 if all_said - {*REFUSED, NOT_TRIED} or "refused" not in all_said else 0
 
 
 if __name__ == "__main__":

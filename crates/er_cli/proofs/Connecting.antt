@@ -4,18 +4,19 @@ use Rattle.std.proofs.Math.Nat.{le_refl}
 use Rattle.std.specs.Io.KnownBytes.{Appends}
 use Rattle.sqlite_trees.specs.declared.store.Store.{Ghosts}
 use Rattle.sqlite.specs.State.{HasCleanDisk}
-use Rattle.er_desk.specs.{declared.desk.Desk.Desk, Asking.joined, Desk.{ShowsOwn, Standing, standing, state}, Run.Session}
+use Rattle.er_desk.specs.{declared.desk.Desk.Desk, Asking.joined, Desk.{ShowsOwn, DeskState, desk_state, state}, Run.Session}
 use Rattle.er_slips.specs.{Answer.AnswerValue, Serving.{AnswersRequest, EndsServing, IsServed, IsUnserved, Serves}}
-use Rattle.er_slips.specs.{declared.request.asked.Asked.Asked, declared.request.asked.Asked.TheVariants.{Standings, Pairings, Slip, Report}}
-use Rattle.er_slips.specs.declared.request.asked.Fault.{Fault}
+use Rattle.er_slips.specs.{declared.request.wanted.Request.Request}
+use Rattle.er_slips.specs.{declared.request.wanted.Request.TheVariants.{Standings, Pairings, Slip, Report}}
+use Rattle.er_slips.specs.declared.request.wanted.Fault.{Fault}
 use Rattle.er_slips.specs.{declared.serve.Served.Served, declared.serve.Served.TheVariants.{Answered, ReadFault, WriteFault}}
 use Rattle.er_cli.specs.{declared.TheConstants.{DONE, DEVICE}, Serving.{Connects, ConnectsAll, ConnectsUpTo, PrintsServed}}
 use Rattle.er_cli.specs.{Serving.{listening, served}, Texts.AppendsPart}
 use Rattle.er_cli.proofs.Sending.{part_after, part_first, whole_part}
 
 -- what serving a request does to the desk
-module _ (Stood : Type 0) (old : Standing) (session : Session) (new : Standing) where
-  asked_connects : (asked : Result Asked Fault) (answer : AnswerValue) → AnswersRequest Stood old asked answer session new
+module _ (Represented : Type 0) (old : DeskState) (session : Session) (new : DeskState) where
+  asked_connects : (asked : Result Request Fault) (answer : AnswerValue) → AnswersRequest Represented old asked answer session new
       → Connects old session new
   asked_connects (Err fault) answer it = inl (it.2, it.1)
   asked_connects (Ok Standings) answer (read, reads, found, is, nothing) = inr (inl (read, reads, nothing))
@@ -24,32 +25,32 @@ module _ (Stood : Type 0) (old : Standing) (session : Session) (new : Standing) 
   asked_connects (Ok (Report round table score)) answer (reply, turn, is, asks) = inr (inr (inr (round, table, score, reply, turn, asks)))
 
   served_connects : (input : Option (List ℕ)) (answer : AnswerValue)
-      → IsServed Stood input old answer session new ⊎ IsUnserved input old answer session new → Connects old session new
+      → IsServed Represented input old answer session new ⊎ IsUnserved input old answer session new → Connects old session new
   served_connects input answer (inl (asked, is, answers)) = asked_connects asked answer answers
   served_connects input answer (inr it) = inl (it.3, it.2)
 
   ends_connecting : (input before after : Option (List ℕ)) (served : Served)
-      → EndsServing Stood input old session new before after served → Connects old session new
+      → EndsServing Represented input old session new before after served → Connects old session new
   ends_connecting input before after ReadFault it = inl (it.2, it.1)
   ends_connecting input before after (Answered status) (answer, wrote, due) = served_connects input answer due
   ends_connecting input before after (WriteFault sent) (answer, wrote, due) = served_connects input answer due
 
 module _ {S : Type 0} (g : Ghosts S) (input : Option (List ℕ)) (old new : Desk S g) (before after : Option (List ℕ)) (served : Served) where
-  pub serves_connecting : (it : Serves g input old new before after served) → Connects (standing old) it.session (standing new)
-  serves_connecting it = ends_connecting (HasCleanDisk (state g new) × ShowsOwn g old) (standing old) it.session (standing new)
+  pub serves_connecting : (it : Serves g input old new before after served) → Connects (desk_state old) it.session (desk_state new)
+  serves_connecting it = ends_connecting (HasCleanDisk (state g new) × ShowsOwn g old) (desk_state old) it.session (desk_state new)
       input before after served it.ends
 
 one_more : (count : ℕ) → suc count ≡ count + 1
 one_more count = omega arith
 
 -- one connection more
-pub connects_more : (count : ℕ) (first : Standing) (before : Session) (old : Standing) (one : Session) (new : Standing)
+pub connects_more : (count : ℕ) (first : DeskState) (before : Session) (old : DeskState) (one : Session) (new : DeskState)
     → ConnectsAll count first before old → Connects old one new → ConnectsAll (count + 1) first (joined before one) new
 connects_more count first before old one new all more =
     subst (λ (n : ℕ). ConnectsAll n first (joined before one) new) (one_more count) (old, before, one, all, more, refl)
 
 -- all of so many are so many at most
-pub connects_up_to : (count status : ℕ) (old : Standing) (session : Session) (new : Standing)
+pub connects_up_to : (count status : ℕ) (old : DeskState) (session : Session) (new : DeskState)
     → ((status ≡ DONE) × ConnectsAll count old session new) ⊎ ((status ≡ DEVICE) × ConnectsUpTo count old session new)
     → ConnectsUpTo count old session new
 connects_up_to count status old session new (inl (done, all)) = (count, le_refl count, all)

@@ -7,12 +7,12 @@ use Rattle.std.specs.List.{filter, list_any, take-map}
 use Rattle.er_event.specs.{declared.commands.Command.Command, declared.commands.Command.TheVariants.Enrol}
 use Rattle.er_event.specs.{declared.commands.Receipt.Receipt, declared.refusals.Refusal.Refusal}
 use Rattle.er_store.specs.Fault.{IsFault}
-use Rattle.er_desk.specs.{Asking.{ListsGrow, joined}, Desk.{Standing, Turn}, Reply.Reply, Run.{Runs, Session, session_of}}
+use Rattle.er_desk.specs.{Asking.{ListsGrow, joined}, Desk.{DeskState, Turn}, Reply.Reply, Run.{Runs, Session, session_of}}
 use Rattle.er_paper.specs.declared.imports.PlayerLine.{PlayerLine}
 use Rattle.er_cli.specs.{declared.importing.Additions.Additions, Importing.{Enrols, is_already, is_stop, is_taken, names_of, additions_of}}
 
 -- one command more of a run
-pub runs_more : (commands : List Command) (replies : List Reply) (old mid new : Standing) (command : Command) (reply : Reply)
+pub runs_more : (commands : List Command) (replies : List Reply) (old mid new : DeskState) (command : Command) (reply : Reply)
     → Runs old commands replies mid → Turn mid command reply new → Runs old (commands ++ command ∷ []) (replies ++ reply ∷ []) new
 runs_more [] [] old mid new command reply runs last = (new, subst (λ k. Turn k command reply new) runs last, refl)
 runs_more (c ∷ commands) (r ∷ replies) old mid new command reply runs last =
@@ -26,10 +26,10 @@ fault_stops why (inl is) = ap (λ (w : Refusal). is_stop (Err w)) is
 fault_stops why (inr is) = ap (λ (w : Refusal). is_stop (Err w)) is
 
 -- a desk that goes on with an import runs
-pub runs_on : (old new : Standing) (command : Command) (reply : Reply) → Turn old command reply new → is_stop reply ≡ false
+pub runs_on : (old new : DeskState) (command : Command) (reply : Reply) → Turn old command reply new → is_stop reply ≡ false
     → IsFalse new.stopped
 runs_on old new command reply (inl it) on = it.runs
-runs_on old new command reply (inr (inl it)) on = subst (λ (s : Standing). IsFalse s.stopped) (sym it.same) it.was_running
+runs_on old new command reply (inr (inl it)) on = subst (λ (s : DeskState). IsFalse s.stopped) (sym it.same) it.was_running
 runs_on old new command reply (inr (inr (inl it))) on =
     absurd (true≢false (sym (fault_stops it.why it.fault) ∙ sym (ap is_stop it.answered) ∙ on))
 runs_on old new command reply (inr (inr (inr it))) on = absurd (true≢false (sym (ap is_stop it.answered) ∙ on))
@@ -52,10 +52,10 @@ one_longer : (replies : List Reply) (reply : Reply) → length (replies ++ reply
 one_longer replies reply = length-append replies (reply ∷ [])
 
 -- the session with this command behind it
-abbrev pub with_name : Session → List ℕ → Reply → Standing → Session
+abbrev pub with_name : Session → List ℕ → Reply → DeskState → Session
 with_name session name reply new = joined session (session_of (Enrol name ∷ []) (reply ∷ []) new.stopped)
 
-module _ (grow : ListsGrow) (names : List (List ℕ)) (old mid new : Standing) (additions : Additions) (session : Session)
+module _ (grow : ListsGrow) (names : List (List ℕ)) (old mid new : DeskState) (additions : Additions) (session : Session)
     (so_far : Enrols names old additions None session mid) (name : List ℕ)
     (reply : Reply) (turn : Turn mid (Enrol name) reply new) where
   as_many : length so_far.replies ≡ length names
@@ -149,7 +149,7 @@ first_names lines i d within is =
 
 -- a name of a list, in its turn
 module _ (grow : ListsGrow) (lines : List PlayerLine) (i : ℕ) (line : PlayerLine) (within : i < length lines) (is : line ≡ get_or lines i line)
-    (old mid new : Standing) (additions : Additions) (session : Session)
+    (old mid new : DeskState) (additions : Additions) (session : Session)
     (so_far : Enrols (names_of (take i lines)) old additions None session mid) (reply : Reply)
     (turn : Turn mid (Enrol line.name) reply new) where
   abbrev then : Session

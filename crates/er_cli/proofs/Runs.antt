@@ -3,10 +3,10 @@ use Rattle.std.proofs.Common.{◌≡◌, ℕ, ◌+◌, ◌<◌, List, [], ◌∷
 use Rattle.std.proofs.{Common.append-nil, lemmas.List.{map-append, take_more}, lemmas.List.Concat.flat_map-append}
 use Rattle.std.specs.List.{flat_map}
 use Rattle.er_words.specs.Fields.{script_action}
-use Rattle.er_desk.specs.Desk.{Standing}
+use Rattle.er_desk.specs.Desk.{DeskState}
 use Rattle.er_cli.specs.{declared.texts.Answer.Answer, Texts.answer_text, Script.{LineAnswers, RunsLines}}
 
-pub Runs-push : (lines : List (List ℕ)) (answers : List Answer) (old mid new : Option Standing) (line : List ℕ) (answer : Answer)
+pub Runs-push : (lines : List (List ℕ)) (answers : List Answer) (old mid new : Option DeskState) (line : List ℕ) (answer : Answer)
     → RunsLines old lines answers mid → LineAnswers mid (script_action line) answer new
     → RunsLines old (lines ++ line ∷ []) (answers ++ answer ∷ []) new
 Runs-push [] [] old mid new line answer runs last = (new, subst (λ k. LineAnswers k (script_action line) answer new) runs last, refl)

@@ -11,7 +11,7 @@ use Rattle.er_paper.specs.Tables.{players_csv, results_csv}
 use Rattle.er_rank.specs.declared.rows.Row.{Row}
 use Rattle.er_desk.specs.declared.desk.Desk.{Desk}
 use Rattle.er_desk.specs.Asking.{Asks}
-use Rattle.er_desk.specs.Desk.{Standing, Turn, ReadsRows, ShowsEvent, ShowsOwn, point_of, standing, state}
+use Rattle.er_desk.specs.Desk.{DeskState, Turn, ReadsRows, ShowsEvent, ShowsOwn, point_of, desk_state, state}
 use Rattle.er_desk.specs.Headline.{AreTheStandings, LeavesJust}
 use Rattle.er_desk.specs.Migrating.{MayMigrate, Migrates}
 use Rattle.er_desk.specs.Reply.{Reply, receipt}
@@ -19,8 +19,8 @@ use Rattle.er_desk.specs.Run.{Session, session_of, no_session}
 use Rattle.er_store.specs.Fault.{IsFault}
 use Rattle.er_words.specs.declared.action.Request.{Request}
 use Rattle.er_words.specs.declared.action.Request.TheVariants.{Submit, Players, Standings, Slips, Bracket, Export, Migrate}
-use Rattle.er_words.specs.declared.action.ExportKind.{ExportKind}
-use Rattle.er_words.specs.declared.action.ExportKind.TheVariants as exported
+use Rattle.er_values.specs.declared.values.ExportKind.{ExportKind}
+use Rattle.er_values.specs.declared.values.ExportKind.TheVariants as exported
 use Rattle.er_cli.specs.declared.texts.Answer.{Answer}
 use Rattle.er_cli.specs.declared.texts.Answer.TheVariants.{Accepted, Text, Refused, Usage}
 
@@ -60,19 +60,19 @@ abbrev pub IsRowsAnswer : EventValue → Result (Vec Row Global) Refusal → Ans
 IsRowsAnswer event (Ok rows) answer = (answer ≡ Text (rows_text event rows.items)) ⊎ (answer ≡ Refused Memory)
 IsRowsAnswer event (Err why) answer = answer ≡ Refused why
 
--- What a desk answers, and where it stands then. A text of what it holds leaves it as it is. `Stood` is that its tables
--- stood for its event, on a clean disk: on this rest the standings, which are read of them.
-abbrev pub DeskAnswers : Type 0 → Standing → Request → Answer → Standing → Type 0
-DeskAnswers Stood old (Submit command) answer new = (reply : Reply) × Turn old command reply new × (answer ≡ reply_answer reply)
-DeskAnswers Stood old Players answer new = ShowsEvent Refused old ShowsPlayers answer × (new ≡ old)
-DeskAnswers Stood old Standings answer new =
+-- What a desk answers, and the desk's state then. A text of what it holds leaves it as it is. `Represented` is that its tables
+-- represented its event, on a clean disk: on this rest the standings, which are read of them.
+abbrev pub DeskAnswers : Type 0 → DeskState → Request → Answer → DeskState → Type 0
+DeskAnswers Represented old (Submit command) answer new = (reply : Reply) × Turn old command reply new × (answer ≡ reply_answer reply)
+DeskAnswers Represented old Players answer new = ShowsEvent Refused old ShowsPlayers answer × (new ≡ old)
+DeskAnswers Represented old Standings answer new =
     (read : Result (Vec Row Global) Refusal) × ReadsRows old read new
-    × (Stood → IfOk read (λ rows. AreTheStandings old.event rows.items)) × IsRowsAnswer old.event read answer
-    × (Stood → IsFalse old.stopped → IfErr read IsFault)
-DeskAnswers Stood old (Slips round) answer new = ShowsEvent Refused old (ShowsSlips round) answer × (new ≡ old)
-DeskAnswers Stood old Bracket answer new = ShowsEvent Refused old ShowsBracket answer × (new ≡ old)
-DeskAnswers Stood old (Export kind) answer new = ShowsEvent Refused old (ShowsExport kind) answer × (new ≡ old)
-DeskAnswers Stood old Migrate answer new =
+    × (Represented → IfOk read (λ rows. AreTheStandings old.event rows.items)) × IsRowsAnswer old.event read answer
+    × (Represented → IsFalse old.stopped → IfErr read IsFault)
+DeskAnswers Represented old (Slips round) answer new = ShowsEvent Refused old (ShowsSlips round) answer × (new ≡ old)
+DeskAnswers Represented old Bracket answer new = ShowsEvent Refused old ShowsBracket answer × (new ≡ old)
+DeskAnswers Represented old (Export kind) answer new = ShowsEvent Refused old (ShowsExport kind) answer × (new ≡ old)
+DeskAnswers Represented old Migrate answer new =
     (moved : Result ℕ Refusal) × Migrates old moved new × (answer ≡ moved_answer moved)
 
 -- the reply that an answer tells, where it tells one
@@ -94,14 +94,14 @@ session_at Migrate answer stopped = no_session
 
 -- What a migration does to the file, and answers. It asks no command. What it leaves is said of tables that may be migrated.
 pub record Moves {S : Type 0} (g : Ghosts S) (old : Desk S g) (answer : Answer) (new : Desk S g) : Type 0 where
-  pub turn : (moved : Result ℕ Refusal) × Migrates (standing old) moved (standing new) × (answer ≡ moved_answer moved)
+  pub turn : (moved : Result ℕ Refusal) × Migrates (desk_state old) moved (desk_state new) × (answer ≡ moved_answer moved)
   pub clean : HasCleanDisk (state g new) → HasCleanDisk (state g old)
-  pub stands : MayMigrate g old → HasCleanDisk (state g new) → ShowsOwn g old → IsFalse (standing new).stopped → ShowsOwn g new
-  pub crash : MayMigrate g old → ShowsOwn g old → LeavesJust (state g new) (point_of (standing old))
+  pub represents : MayMigrate g old → HasCleanDisk (state g new) → ShowsOwn g old → IsFalse (desk_state new).stopped → ShowsOwn g new
+  pub crash : MayMigrate g old → ShowsOwn g old → LeavesJust (state g new) (point_of (desk_state old))
 
 -- what a request does to the file: a session of its desk is asked, or its tables are moved
 abbrev pub AsksFor : {S : Type 0} (g : Ghosts S) → Desk S g → Request → Answer → Desk S g → Type 0
-AsksFor g old (Submit command) answer new = Asks g old (session_at (Submit command) answer (standing new).stopped) new
+AsksFor g old (Submit command) answer new = Asks g old (session_at (Submit command) answer (desk_state new).stopped) new
 AsksFor g old Players answer new = Asks g old no_session new
 AsksFor g old Standings answer new = Asks g old no_session new
 AsksFor g old (Slips round) answer new = Asks g old no_session new

@@ -4,11 +4,11 @@ use Rattle.er_event.specs.declared.refusals.Refusal.TheVariants.{Memory}
 use Rattle.er_cli.specs.declared.TheConstants.{USAGE}
 use Rattle.er_cli.specs.declared.complaints.TheConstants.{TRY_HELP, NO_TEXT}
 use Rattle.er_cli.specs.declared.texts.Answer.TheVariants.{Refused}
-use Rattle.er_words.specs.declared.usage.UsageFault.{UsageFault}
-use Rattle.er_words.specs.declared.usage.UsageFault.TheVariants.{UnknownSubcommand, LeadingDash, TooFew, TooMany, BadNumber, BadSeed}
-use Rattle.er_words.specs.declared.usage.UsageFault.TheVariants.{BadCount, BadKind}
+use Rattle.er_values.specs.declared.usage.UsageFault.{UsageFault}
+use Rattle.er_values.specs.declared.usage.UsageFault.TheVariants.{UnknownSubcommand, LeadingDash, TooFew, TooMany, BadNumber, BadSeed}
+use Rattle.er_values.specs.declared.usage.UsageFault.TheVariants.{BadCount, BadKind}
 use Rattle.er_cli.specs.Help.{Says, Tells, subcommand_text}
-use Rattle.er_words.specs.Usage.{HasFault}
+use Rattle.er_words.specs.Usage.{fault_of}
 
 abbrev pub what_is_wrong : UsageFault → List ℕ
 what_is_wrong UnknownSubcommand = codes "is no subcommand\n"
@@ -43,11 +43,11 @@ opened (Some word) = ((codes "event_reporter: " ++ codes "`") ++ word) ++ codes 
 abbrev pub complaint_with : List (List ℕ) → UsageFault → List ℕ → List ℕ
 complaint_with words fault advice = (opened (slice_get words (place_of fault)) ++ what_is_wrong fault) ++ advice
 
--- a fault that is there is named, and how to go on; words that are no text come as none
+-- the first fault is named, and how to go on; words that are no text come as none
 abbrev pub Complains : List (List ℕ) → List ℕ → Type 0
 Complains [] text = text ≡ NO_TEXT.now
 Complains (name ∷ words) text =
-    (fault : UsageFault) × HasFault (name ∷ words) fault × (text ≡ complaint_with (name ∷ words) fault (advice name))
+    (fault : UsageFault) × (fault_of (name ∷ words) ≡ Some fault) × (text ≡ complaint_with (name ∷ words) fault (advice name))
 
 -- What is wrong goes to the errors, or that memory is wanting. The output stays as it is.
 abbrev pub EndsAsUsage : List (List ℕ) → (out out_then err err_then : Option (List ℕ)) → ℕ → Type 0

@@ -7,16 +7,16 @@ use Rattle.sqlite.specs.State.{HasCleanDisk}
 use Rattle.sqlite.specs.Files.{file_state, over_files}
 use Rattle.sqlite_wal.specs.Recovery.{Image}
 use Rattle.er_event.specs.declared.refusals.Refusal.{Refusal}
-use Rattle.er_event.specs.declared.refusals.Refusal.TheVariants.{NoEvent, EventExists}
+use Rattle.er_event.specs.declared.refusals.Refusal.TheVariants.{Memory, NoEvent, EventExists}
 use Rattle.er_event.specs.Sound.{IsSetUp}
 use Rattle.er_event.specs.declared.commands.TheConstants.{MAX_SERIAL}
 use Rattle.er_rules.specs.Commands.{first_refusal}
 use Rattle.er_rules.specs.Sound.{IsSound}
 use Rattle.er_store.specs.Fault.{IsFault, IsLoadFault}
-use Rattle.er_store.specs.Standing.{HasTables, AreKeyed, Either, IsStored, Leaves}
+use Rattle.er_store.specs.Representing.{HasTables, AreKeyed, Either, IsStored, Leaves}
 use Rattle.er_desk.specs.declared.desk.Desk.{Desk}
 use Rattle.er_desk.specs.Asking.{AsksSome}
-use Rattle.er_desk.specs.Desk.{Point, Standing, ShowsOwn, running_at, standing, state, version_in}
+use Rattle.er_desk.specs.Desk.{Point, DeskState, ShowsOwn, running_at, desk_state, state, version_in}
 use Rattle.er_desk.specs.Headline.{LeavesJust}
 use Rattle.er_desk.specs.declared.opening.OpenFault.{OpenFault}
 use Rattle.er_desk.specs.Opening.{HoldsNothing, ListsNothing, OnRefused, why_of}
@@ -43,11 +43,11 @@ use Rattle.er_cli.specs.Closing.{IsPutAway}
 abbrev pub IsNotOpened : Answer → Type 0
 IsNotOpened answer = (why : Refusal) × ((why ≡ NoEvent) ⊎ IsLoadFault why) × (answer ≡ Refused why)
 
--- The desk of an event that was just made. In a file that held nothing its tables stand for that event, and a crash leaves
+-- The desk of an event that was just made. In a file that held nothing its tables represent that event, and a crash leaves
 -- just that.
 pub record IsMade {D : Type 0} {g : disk.Ghosts D} (image : Image) (new : Point) (desk : Desk (FileStore D g) over_files) : Type 0 where
-  pub is_new : standing desk ≡ running_at new 2
-  pub stands : HoldsNothing image → HasCleanDisk (state over_files desk) → ShowsOwn over_files desk
+  pub is_new : desk_state desk ≡ running_at new 2
+  pub represents : HoldsNothing image → HasCleanDisk (state over_files desk) → ShowsOwn over_files desk
   pub leaves : HoldsNothing image → LeavesJust (state over_files desk) new
 
 -- No event was made: the file has one, or memory or the store fails. In a file that held nothing a crash leaves nothing
@@ -67,27 +67,28 @@ InitReplies g image name rounds cut made =
     (λ why. made ≡ Err why)
 
 module _ (out out_then err err_then : Option (List ℕ)) (status : ℕ) where
-  -- clients were served, or the port can't be had
-  abbrev pub ServesClients : ℕ → Standing → Session → Standing → Type 0
+  -- clients were served, or the port can't be had, or memory was wanting before anybody was listened to
+  abbrev pub ServesClients : ℕ → DeskState → Session → DeskState → Type 0
   ServesClients count old session new =
       (PrintsServed count out out_then status × (err_then ≡ err) × ConnectsUpTo count old session new)
       ⊎ (Says CANNOT_LISTEN.now DEVICE (record { meant = err; other = out }) (record { meant = err_then; other = out_then }) status
       × (session ≡ no_session) × (new ≡ old))
+      ⊎ (Tells (Refused Memory) out out_then err err_then status × (session ≡ no_session) × (new ≡ old))
 
 -- a desk that was just opened: its event is sound, and no fault of the store is behind
 pub record IsOpened {S : Type 0} (g : Ghosts S) (desk : Desk S g) : Type 0 where
   pub sound : IsSound desk.event
   pub low : desk.serial ≤ MAX_SERIAL
-  pub ready : IsFalse (standing desk).stopped
-  -- tables with the schema of the desk's version stand for it, on a clean disk
-  pub stands : HasCleanDisk (state g desk) → HasTables (version_in desk) (state g desk).now.schema
+  pub ready : IsFalse (desk_state desk).stopped
+  -- tables with the schema of the desk's version represent it, on a clean disk
+  pub represents : HasCleanDisk (state g desk) → HasTables (version_in desk) (state g desk).now.schema
       → AreKeyed (state g desk).now → ShowsOwn g desk
 
--- what is done with an event that was opened, by its desk, and where that stands then
+-- what is done with an event that was opened, by its desk, and the desk's state then
 abbrev pub Does : {S : Type 0} (g : Ghosts S) → Desk S g → Task → Desk S g → (out out_then err err_then : Option (List ℕ)) → ℕ → Type 0
 Does g desk (Ask request) last out out_then err err_then status =
     (answer : Answer)
-    × DeskAnswers (HasCleanDisk (state g last) × ShowsOwn g desk) (standing desk) request answer (standing last)
+    × DeskAnswers (HasCleanDisk (state g last) × ShowsOwn g desk) (desk_state desk) request answer (desk_state last)
     × AsksFor g desk request answer last
     × Tells answer out out_then err err_then status
 Does g desk (Import list) last out out_then err err_then status =

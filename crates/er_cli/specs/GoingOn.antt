@@ -16,11 +16,11 @@ use Rattle.er_event.specs.declared.refusals.Refusal.{Refusal}
 use Rattle.er_event.specs.declared.refusals.Refusal.TheVariants.{NoEvent}
 use Rattle.er_rank.specs.declared.rows.Row.{Row}
 use Rattle.er_store.specs.Fault.{IsFault}
-use Rattle.er_store.specs.Standing.{Leaves}
+use Rattle.er_store.specs.Representing.{Leaves}
 use Rattle.er_paper.specs.Texts.{rows_text}
 use Rattle.er_desk.specs.declared.desk.Desk.{Desk}
 use Rattle.er_desk.specs.declared.opening.OpenFault.{OpenFault}
-use Rattle.er_desk.specs.Desk.{Point, Standing, running_at, state, standing, version_in}
+use Rattle.er_desk.specs.Desk.{Point, DeskState, running_at, state, desk_state, version_in}
 use Rattle.er_desk.specs.Reply.{Reply, IsLawful, receipt}
 use Rattle.er_desk.specs.Run.{Session, no_session}
 use Rattle.er_desk.specs.History.{Ended}
@@ -66,23 +66,23 @@ pub record Answered {D : Type 0} (d : disk.Ghosts D) (new : Point) (ends : List 
     : Type 0 where
   -- the desk at the end, before it is closed
   pub last : Desk (FileStore D d) over_files
-  pub goes : GoesTo d new ends (session_at request answer (standing last).stopped) last
+  pub goes : GoesTo d new ends (session_at request answer (desk_state last).stopped) last
   pub lawful : HasCleanDisk (state over_files last) → IsAnswerAt (version_in last) first request answer
   -- Acknowledged is kept: where `ok` and a serial were answered, the session is this command, and nothing is in doubt.
   pub acknowledged : (command : Command) (receipt : Receipt) → request ≡ Submit command → answer ≡ Accepted receipt
-      → session_at request answer (standing last).stopped ≡ record { kept = command ∷ []; doubt = None }
+      → session_at request answer (desk_state last).stopped ≡ record { kept = command ∷ []; doubt = None }
   -- Only a fault of the store leaves a doubt.
-  pub doubt : HasCleanDisk (state over_files last) → IsTrue (standing last).stopped → OrFault ⊥ answer
+  pub doubt : HasCleanDisk (state over_files last) → IsTrue (desk_state last).stopped → OrFault ⊥ answer
 
 -- The event was opened, its desk was asked one command after the other, and its file was closed. `Did` says of the desk at
 -- the beginning, the session and the desk at the end what they were, and what was printed.
 pub record Handed {D : Type 0} (d : disk.Ghosts D) (new : Point) (ends : List Ended) (first : Point)
-    (Did : Standing → Session → Standing → Type 0) : Type 0 where
+    (Did : DeskState → Session → DeskState → Type 0) : Type 0 where
   pub last : Desk (FileStore D d) over_files
   pub session : Session
   pub goes : GoesTo d new ends session last
   -- it began where the history ended
-  pub did : HasCleanDisk (state over_files last) → (version : ℕ) × Did (running_at first version) session (standing last)
+  pub did : HasCleanDisk (state over_files last) → (version : ℕ) × Did (running_at first version) session (desk_state last)
 
 -- This desk opened the file: it found the point at which the history ends, and sees what the file holds.
 pub record IsFound {D : Type 0} (d : disk.Ghosts D) (image : Image) (first : Point) (desk : Desk (FileStore D d) over_files) : Type 0 where

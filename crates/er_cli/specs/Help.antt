@@ -1,9 +1,12 @@
 -- What the words of a command line are answered.
-use Rattle.std.specs.Prelude.{◌≡◌, ◌⊎◌, ℕ, ◌==◌, ◌||◌, Bool, if◌then◌else◌, List, [], ◌∷◌, Option, Some, None, option_and_then, codes}
+use Rattle.std.specs.Prelude.{◌≡◌, ◌⊎◌, ℕ, ◌==◌, ◌||◌, Bool, if◌then◌else◌, List, [], ◌∷◌, Option, Some, None, option_and_then, option_map, codes}
 use Rattle.std.specs.Str.{bytes_eq}
 use Rattle.std.specs.Io.KnownBytes.{Appends}
 use Rattle.er_event.specs.declared.refusals.Refusal.{Refusal}
 use Rattle.er_event.specs.Refusal.{entry_of}
+use Rattle.er_words.specs.declared.subcommand.Subcommand.{Subcommand}
+use Rattle.er_words.specs.declared.subcommand.Subcommand.TheVariants as sub
+use Rattle.er_words.specs.Line.{subcommand_of}
 use Rattle.er_cli.specs.Texts.{answer_text, AppendsPart}
 use Rattle.er_cli.specs.declared.texts.Answer.{Answer}
 use Rattle.er_cli.specs.declared.texts.Answer.TheVariants.{Accepted, Text, Refused, Usage}
@@ -20,31 +23,29 @@ is_version word = bytes_eq word (codes "--version") || bytes_eq word (codes "-V"
 abbrev pub option_text : List ℕ → Option (List ℕ)
 option_text word = if is_help word then Some HELP.now else (if is_version word then Some VERSION.now else None)
 
--- the text of the subcommand that has this name
-abbrev pub text_in : List (List ℕ × List ℕ) → List ℕ → Option (List ℕ)
-text_in [] name = None
-text_in (named ∷ more) name = if bytes_eq name named.0 then Some named.1 else text_in more name
+-- what there is to know of a subcommand
+abbrev pub text_of : Subcommand → List ℕ
+text_of sub.Init = INIT.now
+text_of sub.Enrol = ENROL.now
+text_of sub.Import = IMPORT.now
+text_of sub.Start = START.now
+text_of sub.Pair = PAIR.now
+text_of sub.Result = RESULT.now
+text_of sub.Correct = CORRECT.now
+text_of sub.Drop = DROP.now
+text_of sub.Cut = CUT.now
+text_of sub.Playoff = PLAYOFF.now
+text_of sub.Standings = STANDINGS.now
+text_of sub.Players = PLAYERS.now
+text_of sub.Slips = SLIPS.now
+text_of sub.Bracket = BRACKET.now
+text_of sub.Export = EXPORT.now
+text_of sub.Serve = SERVE.now
+text_of sub.Migrate = MIGRATE.now
 
+-- of the one that has this name
 abbrev pub subcommand_text : List ℕ → Option (List ℕ)
-subcommand_text = text_in (
-    (codes "init", INIT.now)
-    ∷ (codes "enrol", ENROL.now)
-    ∷ (codes "import", IMPORT.now)
-    ∷ (codes "start", START.now)
-    ∷ (codes "pair", PAIR.now)
-    ∷ (codes "result", RESULT.now)
-    ∷ (codes "correct", CORRECT.now)
-    ∷ (codes "drop", DROP.now)
-    ∷ (codes "cut", CUT.now)
-    ∷ (codes "playoff", PLAYOFF.now)
-    ∷ (codes "standings", STANDINGS.now)
-    ∷ (codes "players", PLAYERS.now)
-    ∷ (codes "slips", SLIPS.now)
-    ∷ (codes "bracket", BRACKET.now)
-    ∷ (codes "export", EXPORT.now)
-    ∷ (codes "serve", SERVE.now)
-    ∷ (codes "migrate", MIGRATE.now)
-    ∷ [])
+subcommand_text name = option_map text_of (subcommand_of name)
 
 -- the text of the subcommand, or the version, behind the name of one
 abbrev pub text_behind : List ℕ → List ℕ → Option (List ℕ)

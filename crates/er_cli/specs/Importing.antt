@@ -7,7 +7,7 @@ use Rattle.std.specs.Io.KnownBytes.{Appends}
 use Rattle.er_event.specs.declared.commands.Command.TheVariants.{Enrol}
 use Rattle.er_event.specs.declared.refusals.Refusal.{Refusal}
 use Rattle.er_event.specs.declared.refusals.Refusal.TheVariants.{NameTaken, Memory}
-use Rattle.er_desk.specs.Desk.{Standing}
+use Rattle.er_desk.specs.Desk.{DeskState}
 use Rattle.er_desk.specs.Reply.{Reply}
 use Rattle.er_desk.specs.Run.{Runs, Session, session_of, no_session}
 use Rattle.er_paper.specs.declared.imports.CsvFault.{CsvFault}
@@ -44,8 +44,8 @@ stopping None = []
 stopping (Some why) = Err why ∷ []
 
 -- Each name is one command, in order, until there is none or one is refused otherwise than as taken.
-pub record Enrols (names : List (List ℕ)) (old : Standing) (additions : Additions) (stop : Option Refusal) (session : Session)
-    (new : Standing) : Type 0 where
+pub record Enrols (names : List (List ℕ)) (old : DeskState) (additions : Additions) (stop : Option Refusal) (session : Session)
+    (new : DeskState) : Type 0 where
   pub replies : List Reply
   pub ran : Runs old (map Enrol (take (length (replies ++ stopping stop)) names)) (replies ++ stopping stop) new
   -- these commands are the session
@@ -77,31 +77,31 @@ fault_text (BadRow row) = codes "bad csv row " ++ (decimal row ++ (10 ∷ []))
 fault_text csv.Memory = []
 
 -- nobody is enrolled
-abbrev pub EnrolsNobody : Standing → Session → Standing → Type 0
+abbrev pub EnrolsNobody : DeskState → Session → DeskState → Type 0
 EnrolsNobody old session new = (new ≡ old) × (session ≡ no_session)
 
 module _ (out out_then err err_then : Option (List ℕ)) (status : ℕ) where
   -- the names are handed to the desk, and the additions are printed
-  pub record Hands (names : List (List ℕ)) (old : Standing) (session : Session) (new : Standing) : Type 0 where
+  pub record Hands (names : List (List ℕ)) (old : DeskState) (session : Session) (new : DeskState) : Type 0 where
     pub additions : Additions
     pub stop : Option Refusal
     pub enrols : Enrols names old additions stop session new
     pub prints : PrintsAdditions additions stop out out_then err err_then status
 
   -- the fault of a list is named; a list without one is enrolled
-  abbrev pub TakesList : List ℕ → Standing → Session → Standing → Type 0
+  abbrev pub TakesList : List ℕ → DeskState → Session → DeskState → Type 0
   TakesList list old session new =
       ((fault : CsvFault) × (fault ≢ csv.Memory) × ReadsPlayers list (Err fault) × EnrolsNobody old session new
       × Says (fault_text fault) REFUSED (record { meant = err; other = out }) (record { meant = err_then; other = out_then }) status)
       ⊎ ((lines : List PlayerLine) × ReadsPlayers list (Ok lines) × Hands (names_of lines) old session new)
 
   -- Memory is wanting for a list, or it is taken.
-  abbrev pub ImportsList : List ℕ → Standing → Session → Standing → Type 0
+  abbrev pub ImportsList : List ℕ → DeskState → Session → DeskState → Type 0
   ImportsList list old session new =
       (EnrolsNobody old session new × Tells (Refused Memory) out out_then err err_then status) ⊎ TakesList list old session new
 
   -- The list can't be read, or memory is wanting for it, or it is taken. Nobody is enrolled but by the last.
-  abbrev pub Imports : Standing → Session → Standing → Type 0
+  abbrev pub Imports : DeskState → Session → DeskState → Type 0
   Imports old session new =
       (EnrolsNobody old session new
       × Says (codes "cannot read\n") DEVICE

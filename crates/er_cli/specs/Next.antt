@@ -10,9 +10,9 @@ use Rattle.sqlite_store.specs.FileStore.{files as store_files}
 use Rattle.sqlite.specs.declared.error.Error.{Error}
 use Rattle.sqlite.specs.State.{HasCleanDisk}
 use Rattle.sqlite.specs.Files.{image_of, over_files}
-use Rattle.er_store.specs.Standing.{Leaves}
+use Rattle.er_store.specs.Representing.{Leaves}
 use Rattle.er_desk.specs.declared.desk.Desk.{Desk}
-use Rattle.er_desk.specs.Desk.{Point, ShowsOwn, point_of, state, standing}
+use Rattle.er_desk.specs.Desk.{Point, ShowsOwn, point_of, state, desk_state}
 use Rattle.er_desk.specs.Run.{Session}
 use Rattle.er_desk.specs.History.{Ended}
 use Rattle.er_desk.specs.Headline.{NextBegins, WasLeftBy, and_then}
@@ -34,13 +34,13 @@ pub record GoesTo {D : Type 0} (d : disk.Ghosts D) (new : Point) (ends : List En
     (last : Desk (FileStore D d) over_files) : Type 0 where
   -- each thing that a crash may leave is an end of the history with this session, and the next one begins there
   pub next : Leaves (state over_files last) (NextBegins new ends session)
-  -- while it runs, its tables stand for its event, in its version
-  pub shows : HasCleanDisk (state over_files last) → IsFalse (standing last).stopped → ShowsOwn over_files last
+  -- while it runs, its tables represent its event, in its version
+  pub shows : HasCleanDisk (state over_files last) → IsFalse (desk_state last).stopped → ShowsOwn over_files last
   -- how its file was closed
   pub closed : Result (Files D) (Error × FileStore D d)
   -- On a clean disk, with no fault behind, the next command line begins there.
-  pub rests : IfOk closed (λ files. AreClean d files.log files.db → IsFalse (standing last).stopped
-      → IsLeftNext d new ends session (point_of (standing last)) files)
+  pub rests : IfOk closed (λ files. AreClean d files.log files.db → IsFalse (desk_state last).stopped
+      → IsLeftNext d new ends session (point_of (desk_state last)) files)
   -- However that ended, a crash then leaves nothing that it could not leave before.
   pub stays : MatchResult closed
       (λ files. (it : FileStore D d) × (store_files it ≡ (files.log, files.db)) × LeavesNoMore last it) (λ it. LeavesNoMore last it.1)

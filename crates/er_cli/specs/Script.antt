@@ -10,7 +10,7 @@ use Rattle.er_event.specs.declared.refusals.Refusal.TheVariants.{Memory, NoEvent
 use Rattle.er_rules.specs.Commands.{first_refusal}
 use Rattle.er_store.specs.Fault.{IsFault}
 use Rattle.er_desk.specs.declared.desk.Desk.{Desk}
-use Rattle.er_desk.specs.Desk.{Standing, ShowsOwn, running_at, standing, version_in}
+use Rattle.er_desk.specs.Desk.{DeskState, ShowsOwn, running_at, desk_state, version_in}
 use Rattle.er_desk.specs.History.{new_point}
 use Rattle.er_words.specs.declared.action.Action.{Action}
 use Rattle.er_words.specs.declared.action.Action.TheVariants.{Init, Open}
@@ -22,45 +22,45 @@ use Rattle.er_words.specs.Fields.{script_action}
 use Rattle.er_cli.specs.Answers.{DeskAnswers}
 use Rattle.er_cli.specs.Texts.{answer_text, AppendsPart}
 
--- where the desk of a script stands, once it has one
-abbrev pub standing_of : {S : Type 0} {g : Ghosts S} → Option (Desk S g) → Option Standing
-standing_of desk = option_map standing desk
+-- the state of a script's desk, once it has one
+abbrev pub desk_state_of : {S : Type 0} {g : Ghosts S} → Option (Desk S g) → Option DeskState
+desk_state_of desk = option_map desk_state desk
 
 -- an event is made, or memory or the store fails, and all stays as it is
-abbrev pub CreatesEvent : Option Standing → List ℕ → ℕ → ℕ → Answer → Option Standing → Type 0
+abbrev pub CreatesEvent : Option DeskState → List ℕ → ℕ → ℕ → Answer → Option DeskState → Type 0
 CreatesEvent old name rounds cut answer new =
     ((answer ≡ Accepted (record { serial = 0 })) × (new ≡ Some (running_at (new_point name rounds cut) 2)))
     ⊎ ((why : Refusal) × IsFault why × (answer ≡ Refused why) × (new ≡ old))
 
--- What an action is answered, and where the desk stands then. The tables in memory stand for its event. All but `init`
+-- What an action is answered, and the desk's state then. The tables in memory represent its event. All but `init`
 -- want an event. A script imports no list, and serves no clients.
-abbrev pub Acts : Option Standing → Action → Answer → Option Standing → Type 0
+abbrev pub Acts : Option DeskState → Action → Answer → Option DeskState → Type 0
 Acts old (Init name rounds cut) answer new =
     MatchOption (first_refusal (init_checks (is_some old) name rounds cut))
     (CreatesEvent old name rounds cut answer new)
     (λ why. ((answer ≡ Refused why) ⊎ (answer ≡ Refused Memory)) × (new ≡ old))
 Acts old (Open (Import list)) answer new = (answer ≡ Usage) × (new ≡ old)
 Acts None (Open (Ask request)) answer new = (answer ≡ Refused NoEvent) × (new ≡ None)
-Acts (Some old) (Open (Ask request)) answer new = (next : Standing) × DeskAnswers ⊤ old request answer next × (new ≡ Some next)
+Acts (Some old) (Open (Ask request)) answer new = (next : DeskState) × DeskAnswers ⊤ old request answer next × (new ≡ Some next)
 Acts old (Open (Serve port count)) answer new = (answer ≡ Usage) × (new ≡ old)
 
 -- What a line is answered. Memory may be wanting to read it.
-abbrev pub LineAnswers : Option Standing → Option Action → Answer → Option Standing → Type 0
+abbrev pub LineAnswers : Option DeskState → Option Action → Answer → Option DeskState → Type 0
 LineAnswers old None answer new = ((answer ≡ Usage) ⊎ (answer ≡ Refused Memory)) × (new ≡ old)
 LineAnswers old (Some action) answer new = Acts old action answer new ⊎ ((answer ≡ Refused Memory) × (new ≡ old))
 
 -- the answers to these lines, in order
-abbrev pub RunsLines : Option Standing → List (List ℕ) → List Answer → Option Standing → Type 0
+abbrev pub RunsLines : Option DeskState → List (List ℕ) → List Answer → Option DeskState → Type 0
 RunsLines old [] [] new = new ≡ old
 RunsLines old (line ∷ lines) (answer ∷ answers) new =
-    (next : Option Standing) × LineAnswers old (script_action line) answer next × RunsLines next lines answers new
+    (next : Option DeskState) × LineAnswers old (script_action line) answer next × RunsLines next lines answers new
 RunsLines old [] (answer ∷ answers) new = ⊥
 RunsLines old (line ∷ lines) [] new = ⊥
 
 -- what a writer held, and holds when the answers to the lines are printed
 pub record Prints (lines : List (List ℕ)) (before after : Option (List ℕ)) : Type 0 where
   pub answers : List Answer
-  pub last : Option Standing
+  pub last : Option DeskState
   pub runs : RunsLines None lines answers last
   pub printed : Appends before after (flat_map answer_text answers)
 
@@ -68,10 +68,10 @@ pub record Prints (lines : List (List ℕ)) (before after : Option (List ℕ)) :
 pub record PrintsPart (lines : List (List ℕ)) (before after : Option (List ℕ)) : Type 0 where
   pub count : ℕ
   pub answers : List Answer
-  pub last : Option Standing
+  pub last : Option DeskState
   pub runs : RunsLines None (take count lines) answers last
   pub printed : AppendsPart before after (flat_map answer_text answers)
 
--- the tables in memory are of version 2, and stand for the event, where no fault of the store is behind
+-- the tables in memory are of version 2, and represent the event, where no fault of the store is behind
 abbrev pub HasOwnTables : Option (Desk MemStore over_memory) → Type 0
-HasOwnTables desk = IfSome desk (λ d. (version_in d ≡ 2) × (IsFalse (standing d).stopped → ShowsOwn over_memory d))
+HasOwnTables desk = IfSome desk (λ d. (version_in d ≡ 2) × (IsFalse (desk_state d).stopped → ShowsOwn over_memory d))

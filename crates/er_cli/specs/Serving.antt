@@ -8,7 +8,7 @@ use Rattle.er_event.specs.declared.scores.Games.{Games}
 use Rattle.er_event.specs.declared.slips.SlipRow.{SlipRow}
 use Rattle.er_rank.specs.declared.rows.Row.{Row}
 use Rattle.er_desk.specs.Asking.{joined}
-use Rattle.er_desk.specs.Desk.{Standing, Turn, ReadsRows, ReadsSlip}
+use Rattle.er_desk.specs.Desk.{DeskState, Turn, ReadsRows, ReadsSlip}
 use Rattle.er_desk.specs.Reply.{Reply}
 use Rattle.er_desk.specs.Run.{Session, session_of, no_session}
 use Rattle.er_cli.specs.declared.TheConstants.{DONE, DEVICE}
@@ -16,7 +16,7 @@ use Rattle.er_cli.specs.Help.{Puts}
 
 -- One connection: the desk stays as it is, reads its standings or a slip, or is handed one score. Only the score is
 -- a command.
-abbrev pub Connects : Standing → Session → Standing → Type 0
+abbrev pub Connects : DeskState → Session → DeskState → Type 0
 Connects old session new =
     ((new ≡ old) × (session ≡ no_session))
     ⊎ ((read : Result (Vec Row Global) Refusal) × ReadsRows old read new × (session ≡ no_session))
@@ -25,16 +25,16 @@ Connects old session new =
     × (session ≡ session_of (Hand round table score ∷ []) (reply ∷ []) new.stopped))
 
 -- so many connections, one after the other
-abbrev pub ConnectsAll : ℕ → Standing → Session → Standing → Type 0
+abbrev pub ConnectsAll : ℕ → DeskState → Session → DeskState → Type 0
 ConnectsAll zero old session new = (new ≡ old) × (session ≡ no_session)
 ConnectsAll (suc count) old session new =
-    (last : Standing) × (before one : Session) × ConnectsAll count old before last × Connects last one new × (session ≡ joined before one)
+    (last : DeskState) × (before one : Session) × ConnectsAll count old before last × Connects last one new × (session ≡ joined before one)
 
-abbrev pub ConnectsUpTo : ℕ → Standing → Session → Standing → Type 0
+abbrev pub ConnectsUpTo : ℕ → DeskState → Session → DeskState → Type 0
 ConnectsUpTo most old session new = (count : ℕ) × (count ≤ most) × ConnectsAll count old session new
 
 -- all of them, or with status 3 some
-abbrev pub ServesAll : (count status : ℕ) → Standing → Session → Standing → Type 0
+abbrev pub ServesAll : (count status : ℕ) → DeskState → Session → DeskState → Type 0
 ServesAll count status old session new =
     ((status ≡ DONE) × ConnectsAll count old session new) ⊎ ((status ≡ DEVICE) × ConnectsUpTo count old session new)
 

@@ -1,6 +1,6 @@
 ghost use Rattle.std.specs.Prelude.{◌≡◌, ◌⊎◌, IfOk, IsFalse, MatchResult, option_map};
 ghost use Rattle.sqlite.specs.State.{HasCleanDisk};
-ghost use Rattle.er_desk.specs.Desk.{ShowsEvent, ShowsOwn, standing, state};
+ghost use Rattle.er_desk.specs.Desk.{ShowsEvent, ShowsOwn, desk_state, state};
 ghost use Rattle.er_paper.specs.Texts.{rows_text};
 ghost use Rattle.er_cli.specs.Answers.{AsksFor, DeskAnswers, Moves, ShowsPlayers, ShowsSlips, ShowsBracket, ShowsExport, csv_of, reply_answer, slips_answer};
 ghost use Rattle.er_desk.specs.Asking.{Asks};
@@ -50,7 +50,7 @@ fn slips_answer(text: Result<Option<Vec<u8>>, AllocError>) -> Answer
 }
 
 fn players<S: Alter>(alloc: Global, desk: &Desk<S>) -> Answer
-    ensures { ShowsEvent Answer.Refused (standing desk.now) ShowsPlayers result }
+    ensures { ShowsEvent Answer.Refused (desk_state desk.now) ShowsPlayers result }
 {
     match desk.event() {
         Ok(event) => text_answer(players_text(alloc, event)),
@@ -60,7 +60,7 @@ fn players<S: Alter>(alloc: Global, desk: &Desk<S>) -> Answer
 
 /// The text of these rows of standings.
 fn rows_answer<S: Alter>(alloc: Global, desk: &Desk<S>, rows: &[Row]) -> Answer
-    ensures { IsFalse (standing desk.now).stopped
+    ensures { IsFalse (desk_state desk.now).stopped
         → (result ≡ Answer.Text (rows_text desk.now.event rows.now))
         ⊎ (result ≡ Answer.Refused Refusal.Memory) }
 {
@@ -73,7 +73,7 @@ fn rows_answer<S: Alter>(alloc: Global, desk: &Desk<S>, rows: &[Row]) -> Answer
 /// The standings, by the totals in the tables.
 fn standings<S: Alter>(alloc: Global, desk: &mut Desk<S>) -> Answer
     ensures answers { DeskAnswers (HasCleanDisk (state S.Store desk.new)
-        × ShowsOwn S.Store desk.old) (standing desk.old) Standings result (standing desk.new) }
+        × ShowsOwn S.Store desk.old) (desk_state desk.old) Standings result (desk_state desk.new) }
     ensures asked { Asks S.Store desk.old no_session desk.new }
 {
     match desk.stored_standings(alloc) {
@@ -83,7 +83,7 @@ fn standings<S: Alter>(alloc: Global, desk: &mut Desk<S>) -> Answer
 }
 
 fn slips<S: Alter>(alloc: Global, desk: &Desk<S>, round: u8) -> Answer
-    ensures { ShowsEvent Answer.Refused (standing desk.now) (ShowsSlips round) result }
+    ensures { ShowsEvent Answer.Refused (desk_state desk.now) (ShowsSlips round) result }
 {
     match desk.event() {
         Ok(event) => slips_answer(pairings_text(alloc, event, round)),
@@ -92,7 +92,7 @@ fn slips<S: Alter>(alloc: Global, desk: &Desk<S>, round: u8) -> Answer
 }
 
 fn bracket<S: Alter>(alloc: Global, desk: &Desk<S>) -> Answer
-    ensures { ShowsEvent Answer.Refused (standing desk.now) ShowsBracket result }
+    ensures { ShowsEvent Answer.Refused (desk_state desk.now) ShowsBracket result }
 {
     match desk.event() {
         Ok(event) => text_answer(bracket_text(alloc, event)),
@@ -111,7 +111,7 @@ fn csv_of(alloc: Global, event: &Event, kind: ExportKind) -> Result<Vec<u8>, All
 }
 
 fn export<S: Alter>(alloc: Global, desk: &Desk<S>, kind: ExportKind) -> Answer
-    ensures { ShowsEvent Answer.Refused (standing desk.now) (ShowsExport kind) result }
+    ensures { ShowsEvent Answer.Refused (desk_state desk.now) (ShowsExport kind) result }
 {
     match desk.event() {
         Ok(event) => text_answer(csv_of(alloc, event, kind)),
@@ -122,7 +122,7 @@ fn export<S: Alter>(alloc: Global, desk: &Desk<S>, kind: ExportKind) -> Answer
 /// Moves the tables to version 2, and answers with the serial, which stays.
 fn migrate<S: Alter>(desk: &mut Desk<S>) -> Answer
     ensures answers { DeskAnswers (HasCleanDisk (state S.Store desk.new)
-        × ShowsOwn S.Store desk.old) (standing desk.old) Migrate result (standing desk.new) }
+        × ShowsOwn S.Store desk.old) (desk_state desk.old) Migrate result (desk_state desk.new) }
     ensures moved { Moves S.Store desk.old result desk.new }
 {
     match desk.migrate() {
@@ -135,7 +135,7 @@ fn migrate<S: Alter>(desk: &mut Desk<S>) -> Answer
 #[tactic(auto, using(crate::proofs::GoingOn::replies_told))]
 pub fn answer<S: Alter>(alloc: Global, desk: &mut Desk<S>, request: Request) -> Answer
     ensures answers { DeskAnswers (HasCleanDisk (state S.Store desk.new)
-        × ShowsOwn S.Store desk.old) (standing desk.old) request result (standing desk.new) }
+        × ShowsOwn S.Store desk.old) (desk_state desk.old) request result (desk_state desk.new) }
     ensures asked { AsksFor S.Store desk.old request result desk.new }
 {
     // To look at a desk asks nothing of its file: this tells the proof.

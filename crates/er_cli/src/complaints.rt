@@ -1,9 +1,9 @@
-ghost use Rattle.std.specs.Prelude.{◌≡◌, IfOk, None, map, string_bytes};
+ghost use Rattle.std.specs.Prelude.{◌≡◌, IfOk, Some, map, string_bytes};
 ghost use Rattle.er_cli.specs.Complaints.{Complains, advice, complaint_with, place_of, what_is_wrong};
-ghost use Rattle.er_words.specs.Line.{line_of};
+ghost use Rattle.er_words.specs.Usage.{fault_of};
 
 use crate::help::subcommand_text;
-use er_words::{UsageFault, usage_of};
+use er_words::UsageFault;
 use std::alloc::{AllocError, Global};
 
 /// Where to look where the first word is no subcommand.
@@ -83,17 +83,13 @@ fn complaint_with(
     Ok(text)
 }
 
-/// What a person is told of words that are no command line.
-pub fn complaint(alloc: Global, words: &[String]) -> Result<String, AllocError>
-    ensures { line_of (map string_bytes words.now) ≡ None
+/// What a person is told of words that have this fault.
+pub fn complaint(alloc: Global, words: &[String], fault: UsageFault) -> Result<String, AllocError>
+    ensures { fault_of (map string_bytes words.now) ≡ Some fault
         → IfOk result (λ text. Complains (map string_bytes words.now) (string_bytes text)) }
 {
     let [name, ..] = words else {
         return String::from_str(alloc, NO_TEXT);
     };
-    let advice = advice(name.as_str());
-    match usage_of(words) {
-        Some(fault) => complaint_with(alloc, words, fault, advice),
-        None => String::from_str(alloc, advice),
-    }
+    complaint_with(alloc, words, fault, advice(name.as_str()))
 }

@@ -5,7 +5,7 @@ ghost use Rattle.er_event.specs.declared.commands.TheConstants.{MAX_SERIAL};
 ghost use Rattle.er_rules.specs.Sound.{IsSound};
 ghost use Rattle.er_event.specs.Sound.{AreLimits};
 ghost use Rattle.er_desk.specs.Asking.{Asks, AsksSome};
-ghost use Rattle.er_desk.specs.Desk.{Point, standing};
+ghost use Rattle.er_desk.specs.Desk.{Point, desk_state};
 ghost use Rattle.er_desk.specs.Run.{no_session};
 ghost use Rattle.er_desk.specs.History.{Ended, new_point};
 ghost use Rattle.er_desk.specs.Headline.{WasLeftBy};
@@ -26,10 +26,11 @@ use crate::importing::import;
 use crate::serving::serve_on;
 use crate::setup::set_up;
 use crate::texts::Answer;
-use crate::{DEVICE, say_all, tell};
+use crate::{DEVICE, end_with, print};
 use er_desk::Desk;
 use er_desk::laws::next_sessions;
 use er_event::{Cause, Name, Receipt, Refusal};
+use er_slips::Routes;
 use er_words::{Action, Line, Task};
 use sqlite::{Alter, FileFrom, FileStore, Start};
 use sqlite_disk::Disk;
@@ -86,7 +87,7 @@ fn init<S: Start>(
 }
 
 /// Tells that an event was made, and closes its file once that is written.
-fn tell_made<D: Disk + Drop, O: Write, E: Write>(
+fn print_made<D: Disk + Drop, O: Write, E: Write>(
     desk: Desk<FileStore<D>>,
     out: &mut O,
     err: &mut E,
@@ -98,7 +99,7 @@ fn tell_made<D: Disk + Drop, O: Write, E: Write>(
 {
     // A desk that is only looked at asks nothing of its file: this tells the proof.
     desk.asks_nothing();
-    let status = tell(out, err, &Answer::Accepted(Receipt { serial: 0 }));
+    let status = print(out, err, &Answer::Accepted(Receipt { serial: 0 }));
     put_away(desk);
     status
 }
@@ -120,7 +121,7 @@ fn make<S: Start, O: Write, E: Write>(
     // What is begun here is the history that the next command line goes on with: this tells the proof.
     next_sessions();
     match init(rt, path, name, rounds, cut, start) {
-        Ok(desk) => tell_made(desk, out, err),
+        Ok(desk) => print_made(desk, out, err),
         Err(why) => tell_refusal(out, err, why),
     }
 }
@@ -139,9 +140,12 @@ fn listen<S: Alter, O: Write, E: Write>(
 {
     // Where nobody is listened to, nothing is asked of the file: this tells the proof.
     desk.asks_nothing();
+    let Ok(routes) = Routes::new(rt.alloc()) else {
+        return tell_refusal(out, err, Refusal::Memory);
+    };
     match TcpListener::bind(rt, (Ipv4Addr::LOCALHOST, port)) {
-        Ok(listener) => serve_on(rt, desk, &listener, count, out),
-        Err(_error) => say_all(err, CANNOT_LISTEN, DEVICE),
+        Ok(listener) => serve_on(rt, &routes, desk, &listener, count, out),
+        Err(_error) => end_with(err, CANNOT_LISTEN, DEVICE),
     }
 }
 
@@ -155,12 +159,12 @@ fn do_task<S: Alter, O: Write, E: Write>(
 ) -> u8
     requires sound { IsSound desk.old.event }
     requires low { desk.old.serial ≤ MAX_SERIAL }
-    requires ready { IsFalse (standing desk.old).stopped }
+    requires ready { IsFalse (desk_state desk.old).stopped }
     ensures { Does S.Store desk.old task desk.new (O.contents out.old) (O.contents out.new)
         (E.contents err.old) (E.contents err.new) result }
 {
     match task {
-        Task::Ask { request } => tell(out, err, &answer(rt.alloc(), desk, request)),
+        Task::Ask { request } => print(out, err, &answer(rt.alloc(), desk, request)),
         Task::Import { list } => import(rt, desk, list.as_str(), out, err),
         Task::Serve { port, count } => listen(rt, desk, port, count, out, err),
     }
@@ -188,7 +192,7 @@ fn tell_refusal<O: Write, E: Write>(out: &mut O, err: &mut E, why: Refusal) -> u
     ensures { Tells (Answer.Refused why) (O.contents out.old) (O.contents out.new)
         (E.contents err.old) (E.contents err.new) result }
 {
-    tell(out, err, &Answer::Refused(why))
+    print(out, err, &Answer::Refused(why))
 }
 
 /// Opens the event in a file that is there for a task. The file is opened before a list is read, and before anybody is listened to.
@@ -219,7 +223,7 @@ fn open<S: Start, O: Write, E: Write>(
 }
 
 /// Does what a command line asks of its file, and gives the status to end with.
-pub fn act<S: Start, O: Write, E: Write>(
+pub fn run_line<S: Start, O: Write, E: Write>(
     rt: &HostRuntime,
     line: Line,
     start: S,

@@ -1,9 +1,10 @@
 ghost use Rattle.std.specs.Prelude.{◌≡◌, OnOk, OnErr, map, option_map, string_bytes};
 ghost use Rattle.std.specs.Io.KnownBytes.{Appends};
-ghost use Rattle.er_cli.specs.Help.{option_text, subcommand_text, text_behind, text_for};
+ghost use Rattle.er_cli.specs.Help.{option_text, subcommand_text, text_behind, text_for, text_of};
 ghost use Rattle.er_cli.specs.Texts.{AppendsPart};
 
 use crate::texts::{WriteFault, flush, send};
+use er_words::Subcommand;
 use std::io::Write;
 
 /// What `--version` prints.
@@ -397,7 +398,7 @@ For an event in a file, try: event_reporter --help
 ";
 
 /// Writes a text, and has the writer pass it on.
-pub fn say<W: Write>(writer: &mut W, text: &str) -> Result<(), WriteFault>
+pub fn print_text<W: Write>(writer: &mut W, text: &str) -> Result<(), WriteFault>
     ensures sent { OnOk result (Appends (W.contents writer.old) (W.contents writer.new) text.now) }
     ensures part { OnErr result (AppendsPart (W.contents writer.old)
         (W.contents writer.new) text.now) }
@@ -430,29 +431,35 @@ fn text_behind(name: &str, word: &str) -> Option<&'static str>
 }
 
 /// What there is to know of a subcommand.
+fn text_of(subcommand: Subcommand) -> &'static str
+    ensures { result.now ≡ text_of subcommand }
+{
+    match subcommand {
+        Subcommand::Init => INIT,
+        Subcommand::Enrol => ENROL,
+        Subcommand::Import => IMPORT,
+        Subcommand::Start => START,
+        Subcommand::Pair => PAIR,
+        Subcommand::Result => RESULT,
+        Subcommand::Correct => CORRECT,
+        Subcommand::Drop => DROP,
+        Subcommand::Cut => CUT,
+        Subcommand::Playoff => PLAYOFF,
+        Subcommand::Standings => STANDINGS,
+        Subcommand::Players => PLAYERS,
+        Subcommand::Slips => SLIPS,
+        Subcommand::Bracket => BRACKET,
+        Subcommand::Export => EXPORT,
+        Subcommand::Serve => SERVE,
+        Subcommand::Migrate => MIGRATE,
+    }
+}
+
+/// What there is to know of the subcommand that has this name.
 pub fn subcommand_text(name: &str) -> Option<&'static str>
     ensures { option_map (λ text. text.now) result ≡ subcommand_text name.now }
 {
-    match name {
-        "init" => Some(INIT),
-        "enrol" => Some(ENROL),
-        "import" => Some(IMPORT),
-        "start" => Some(START),
-        "pair" => Some(PAIR),
-        "result" => Some(RESULT),
-        "correct" => Some(CORRECT),
-        "drop" => Some(DROP),
-        "cut" => Some(CUT),
-        "playoff" => Some(PLAYOFF),
-        "standings" => Some(STANDINGS),
-        "players" => Some(PLAYERS),
-        "slips" => Some(SLIPS),
-        "bracket" => Some(BRACKET),
-        "export" => Some(EXPORT),
-        "serve" => Some(SERVE),
-        "migrate" => Some(MIGRATE),
-        _ => None,
-    }
+    Some(text_of(Subcommand::named(name)?))
 }
 
 /// The text that the words ask for: an option alone, or behind a subcommand.

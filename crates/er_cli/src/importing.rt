@@ -1,14 +1,14 @@
 ghost use Rattle.std.specs.Prelude.{◌≡◌, ◌≤◌, [], ◌∷◌, IsFalse, IfOk, vec_len};
 ghost use Rattle.er_event.specs.declared.commands.Command.TheVariants.{Enrol};
 ghost use Rattle.er_desk.specs.Asking.{Asks, AsksSome};
-ghost use Rattle.er_desk.specs.Desk.{Turn, standing};
+ghost use Rattle.er_desk.specs.Desk.{Turn, desk_state};
 ghost use Rattle.er_desk.specs.Run.{session_of};
 ghost use Rattle.er_cli.specs.Importing.{Enrols, Imports, ImportsList, PrintsAdditions, fault_text, is_taken, names_of, additions_text};
 ghost use Rattle.er_cli.specs.Help.{Puts};
 
 use crate::input::{InputFault, read_whole};
 use crate::texts::{Answer, WriteFault, print_line};
-use crate::{DEVICE, DONE, REFUSED, say_all, tell};
+use crate::{DEVICE, DONE, REFUSED, end_with, print};
 use er_desk::laws::lists_grow;
 use er_desk::{Desk, Reply};
 use er_event::{Command, Items, Name, Refusal};
@@ -92,10 +92,10 @@ fn is_taken(why: &Refusal) -> bool
 
 /// Hands one name to the desk.
 fn enrol<S: Alter>(alloc: Global, desk: &mut Desk<S>, name: &Name) -> Reply
-    requires { IsFalse (standing desk.old).stopped }
-    ensures turn { Turn (standing desk.old) (Enrol name.now) result (standing desk.new) }
+    requires { IsFalse (desk_state desk.old).stopped }
+    ensures turn { Turn (desk_state desk.old) (Enrol name.now) result (desk_state desk.new) }
     ensures asked { Asks S.Store desk.old
-        (session_of (Enrol name.now ∷ []) (result ∷ []) (standing desk.new).stopped) desk.new }
+        (session_of (Enrol name.now ∷ []) (result ∷ []) (desk_state desk.new).stopped) desk.new }
 {
     // A name that is not handed in asks nothing of the file: this tells the proof.
     desk.asks_nothing();
@@ -108,7 +108,7 @@ fn enrol<S: Alter>(alloc: Global, desk: &mut Desk<S>, name: &Name) -> Reply
 
 /// Hands the names to the desk in order, until one is refused otherwise than as taken.
 fn enrol_all<S: Alter>(alloc: Global, desk: &mut Desk<S>, lines: &[PlayerLine]) -> Enrolled
-    requires { IsFalse (standing desk.old).stopped }
+    requires { IsFalse (desk_state desk.old).stopped }
     ensures { AsksSome S.Store desk.old (λ first session last. Enrols (names_of lines.now) first
         result.additions result.stop session last) desk.new }
 {
@@ -147,7 +147,7 @@ fn print_additions<O: Write, E: Write>(out: &mut O, err: &mut E, enrolled: Enrol
         return DEVICE;
     };
     match enrolled.stop {
-        Some(why) => tell(out, err, &Answer::Refused(why)),
+        Some(why) => print(out, err, &Answer::Refused(why)),
         None => DONE,
     }
 }
@@ -160,7 +160,7 @@ fn import_list<S: Alter, O: Write, E: Write>(
     out: &mut O,
     err: &mut E,
 ) -> u8
-    requires { IsFalse (standing desk.old).stopped }
+    requires { IsFalse (desk_state desk.old).stopped }
     ensures { AsksSome S.Store desk.old (ImportsList (O.contents out.old) (O.contents out.new)
         (E.contents err.old) (E.contents err.new) result list.now) desk.new }
 {
@@ -171,7 +171,7 @@ fn import_list<S: Alter, O: Write, E: Write>(
             let enrolled = enrol_all(alloc, desk, &lines);
             print_additions(out, err, enrolled)
         }
-        Err(CsvFault::Memory) => tell(out, err, &Answer::Refused(Refusal::Memory)),
+        Err(CsvFault::Memory) => print(out, err, &Answer::Refused(Refusal::Memory)),
         Err(fault) => say_fault(err, fault),
     }
 }
@@ -184,7 +184,7 @@ pub fn import<S: Alter, O: Write, E: Write>(
     out: &mut O,
     err: &mut E,
 ) -> u8
-    requires { IsFalse (standing desk.old).stopped }
+    requires { IsFalse (desk_state desk.old).stopped }
     ensures { AsksSome S.Store desk.old (Imports (O.contents out.old) (O.contents out.new)
         (E.contents err.old) (E.contents err.new) result) desk.new }
 {
@@ -192,7 +192,7 @@ pub fn import<S: Alter, O: Write, E: Write>(
     desk.asks_nothing();
     match read_list(rt, path) {
         Ok(list) => import_list(rt.alloc(), desk, &list, out, err),
-        Err(InputFault::Memory) => tell(out, err, &Answer::Refused(Refusal::Memory)),
-        Err(InputFault::TooLong | InputFault::Read) => say_all(err, "cannot read\n", DEVICE),
+        Err(InputFault::Memory) => print(out, err, &Answer::Refused(Refusal::Memory)),
+        Err(InputFault::TooLong | InputFault::Read) => end_with(err, "cannot read\n", DEVICE),
     }
 }

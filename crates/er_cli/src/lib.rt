@@ -1,7 +1,7 @@
 //! Command lines over the file of an event, and scripts over one in memory: does what their words ask and prints the answers.
 #![tactic(auto)]
 
-ghost use Rattle.std.specs.Prelude.{List, ◌≡◌, ◌⊎◌, IfOk, IfSome, OnOk, OnErr, None, map, string_bytes};
+ghost use Rattle.std.specs.Prelude.{List, ◌≡◌, ◌⊎◌, IfOk, IfSome, OnOk, OnErr, None, Some, map, string_bytes};
 ghost use Rattle.std.specs.Io.KnownBytes.{Appends};
 ghost use Rattle.er_cli.specs.Texts.{answer_text, AppendsPart};
 ghost use Rattle.sqlite_wal.specs.Files.{image_at};
@@ -16,6 +16,7 @@ ghost use Rattle.er_cli.specs.Words.{EndsWords};
 ghost use Rattle.er_cli.specs.declared.help.TheConstants.{AWAITING};
 ghost use Rattle.er_cli.specs.Help.{Puts, Tells, refusal_status, text_for};
 ghost use Rattle.er_words.specs.Line.{line_of};
+ghost use Rattle.er_words.specs.Usage.{fault_of};
 ghost use Rattle.er_cli.specs.Status.{Ends, EndsUnread, UnreadPart, Breaks};
 
 mod answers;
@@ -34,10 +35,10 @@ mod texts;
 use complaints::complaint;
 use er_event::Refusal;
 pub use er_words::{
-    Action, ExportKind, FilePath, Line, LineFault, Request, Task, UsageFault, read_words, usage_of,
+    Action, ExportKind, FilePath, Line, LineFault, Request, Task, UsageFault, read_words,
 };
-use files::act;
-use help::{AWAITING, say, text_for};
+use files::run_line;
+use help::{AWAITING, print_text, text_for};
 use input::{InputFault, lines_of, read_script};
 use script::run_lines;
 pub use serving::serve_on;
@@ -123,7 +124,7 @@ fn refusal_status(why: &Refusal) -> u8
 }
 
 /// Prints the only answer of a command line, and has the writer pass it on.
-fn print_last<W: Write>(writer: &mut W, answer: &Answer) -> Result<(), WriteFault>
+fn print_flushed<W: Write>(writer: &mut W, answer: &Answer) -> Result<(), WriteFault>
     ensures sent { OnOk result (Appends (W.contents writer.old) (W.contents writer.new)
         (answer_text answer.now)) }
     ensures part { OnErr result (AppendsPart (W.contents writer.old) (W.contents writer.new)
@@ -134,14 +135,14 @@ fn print_last<W: Write>(writer: &mut W, answer: &Answer) -> Result<(), WriteFaul
 }
 
 /// Prints an answer to the stream that it goes to: a refusal to the errors. Gives the status that comes with it.
-fn tell<O: Write, E: Write>(out: &mut O, err: &mut E, answer: &Answer) -> u8
+fn print<O: Write, E: Write>(out: &mut O, err: &mut E, answer: &Answer) -> u8
     ensures { Tells answer.now (O.contents out.old) (O.contents out.new) (E.contents err.old)
         (E.contents err.new) result }
 {
     let (told, status) = match answer {
-        Answer::Accepted(_) | Answer::Text(_) => (print_last(out, answer), DONE),
-        Answer::Refused(why) => (print_last(err, answer), refusal_status(why)),
-        Answer::Usage => (print_last(err, answer), USAGE),
+        Answer::Accepted(_) | Answer::Text(_) => (print_flushed(out, answer), DONE),
+        Answer::Refused(why) => (print_flushed(err, answer), refusal_status(why)),
+        Answer::Usage => (print_flushed(err, answer), USAGE),
     };
     match told {
         Ok(()) => status,
@@ -149,25 +150,31 @@ fn tell<O: Write, E: Write>(out: &mut O, err: &mut E, answer: &Answer) -> u8
     }
 }
 
-/// Says a text on the one stream, and gives the status that comes with it.
-fn say_all<W: Write>(writer: &mut W, text: &str, due: u8) -> u8
+/// Prints a text on the one stream, and gives the status to end with.
+fn end_with<W: Write>(writer: &mut W, text: &str, due: u8) -> u8
     ensures { Puts text.now due (W.contents writer.old) (W.contents writer.new) result }
 {
-    match say(writer, text) {
+    match print_text(writer, text) {
         Ok(()) => due,
         Err(WriteFault) => DEVICE,
     }
 }
 
-/// Says which of the words was not understood and how to go on, and gives the status that comes with it.
-fn say_usage<O: Write, E: Write>(alloc: Global, words: &[String], out: &mut O, err: &mut E) -> u8
-    ensures { line_of (map string_bytes words.now) ≡ None
+/// Prints which of the words was not understood and how to go on, and gives the status that comes with it.
+fn print_usage<O: Write, E: Write>(
+    alloc: Global,
+    words: &[String],
+    fault: UsageFault,
+    out: &mut O,
+    err: &mut E,
+) -> u8
+    ensures { fault_of (map string_bytes words.now) ≡ Some fault
         → EndsAsUsage (map string_bytes words.now) (O.contents out.old) (O.contents out.new)
         (E.contents err.old) (E.contents err.new) result }
 {
-    match complaint(alloc, words) {
-        Ok(text) => say_all(err, text.as_str(), USAGE),
-        Err(_error) => tell(out, err, &Answer::Refused(Refusal::Memory)),
+    match complaint(alloc, words, fault) {
+        Ok(text) => end_with(err, text.as_str(), USAGE),
+        Err(_error) => print(out, err, &Answer::Refused(Refusal::Memory)),
     }
 }
 
@@ -205,21 +212,21 @@ pub fn run_from<S: Start, O: Write, E: Write>(
         result)) }
 {
     if let Some(text) = text_for(words) {
-        return say_all(out, text, DONE);
+        return end_with(out, text, DONE);
     }
     match read_words(rt.alloc(), words) {
-        Ok(line) => act(rt, line, start, out, err),
-        Err(LineFault::Usage) => say_usage(rt.alloc(), words, out, err),
-        Err(LineFault::Memory) => tell(out, err, &Answer::Refused(Refusal::Memory)),
+        Ok(line) => run_line(rt, line, start, out, err),
+        Err(LineFault::Usage(fault)) => print_usage(rt.alloc(), words, fault, out, err),
+        Err(LineFault::Memory) => print(out, err, &Answer::Refused(Refusal::Memory)),
     }
 }
 
-/// Tells a terminal that a script is awaited. Where that can't be said, the script is awaited all the same.
-pub fn say_awaiting<E: Write>(err: &mut E)
+/// Prints on a terminal that a script is awaited. Where that fails, the script is awaited all the same.
+pub fn print_awaiting<E: Write>(err: &mut E)
     ensures { Appends (E.contents err.old) (E.contents err.new) AWAITING.now
         ⊎ AppendsPart (E.contents err.old) (E.contents err.new) AWAITING.now }
 {
-    let _ = say(err, AWAITING);
+    let _ = print_text(err, AWAITING);
 }
 
 /// Answers where there was no memory to read the words of the command line, and gives the status to end with.

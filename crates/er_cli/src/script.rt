@@ -3,13 +3,13 @@ ghost use Rattle.sqlite.specs.Steps.{over_memory};
 ghost use Rattle.er_event.specs.Change.{created};
 ghost use Rattle.er_store.specs.Fault.{IsFault};
 ghost use Rattle.er_event.specs.Sound.{AreLimits};
-ghost use Rattle.er_desk.specs.Desk.{ShowsOwn, running_at, standing, version_in};
+ghost use Rattle.er_desk.specs.Desk.{ShowsOwn, running_at, desk_state, version_in};
 ghost use Rattle.er_desk.specs.History.{new_point};
 ghost use Rattle.er_words.specs.Fields.{script_action};
 ghost use Rattle.er_words.specs.declared.action.Action.TheVariants.{Init, Open};
 ghost use Rattle.er_words.specs.declared.action.Task.TheVariants.{Ask};
 ghost use Rattle.er_cli.specs.Answers.{reply_answer};
-ghost use Rattle.er_cli.specs.Script.{Acts, LineAnswers, HasOwnTables, Prints, PrintsPart, standing_of};
+ghost use Rattle.er_cli.specs.Script.{Acts, LineAnswers, HasOwnTables, Prints, PrintsPart, desk_state_of};
 
 use crate::answers::{answer, reply_answer};
 use crate::setup::set_up;
@@ -30,9 +30,9 @@ struct Runner {
 
 fn create_desk(alloc: Global, name: Name, rounds: u8, cut: u8) -> Result<Desk<MemStore>, Refusal>
     requires { AreLimits rounds cut }
-    ensures made { IfOk result (λ made. standing made
+    ensures made { IfOk result (λ made. desk_state made
         ≡ running_at (new_point name rounds cut) 2) }
-    ensures stands { IfOk result (ShowsOwn over_memory) }
+    ensures represents { IfOk result (ShowsOwn over_memory) }
     ensures version { IfOk result (λ made. version_in made ≡ 2) }
     ensures refused { IfErr result IsFault }
 {
@@ -47,8 +47,8 @@ fn create_desk(alloc: Global, name: Name, rounds: u8, cut: u8) -> Result<Desk<Me
 
 impl Runner {
     fn init(&mut self, name: &[u8], rounds: u8, cut: u8) -> Reply
-        ensures acts { Acts (standing_of self.old.desk) (Init name.now rounds cut)
-            (reply_answer result) (standing_of self.new.desk) }
+        ensures acts { Acts (desk_state_of self.old.desk) (Init name.now rounds cut)
+            (reply_answer result) (desk_state_of self.new.desk) }
         ensures written { HasOwnTables self.old.desk → HasOwnTables self.new.desk }
     {
         let name = set_up(self.alloc, name, rounds, cut)?;
@@ -62,8 +62,8 @@ impl Runner {
 
     fn ask(&mut self, request: Request) -> Answer
         requires { HasOwnTables self.old.desk }
-        ensures acts { Acts (standing_of self.old.desk) (Open (Ask request)) result
-            (standing_of self.new.desk) }
+        ensures acts { Acts (desk_state_of self.old.desk) (Open (Ask request)) result
+            (desk_state_of self.new.desk) }
         ensures written { HasOwnTables self.new.desk }
     {
         match &mut self.desk {
@@ -74,8 +74,8 @@ impl Runner {
 
     fn open(&mut self, task: Task) -> Answer
         requires { HasOwnTables self.old.desk }
-        ensures acts { Acts (standing_of self.old.desk) (Open task) result
-            (standing_of self.new.desk) }
+        ensures acts { Acts (desk_state_of self.old.desk) (Open task) result
+            (desk_state_of self.new.desk) }
         ensures written { HasOwnTables self.new.desk }
     {
         match task {
@@ -85,9 +85,10 @@ impl Runner {
         }
     }
 
-    fn act(&mut self, action: Action) -> Answer
+    fn run_action(&mut self, action: Action) -> Answer
         requires { HasOwnTables self.old.desk }
-        ensures acts { Acts (standing_of self.old.desk) action result (standing_of self.new.desk) }
+        ensures acts { Acts (desk_state_of self.old.desk) action result
+            (desk_state_of self.new.desk) }
         ensures written { HasOwnTables self.new.desk }
     {
         match action {
@@ -101,16 +102,16 @@ impl Runner {
     /// The answer to a line.
     fn answer(&mut self, line: &[u8]) -> Answer
         requires { HasOwnTables self.old.desk }
-        ensures answers { LineAnswers (standing_of self.old.desk) (script_action line.now) result
-            (standing_of self.new.desk) }
+        ensures answers { LineAnswers (desk_state_of self.old.desk) (script_action line.now) result
+            (desk_state_of self.new.desk) }
         ensures written { HasOwnTables self.new.desk }
     {
         match read_line(self.alloc, line) {
             Ok(line) => {
                 let (_script, action) = line.into_parts();
-                self.act(action)
+                self.run_action(action)
             }
-            Err(LineFault::Usage) => Answer::Usage,
+            Err(LineFault::Usage(_fault)) => Answer::Usage,
             Err(LineFault::Memory) => Answer::Refused(Refusal::Memory),
         }
     }

@@ -7,7 +7,7 @@ use crate::texts::{WriteFault, print_line};
 use crate::{DEVICE, DONE};
 use er_desk::Desk;
 use er_paper::ShortText;
-use er_slips::serve_one;
+use er_slips::{Routes, serve_one};
 use sqlite::Alter;
 use std::io::Write;
 use std::net::{TcpListener, TcpStream};
@@ -33,7 +33,7 @@ fn served_line(count: u32) -> ShortText
 }
 
 /// Serves the request of one client. One that goes away, or whose time is over, counts as served.
-fn serve_client<S: Alter>(rt: &HostRuntime, desk: &mut Desk<S>, stream: &TcpStream)
+fn serve_client<S: Alter>(rt: &HostRuntime, routes: &Routes, desk: &mut Desk<S>, stream: &TcpStream)
     ensures { AsksSome S.Store desk.old Connects desk.new }
 {
     // A client without a connection asks nothing of the file: this tells the proof.
@@ -42,7 +42,7 @@ fn serve_client<S: Alter>(rt: &HostRuntime, desk: &mut Desk<S>, stream: &TcpStre
         return;
     };
     let (mut reader, mut writer) = (client, client);
-    let _served = serve_one(rt.alloc(), desk, &mut reader, &mut writer);
+    let _served = serve_one(rt.alloc(), routes, desk, &mut reader, &mut writer);
 }
 
 /// The listener gave no connection.
@@ -52,6 +52,7 @@ struct AcceptFault;
 /// Serves so many clients, one after the other.
 fn serve_clients<S: Alter>(
     rt: &HostRuntime,
+    routes: &Routes,
     desk: &mut Desk<S>,
     listener: &TcpListener,
     count: u32,
@@ -66,7 +67,7 @@ fn serve_clients<S: Alter>(
         let Ok((stream, _address)) = listener.accept() else {
             return Err(AcceptFault);
         };
-        serve_client(rt, desk, &stream);
+        serve_client(rt, routes, desk, &stream);
     }
     Ok(())
 }
@@ -76,6 +77,7 @@ fn serve_clients<S: Alter>(
 /// each read, ten for each write, and thirty in all: then it counts as served too, and the next one is taken.
 pub fn serve_on<S: Alter, W: Write>(
     rt: &HostRuntime,
+    routes: &Routes,
     desk: &mut Desk<S>,
     listener: &TcpListener,
     count: u32,
@@ -93,7 +95,7 @@ pub fn serve_on<S: Alter, W: Write>(
     let Ok(()) = print_line(out, &listening_line(address.port())) else {
         return DEVICE;
     };
-    let Ok(()) = serve_clients(rt, desk, listener, count) else {
+    let Ok(()) = serve_clients(rt, routes, desk, listener, count) else {
         return DEVICE;
     };
     match print_line(out, &served_line(count)) {

@@ -25,7 +25,8 @@ use Rattle.sqlite.specs.{Files.HoldsDatabase, Held.{Held, state}}
 use Rattle.sqlite_wal.specs.Recovery.{Image}
 use Rattle.er_event.specs.{Event.EventValue, declared.events.parts.Parts.Parts, declared.refusals.Place.Place}
 use Rattle.er_event.specs.declared.refusals.Refusal.TheVariants.{Memory, NoEvent, Damaged}
-use Rattle.er_store.specs.{Damage.ReadsParts, Reading.KeepsTables, Standing.{StandsFor, IsStored, IsStoredIn, Shows, Leaves, ReadsEvent}}
+use Rattle.er_store.specs.{Damage.ReadsParts, Reading.KeepsTables}
+use Rattle.er_store.specs.{Representing.{Represents, IsStored, IsStoredIn, Shows, Leaves, ReadsEvent}}
 use Rattle.er_store.specs.declared.Store.{Store}
 use Rattle.er_desk.specs.{Desk.Point, Headline.{IsEmptyFile, WasLeft}, Opening.{HoldsNothing, IsSpared, LeavesAll, NamesFirstFault}}
 use Rattle.er_desk.proofs.Turns.{unchanged_keeps}
@@ -40,7 +41,7 @@ shows_as v s e f m n event serial shows = rw (event, serial) shows
 
 -- what is stored in a version is stored
 pub stored_either : {v : ℕ} {e : EventValue} {n : ℕ} {trees : Trees} → IsStoredIn v e n trees → IsStored e n trees
-stored_either it = record { schema = it.schema; sound = it.sound; stands = (it.stands.layout, it.stands.stands) }
+stored_either it = record { schema = it.schema; sound = it.sound; represents = (it.represents.layout, it.represents.represents) }
 
 pub stored_or : {v : ℕ} {e : EventValue} {n : ℕ} {trees : Trees} {P : Type 0} → P ⊎ IsStoredIn v e n trees → P ⊎ IsStored e n trees
 stored_or (inl before) = inl before
@@ -98,10 +99,10 @@ module _ (s : State) (image : Image) (opened : Opens s × IsLive s) (found : Fin
   sees : (db : Trees) → HoldsDatabase image db → s.now.trees ≡ db
   sees db holds = ap (λ (d : Database). d.trees) opened.0.clean ∙ found.holds db holds
 
-  -- what a crash left stands for its event again
-  pub opened_stands : (point : Point) → ((db : Database) (e : EventValue) (n : ℕ) → IsDatabase db → IsStored e n db.trees
-      → StandsFor db e n) → WasLeft image point → StandsFor s.now point.event point.serial
-  opened_stands point law (db, holds, stored) = law s.now point.event point.serial (opened.1 opened.0.is_open).0
+  -- what a crash left represents its event again
+  pub opened_represents : (point : Point) → ((db : Database) (e : EventValue) (n : ℕ) → IsDatabase db → IsStored e n db.trees
+      → Represents db e n) → WasLeft image point → Represents s.now point.event point.serial
+  opened_represents point law (db, holds, stored) = law s.now point.event point.serial (opened.1 opened.0.is_open).0
       (subst (IsStored point.event point.serial) (sym (∥∥₁_elim holds (Trees-set _ _) (sees db))) stored)
 
   pub sees_unchanged : (new : State) (db : Trees) → HoldsDatabase image db → IsUnchanged s new

@@ -9,8 +9,9 @@ use Rattle.sqlite_trees.specs.declared.store.Store.{Ghosts}
 use Rattle.sqlite.specs.{Tree.Trees, State.{HasCleanDisk, IsUnchanged}}
 use Rattle.er_event.specs.{declared.commands.Command.Command, Event.EventValue}
 use Rattle.er_rules.specs.Step.{Steps}
-use Rattle.er_store.specs.{Reading.KeepsTables, Standing.{KeepsOthers, Leaves, Shows}}
-use Rattle.er_desk.specs.{Reply.Reply, Desk.{Point, Standing, Turn, ShowsOwn, point_of, state, standing, version_in}, declared.desk.Desk.Desk}
+use Rattle.er_store.specs.{Reading.KeepsTables, Representing.{KeepsOthers, Leaves, Shows}}
+use Rattle.er_desk.specs.{Reply.Reply, Desk.{Point, DeskState, Turn, ShowsOwn, point_of, state, desk_state, version_in}}
+use Rattle.er_desk.specs.{declared.desk.Desk.Desk}
 use Rattle.er_desk.specs.{Headline.{LeavesJust, LeavesEither, LeavesEnd}, Run.{Session, session_of, no_session, EndsAfterKept}}
 use Rattle.er_desk.specs.{Run.{EndsWithDoubt, IsStoredEnd, Runs, acknowledged, last_tried, tried_or}, History.LeadsTo}
 use Rattle.er_desk.specs.Asking.{Asks, Submits, joined, later_doubt}
@@ -27,55 +28,57 @@ waited_session c true = refl
 waited_session c false = refl
 
 module _ {S : Type 0} (g : Ghosts S) (old new : Desk S g) (c : Command) where
-  stored_now : (r : Reply) → Turn (standing old) c r (standing new)
-      → OnOk r (LeavesJust (state g new) (point_of (standing new)))
-      → IfErr r (λ _. IsFalse (standing new).stopped → LeavesJust (state g new) (point_of (standing old)))
-      → IsFalse (standing new).stopped → LeavesJust (state g new) (point_of (standing new))
+  stored_now : (r : Reply) → Turn (desk_state old) c r (desk_state new)
+      → OnOk r (LeavesJust (state g new) (point_of (desk_state new)))
+      → IfErr r (λ _. IsFalse (desk_state new).stopped → LeavesJust (state g new) (point_of (desk_state old)))
+      → IsFalse (desk_state new).stopped → LeavesJust (state g new) (point_of (desk_state new))
   stored_now (Ok it) turn done refused runs = done
   stored_now (Err why) turn done refused runs =
-      subst (λ (p : Point). LeavesJust (state g new) p) (sym (stays (standing old) (standing new) c why turn)) (refused runs)
+      subst (λ (p : Point). LeavesJust (state g new) p) (sym (stays (desk_state old) (desk_state new) c why turn)) (refused runs)
 
-  module _ (r : Reply) (turn : Turn (standing old) c r (standing new)) where
-    pub command_sure : IsFalse (standing new).stopped → (session_of (c ∷ []) (r ∷ []) (standing new).stopped).doubt ≡ None
+  module _ (r : Reply) (turn : Turn (desk_state old) c r (desk_state new)) where
+    pub command_sure : IsFalse (desk_state new).stopped → (session_of (c ∷ []) (r ∷ []) (desk_state new).stopped).doubt ≡ None
     command_sure runs = rw runs refl
 
-    pub command_leads : LeadsTo (point_of (standing old)) (session_of (c ∷ []) (r ∷ []) (standing new).stopped).kept
-        (point_of (standing new))
-    command_leads = runs_lead (standing old) (standing new) (c ∷ []) (r ∷ []) (standing new, turn, refl)
+    pub command_leads : LeadsTo (point_of (desk_state old)) (session_of (c ∷ []) (r ∷ []) (desk_state new).stopped).kept
+        (point_of (desk_state new))
+    command_leads = runs_lead (desk_state old) (desk_state new) (c ∷ []) (r ∷ []) (desk_state new, turn, refl)
 
-    pub command_waits : (IsTrue (standing old).stopped → new ≡ old) → IsTrue (standing old).stopped
-        → (new ≡ old) × (session_of (c ∷ []) (r ∷ []) (standing new).stopped ≡ no_session)
+    pub command_waits : (IsTrue (desk_state old).stopped → new ≡ old) → IsTrue (desk_state old).stopped
+        → (new ≡ old) × (session_of (c ∷ []) (r ∷ []) (desk_state new).stopped ≡ no_session)
     command_waits same stopped = (
       same stopped,
-      subst (λ (x : Reply). session_of (c ∷ []) (x ∷ []) (standing new).stopped ≡ no_session)
-          (sym (waits_of (standing old) (standing new) c r turn stopped)) (waited_session c (standing new).stopped),
+      subst (λ (x : Reply). session_of (c ∷ []) (x ∷ []) (desk_state new).stopped ≡ no_session)
+          (sym (waits_of (desk_state old) (desk_state new) c r turn stopped)) (waited_session c (desk_state new).stopped),
     )
 
-    pub command_crash : (IsTrue (standing old).stopped → new ≡ old) → (ShowsOwn g old → LeavesJust (state g old) (point_of (standing old)))
-        → (ShowsOwn g old → OnOk r (LeavesJust (state g new) (point_of (standing new))))
-        → (IsFalse (standing old).stopped → ShowsOwn g old → LeavesEither (state g new) (point_of (standing old)) c)
+    pub command_crash : (IsTrue (desk_state old).stopped → new ≡ old) → (ShowsOwn g old
+        → LeavesJust (state g old) (point_of (desk_state old)))
+        → (ShowsOwn g old → OnOk r (LeavesJust (state g new) (point_of (desk_state new))))
+        → (IsFalse (desk_state old).stopped → ShowsOwn g old → LeavesEither (state g new) (point_of (desk_state old)) c)
         → (ShowsOwn g old
-        → IfErr r (λ _. IsFalse (standing new).stopped → LeavesJust (state g new) (point_of (standing old))))
-        → ShowsOwn g old → LeavesEnd (state g new) (point_of (standing old)) (session_of (c ∷ []) (r ∷ []) (standing new).stopped)
-    command_crash same left done undecided refused shows clean trees may = by_start (standing old).stopped refl
+        → IfErr r (λ _. IsFalse (desk_state new).stopped → LeavesJust (state g new) (point_of (desk_state old))))
+        → ShowsOwn g old → LeavesEnd (state g new) (point_of (desk_state old)) (session_of (c ∷ []) (r ∷ []) (desk_state new).stopped)
+    command_crash same left done undecided refused shows clean trees may = by_start (desk_state old).stopped refl
       where
-        by_stop : IsFalse (standing old).stopped → (b : Bool) → (standing new).stopped ≡ b
-            → IsStoredEnd (point_of (standing old)) (session_of (c ∷ []) (r ∷ []) (standing new).stopped) trees
-        by_stop runs true is = subst (λ (b : Bool). IsStoredEnd (point_of (standing old)) (session_of (c ∷ []) (r ∷ []) b) trees) (sym is)
-            (session_stops (standing old) (standing old) (standing new) [] [] c r trees refl
-            (stops_now (standing old) (standing new) c r runs is turn) (undecided runs shows clean trees may))
-        by_stop runs false is = subst (λ (b : Bool). IsStoredEnd (point_of (standing old)) (session_of (c ∷ []) (r ∷ []) b) trees) (sym is)
-            (session_goes_on (standing old) (standing new) (c ∷ []) (r ∷ []) trees (standing new, turn, refl)
+        by_stop : IsFalse (desk_state old).stopped → (b : Bool) → (desk_state new).stopped ≡ b
+            → IsStoredEnd (point_of (desk_state old)) (session_of (c ∷ []) (r ∷ []) (desk_state new).stopped) trees
+        by_stop runs true is = subst (λ (b : Bool). IsStoredEnd (point_of (desk_state old)) (session_of (c ∷ []) (r ∷ []) b) trees) (sym is)
+            (session_stops (desk_state old) (desk_state old) (desk_state new) [] [] c r trees refl
+            (stops_now (desk_state old) (desk_state new) c r runs is turn) (undecided runs shows clean trees may))
+        by_stop runs false is = subst (λ (b : Bool). IsStoredEnd (point_of (desk_state old)) (session_of (c ∷ []) (r ∷ []) b) trees)
+            (sym is)
+            (session_goes_on (desk_state old) (desk_state new) (c ∷ []) (r ∷ []) trees (desk_state new, turn, refl)
             (stored_now r turn (done shows) (refused shows) is clean trees may))
 
-        by_start : (b : Bool) → (standing old).stopped ≡ b
-            → IsStoredEnd (point_of (standing old)) (session_of (c ∷ []) (r ∷ []) (standing new).stopped) trees
+        by_start : (b : Bool) → (desk_state old).stopped ≡ b
+            → IsStoredEnd (point_of (desk_state old)) (session_of (c ∷ []) (r ∷ []) (desk_state new).stopped) trees
         by_start true is =
             let waited = command_waits same is in
-            subst (λ (s : Session). IsStoredEnd (point_of (standing old)) s trees) (sym waited.1)
-            (quiet_end (point_of (standing old)) trees
-            (subst (λ (d : Desk S g). LeavesJust (state g d) (point_of (standing old))) (sym waited.0) (left shows) clean trees may))
-        by_start false is = by_stop is (standing new).stopped refl
+            subst (λ (s : Session). IsStoredEnd (point_of (desk_state old)) s trees) (sym waited.1)
+            (quiet_end (point_of (desk_state old)) trees
+            (subst (λ (d : Desk S g). LeavesJust (state g d) (point_of (desk_state old))) (sym waited.0) (left shows) clean trees may))
+        by_start false is = by_stop is (desk_state new).stopped refl
 
 -- ---- two
 
@@ -129,44 +132,44 @@ none_then (x ∷ xs) ys none = absurd (cc)
 
 module _ {S : Type 0} (g : Ghosts S) (old mid new : Desk S g) (s t : Session) (one : Asks g old s mid) (two : Asks g mid t new) where
   -- a desk that runs has run before
-  ran : IsFalse (standing new).stopped → IsFalse (standing mid).stopped
-  ran runs = by_stop (standing mid).stopped refl
+  ran : IsFalse (desk_state new).stopped → IsFalse (desk_state mid).stopped
+  ran runs = by_stop (desk_state mid).stopped refl
     where
-      by_stop : (b : Bool) → (standing mid).stopped ≡ b → IsFalse (standing mid).stopped
-      by_stop true is = absurd (true≢false (sym (ap (λ (d : Desk S g). (standing d).stopped) (two.waits is).0 ∙ is) ∙ runs))
+      by_stop : (b : Bool) → (desk_state mid).stopped ≡ b → IsFalse (desk_state mid).stopped
+      by_stop true is = absurd (true≢false (sym (ap (λ (d : Desk S g). (desk_state d).stopped) (two.waits is).0 ∙ is) ∙ runs))
       by_stop false is = is
 
-  both_wait : IsTrue (standing old).stopped → (new ≡ old) × (joined s t ≡ no_session)
+  both_wait : IsTrue (desk_state old).stopped → (new ≡ old) × (joined s t ≡ no_session)
   both_wait stopped =
       let before = one.waits stopped in
-      let after = two.waits (ap (λ (d : Desk S g). (standing d).stopped) before.0 ∙ stopped) in (
+      let after = two.waits (ap (λ (d : Desk S g). (desk_state d).stopped) before.0 ∙ stopped) in (
         after.0 ∙ before.0,
         subst (λ (a : Session). joined a t ≡ no_session) (sym before.1)
             (subst (λ (b : Session). joined no_session b ≡ no_session) (sym after.1) refl),
       )
 
-  both_crash : ShowsOwn g old → LeavesEnd (state g new) (point_of (standing old)) (joined s t)
-  both_crash shows clean trees may = by_stop (standing mid).stopped refl
+  both_crash : ShowsOwn g old → LeavesEnd (state g new) (point_of (desk_state old)) (joined s t)
+  both_crash shows clean trees may = by_stop (desk_state mid).stopped refl
     where
-      by_stop : (b : Bool) → (standing mid).stopped ≡ b → IsStoredEnd (point_of (standing old)) (joined s t) trees
+      by_stop : (b : Bool) → (desk_state mid).stopped ≡ b → IsStoredEnd (point_of (desk_state old)) (joined s t) trees
       by_stop true is =
           let after = two.waits is in
-          subst (λ (x : Session). IsStoredEnd (point_of (standing old)) x trees)
+          subst (λ (x : Session). IsStoredEnd (point_of (desk_state old)) x trees)
           (sym (subst (λ (b : Session). joined s b ≡ s) (sym after.1) (joined_none s)))
           (one.crash shows (two.clean clean) trees (subst (λ (d : Desk S g). (state g d).may_leave trees) after.0 may))
-      by_stop false is = joined_end (point_of (standing old)) (point_of (standing mid)) s t one.leads (one.sure is) trees
-          (two.crash (one.stands (two.clean clean) shows is) clean trees may)
+      by_stop false is = joined_end (point_of (desk_state old)) (point_of (desk_state mid)) s t one.leads (one.sure is) trees
+          (two.crash (one.represents (two.clean clean) shows is) clean trees may)
 
   both_kept : (joined s t).kept ≡ [] → HasCleanDisk (state g new) → ShowsOwn g old → KeepsTables (state g old) (state g new)
-  both_kept none clean shows = by_stop (standing mid).stopped refl
+  both_kept none clean shows = by_stop (desk_state mid).stopped refl
     where
       before : KeepsTables (state g old) (state g mid)
       before = one.kept (none_first s.kept t.kept none) (two.clean clean) shows
 
-      by_stop : (b : Bool) → (standing mid).stopped ≡ b → KeepsTables (state g old) (state g new)
+      by_stop : (b : Bool) → (desk_state mid).stopped ≡ b → KeepsTables (state g old) (state g new)
       by_stop true is = subst (λ (d : Desk S g). KeepsTables (state g old) (state g d)) (sym (two.waits is).0) before
       by_stop false is = λ settled is_open.
-          let here = one.stands (two.clean clean) shows is in
+          let here = one.represents (two.clean clean) shows is in
           let first = before settled here.is_open in
           let later = two.kept (none_then s.kept t.kept none) clean here here.settled is_open in
           (later.0 ∙ first.0, later.1 ∙ first.0)
@@ -174,11 +177,12 @@ module _ {S : Type 0} (g : Ghosts S) (old mid new : Desk S g) (s t : Session) (o
   pub asks_joined : Asks g old (joined s t) new
   asks_joined = record {
     waits = both_wait;
-    leads = leads_then (point_of (standing old)) (point_of (standing mid)) (point_of (standing new)) s.kept t.kept one.leads two.leads;
+    leads = leads_then (point_of (desk_state old)) (point_of (desk_state mid)) (point_of (desk_state new)) s.kept t.kept one.leads
+        two.leads;
     sure = λ runs. later_alone s.doubt t.doubt (one.sure (ran runs)) ∙ two.sure runs;
     clean = λ clean. one.clean (two.clean clean);
-    stands = λ clean shows runs. two.stands clean (one.stands (two.clean clean) shows (ran runs)) runs;
-    others = λ clean shows. keeps_more g old mid new one.version (λ stopped. (two.waits stopped).0) (one.stands (two.clean clean) shows)
+    represents = λ clean shows runs. two.represents clean (one.represents (two.clean clean) shows (ran runs)) runs;
+    others = λ clean shows. keeps_more g old mid new one.version (λ stopped. (two.waits stopped).0) (one.represents (two.clean clean) shows)
         (one.others (two.clean clean) shows) (two.others clean);
     kept = both_kept;
     version = two.version ∙ one.version;
@@ -188,45 +192,46 @@ module _ {S : Type 0} (g : Ghosts S) (old mid new : Desk S g) (s t : Session) (o
 -- ---- nothing
 
 -- a desk that only reads
-pub reading_asks : {S : Type 0} (g : Ghosts S) (old new : Desk S g) → (IsTrue (standing old).stopped → new ≡ old)
-    → point_of (standing new) ≡ point_of (standing old) → (HasCleanDisk (state g new) → HasCleanDisk (state g old))
-    → (HasCleanDisk (state g new) → ShowsOwn g old → IsFalse (standing new).stopped → ShowsOwn g new)
+pub reading_asks : {S : Type 0} (g : Ghosts S) (old new : Desk S g) → (IsTrue (desk_state old).stopped → new ≡ old)
+    → point_of (desk_state new) ≡ point_of (desk_state old) → (HasCleanDisk (state g new) → HasCleanDisk (state g old))
+    → (HasCleanDisk (state g new) → ShowsOwn g old → IsFalse (desk_state new).stopped → ShowsOwn g new)
     → (HasCleanDisk (state g new) → ShowsOwn g old → IsTrue (state g new).is_open
     → KeepsOthers (version_in old) (state g old).now (state g new).now)
     → (HasCleanDisk (state g new) → KeepsTables (state g old) (state g new))
-    → version_in new ≡ version_in old → (ShowsOwn g old → LeavesJust (state g new) (point_of (standing old))) → Asks g old no_session new
-reading_asks g old new waits same clean stands others kept version crash = record {
+    → version_in new ≡ version_in old → (ShowsOwn g old → LeavesJust (state g new) (point_of (desk_state old))) → Asks g old no_session new
+reading_asks g old new waits same clean represents others kept version crash = record {
   waits = λ stopped. (waits stopped, refl);
   leads = record { event = ap (λ (p : Point). p.event) same; serial = ap (λ (p : Point). p.serial) same ∙ omega arith };
   sure = λ runs. refl;
   clean = clean;
-  stands = stands;
+  represents = represents;
   others = others;
   kept = λ none now shows. kept now;
   version = version;
-  crash = λ shows clean trees may. quiet_end (point_of (standing old)) trees (crash shows clean trees may);
+  crash = λ shows clean trees may. quiet_end (point_of (desk_state old)) trees (crash shows clean trees may);
 }
 
 -- a desk that reads nothing of its tables, as one that was just adopted
-pub same_asks : {S : Type 0} (g : Ghosts S) (desk : Desk S g) → (ShowsOwn g desk → LeavesJust (state g desk) (point_of (standing desk)))
+pub same_asks : {S : Type 0} (g : Ghosts S) (desk : Desk S g) → (ShowsOwn g desk → LeavesJust (state g desk) (point_of (desk_state desk)))
     → Asks g desk no_session desk
 same_asks g desk crash = reading_asks g desk desk (λ _. refl) refl (λ clean. clean) (λ clean shows runs. shows)
     (λ clean shows is_open. keeps_self _ (state g desk).now) (λ clean. same_keeps (state g desk)) refl crash
 
 -- a desk whose store has read something
 module _ {S A : Type 0} (g : Ghosts S) (old new : Desk S g) (Fails : Refusal → Type 0) (read : Result A Refusal) where
-  pub read_asks : IsFalse (standing old).stopped → point_of (standing new) ≡ point_of (standing old) → version_in new ≡ version_in old
-      → MatchResult read (λ _. IsFalse (standing new).stopped) Fails → (HasCleanDisk (state g new) → HasCleanDisk (state g old))
-      → (HasCleanDisk (state g new) → IsFalse (standing new).stopped → IsUnchanged (state g old) (state g new))
+  pub read_asks : IsFalse (desk_state old).stopped → point_of (desk_state new) ≡ point_of (desk_state old) → version_in new ≡ version_in old
+      → MatchResult read (λ _. IsFalse (desk_state new).stopped) Fails → (HasCleanDisk (state g new) → HasCleanDisk (state g old))
+      → (HasCleanDisk (state g new) → IsFalse (desk_state new).stopped → IsUnchanged (state g old) (state g new))
       → (HasCleanDisk (state g new) → OnErr read (KeepsTables (state g old) (state g new))) → Leaves (state g new) (state g old).may_leave
-      → (ShowsOwn g old → LeavesJust (state g old) (point_of (standing old))) → Asks g old no_session new
+      → (ShowsOwn g old → LeavesJust (state g old) (point_of (desk_state old))) → Asks g old no_session new
   read_asks runs same version stops clean still kept crash left =
       reading_asks g old new (λ stopped. absurd (true≢false (sym stopped ∙ runs))) same clean
       (λ now shows runs. subst (λ (p : Point). Shows (version_in new) (state g new) p.event p.serial) (sym same)
       (still_shows (version_in old) (version_in new) (state g old) (state g new) old.event old.serial version shows (still now runs)))
-      (λ now shows is_open. read_others Fails read (standing new).stopped (version_in old) (state g old) (state g new) shows.settled is_open
+      (λ now shows is_open. read_others Fails read (desk_state new).stopped (version_in old) (state g old) (state g new)
+      shows.settled is_open
       stops (still now) (kept now))
-      (λ now. read_keeps Fails read (standing new).stopped (state g old) (state g new) stops (still now) (kept now))
+      (λ now. read_keeps Fails read (desk_state new).stopped (state g old) (state g new) stops (still now) (kept now))
       version (λ shows now trees may. left shows (clean now) trees (crash now trees may))
 
 -- ---- one command, whole
@@ -236,25 +241,26 @@ unless_kept : (c : Command) (r : Reply) (P : Type 0) → acknowledged (c ∷ [])
 unless_kept c (Ok it) P none kept = absurd (cc)
 unless_kept c (Err why) P none kept = kept
 
-module _ {S : Type 0} (g : Ghosts S) (old new : Desk S g) (c : Command) (r : Reply) (turn : Turn (standing old) c r (standing new)) where
+module _ {S : Type 0} (g : Ghosts S) (old new : Desk S g) (c : Command) (r : Reply)
+    (turn : Turn (desk_state old) c r (desk_state new)) where
   -- what one command does to the file
-  pub command_asks : (IsTrue (standing old).stopped → new ≡ old) → (HasCleanDisk (state g new) → HasCleanDisk (state g old))
-      → (HasCleanDisk (state g new) → ShowsOwn g old → IsFalse (standing new).stopped → ShowsOwn g new)
+  pub command_asks : (IsTrue (desk_state old).stopped → new ≡ old) → (HasCleanDisk (state g new) → HasCleanDisk (state g old))
+      → (HasCleanDisk (state g new) → ShowsOwn g old → IsFalse (desk_state new).stopped → ShowsOwn g new)
       → (HasCleanDisk (state g new) → ShowsOwn g old → IsTrue (state g new).is_open
       → KeepsOthers (version_in old) (state g old).now (state g new).now)
       → (HasCleanDisk (state g new) → OnErr r (KeepsTables (state g old) (state g new)))
-      → version_in new ≡ version_in old → (ShowsOwn g old → LeavesJust (state g old) (point_of (standing old)))
-      → (ShowsOwn g old → OnOk r (LeavesJust (state g new) (point_of (standing new))))
-      → (IsFalse (standing old).stopped → ShowsOwn g old → LeavesEither (state g new) (point_of (standing old)) c)
+      → version_in new ≡ version_in old → (ShowsOwn g old → LeavesJust (state g old) (point_of (desk_state old)))
+      → (ShowsOwn g old → OnOk r (LeavesJust (state g new) (point_of (desk_state new))))
+      → (IsFalse (desk_state old).stopped → ShowsOwn g old → LeavesEither (state g new) (point_of (desk_state old)) c)
       → (ShowsOwn g old
-      → IfErr r (λ _. IsFalse (standing new).stopped → LeavesJust (state g new) (point_of (standing old))))
-      → Asks g old (session_of (c ∷ []) (r ∷ []) (standing new).stopped) new
-  command_asks waits clean stands others kept version left done undecided refused = record {
+      → IfErr r (λ _. IsFalse (desk_state new).stopped → LeavesJust (state g new) (point_of (desk_state old))))
+      → Asks g old (session_of (c ∷ []) (r ∷ []) (desk_state new).stopped) new
+  command_asks waits clean represents others kept version left done undecided refused = record {
     waits = command_waits g old new c r turn waits;
     leads = command_leads g old new c r turn;
     sure = command_sure g old new c r turn;
     clean = clean;
-    stands = stands;
+    represents = represents;
     others = others;
     kept = λ none now shows. unless_kept c r (KeepsTables (state g old) (state g new)) none (kept now);
     version = version;
@@ -263,9 +269,9 @@ module _ {S : Type 0} (g : Ghosts S) (old new : Desk S g) (c : Command) (r : Rep
 
 -- a refusal that leaves the desk as it is
 module _ {S : Type 0} (g : Ghosts S) (desk : Desk S g) (c : Command) where
-  pub refused_submits : (r : Reply) → Turn (standing desk) c r (standing desk)
-      → (ShowsOwn g desk → LeavesJust (state g desk) (point_of (standing desk))) → Submits g desk c r desk
-  refused_submits (Ok it) turn left = absurd (no_more (accepts_of (standing desk) (standing desk) c it turn).serial_is)
+  pub refused_submits : (r : Reply) → Turn (desk_state desk) c r (desk_state desk)
+      → (ShowsOwn g desk → LeavesJust (state g desk) (point_of (desk_state desk))) → Submits g desk c r desk
+  refused_submits (Ok it) turn left = absurd (no_more (accepts_of (desk_state desk) (desk_state desk) c it turn).serial_is)
     where
       no_more : desk.serial ≡ desk.serial + 1 → ⊥
       no_more is = omega (arith, is)
@@ -290,7 +296,7 @@ tried_later : (one two : Option Command) (d : Command) (s : Reply) → tried_or 
 tried_later one None d s = refl
 tried_later one (Some later) d s = refl
 
-kept_push : (old mid : Standing) (cs : List Command) (rs : List Reply) (c : Command) (r : Reply) → Runs old cs rs mid
+kept_push : (old mid : DeskState) (cs : List Command) (rs : List Reply) (c : Command) (r : Reply) → Runs old cs rs mid
     → acknowledged (cs ++ c ∷ []) (rs ++ r ∷ []) ≡ acknowledged cs rs ++ acknowledged (c ∷ []) (r ∷ [])
 kept_push old mid [] [] c r is = refl
 kept_push old mid [] (s ∷ rs) c r is = absurd is
@@ -298,7 +304,7 @@ kept_push old mid (d ∷ cs) [] c r is = absurd is
 kept_push old mid (d ∷ cs) (Ok it ∷ rs) c r is = ap (λ (xs : List Command). d ∷ xs) (kept_push is.0 mid cs rs c r is.2)
 kept_push old mid (d ∷ cs) (Err e ∷ rs) c r is = kept_push is.0 mid cs rs c r is.2
 
-tried_last : (old mid : Standing) (cs : List Command) (rs : List Reply) (c : Command) (r : Reply) → Runs old cs rs mid
+tried_last : (old mid : DeskState) (cs : List Command) (rs : List Reply) (c : Command) (r : Reply) → Runs old cs rs mid
     → last_tried (cs ++ c ∷ []) (rs ++ r ∷ []) ≡ later_doubt (last_tried cs rs) (tried_or None c r)
 tried_last old mid [] [] c r is = later_none (tried_or None c r)
 tried_last old mid [] (s ∷ rs) c r is = absurd is
@@ -308,7 +314,7 @@ tried_last old mid (d ∷ cs) (s ∷ rs) c r is =
 
 -- The session of a list and of one command more. A desk that was stopped tries no more of it, and one that runs has
 -- nothing in doubt.
-pub session_push : (old mid new : Standing) (cs : List Command) (rs : List Reply) (c : Command) (r : Reply) → Runs old cs rs mid
+pub session_push : (old mid new : DeskState) (cs : List Command) (rs : List Reply) (c : Command) (r : Reply) → Runs old cs rs mid
     → Turn mid c r new
     → joined (session_of cs rs mid.stopped) (session_of (c ∷ []) (r ∷ []) new.stopped)
     ≡ session_of (cs ++ c ∷ []) (rs ++ r ∷ []) new.stopped
@@ -330,9 +336,9 @@ session_push old mid new cs rs c r runs turn =
         ∙ sym (tried_last old mid cs rs c r runs ∙ ap (λ (o : Option Command). later_doubt (last_tried cs rs) o) tried)
 
 pub empty_asks : {S : Type 0} (g : Ghosts S) (desk : Desk S g)
-    → (ShowsOwn g desk → LeavesJust (state g desk) (point_of (standing desk)))
-    → Asks g desk (session_of [] [] (standing desk).stopped) desk
-empty_asks g desk crash = subst (λ (s : Session). Asks g desk s desk) (sym (empty (standing desk).stopped)) (same_asks g desk crash)
+    → (ShowsOwn g desk → LeavesJust (state g desk) (point_of (desk_state desk)))
+    → Asks g desk (session_of [] [] (desk_state desk).stopped) desk
+empty_asks g desk crash = subst (λ (s : Session). Asks g desk s desk) (sym (empty (desk_state desk).stopped)) (same_asks g desk crash)
   where
     empty : (b : Bool) → session_of [] [] b ≡ no_session
     empty true = refl

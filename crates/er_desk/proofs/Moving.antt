@@ -1,7 +1,7 @@
 -- A history with migrations is one without them.
 use Rattle.std.proofs.Common.{Some, ◌≡◌, ◌⊎◌, inl, inr, List, [], ◌∷◌, ap, ◌∙◌, refl}
 use Rattle.er_desk.specs.{History.IsHistory}
-use Rattle.er_desk.specs.Migrations.{Asked, Submits, Migrates, Placed, MovingEnded, MayEndIn, IsMovingHistory, version_after}
+use Rattle.er_desk.specs.Migrations.{Request, Submits, Migrates, Placed, MovingEnded, MayEndIn, IsMovingHistory, version_after}
 use Rattle.er_desk.specs.Migrations.{without_migrations}
 
 pub passes_over : (first : Placed) (ends : List MovingEnded) (last : Placed) → IsMovingHistory first ends last
@@ -10,7 +10,7 @@ passes_over first [] last is = ap (λ (p : Placed). p.point) is
 passes_over first (it ∷ more) last (ends, rest) = (ends.point, passes_over it.last more last rest)
 
 -- version 2 stays
-stays_second : (asked : List Asked) → version_after 2 asked ≡ 2
+stays_second : (asked : List Request) → version_after 2 asked ≡ 2
 stays_second [] = refl
 stays_second (Submits command ∷ more) = stays_second more
 stays_second (Migrates ∷ more) = stays_second more

@@ -6,7 +6,7 @@ use Rattle.sqlite_wal.specs.Recovery.{Image}
 use Rattle.er_event.specs.declared.commands.Command.{Command}
 use Rattle.er_event.specs.Event.{EventValue}
 use Rattle.er_rules.specs.{Sound.IsSound, Step.Steps}
-use Rattle.er_store.specs.Standing.{IsStored}
+use Rattle.er_store.specs.Representing.{IsStored}
 use Rattle.er_desk.specs.{Desk.{Point}}
 use Rattle.er_desk.specs.{Run.{Session, MayEnd, IsStoredEnd, no_session}}
 use Rattle.er_desk.specs.{History.{Ended, IsHistory, LeadsTo}, Headline.{Histories, IsEndOf, NextBegins}}
@@ -45,7 +45,7 @@ module _ (law : Histories) (new first : Point) (ends : List Ended) (begins : IsB
       let history = history_more new first ends (record { session = session; last = last }) was may in
       record { last = last; history = history; is_end = ends_so (and_then ends session last) last history; stored = stored }
 
-  -- files that stand for the sure end of the session were left by the history with it
+  -- files that represent the sure end of the session were left by the history with it
   pub next_leaves : (session : Session) (last : Point) (left : Image) → LeadsTo first session.kept last → session.doubt ≡ None
       → WasLeft left last → WasLeftBy left new (and_then ends session last) last
   next_leaves session last left leads sure stored = record {

@@ -5,45 +5,45 @@ use Rattle.std.specs.List.{slice_get}
 use Rattle.er_event.specs.{declared.commands.Command.Command, declared.refusals.Cause.Cause, declared.refusals.Refusal.TheVariants.Store}
 use Rattle.er_event.specs.{declared.refusals.Refusal.TheVariants.NeedsReopen, Event.EventValue}
 use Rattle.er_rules.specs.Fold.{Folds}
-use Rattle.er_desk.specs.{Reply.{Reply, IsLawful}, Desk.{Standing, Stops, Turn}, Run.{Runs, acknowledged, FailsAt, IsRun}}
+use Rattle.er_desk.specs.{Reply.{Reply, IsLawful}, Desk.{DeskState, Stops, Turn}, Run.{Runs, acknowledged, FailsAt, IsRun}}
 use Rattle.er_desk.proofs.{Turns.{turn_fault, waits_of, stops_of, stopped_of}, Running.runs_lead}
 
 -- once stopped, it stays so
-runs_stopped : (old new : Standing) (cs : List Command) (rs : List Reply) → Runs old cs rs new → IsTrue old.stopped → IsTrue new.stopped
-runs_stopped old new [] [] is was = ap (λ (s : Standing). s.stopped) is ∙ was
+runs_stopped : (old new : DeskState) (cs : List Command) (rs : List Reply) → Runs old cs rs new → IsTrue old.stopped → IsTrue new.stopped
+runs_stopped old new [] [] is was = ap (λ (s : DeskState). s.stopped) is ∙ was
 runs_stopped old new [] (r ∷ rs) is was = absurd is
 runs_stopped old new (c ∷ cs) [] is was = absurd is
 runs_stopped old new (c ∷ cs) (r ∷ rs) (mid, turn, rest) was = runs_stopped mid new cs rs rest (stopped_of old mid c r turn (inl was))
 
 -- each reply is lawful, or the desk is stopped
-pub turn_lawful : (old new : Standing) (c : Command) (r : Reply) → Turn old c r new
+pub turn_lawful : (old new : DeskState) (c : Command) (r : Reply) → Turn old c r new
     → IsLawful old.version old.event old.serial c r ⊎ ((r ≡ Err NeedsReopen) × IsTrue old.stopped)
 turn_lawful old new c r h1 = grind (arith, common_steps)
 
 -- the version stays
-turn_version : (old new : Standing) (c : Command) (r : Reply) → Turn old c r new → new.version ≡ old.version
+turn_version : (old new : DeskState) (c : Command) (r : Reply) → Turn old c r new → new.version ≡ old.version
 turn_version old new c r (inl it) = it.version_is
-turn_version old new c r (inr (inl it)) = ap (λ (s : Standing). s.version) it.same
-turn_version old new c r (inr (inr (inl it))) = ap (λ (s : Standing). s.version) it.stopped
-turn_version old new c r (inr (inr (inr it))) = ap (λ (s : Standing). s.version) it.same
+turn_version old new c r (inr (inl it)) = ap (λ (s : DeskState). s.version) it.same
+turn_version old new c r (inr (inr (inl it))) = ap (λ (s : DeskState). s.version) it.stopped
+turn_version old new c r (inr (inr (inr it))) = ap (λ (s : DeskState). s.version) it.same
 
-runs_version : (old new : Standing) (cs : List Command) (rs : List Reply) → Runs old cs rs new → new.version ≡ old.version
-runs_version old new [] [] is = ap (λ (s : Standing). s.version) is
+runs_version : (old new : DeskState) (cs : List Command) (rs : List Reply) → Runs old cs rs new → new.version ≡ old.version
+runs_version old new [] [] is = ap (λ (s : DeskState). s.version) is
 runs_version old new [] (r ∷ rs) is = absurd is
 runs_version old new (c ∷ cs) [] is = absurd is
 runs_version old new (c ∷ cs) (r ∷ rs) (mid, turn, rest) = runs_version mid new cs rs rest ∙ turn_version old mid c r turn
 
 -- at each place
-abbrev At : Standing → List Command → List Reply → Standing → ℕ → Command → Reply → Type 0
+abbrev At : DeskState → List Command → List Reply → DeskState → ℕ → Command → Reply → Type 0
 At old cs rs new k c r =
     (mid : EventValue) × Folds old.event (acknowledged (take k cs) (take k rs)) mid
     × (IsLawful old.version mid (old.serial + length (acknowledged (take k cs) (take k rs))) c r
     ⊎ ((r ≡ Err NeedsReopen) × IsTrue new.stopped))
 
 -- the runs before and after a place
-split : (old new : Standing) (cs : List Command) (rs : List Reply) (k : ℕ) (c : Command) (r : Reply) → Runs old cs rs new
+split : (old new : DeskState) (cs : List Command) (rs : List Reply) (k : ℕ) (c : Command) (r : Reply) → Runs old cs rs new
     → slice_get cs k ≡ Some c → slice_get rs k ≡ Some r
-    → (mid : Standing) × (next : Standing) × Runs old (take k cs) (take k rs) mid × Turn mid c r next
+    → (mid : DeskState) × (next : DeskState) × Runs old (take k cs) (take k rs) mid × Turn mid c r next
     × (IsTrue next.stopped → IsTrue new.stopped)
 split old new [] rs k c r is at there = absurd (none-some c at)
 split old new (x ∷ cs) [] k c r is at there = absurd (none-some r there)
@@ -53,7 +53,7 @@ split old new (x ∷ cs) (y ∷ rs) (suc k) c r (mid, turn, rest) at there =
     (more.0, more.1, (mid, turn, more.2), more.3, more.4)
 
 -- a stopped desk answers each command alike
-all_wait : (old new : Standing) (cs : List Command) (rs : List Reply) → Runs old cs rs new → IsTrue old.stopped → (k : ℕ) (r : Reply)
+all_wait : (old new : DeskState) (cs : List Command) (rs : List Reply) → Runs old cs rs new → IsTrue old.stopped → (k : ℕ) (r : Reply)
     → slice_get rs k ≡ Some r → r ≡ Err NeedsReopen
 all_wait old new cs [] is was k r at = absurd (none-some r at)
 all_wait old new [] (y ∷ rs) is was k r at = absurd is
@@ -62,9 +62,9 @@ all_wait old new (c ∷ cs) (y ∷ rs) (mid, turn, rest) was (suc k) r at =
     all_wait mid new cs rs rest (stopped_of old mid c y turn (inl was)) k r at
 
 -- a fault of the store is behind a desk that stops
-runs_stopped_by : (old new : Standing) (cs : List Command) (rs : List Reply) → Runs old cs rs new → IsTrue new.stopped
+runs_stopped_by : (old new : DeskState) (cs : List Command) (rs : List Reply) → Runs old cs rs new → IsTrue new.stopped
     → IsTrue old.stopped ⊎ ((k : ℕ) × FailsAt rs k)
-runs_stopped_by old new [] [] is stopped = inl (sym (ap (λ (s : Standing). s.stopped) is) ∙ stopped)
+runs_stopped_by old new [] [] is stopped = inl (sym (ap (λ (s : DeskState). s.stopped) is) ∙ stopped)
 runs_stopped_by old new [] (r ∷ rs) is stopped = absurd is
 runs_stopped_by old new (c ∷ cs) [] is stopped = absurd is
 runs_stopped_by old new (c ∷ cs) (r ∷ rs) (mid, turn, rest) stopped = elim (runs_stopped_by mid new cs rs rest stopped) [
@@ -86,14 +86,14 @@ runs_stopped_by old new (c ∷ cs) (r ∷ rs) (mid, turn, rest) stopped = elim (
     by_turn was (inr stops) = inr (0, ((stops.why, stops.fault, ap (λ (x : Reply). Some x) stops.answered), first was))
 
 -- and each fault stops it
-runs_fault : (old new : Standing) (cs : List Command) (rs : List Reply) → Runs old cs rs new → (k : ℕ) (cause : Cause)
+runs_fault : (old new : DeskState) (cs : List Command) (rs : List Reply) → Runs old cs rs new → (k : ℕ) (cause : Cause)
     → slice_get rs k ≡ Some (Err (Store cause)) → IsTrue new.stopped
 runs_fault old new cs [] is k cause at = absurd (none-some _ at)
 runs_fault old new [] (r ∷ rs) is k cause at = absurd is
 runs_fault old new (c ∷ cs) (r ∷ rs) (mid, turn, rest) zero cause at = grind (arith, common_steps, runs_stopped, same_Some, turn_fault)
 runs_fault old new (c ∷ cs) (r ∷ rs) (mid, turn, rest) (suc k) cause at = runs_fault mid new cs rs rest k cause at
 
-pub runs_plain : (old new : Standing) (cs : List Command) (rs : List Reply) → Runs old cs rs new → IsRun old cs rs new
+pub runs_plain : (old new : DeskState) (cs : List Command) (rs : List Reply) → Runs old cs rs new → IsRun old cs rs new
 runs_plain old new cs rs is =
     let leads = runs_lead old new cs rs is in
     record {
@@ -107,7 +107,7 @@ runs_plain old new cs rs is =
       stops = runs_fault old new cs rs is;
     }
   where
-    same_count : (old new : Standing) (cs : List Command) (rs : List Reply) → Runs old cs rs new → length rs ≡ length cs
+    same_count : (old new : DeskState) (cs : List Command) (rs : List Reply) → Runs old cs rs new → length rs ≡ length cs
     same_count old new [] [] is = refl
     same_count old new [] (r ∷ rs) is = absurd is
     same_count old new (c ∷ cs) [] is = absurd is

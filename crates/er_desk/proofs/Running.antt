@@ -6,9 +6,9 @@ use Rattle.sqlite.specs.{Tree.Trees}
 use Rattle.er_event.specs.{declared.commands.Command.Command, declared.commands.Receipt.Receipt, declared.refusals.Refusal.Refusal}
 use Rattle.er_event.specs.{declared.refusals.Refusal.TheVariants.NeedsReopen, Event.EventValue}
 use Rattle.er_rules.specs.Step.{Steps, Answers}
-use Rattle.er_store.specs.{Fault.IsFault, Standing.{IsStored, Either, KeepsOthers}}
+use Rattle.er_store.specs.{Fault.IsFault, Representing.{IsStored, Either, KeepsOthers}}
 use Rattle.er_desk.specs.{Reply.Reply}
-use Rattle.er_desk.specs.{Desk.{Point, Standing, Accepts, Stops, Turn, ShowsOwn, IsStoredAfter, point_of, state, standing, version_in}}
+use Rattle.er_desk.specs.{Desk.{Point, DeskState, Accepts, Stops, Turn, ShowsOwn, IsStoredAfter, point_of, state, desk_state, version_in}}
 use Rattle.er_desk.specs.{declared.desk.Desk.Desk, Run.{Runs, acknowledged, tried_or}}
 use Rattle.er_desk.specs.{Run.{last_tried, Session, session_of, EndsAfterKept, EndsWithDoubt, IsStoredEnd}, History.LeadsTo}
 use Rattle.er_desk.proofs.Turns.{stops_of, keeps_then}
@@ -22,30 +22,30 @@ no_receipt receipt why is = cc
 pub steps_of : (event next : EventValue) (command : Command) → Answers event command (Ok next) → Steps event command (Ok next)
 steps_of event next command h1 = grind (arith, common_steps)
 
-pub accepts_of : (old new : Standing) (command : Command) (receipt : Receipt) → Turn old command (Ok receipt) new
+pub accepts_of : (old new : DeskState) (command : Command) (receipt : Receipt) → Turn old command (Ok receipt) new
     → Accepts old command (Ok receipt) new
 accepts_of old new command receipt h1 = grind (arith, common_steps)
 
 -- a refusal leaves the event and its serial
-pub stays : (old new : Standing) (command : Command) (why : Refusal) → Turn old command (Err why) new → point_of new ≡ point_of old
+pub stays : (old new : DeskState) (command : Command) (why : Refusal) → Turn old command (Err why) new → point_of new ≡ point_of old
 stays old new command why h1 = grind (arith, common_steps)
 
-pub stops_now : (old new : Standing) (command : Command) (reply : Reply) → IsFalse old.stopped → IsTrue new.stopped
+pub stops_now : (old new : DeskState) (command : Command) (reply : Reply) → IsFalse old.stopped → IsTrue new.stopped
     → Turn old command reply new → Stops old command reply new
 stops_now old new command reply runs stopped turn =
     elim (stops_of old new command reply turn stopped) [ inl was ↦ absurd (true≢false (sym was ∙ runs)) | inr stops ↦ stops ]
 
 -- ---- many
 
-pub runs_push : (old mid new : Standing) (cs : List Command) (rs : List Reply) (c : Command) (r : Reply) → Runs old cs rs mid
+pub runs_push : (old mid new : DeskState) (cs : List Command) (rs : List Reply) (c : Command) (r : Reply) → Runs old cs rs mid
     → Turn mid c r new → Runs old (cs ++ c ∷ []) (rs ++ r ∷ []) new
-runs_push old mid new [] [] c r is turn = (new, subst (λ (s : Standing). Turn s c r new) is turn, refl)
+runs_push old mid new [] [] c r is turn = (new, subst (λ (s : DeskState). Turn s c r new) is turn, refl)
 runs_push old mid new [] (s ∷ rs) c r is turn = absurd is
 runs_push old mid new (d ∷ cs) [] c r is turn = absurd is
 runs_push old mid new (d ∷ cs) (s ∷ rs) c r is turn = (is.0, is.1, runs_push is.0 mid new cs rs c r is.2 turn)
 
--- the acknowledged commands lead to where the desk stands
-pub runs_lead : (old new : Standing) (cs : List Command) (rs : List Reply) → Runs old cs rs new
+-- the acknowledged commands lead to the desk's state
+pub runs_lead : (old new : DeskState) (cs : List Command) (rs : List Reply) → Runs old cs rs new
     → LeadsTo (point_of old) (acknowledged cs rs) (point_of new)
 runs_lead old new [] [] is = grind (arith, common_steps)
 runs_lead old new [] (r ∷ rs) is = absurd is
@@ -58,7 +58,7 @@ runs_lead old new (c ∷ cs) (Ok r ∷ rs) (mid, turn, rest) =
     record { event = (mid.event, steps_of old.event mid.event c it.taken, more.event); serial = omega arith }
 runs_lead old new (c ∷ cs) (Err why ∷ rs) (mid, turn, rest) = grind (arith, common_steps, runs_lead mid new cs rs rest)
 
-refused_push : (old mid : Standing) (cs : List Command) (rs : List Reply) (c : Command) (why : Refusal) → Runs old cs rs mid
+refused_push : (old mid : DeskState) (cs : List Command) (rs : List Reply) (c : Command) (why : Refusal) → Runs old cs rs mid
     → acknowledged (cs ++ c ∷ []) (rs ++ Err why ∷ []) ≡ acknowledged cs rs
 refused_push old mid [] [] c why is = refl
 refused_push old mid [] (s ∷ rs) c why is = absurd is
@@ -66,14 +66,14 @@ refused_push old mid (d ∷ cs) [] c why is = absurd is
 refused_push old mid (d ∷ cs) (Ok r ∷ rs) c why is = ap (λ (xs : List Command). d ∷ xs) (refused_push is.0 mid cs rs c why is.2)
 refused_push old mid (d ∷ cs) (Err e ∷ rs) c why is = refused_push is.0 mid cs rs c why is.2
 
-waited_push : (old mid : Standing) (cs : List Command) (rs : List Reply) (c : Command) → Runs old cs rs mid
+waited_push : (old mid : DeskState) (cs : List Command) (rs : List Reply) (c : Command) → Runs old cs rs mid
     → last_tried (cs ++ c ∷ []) (rs ++ Err NeedsReopen ∷ []) ≡ last_tried cs rs
 waited_push old mid [] [] c is = refl
 waited_push old mid [] (s ∷ rs) c is = absurd is
 waited_push old mid (d ∷ cs) [] c is = absurd is
 waited_push old mid (d ∷ cs) (s ∷ rs) c is = ap (λ (o : Option Command). tried_or o d s) (waited_push is.0 mid cs rs c is.2)
 
-tried_push : (old mid : Standing) (cs : List Command) (rs : List Reply) (c : Command) (r : Reply) → tried_or None c r ≡ Some c
+tried_push : (old mid : DeskState) (cs : List Command) (rs : List Reply) (c : Command) (r : Reply) → tried_or None c r ≡ Some c
     → Runs old cs rs mid → last_tried (cs ++ c ∷ []) (rs ++ r ∷ []) ≡ Some c
 tried_push old mid [] [] c r tried is = tried
 tried_push old mid [] (s ∷ rs) c r tried is = absurd is
@@ -86,12 +86,12 @@ fault_tried c why h1 = grind (arith, common_steps)
 -- ---- sessions
 
 -- a command that finds the desk stopped changes nothing of the session
-pub session_waits : (old mid : Standing) (cs : List Command) (rs : List Reply) (c : Command) (r : Reply) → r ≡ Err NeedsReopen
+pub session_waits : (old mid : DeskState) (cs : List Command) (rs : List Reply) (c : Command) (r : Reply) → r ≡ Err NeedsReopen
     → Runs old cs rs mid → session_of (cs ++ c ∷ []) (rs ++ r ∷ []) true ≡ session_of cs rs true
 session_waits old mid cs rs c r answer is = grind (arith, common_steps, refused_push, waited_push)
 
 -- where the doubt is a command that the step takes, the session may end before or after it
-ends_either : (first : Point) (mid : Standing) (s : Session) (c : Command) (next : EventValue) (trees : Trees)
+ends_either : (first : Point) (mid : DeskState) (s : Session) (c : Command) (next : EventValue) (trees : Trees)
     → LeadsTo first s.kept (point_of mid) → s.doubt ≡ Some c → Steps mid.event c (Ok next)
     → Either (IsStored mid.event mid.serial) (IsStoredAfter mid.event mid.serial c) trees → IsStoredEnd first s trees
 ends_either first mid s c next trees leads doubt steps left =
@@ -108,7 +108,7 @@ ends_either first mid s c next trees leads doubt steps left =
     ]
 
 -- the store has failed in this command
-pub session_stops : (old mid new : Standing) (cs : List Command) (rs : List Reply) (c : Command) (r : Reply) (trees : Trees)
+pub session_stops : (old mid new : DeskState) (cs : List Command) (rs : List Reply) (c : Command) (r : Reply) (trees : Trees)
     → Runs old cs rs mid → Stops mid c r new
     → Either (IsStored mid.event mid.serial) (IsStoredAfter mid.event mid.serial c) trees
     → IsStoredEnd (point_of old) (session_of (cs ++ c ∷ []) (rs ++ r ∷ []) true) trees
@@ -120,13 +120,13 @@ session_stops old mid new cs rs c r trees is it left =
     (tried_push old mid cs rs c (Err it.why) (fault_tried c it.why it.fault) is) (steps_of mid.event it.next c it.taken) left)
 
 -- it has not failed
-pub session_goes_on : (old new : Standing) (cs : List Command) (rs : List Reply) (trees : Trees) → Runs old cs rs new
+pub session_goes_on : (old new : DeskState) (cs : List Command) (rs : List Reply) (trees : Trees) → Runs old cs rs new
     → IsStored new.event new.serial trees → IsStoredEnd (point_of old) (session_of cs rs false) trees
 session_goes_on old new cs rs trees is stored =
     let leads = runs_lead old new cs rs is in
     (point_of new, inl (record { event = leads.event; serial = leads.serial; taken = tt }), stored)
 
-pub was_running : (old new : Standing) (command : Command) (reply : Reply) → IsFalse new.stopped → Turn old command reply new
+pub was_running : (old new : DeskState) (command : Command) (reply : Reply) → IsFalse new.stopped → Turn old command reply new
     → IsFalse old.stopped
 was_running old new command reply runs h1 = grind (arith, common_steps)
 
@@ -134,17 +134,17 @@ was_running old new command reply runs h1 = grind (arith, common_steps)
 
 -- other tables stay from one command to the next, also where the desk has stopped
 module _ {S : Type 0} (g : Ghosts S) (first old new : Desk S g) where
-  pub keeps_more : version_in old ≡ version_in first → (IsTrue (standing old).stopped → new ≡ old)
-      → (IsFalse (standing old).stopped → ShowsOwn g old)
+  pub keeps_more : version_in old ≡ version_in first → (IsTrue (desk_state old).stopped → new ≡ old)
+      → (IsFalse (desk_state old).stopped → ShowsOwn g old)
       → (IsTrue (state g old).is_open → KeepsOthers (version_in first) (state g first).now (state g old).now)
       → (ShowsOwn g old → IsTrue (state g new).is_open → KeepsOthers (version_in old) (state g old).now (state g new).now)
       → IsTrue (state g new).is_open → KeepsOthers (version_in first) (state g first).now (state g new).now
-  keeps_more version waits stands before more is_open = by_stop (standing old).stopped refl
+  keeps_more version waits represents before more is_open = by_stop (desk_state old).stopped refl
     where
-      by_stop : (b : Bool) → (standing old).stopped ≡ b → KeepsOthers (version_in first) (state g first).now (state g new).now
+      by_stop : (b : Bool) → (desk_state old).stopped ≡ b → KeepsOthers (version_in first) (state g first).now (state g new).now
       by_stop true is = subst (λ (d : Desk S g). KeepsOthers (version_in first) (state g first).now (state g d).now) (sym (waits is))
           (before (subst (λ (d : Desk S g). IsTrue (state g d).is_open) (waits is) is_open))
       by_stop false is =
-          let shows = stands is in
+          let shows = represents is in
           keeps_then (version_in first) (state g first).now (state g old).now (state g new).now (before shows.is_open)
           (subst (λ v. KeepsOthers v (state g old).now (state g new).now) version (more shows is_open))

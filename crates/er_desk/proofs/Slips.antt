@@ -4,8 +4,8 @@ use Rattle.std.proofs.Common.{refl, sym, ap, ap₂, subst, ◌∙◌}
 use Rattle.sqlite.specs.{Effect.{Database, IsDatabase}, State.{State, IsUnchanged}}
 use Rattle.er_event.specs.declared.refusals.Refusal.{Refusal}
 use Rattle.er_event.specs.Event.{EventValue}
-use Rattle.er_store.specs.{Fault.IsReadFault, Reading.KeepsTables, Standing.{KeepsOthers, StandsIn, Shows}}
-use Rattle.er_desk.specs.Desk.{Standing, Reads}
+use Rattle.er_store.specs.{Fault.IsReadFault, Reading.KeepsTables, Representing.{KeepsOthers, RepresentsIn, Shows}}
+use Rattle.er_desk.specs.Desk.{DeskState, Reads}
 use Rattle.er_desk.proofs.Turns.{keeps_self, unchanged_keeps}
 
 keeps_same : (version : ℕ) (old new : Database) → new ≡ old → KeepsOthers version old new
@@ -27,7 +27,7 @@ read_keeps Fails (Ok row) stopped old new still same kept = unchanged_keeps old 
 read_keeps Fails (Err why) stopped old new stops same kept = kept
 
 -- what is read leaves the desk as it is, or stops it
-pub reads : {A : Type 0} (passing : Refusal) (old : Standing) (v : ℕ) (is : Bool) (read : Result A Refusal) → IsFalse old.stopped
+pub reads : {A : Type 0} (passing : Refusal) (old : DeskState) (v : ℕ) (is : Bool) (read : Result A Refusal) → IsFalse old.stopped
     → v ≡ old.version → MatchResult read (λ _. IsFalse is) (λ why. ((why ≡ passing) × IsFalse is) ⊎ (IsReadFault why × IsTrue is))
     → Reads passing old read (record old { version = v; stopped = is })
 reads passing old v is (Ok row) runs same still =
@@ -40,13 +40,14 @@ reads passing old v is (Err why) runs same (inl (passes, still)) = inl (
 reads passing old v is (Err why) runs same (inr (fault, stopped)) =
     inr (inl (runs, ap₂ (λ (n : ℕ) (b : Bool). record old { version = n; stopped = b }) same stopped, why, fault, refl))
 
--- and the tables stand for its event
+-- and the tables represent its event
 pub still_shows : (v w : ℕ) (old new : State) (e : EventValue) (n : ℕ) → w ≡ v → Shows v old e n → IsUnchanged old new → Shows w new e n
 still_shows v w old new e n is shows same = record {
   is_open = same.0.is_open;
   sound = subst IsDatabase (sym same.0.now_is) shows.sound;
   settled = same.0.now_is ∙ shows.settled ∙ sym same.0.committed_is;
-  stands = subst (λ (db : Database). StandsIn w db e n) (sym same.0.now_is) (subst (λ k. StandsIn k old.now e n) (sym is) shows.stands);
+  represents = subst (λ (db : Database). RepresentsIn w db e n) (sym same.0.now_is)
+      (subst (λ k. RepresentsIn k old.now e n) (sym is) shows.represents);
 }
 
 -- what is known of either outcome, of one of them

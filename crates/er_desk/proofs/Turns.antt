@@ -9,8 +9,9 @@ use Rattle.er_event.specs.{declared.refusals.Cause.Cause, declared.commands.Comm
 use Rattle.er_event.specs.{declared.refusals.Refusal.Refusal, declared.refusals.Refusal.TheVariants.{Memory, Budget, SerialFull, BadSetup, Store}}
 use Rattle.er_event.specs.{declared.refusals.Refusal.TheVariants.NeedsReopen, Event.EventValue}
 use Rattle.er_rules.specs.{Late.is_late, Refusing.IsOfRules, Step.{Answers, NeedsMoreSteps}}
-use Rattle.er_store.specs.{Fault.IsFault, Reading.KeepsTables, Standing.{IsOther, HasTablesAt, KeepsOthers}, Layout.Layout}
-use Rattle.er_desk.specs.{Reply.{Reply, reply_to, receipt, IsDue}, Desk.{Standing, Turn, Stops, ShowsOwn, IsOwn, point_of, state, standing}}
+use Rattle.er_store.specs.{Fault.IsFault, Reading.KeepsTables, Representing.{IsOther, HasTablesAt, KeepsOthers}, Layout.Layout}
+use Rattle.er_desk.specs.{Reply.{Reply, reply_to, receipt, IsDue}}
+use Rattle.er_desk.specs.{Desk.{DeskState, Turn, Stops, ShowsOwn, IsOwn, point_of, state, desk_state}}
 use Rattle.er_desk.specs.{Headline.LeavesJust, declared.desk.Desk.Desk}
 
 -- ---- replies
@@ -26,7 +27,7 @@ module _ (version : ℕ) (event : EventValue) (serial : ℕ) (command : Command)
       → Ok (receipt (serial + 1)) ≡ reply_to version event serial command (Ok next)
   reply-low low in_time = let other : eqb serial 999999 ≡ false = grind (arith, nat_tests) in rw (other, in_time) refl
 
-module _ (old : Standing) (runs : IsFalse old.stopped) (command : Command) where
+module _ (old : DeskState) (runs : IsFalse old.stopped) (command : Command) where
   declines : (why : Refusal) → (why ≡ Memory) ⊎ IsDue old.version old.event old.serial command (Err why) → IsOwn why
       → Turn old command (Err why) old
   declines why cause own = inr (inl (record { was_running = runs; same = refl; why = why; answered = refl; cause = cause; own = own }))
@@ -59,20 +60,20 @@ module _ (old : Standing) (runs : IsFalse old.stopped) (command : Command) where
       declines BadSetup (inr (Ok next, taken, reply-late old.version old.event old.serial command next room late)) (inr (inr (inl refl)))
 
   -- it is written, or not
-  pub written : (new : Standing) (result : Reply) (next : EventValue) (Same : Type 0) → (Same → new ≡ old)
+  pub written : (new : DeskState) (result : Reply) (next : EventValue) (Same : Type 0) → (Same → new ≡ old)
       → Answers old.event command (Ok next) → old.serial < 999999 → IsFalse (is_late old.version old.event command)
       → IfOk result (λ r. (new ≡ record old { event = next; serial = old.serial + 1 }) × (r.serial ≡ old.serial + 1))
       → IfErr result (λ why. (Same × (why ≡ Memory)) ⊎ ((new ≡ record old { stopped = true }) × IsFault why))
       → Turn old command result new
   written new (Ok r) next Same same taken room in_time (is, numbered) refused =
-      let serial = ap (λ (s : Standing). s.serial) is in inl (record {
+      let serial = ap (λ (s : DeskState). s.serial) is in inl (record {
         was_running = runs;
-        taken = subst (λ (e : EventValue). Answers old.event command (Ok e)) (sym (ap (λ (s : Standing). s.event) is)) taken;
+        taken = subst (λ (e : EventValue). Answers old.event command (Ok e)) (sym (ap (λ (s : DeskState). s.event) is)) taken;
         room = room;
         in_time = in_time;
         serial_is = serial;
-        version_is = ap (λ (s : Standing). s.version) is;
-        runs = ap (λ (s : Standing). s.stopped) is ∙ runs;
+        version_is = ap (λ (s : DeskState). s.version) is;
+        runs = ap (λ (s : DeskState). s.stopped) is ∙ runs;
         answered = ap (λ (n : ℕ). Ok (receipt n)) (numbered ∙ sym serial);
       })
   written new (Err e) next Same same taken room in_time done (inl own) =
@@ -89,10 +90,10 @@ module _ (old : Standing) (runs : IsFalse old.stopped) (command : Command) where
     answered = refl;
   })))
 
-pub standing_same : (a b : EventValue) (n v w : ℕ) (s t : Bool) → a ≡ b → v ≡ w → s ≡ t
-    → (let it : Standing = record { event = a; serial = n; version = v; stopped = s } in it)
+pub desk_state_same : (a b : EventValue) (n v w : ℕ) (s t : Bool) → a ≡ b → v ≡ w → s ≡ t
+    → (let it : DeskState = record { event = a; serial = n; version = v; stopped = s } in it)
     ≡ record { event = b; serial = n; version = w; stopped = t }
-standing_same a b n v w s t events versions stops = cc
+desk_state_same a b n v w s t events versions stops = cc
 
 -- ---- what a turn tells
 
@@ -120,13 +121,13 @@ fault_reopen : IsFault NeedsReopen → ⊥
 fault_reopen (inl memory) = cc
 fault_reopen (inr refused) = cc
 
-module _ (old new : Standing) (command : Command) (result : Reply) where
+module _ (old new : DeskState) (command : Command) (result : Reply) where
   -- a fault of the store stops the desk
   pub turn_fault : Turn old command result new → (cause : Cause) → result ≡ Err (Store cause) → IsTrue new.stopped
   turn_fault (inl it) cause is = absurd (no_receipt _ _ (sym it.answered ∙ is))
   turn_fault (inr (inl it)) cause is = absurd (own_store cause (subst IsOwn (same_refusal _ _ (sym it.answered ∙ is)) it.own))
-  turn_fault (inr (inr (inl it))) cause is = ap (λ (s : Standing). s.stopped) it.stopped
-  turn_fault (inr (inr (inr it))) cause is = ap (λ (s : Standing). s.stopped) it.same ∙ it.was_stopped
+  turn_fault (inr (inr (inl it))) cause is = ap (λ (s : DeskState). s.stopped) it.stopped
+  turn_fault (inr (inr (inr it))) cause is = ap (λ (s : DeskState). s.stopped) it.same ∙ it.was_stopped
 
   -- and only a stopped desk asks for reopening
   pub turn_asks : Turn old command result new → result ≡ Err NeedsReopen → IsTrue old.stopped
@@ -143,16 +144,16 @@ module _ (old new : Standing) (command : Command) (result : Reply) where
 
   pub stops_of : Turn old command result new → IsTrue new.stopped → IsTrue old.stopped ⊎ Stops old command result new
   stops_of (inl it) stopped = absurd (true≢false (sym stopped ∙ it.runs))
-  stops_of (inr (inl it)) stopped = inl (sym (ap (λ (s : Standing). s.stopped) it.same) ∙ stopped)
+  stops_of (inr (inl it)) stopped = inl (sym (ap (λ (s : DeskState). s.stopped) it.same) ∙ stopped)
   stops_of (inr (inr (inl it))) stopped = inr it
   stops_of (inr (inr (inr it))) stopped = inl it.was_stopped
 
   pub stopped_of : Turn old command result new → IsTrue old.stopped ⊎ Stops old command result new → IsTrue new.stopped
-  stopped_of turn (inr stops) = ap (λ (s : Standing). s.stopped) stops.stopped
+  stopped_of turn (inr stops) = ap (λ (s : DeskState). s.stopped) stops.stopped
   stopped_of (inl it) (inl was) = absurd (true≢false (sym was ∙ it.was_running))
-  stopped_of (inr (inl it)) (inl was) = ap (λ (s : Standing). s.stopped) it.same ∙ was
-  stopped_of (inr (inr (inl it))) (inl was) = ap (λ (s : Standing). s.stopped) it.stopped
-  stopped_of (inr (inr (inr it))) (inl was) = ap (λ (s : Standing). s.stopped) it.same ∙ was
+  stopped_of (inr (inl it)) (inl was) = ap (λ (s : DeskState). s.stopped) it.same ∙ was
+  stopped_of (inr (inr (inl it))) (inl was) = ap (λ (s : DeskState). s.stopped) it.stopped
+  stopped_of (inr (inr (inr it))) (inl was) = ap (λ (s : DeskState). s.stopped) it.same ∙ was
 
 -- ---- the budget
 
@@ -167,7 +168,7 @@ no_budget : (why : Refusal) (steps : ℕ) → (why ≡ SerialFull) ⊎ (why ≡ 
 no_budget why steps (inl full) is = cc
 no_budget why steps (inr late) is = cc
 
-module _ (old new : Standing) (command : Command) where
+module _ (old new : DeskState) (command : Command) where
   -- where the search has too few steps, the step said so
   pub turn_budget : (result : Reply) → Turn old command result new → (steps : ℕ) → result ≡ Err (Budget steps)
       → Answers old.event command (Err (Budget steps))
@@ -251,29 +252,29 @@ if_error P Q (Err e) more h = more e h
 
 module _ {S : Type 0} (g : Ghosts S) (old new : Desk S g) (result : Reply) where
   abbrev pub Unwritten : Refusal → Type 0
-  Unwritten why = ((new ≡ old) × (why ≡ Memory)) ⊎ ((standing new ≡ record (standing old) { stopped = true }) × IsFault why)
+  Unwritten why = ((new ≡ old) × (why ≡ Memory)) ⊎ ((desk_state new ≡ record (desk_state old) { stopped = true }) × IsFault why)
 
   abbrev pub IsUnwritten : Type 0
   IsUnwritten = IfErr result Unwritten
 
-  stops : standing new ≡ record (standing old) { stopped = true } → IsFalse (standing new).stopped → ⊥
-  stops is runs = true≢false (sym (ap (λ (s : Standing). s.stopped) is) ∙ runs)
+  stops : desk_state new ≡ record (desk_state old) { stopped = true } → IsFalse (desk_state new).stopped → ⊥
+  stops is runs = true≢false (sym (ap (λ (s : DeskState). s.stopped) is) ∙ runs)
 
-  pub same_unless : IsUnwritten → IfErr result (λ _. IsFalse (standing new).stopped → new ≡ old)
+  pub same_unless : IsUnwritten → IfErr result (λ _. IsFalse (desk_state new).stopped → new ≡ old)
   same_unless refused = if_error _ _ result same refused
     where
-      same : (why : Refusal) → Unwritten why → IsFalse (standing new).stopped → new ≡ old
+      same : (why : Refusal) → Unwritten why → IsFalse (desk_state new).stopped → new ≡ old
       same why (inl own) runs = own.0
       same why (inr is) runs = absurd (stops is.0 runs)
 
-  pub stands_after : ShowsOwn g old → OnOk result (ShowsOwn g new) → IsUnwritten → IsFalse (standing new).stopped → ShowsOwn g new
-  stands_after shows done refused runs = grind (arith, common_steps)
+  pub represents_after : ShowsOwn g old → OnOk result (ShowsOwn g new) → IsUnwritten → IsFalse (desk_state new).stopped → ShowsOwn g new
+  represents_after shows done refused runs = grind (arith, common_steps)
 
-  pub leaves_refused : LeavesJust (state g old) (point_of (standing old)) → IsUnwritten
-      → IfErr result (λ _. IsFalse (standing new).stopped → LeavesJust (state g new) (point_of (standing old)))
+  pub leaves_refused : LeavesJust (state g old) (point_of (desk_state old)) → IsUnwritten
+      → IfErr result (λ _. IsFalse (desk_state new).stopped → LeavesJust (state g new) (point_of (desk_state old)))
   leaves_refused leaves refused = if_error _ _ result left refused
     where
-      left : (why : Refusal) → Unwritten why → IsFalse (standing new).stopped → LeavesJust (state g new) (point_of (standing old))
+      left : (why : Refusal) → Unwritten why → IsFalse (desk_state new).stopped → LeavesJust (state g new) (point_of (desk_state old))
       left why (inl own) runs =
-          subst (λ (d : Desk S g). LeavesJust (state g d) (point_of (standing old))) (sym own.0) leaves
+          subst (λ (d : Desk S g). LeavesJust (state g d) (point_of (desk_state old))) (sym own.0) leaves
       left why (inr is) runs = absurd (stops is.0 runs)

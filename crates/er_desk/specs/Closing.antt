@@ -12,10 +12,10 @@ use Rattle.sqlite.specs.Tree.{Trees}
 use Rattle.sqlite.specs.State.{HasCleanDisk}
 use Rattle.sqlite.specs.declared.error.Error.{Error}
 use Rattle.sqlite.specs.Files.{image_of, over_files, FailsToClose}
-use Rattle.er_store.specs.Standing.{IsStored}
+use Rattle.er_store.specs.Representing.{IsStored}
 use Rattle.er_store.specs.Store.{connection}
 use Rattle.er_desk.specs.declared.desk.Desk.{Desk}
-use Rattle.er_desk.specs.Desk.{Point, ShowsOwn, point_of, state, standing}
+use Rattle.er_desk.specs.Desk.{Point, ShowsOwn, point_of, state, desk_state}
 use Rattle.er_desk.specs.Headline.{WasLeft}
 
 -- the event's file holds this event and this serial, with its log and without it
@@ -33,17 +33,17 @@ module _ {D : Type 0} {g : Ghosts D} (desk : Desk (FileStore D g) over_files) wh
   abbrev pub LeavesNoMore : FileStore D g → Type 0
   LeavesNoMore last = (trees : Trees) → recovers last trees → (state over_files desk).may_leave trees
 
-  -- Nothing is lost. A crash leaves what it could before, and where the tables stood for the event, on a clean disk, that event.
+  -- Nothing is lost. A crash leaves what it could before, and where the tables represented the event, on a clean disk, that event.
   pub record LosesNothing (last : FileStore D g) : Type 0 where
     pub as_before : LeavesNoMore last
     pub stored : IsClean (view last) → ShowsOwn over_files desk → (trees : Trees) → recovers last trees
-        → IsStored (point_of (standing desk)).event (point_of (standing desk)).serial trees
+        → IsStored (point_of (desk_state desk)).event (point_of (desk_state desk)).serial trees
 
   -- How the desk's file was closed: it is at rest, or memory or the device was wanting, and nothing is lost.
   pub record IsClosedAs (closed : Result (Files D) (Error × FileStore D g)) : Type 0 where
     pub clean : IfOk closed (λ files. AreClean g files.log files.db → HasCleanDisk (state over_files desk))
     pub rests : IfOk closed (λ files. AreClean g files.log files.db → ShowsOwn over_files desk
-        → AreAtRest g files (point_of (standing desk)))
+        → AreAtRest g files (point_of (desk_state desk)))
     -- and whatever the desk stood at, a fault behind it or not, these are files from which a crash leaves nothing new
     pub spares : IfOk closed (λ files. (last : FileStore D g) × (store_files last ≡ (files.log, files.db)) × LeavesNoMore last)
     -- the two may be opened again

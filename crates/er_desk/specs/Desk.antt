@@ -12,7 +12,7 @@ use Rattle.er_event.specs.Event.{EventValue}
 use Rattle.er_rules.specs.Refusing.{IsOfRules}
 use Rattle.er_rules.specs.Step.{Answers}
 use Rattle.er_store.specs.Fault.{IsFault, IsReadFault}
-use Rattle.er_store.specs.Standing as tables
+use Rattle.er_store.specs.Representing as tables
 use Rattle.er_store.specs.Store as store
 use Rattle.er_rules.specs.Late.{is_late}
 use Rattle.er_desk.specs.Reply.{Reply, receipt, IsDue}
@@ -23,8 +23,8 @@ pub record Point : Type 0 where
   pub event : EventValue
   pub serial : ℕ
 
--- where a desk stands
-pub record Standing : Type 0 where
+-- what a desk is like now
+pub record DeskState : Type 0 where
   pub event : EventValue
   -- how many commands were accepted
   pub serial : ℕ
@@ -33,19 +33,19 @@ pub record Standing : Type 0 where
   -- a fault of the store has ended it
   pub stopped : Bool
 
-abbrev pub point_of : Standing → Point
+abbrev pub point_of : DeskState → Point
 point_of s = record { event = s.event; serial = s.serial }
 
 -- in tables of this version, with no fault behind
-abbrev pub running_at : Point → ℕ → Standing
+abbrev pub running_at : Point → ℕ → DeskState
 running_at point version = record { event = point.event; serial = point.serial; version = version; stopped = false }
 
 -- what its store shows
 abbrev pub state : {S : Type 0} (g : Ghosts S) → Desk S g → State
 state g desk = store.state g desk.store
 
-abbrev pub standing : {S : Type 0} {g : Ghosts S} → Desk S g → Standing
-standing desk = record {
+abbrev pub desk_state : {S : Type 0} {g : Ghosts S} → Desk S g → DeskState
+desk_state desk = record {
   event = desk.event;
   serial = desk.serial;
   version = store.version_in desk.store;
@@ -53,13 +53,13 @@ standing desk = record {
 }
 
 -- the event is shown, where memory serves and no fault of the store is behind
-abbrev pub ShowsEvent : {A : Type 0} → (Refusal → A) → Standing → (EventValue → A → Type 0) → A → Type 0
+abbrev pub ShowsEvent : {A : Type 0} → (Refusal → A) → DeskState → (EventValue → A → Type 0) → A → Type 0
 ShowsEvent refused desk Shows answer =
     (IsFalse desk.stopped × (Shows desk.event answer ⊎ (answer ≡ refused Memory)))
     ⊎ (IsTrue desk.stopped × (answer ≡ refused NeedsReopen))
 
 -- of what only a desk that runs gives; one that was stopped asks for reopening
-abbrev pub IfRunning : {A : Type 0} → Standing → Result A Refusal → Type 0
+abbrev pub IfRunning : {A : Type 0} → DeskState → Result A Refusal → Type 0
 IfRunning desk result = MatchResult result (λ _. IsFalse desk.stopped) (λ why. IsTrue desk.stopped × (why ≡ NeedsReopen))
 
 -- a crash leaves the event after the command, whole
@@ -74,11 +74,11 @@ IsOwn why = (why ≡ Memory) ⊎ (why ≡ SerialFull) ⊎ (why ≡ BadSetup) ⊎
 abbrev pub version_in : {S : Type 0} {g : Ghosts S} → Desk S g → ℕ
 version_in desk = store.version_in desk.store
 
--- its tables stand for its event and its serial, in that version, with nothing pending
+-- its tables represent its event and its serial, in that version, with nothing pending
 abbrev pub ShowsOwn : {S : Type 0} (g : Ghosts S) → Desk S g → Type 0
 ShowsOwn g desk = tables.Shows (version_in desk) (state g desk) desk.event desk.serial
 
-module _ (old : Standing) (command : Command) (reply : Reply) (new : Standing) where
+module _ (old : DeskState) (command : Command) (reply : Reply) (new : DeskState) where
   -- the command is accepted
   pub record Accepts : Type 0 where
     pub was_running : IsFalse old.stopped
@@ -122,16 +122,16 @@ module _ (old : Standing) (command : Command) (reply : Reply) (new : Standing) w
 
 -- Reading what the tables keep. What is read leaves the desk as it is, and so does one refusal that is no fault of the
 -- store. A fault of the store stops it, and a desk that was stopped asks for reopening.
-abbrev pub Reads : {A : Type 0} → Refusal → Standing → Result A Refusal → Standing → Type 0
+abbrev pub Reads : {A : Type 0} → Refusal → DeskState → Result A Refusal → DeskState → Type 0
 Reads passing old result new =
     (IsFalse old.stopped × (new ≡ old) × (IsOk result ⊎ (result ≡ Err passing)))
     ⊎ (IsFalse old.stopped × (new ≡ record old { stopped = true }) × (why : Refusal) × IsReadFault why × (result ≡ Err why))
     ⊎ (IsTrue old.stopped × (new ≡ old) × (result ≡ Err NeedsReopen))
 
 -- of standings, for which memory may be wanting beside the store
-abbrev pub ReadsRows : {A : Type 0} → Standing → Result A Refusal → Standing → Type 0
+abbrev pub ReadsRows : {A : Type 0} → DeskState → Result A Refusal → DeskState → Type 0
 ReadsRows old result new = Reads Memory old result new
 
 -- of a slip, where there may be no such match
-abbrev pub ReadsSlip : Standing → Result SlipRow Refusal → Standing → Type 0
+abbrev pub ReadsSlip : DeskState → Result SlipRow Refusal → DeskState → Type 0
 ReadsSlip old result new = Reads NoSuchMatch old result new

@@ -18,14 +18,14 @@ use Rattle.er_event.specs.Sound.{IsSetUp}
 use Rattle.er_rank.specs.declared.rows.Row.{Row}
 use Rattle.er_rank.specs.Standings.{AreStandings, OneStandings}
 use Rattle.er_rules.specs.Sound.{IsSound}
-use Rattle.er_store.specs.Standing.{IsStored, Leaves, Either}
+use Rattle.er_store.specs.Representing.{IsStored, Leaves, Either}
 use Rattle.er_store.specs.Tables.{no_schema}
-use Rattle.er_desk.specs.Desk.{Point, ShowsOwn, IsStoredAfter, point_of, state, standing}
+use Rattle.er_desk.specs.Desk.{Point, ShowsOwn, IsStoredAfter, point_of, state, desk_state}
 use Rattle.er_desk.specs.declared.desk.Desk.{Desk}
 use Rattle.er_desk.specs.Run.{Session, IsStoredEnd}
 use Rattle.er_desk.specs.History.{Ended, IsHistory, LeadsTo, accepted, accepted_surely, new_point}
 
--- each thing that a crash may leave stands for this event and this serial, whole
+-- each thing that a crash may leave represents this event and this serial, whole
 abbrev pub LeavesJust : State → Point → Type 0
 LeavesJust s point = Leaves s (IsStored point.event point.serial)
 
@@ -45,9 +45,9 @@ IsEmptyFile s = s.now.schema ≡ no_schema
 abbrev pub WasLeft : Image → Point → Type 0
 WasLeft image point = (db : Trees) × ∥ HoldsDatabase image db ∥₁ × IsStored point.event point.serial db
 
--- an opening finds just this event and this serial: its tables stand for them, and a crash leaves them again
+-- an opening finds just this event and this serial: its tables represent them, and a crash leaves them again
 pub record FindsAgain {S : Type 0} (g : Ghosts S) (desk : Desk S g) (point : Point) : Type 0 where
-  pub found : point_of (standing desk) ≡ point
+  pub found : point_of (desk_state desk) ≡ point
   pub shows : ShowsOwn g desk
   pub leaves : LeavesJust (state g desk) point
 

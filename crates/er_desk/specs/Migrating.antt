@@ -5,14 +5,14 @@ use Rattle.er_event.specs.declared.refusals.Refusal.{Refusal}
 use Rattle.er_event.specs.declared.refusals.Refusal.TheVariants.{NeedsReopen}
 use Rattle.er_store.specs.{Fault.IsFault, Layout.StandsAlone}
 use Rattle.er_desk.specs.declared.desk.Desk.{Desk}
-use Rattle.er_desk.specs.Desk.{Standing, state, version_in}
+use Rattle.er_desk.specs.Desk.{DeskState, state, version_in}
 
 -- the tables are of version 2, or stand alone in the file
 abbrev pub MayMigrate : {S : Type 0} (g : Ghosts S) → Desk S g → Type 0
 MayMigrate g desk = (version_in desk ≡ 2) ⊎ StandsAlone (state g desk).now.schema
 
--- where the desk stood, the answer, and where it stands then
-abbrev pub Migrates : Standing → Result ℕ Refusal → Standing → Type 0
+-- the desk's state, the answer, and the desk's state then
+abbrev pub Migrates : DeskState → Result ℕ Refusal → DeskState → Type 0
 Migrates old (Ok serial) new = IsFalse old.stopped × (serial ≡ old.serial) × (new ≡ record old { version = 2 })
 Migrates old (Err why) new =
     (IsTrue old.stopped × (why ≡ NeedsReopen) × (new ≡ old))

@@ -9,25 +9,25 @@ use Rattle.er_desk.specs.History.{Ended, new_point}
 use Rattle.er_desk.specs.Headline.{IsEndOf}
 
 -- what a desk may be asked
-pub data Asked : Type 0 where
-  Submits : Command → Asked
-  Migrates : Asked
+pub data Request : Type 0 where
+  Submits : Command → Request
+  Migrates : Request
 
 -- the commands among them
-abbrev pub commands_in : List Asked → List Command
+abbrev pub commands_in : List Request → List Command
 commands_in [] = []
 commands_in (Submits command ∷ more) = command ∷ commands_in more
 commands_in (Migrates ∷ more) = commands_in more
 
-abbrev pub command_in : Option Asked → Option Command
+abbrev pub command_in : Option Request → Option Command
 command_in None = None
 command_in (Some (Submits command)) = Some command
 command_in (Some Migrates) = None
 
 -- what one desk was asked: what was acknowledged, and what the store failed in, or the program was stopped in
 pub record MovingSession : Type 0 where
-  pub kept : List Asked
-  pub doubt : Option Asked
+  pub kept : List Request
+  pub doubt : Option Request
 
 -- its commands alone
 abbrev pub passed_over : MovingSession → Session
@@ -39,7 +39,7 @@ pub record Placed : Type 0 where
   pub version : ℕ
 
 -- A migration leads to version 2, and nothing leads back.
-abbrev pub version_after : ℕ → List Asked → ℕ
+abbrev pub version_after : ℕ → List Request → ℕ
 version_after version [] = version
 version_after version (Submits command ∷ more) = version_after version more
 version_after version (Migrates ∷ more) = version_after 2 more

@@ -33,8 +33,9 @@ use Rattle.er_event.specs.Sound.{IsSoundButForSeeds}
 use Rattle.er_rules.specs.Sound.{HasSeeds}
 use Rattle.er_store.specs.Fault.{refusal_of}
 use Rattle.er_store.specs.Damage.{ReadsParts, ReadsTallies, IsAtFault, IfDamaged}
+use Rattle.er_store.specs.Beside.{IsStoredBeside, ShowsBeside}
 use Rattle.er_store.specs.Reading.{KeepsTables}
-use Rattle.er_store.specs.Standing.{CanRead, Either, IsStored, Leaves, ReadsEvent}
+use Rattle.er_store.specs.Representing.{CanRead, Either, IsStored, Leaves, ReadsEvent}
 use Rattle.er_desk.specs.declared.desk.Desk.{Desk}
 use Rattle.er_desk.specs.Desk.{Point, state}
 use Rattle.er_desk.specs.Headline.{IsEmptyFile}
@@ -71,17 +72,33 @@ pub record LeavesAll (old new : State) : Type 0 where
   pub left : IsTrue old.is_open → Leaves new (λ db. db ≡ old.committed.trees)
 
 -- An event was not made. No table changes. Where one can be read, a crash leaves what it could before; in an empty file that, or the
--- new event whole.
+-- new event whole; in any other file what was there, or that with the event's tables beside it.
 pub record MakesNothing (new_event : Point) (old new : State) : Type 0 where
   pub kept : HasCleanDisk new → KeepsTables old new
   pub spares : CanRead old.now.schema → Leaves new old.may_leave
   pub crash : IsEmptyFile old → Leaves new (Either old.may_leave (IsStored new_event.event new_event.serial))
   pub left : IsEmptyFile old → IsTrue old.is_open
       → Leaves new (Either (λ db. db ≡ old.committed.trees) (IsStored new_event.event new_event.serial))
+  pub beside : IsTrue old.is_open → Leaves new (Either (λ db. db ≡ old.committed.trees) (IsStoredBeside 2 new_event.event old.now))
 
--- the first fault of what an opening finds in the file
-abbrev pub NamesFirstFaultIn : Image → Refusal → Type 0
-NamesFirstFaultIn image why = (db : Database) × IsDatabase db × AreFoundIn image db.trees × NamesFirstFault db why
+-- An event was made beside what the file held, whatever that was.
+pub record MakesOver (new_event : Point) (held : Trees) (s : State) : Type 0 where
+  pub old : Database
+  pub is : old.trees ≡ held
+  pub sound : IsDatabase old
+  pub shows : ShowsBeside 2 new_event.event old s
+
+-- and what a crash leaves then: what it held, or that with the event's tables beside it
+pub record LeavesOver (new_event : Point) (held : Trees) (s : State) : Type 0 where
+  pub old : Database
+  pub is : old.trees ≡ held
+  pub sound : IsDatabase old
+  pub leaves : Leaves s (Either (λ db. db ≡ held) (IsStoredBeside 2 new_event.event old))
+
+-- The first fault of what an opening finds in the file. A connection that comes back open shows just that.
+abbrev pub NamesFirstFaultIn : Image → State → Refusal → Type 0
+NamesFirstFaultIn image back why =
+    (db : Database) × IsDatabase db × AreFoundIn image db.trees × NamesFirstFault db why × (IsTrue back.is_open → back.now ≡ db)
 
 -- whatever an opening finds in the file, it lists no table
 abbrev pub HoldsNothing : Image → Type 0
@@ -96,7 +113,7 @@ abbrev pub SeesStill : State → Trees → Type 0
 SeesStill s db = HasCleanDisk s → IsTrue s.is_open → (s.now.trees ≡ db) × (s.now ≡ s.committed)
 
 -- What the storage crate says of files that it did not open. Nothing is left of them only where they can't be had, by the
--- system, for want of memory, or since another program holds them. What is left stands for what the files held, and they are why.
+-- system, for want of memory, or since another program holds them. What is left represents what the files held, and they are why.
 abbrev pub IsSpared : {S : Type 0} {g : calls.Ghosts Host} {first : start.Ghosts S} {d : Ghosts (Modelled Host S g first)}
     → Error → Option (Leftover (Modelled Host S g first) d) → Type 0
 IsSpared error None = (error ≡ SqliteFailure CannotOpen) ⊎ (error ≡ SqliteFailure OutOfMemory) ⊎ (error ≡ SqliteFailure DatabaseBusy)

@@ -9,15 +9,15 @@ use Rattle.er_event.specs.declared.refusals.Refusal.TheVariants.{Store, NeedsReo
 use Rattle.er_event.specs.Event.{EventValue}
 use Rattle.er_rules.specs.Step.{Steps}
 use Rattle.er_store.specs.Fault.{IsFault}
-use Rattle.er_store.specs.Standing.{IsStored}
+use Rattle.er_store.specs.Representing.{IsStored}
 use Rattle.er_rules.specs.Fold.{Folds}
 use Rattle.er_desk.specs.Reply.{Reply, IsLawful}
-use Rattle.er_desk.specs.Desk.{Point, Standing, Turn}
+use Rattle.er_desk.specs.Desk.{Point, DeskState, Turn}
 
 -- the replies to commands one after the other
-abbrev pub Runs : Standing → List Command → List Reply → Standing → Type 0
+abbrev pub Runs : DeskState → List Command → List Reply → DeskState → Type 0
 Runs old [] [] new = new ≡ old
-Runs old (command ∷ commands) (reply ∷ replies) new = (mid : Standing) × Turn old command reply mid × Runs mid commands replies new
+Runs old (command ∷ commands) (reply ∷ replies) new = (mid : DeskState) × Turn old command reply mid × Runs mid commands replies new
 Runs old [] (reply ∷ replies) new = ⊥
 Runs old (command ∷ commands) [] new = ⊥
 
@@ -36,7 +36,7 @@ FailsAt replies k =
 
 -- The run in plain words. Each reply is lawful at the fold of the commands that were acknowledged before it, or says
 -- that the file wants to be opened anew.
-pub record IsRun (old : Standing) (commands : List Command) (replies : List Reply) (new : Standing) : Type 0 where
+pub record IsRun (old : DeskState) (commands : List Command) (replies : List Reply) (new : DeskState) : Type 0 where
   pub all : length replies ≡ length commands
   pub each : (k : ℕ) (command : Command) (reply : Reply) → slice_get commands k ≡ Some command → slice_get replies k ≡ Some reply
       → (mid : EventValue) × Folds old.event (acknowledged (take k commands) (take k replies)) mid
@@ -99,6 +99,6 @@ pub record EndsWithDoubt (first : Point) (session : Session) (last : Point) (dou
 abbrev pub MayEnd : Point → Session → Point → Type 0
 MayEnd first session last = EndsAfterKept first session last ⊎ MatchOption session.doubt ⊥ (EndsWithDoubt first session last)
 
--- what a crash leaves stands for one of the session's ends, whole
+-- what a crash leaves represents one of the session's ends, whole
 abbrev pub IsStoredEnd : Point → Session → Trees → Type 0
 IsStoredEnd first session trees = (last : Point) × MayEnd first session last × IsStored last.event last.serial trees

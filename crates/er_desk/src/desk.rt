@@ -50,10 +50,8 @@ pub struct Desk<S: Alter> {
     store: Store<S>,
     event: Event,
     serial: u32,
-    needs_reopen: bool,
 
     ghost low: { serial ≤ MAX_SERIAL },
-    ghost told: { needs_reopen ≡ tables.is_stopped store },
     ghost sound: { ∥ IsSound event ∥₁ },
 }
 
@@ -68,11 +66,12 @@ impl<S: Alter> Desk<S> {
     ghost use Rattle.er_rules.specs.Step.{NeedsMoreSteps};
     ghost use Rattle.er_store.specs.Fault.{IsFault, IsLoadFault};
     ghost use Rattle.er_store.specs.Store as tables;
-    ghost use Rattle.er_store.specs.Standing.{HasTables, AreKeyed, StandsFor, CanRead, IsStored, Leaves, Either, KeepsOthers};
+    ghost use Rattle.er_store.specs.Representing.{HasTables, AreKeyed, Represents, CanRead, IsStored, Leaves, Either, KeepsOthers};
+    ghost use Rattle.er_store.specs.Beside.{ShowsBeside};
     ghost use Rattle.er_store.specs.Loading.{HoldsEvent};
     ghost use Rattle.er_store.specs.Slip.{FindsSlip};
     ghost use Rattle.er_store.specs.{Migrated.IsTaken, Reading.KeepsTables};
-    ghost use Rattle.er_desk.specs.Desk.{IfRunning, Point, ReadsRows, ReadsSlip, ShowsOwn, point_of, running_at, state, standing, version_in};
+    ghost use Rattle.er_desk.specs.Desk.{IfRunning, Point, ReadsRows, ReadsSlip, ShowsOwn, point_of, running_at, state, desk_state, version_in};
     ghost use Rattle.er_desk.specs.Run.{Runs, IsRun, session_of};
     ghost use Rattle.er_desk.specs.Headline.{IsEmptyFile, LeavesJust, FindsAgain, RepeatsNobody, AreTheStandings};
     ghost use Rattle.er_desk.specs.History.{new_point};
@@ -91,7 +90,7 @@ impl<S: Alter> Desk<S> {
     ) -> Result<Desk<S>, (Connection<S>, Refusal)>
         requires mode { conn.in_transaction ≡ false }
 
-        ensures made { IfOk result (λ made. standing made
+        ensures made { IfOk result (λ made. desk_state made
             ≡ running_at (new_point name rounds cut) 2) }
         ensures sound { IfOk result (λ made. IsSound made.event) }
         ensures version { IfOk result (λ made. version_in made ≡ 2) }
@@ -118,7 +117,12 @@ impl<S: Alter> Desk<S> {
         ensures clean { HasCleanDisk (seen S.Store result)
             → HasCleanDisk (sqlite.state S.Store conn) }
 
-        // In an empty file the tables then stand for the new event, and so does each thing that a crash may leave.
+        // Whatever stood in the file stands as it was, and the event's tables are there beside it, after a crash too.
+        ensures beside { IfOk result (λ made. HasCleanDisk (state S.Store made)
+            → ShowsBeside 2 (created name rounds cut) (sqlite.state S.Store conn).now
+            (state S.Store made)) }
+
+        // In an empty file the tables then represent the new event, and so does each thing that a crash may leave.
         ensures created { IfOk result (λ made. HasCleanDisk (state S.Store made)
             → IsEmptyFile (sqlite.state S.Store conn) → ShowsOwn S.Store made) }
         ensures acknowledged { IfOk result (λ made. IsEmptyFile (sqlite.state S.Store conn)
@@ -138,7 +142,6 @@ impl<S: Alter> Desk<S> {
             store,
             event,
             serial: 0,
-            needs_reopen: false,
         })
     }
 
@@ -147,20 +150,20 @@ impl<S: Alter> Desk<S> {
         requires mode { conn.in_transaction ≡ false }
 
         // Whatever the tables hold, the event that is found is sound, and the desk is not stopped.
-        ensures ready { IfOk result (λ it. IsFalse (standing it).stopped) }
+        ensures ready { IfOk result (λ it. IsFalse (desk_state it).stopped) }
         ensures sound { IfOk result (λ it. IsSound it.event × (it.serial ≤ MAX_SERIAL)) }
         ensures repeats { IfOk result (λ it. RepeatsNobody it.event) }
 
-        // Of tables that stand for a sound event just that is found, or memory or the store fails.
+        // Of tables that represent a sound event just that is found, or memory or the store fails.
         ensures found { (point : Point)
-            → StandsFor (sqlite.state S.Store conn).now point.event point.serial
+            → Represents (sqlite.state S.Store conn).now point.event point.serial
             → IsSound point.event → HasCleanDisk (seen S.Store result)
             → MatchResult result (λ it. FindsAgain S.Store it point) (λ e. IsFault e.1) }
-        // Whatever the tables hold, what is found is what they show. Where they have the schema, they stand for it.
+        // Whatever the tables hold, what is found is what they show. Where they have the schema, they represent it.
         ensures shows { IfOk result (λ it. HasCleanDisk (state S.Store it)
             → HasTables (version_in it) (sqlite.state S.Store conn).now.schema
             → HoldsEvent (version_in it) (sqlite.state S.Store conn).now it.event it.serial) }
-        ensures stands { IfOk result (λ it. HasCleanDisk (state S.Store it)
+        ensures represents { IfOk result (λ it. HasCleanDisk (state S.Store it)
             → HasTables (version_in it) (sqlite.state S.Store conn).now.schema
             → AreKeyed (sqlite.state S.Store conn).now → ShowsOwn S.Store it) }
 
@@ -169,7 +172,7 @@ impl<S: Alter> Desk<S> {
         ensures first { IfErr result (λ e. HasCleanDisk (sqlite.state S.Store e.0)
             → NamesFirstFault (sqlite.state S.Store conn).now e.1) }
         ensures other_seeds { (point : Point)
-            → StandsFor (sqlite.state S.Store conn).now point.event point.serial
+            → Represents (sqlite.state S.Store conn).now point.event point.serial
             → IsSoundButForSeeds point.event → (HasSeeds point.event → ⊥)
             → HasCleanDisk (seen S.Store result) → IsErrAnd result (λ e. IsFault e.1
             ⊎ (e.1 ≡ Refusal.Damaged Place.BracketTable)) }
@@ -186,7 +189,6 @@ impl<S: Alter> Desk<S> {
                 store,
                 event,
                 serial,
-                needs_reopen: false,
             }),
             Ok(false) => Err((
                 store.into_connection(),
@@ -202,9 +204,9 @@ impl<S: Alter> Desk<S> {
     pub fn event(&self) -> Result<&Event, Refusal>
         ensures value { IfOk result (λ event. event.now ≡ self.now.event) }
         ensures repeats { IfOk result (λ event. RepeatsNobody event.now) }
-        ensures stopped { IfRunning (standing self.now) result }
+        ensures stopped { IfRunning (desk_state self.now) result }
     {
-        if self.needs_reopen {
+        if self.needs_reopen() {
             return Err(Refusal::NeedsReopen);
         }
         Ok(&self.event)
@@ -213,9 +215,9 @@ impl<S: Alter> Desk<S> {
     /// How many commands were accepted, where no fault of the store is behind.
     pub fn serial(&self) -> Result<u32, Refusal>
         ensures value { IfOk result (λ serial. (serial ≡ self.now.serial) × (serial ≤ MAX_SERIAL)) }
-        ensures stopped { IfRunning (standing self.now) result }
+        ensures stopped { IfRunning (desk_state self.now) result }
     {
-        if self.needs_reopen {
+        if self.needs_reopen() {
             return Err(Refusal::NeedsReopen);
         }
         Ok(self.serial)
@@ -224,9 +226,9 @@ impl<S: Alter> Desk<S> {
     /// The standings of the event.
     pub fn standings(&self, alloc: Global) -> Result<Vec<Row>, Refusal>
         ensures value { IfOk result (λ rows. AreTheStandings self.now.event rows.items) }
-        ensures stopped { MatchResult result (λ _. IsFalse (standing self.now).stopped)
-            (λ why. (IsTrue (standing self.now).stopped × (why ≡ Refusal.NeedsReopen))
-            ⊎ (IsFalse (standing self.now).stopped × (why ≡ Refusal.Memory))) }
+        ensures stopped { MatchResult result (λ _. IsFalse (desk_state self.now).stopped)
+            (λ why. (IsTrue (desk_state self.now).stopped × (why ≡ Refusal.NeedsReopen))
+            ⊎ (IsFalse (desk_state self.now).stopped × (why ≡ Refusal.Memory))) }
     {
         let event = self.event()?;
         match standings(alloc, event) {
@@ -237,64 +239,62 @@ impl<S: Alter> Desk<S> {
 
     /// The standings of the event, by the totals and the meetings that its tables keep. It changes no table. Standings, and want of memory to work them out, leave the desk as it is.
     pub fn stored_standings(&mut self, alloc: Global) -> Result<Vec<Row>, Refusal>
-        ensures turn { ReadsRows (standing self.old) result (standing self.new) }
+        ensures turn { ReadsRows (desk_state self.old) result (desk_state self.new) }
         ensures asked { Asks S.Store self.old no_session self.new }
 
-        // Where the tables stand for the event, they are its standings. Of a desk that runs, memory or the store fails else.
+        // Where the tables represent the event, they are its standings. Of a desk that runs, memory or the store fails else.
         ensures found { HasCleanDisk (state S.Store self.new) → ShowsOwn S.Store self.old
             → IfOk result (λ rows. AreTheStandings self.old.event rows.items) }
-        ensures fails { IsFalse (standing self.old).stopped → HasCleanDisk (state S.Store self.new)
+        ensures fails { IsFalse (desk_state self.old).stopped
+            → HasCleanDisk (state S.Store self.new)
             → ShowsOwn S.Store self.old → IfErr result IsFault }
 
         // Whatever the schema is, nothing is written.
-        ensures same { HasCleanDisk (state S.Store self.new) → IsFalse (standing self.new).stopped
+        ensures same { HasCleanDisk (state S.Store self.new) → IsFalse (desk_state self.new).stopped
             → IsUnchanged (state S.Store self.old) (state S.Store self.new) }
         ensures left { LeavesAll (state S.Store self.old) (state S.Store self.new) }
     {
-        // What the tables stand for, a crash leaves, and an event is always sound: these tell the proof.
+        // What the tables represent, a crash leaves, and an event is always sound: these tell the proof.
         shown_is_stored(&self.store);
         events_are_sound(&self.event);
-        if self.needs_reopen {
+        if self.needs_reopen() {
             return Err(Refusal::NeedsReopen);
         }
-        let read = read_standings(alloc, &mut self.store);
-        self.needs_reopen = self.store.needs_reopen();
-        read
+        read_standings(alloc, &mut self.store)
     }
 
     /// Reads the slip of a match. It changes no table. A slip, or no such match, leaves the desk as it is.
     pub fn slip(&mut self, alloc: Global, round: u8, table: u16) -> Result<SlipRow, Refusal>
-        ensures turn { ReadsSlip (standing self.old) result (standing self.new) }
+        ensures turn { ReadsSlip (desk_state self.old) result (desk_state self.new) }
         ensures asked { Asks S.Store self.old no_session self.new }
 
-        // Where the tables stand for the event, what is found is its slip. Of a desk that runs there is no such match else, or memory or the store fails.
+        // Where the tables represent the event, what is found is its slip. Of a desk that runs there is no such match else, or memory or the store fails.
         ensures found { HasCleanDisk (state S.Store self.new) → ShowsOwn S.Store self.old
             → FindsSlip self.old.event round table result }
-        ensures fails { IsFalse (standing self.old).stopped → HasCleanDisk (state S.Store self.new)
+        ensures fails { IsFalse (desk_state self.old).stopped
+            → HasCleanDisk (state S.Store self.new)
             → ShowsOwn S.Store self.old
             → IfErr result (λ why. (why ≡ Refusal.NoSuchMatch) ⊎ IsFault why) }
 
         // Whatever the schema is, nothing is written.
-        ensures same { HasCleanDisk (state S.Store self.new) → IsFalse (standing self.new).stopped
+        ensures same { HasCleanDisk (state S.Store self.new) → IsFalse (desk_state self.new).stopped
             → IsUnchanged (state S.Store self.old) (state S.Store self.new) }
         ensures left { LeavesAll (state S.Store self.old) (state S.Store self.new) }
     {
-        // What the tables stand for, a crash leaves, and an event is always sound: these tell the proof.
+        // What the tables represent, a crash leaves, and an event is always sound: these tell the proof.
         shown_is_stored(&self.store);
         events_are_sound(&self.event);
-        if self.needs_reopen {
+        if self.needs_reopen() {
             return Err(Refusal::NeedsReopen);
         }
-        let read = self.store.slip(alloc, round, table);
-        self.needs_reopen = matches!(read, Err(Refusal::Memory | Refusal::Store { .. }));
-        read
+        self.store.slip(alloc, round, table)
     }
 
     /// A desk that is only looked at asks nothing of its file. It is a law, with no code of its own.
     pub fn asks_nothing(&self)
         ensures { Asks S.Store self.now no_session self.now }
     {
-        // What the tables stand for, a crash leaves: this tells the proof.
+        // What the tables represent, a crash leaves: this tells the proof.
         shown_is_stored(&self.store);
     }
 
@@ -306,9 +306,9 @@ impl<S: Alter> Desk<S> {
     /// The version in which the tables are kept, 1 or 2, where no fault of the store is behind.
     pub fn version(&self) -> Result<u8, Refusal>
         ensures value { IfOk result (λ version. version ≡ version_in self.now) }
-        ensures stopped { IfRunning (standing self.now) result }
+        ensures stopped { IfRunning (desk_state self.now) result }
     {
-        if self.needs_reopen {
+        if self.needs_reopen() {
             return Err(Refusal::NeedsReopen);
         }
         Ok(self.store.version())
@@ -317,82 +317,80 @@ impl<S: Alter> Desk<S> {
     /// Moves the tables to version 2, and gives the serial, which stays. A desk whose tables are of version 2 stays as it is.
     pub fn migrate(&mut self) -> Result<u32, Refusal>
         // The event and the serial stay. A fault of the store stops the desk, and nothing else does.
-        ensures turn { Migrates (standing self.old) result (standing self.new) }
-        ensures waits { IsTrue (standing self.old).stopped ⊎ (version_in self.old ≡ 2)
+        ensures turn { Migrates (desk_state self.old) result (desk_state self.new) }
+        ensures waits { IsTrue (desk_state self.old).stopped ⊎ (version_in self.old ≡ 2)
             → self.new ≡ self.old }
 
         ensures clean { HasCleanDisk (state S.Store self.new)
             → HasCleanDisk (state S.Store self.old) }
-        // Where the tables stand alone, they then stand for the event in version 2.
-        ensures stands { HasCleanDisk (state S.Store self.new) → ShowsOwn S.Store self.old
-            → MayMigrate S.Store self.old → IsFalse (standing self.new).stopped
+        // Where the tables stand alone, they then represent the event in version 2.
+        ensures represents { HasCleanDisk (state S.Store self.new) → ShowsOwn S.Store self.old
+            → MayMigrate S.Store self.old → IsFalse (desk_state self.new).stopped
             → ShowsOwn S.Store self.new }
         ensures kept { HasCleanDisk (state S.Store self.new)
             → OnErr result (KeepsTables (state S.Store self.old) (state S.Store self.new)) }
         // It is refused where the name `player2` is taken.
-        ensures taken { IsFalse (standing self.old).stopped → version_in self.old ≡ 1
+        ensures taken { IsFalse (desk_state self.old).stopped → version_in self.old ≡ 1
             → HasCleanDisk (state S.Store self.new) → IsTaken (state S.Store self.old).now
             → IsErr result × (ShowsOwn S.Store self.old
-            → LeavesJust (state S.Store self.new) (point_of (standing self.old))) }
+            → LeavesJust (state S.Store self.new) (point_of (desk_state self.old))) }
         // At every exit a crash leaves the event and its serial, whole in version 1 or whole in version 2.
         ensures crash { ShowsOwn S.Store self.old → MayMigrate S.Store self.old
-            → LeavesJust (state S.Store self.new) (point_of (standing self.old)) }
+            → LeavesJust (state S.Store self.new) (point_of (desk_state self.old)) }
     {
-        // What the tables stand for, a crash leaves: this tells the proof.
+        // What the tables represent, a crash leaves: this tells the proof.
         shown_is_stored(&self.store);
-        if self.needs_reopen {
+        if self.needs_reopen() {
             return Err(Refusal::NeedsReopen);
         }
         if self.store.version() == 2 {
             return Ok(self.serial);
         }
-        let moved = self.store.migrate(&self.event, self.serial);
-        self.needs_reopen = moved.is_err();
-        moved.and(Ok(self.serial))
+        self.store
+            .migrate(&self.event, self.serial)
+            .and(Ok(self.serial))
     }
 
     /// Whether a fault of the store is behind, so that the file is to be opened anew.
     pub fn needs_reopen(&self) -> bool
-        ensures { result ≡ (standing self.now).stopped }
+        ensures { result ≡ (desk_state self.now).stopped }
     {
-        // The store has stopped with it, as the type tells the proof.
-        self.needs_reopen
+        self.store.needs_reopen()
     }
 
     /// Gives the connection back as it is.
     pub fn close(self) -> Connection<S>
         ensures same { result ≡ tables.connection self.store }
         ensures mode { result.in_transaction ≡ false }
-        // Where the tables stand for the event, a crash leaves just that.
+        // Where the tables represent the event, a crash leaves just that.
         ensures left { ShowsOwn S.Store self
-            → LeavesJust (state S.Store self) (point_of (standing self)) }
+            → LeavesJust (state S.Store self) (point_of (desk_state self)) }
     {
-        // What the tables stand for, a crash leaves: this tells the proof.
+        // What the tables represent, a crash leaves: this tells the proof.
         shown_is_stored(&self.store);
         let Desk {
             store: tables,
             event: _,
             serial: _,
-            needs_reopen: _,
         } = self;
         tables.into_connection()
     }
 
     /// Writes a change, and keeps the event after it. What needs memory is made before the first write.
     fn write(&mut self, alloc: Global, change: &Change) -> Reply
-        requires runs { IsFalse (standing self.old).stopped }
+        requires runs { IsFalse (desk_state self.old).stopped }
         requires fits { Fits self.old.event change.now }
         requires takes { CanTake (version_in self.old) self.old.event change.now }
         requires low { self.old.serial < MAX_SERIAL }
         requires sound { IsSound self.old.event → IsSound (after self.old.event change.now) }
 
-        ensures taken { IfOk result (λ receipt. (standing self.new
-            ≡ record (standing self.old) {
+        ensures taken { IfOk result (λ receipt. (desk_state self.new
+            ≡ record (desk_state self.old) {
               event = after self.old.event change.now;
               serial = self.old.serial + 1;
             }) × (receipt.serial ≡ self.old.serial + 1)) }
         ensures refused { IfErr result (λ why. ((self.new ≡ self.old) × (why ≡ Refusal.Memory))
-            ⊎ ((standing self.new ≡ record (standing self.old) { stopped = true })
+            ⊎ ((desk_state self.new ≡ record (desk_state self.old) { stopped = true })
             × IsFault why)) }
         ensures clean { HasCleanDisk (state S.Store self.new)
             → HasCleanDisk (state S.Store self.old) }
@@ -406,13 +404,13 @@ impl<S: Alter> Desk<S> {
             (state S.Store self.new).now }
         ensures version { version_in self.new ≡ version_in self.old }
         ensures acknowledged { ShowsOwn S.Store self.old
-            → OnOk result (LeavesJust (state S.Store self.new) (point_of (standing self.new))) }
+            → OnOk result (LeavesJust (state S.Store self.new) (point_of (desk_state self.new))) }
         ensures crash { ShowsOwn S.Store self.old
             → Leaves (state S.Store self.new)
             (Either (IsStored self.old.event self.old.serial)
             (IsStored (after self.old.event change.now) (self.old.serial + 1))) }
     {
-        // What the tables stand for, a crash leaves: this tells the proof.
+        // What the tables represent, a crash leaves: this tells the proof.
         shown_is_stored(&self.store);
         let next = event_after(alloc, &self.event, change)?;
         match self.store.write(&self.event, change, self.serial) {
@@ -423,10 +421,7 @@ impl<S: Alter> Desk<S> {
                     serial: self.serial,
                 })
             }
-            Err(why) => {
-                self.needs_reopen = true;
-                Err(why)
-            }
+            Err(why) => Err(why),
         }
     }
 
@@ -434,9 +429,9 @@ impl<S: Alter> Desk<S> {
     fn take(&mut self, alloc: Global, command: &Command) -> Reply
         ensures { Submits S.Store self.old command.now result self.new }
     {
-        // What the tables stand for, a crash leaves: this tells the proof.
+        // What the tables represent, a crash leaves: this tells the proof.
         shown_is_stored(&self.store);
-        if self.needs_reopen {
+        if self.needs_reopen() {
             return Err(Refusal::NeedsReopen);
         }
         let change = decide(alloc, &self.event, command)?;
@@ -456,7 +451,7 @@ impl<S: Alter> Desk<S> {
         // `Budget` comes exactly where the search for a round needs more than its steps, but for memory.
         ensures budget { (steps : ℕ) → result ≡ Err (Refusal.Budget steps)
             → NeedsMoreSteps self.old.event command }
-        ensures searched { IsFalse (standing self.old).stopped
+        ensures searched { IsFalse (desk_state self.old).stopped
             → NeedsMoreSteps self.old.event command → (result ≡ Err Refusal.Memory)
             ⊎ ((steps : ℕ) × (result ≡ Err (Refusal.Budget steps))) }
     {
@@ -467,19 +462,20 @@ impl<S: Alter> Desk<S> {
 
     /// Takes commands one after the other. The replies are reserved first, so that want of memory for them leaves all as it was.
     pub fn run(&mut self, alloc: Global, commands: Vec<Command>) -> Result<Vec<Reply>, AllocError>
-        ensures ran { IfOk result (λ replies. Runs (standing self.old) commands.items replies.items
-            (standing self.new)) }
+        ensures ran { IfOk result (λ replies. Runs (desk_state self.old) commands.items
+            replies.items
+            (desk_state self.new)) }
         // Each reply is lawful at the fold of the commands that were acknowledged before it, and after a fault of the store the rest ask for reopening.
         ensures lawful { IfOk result
-            (λ replies. IsRun (standing self.old) commands.items replies.items
-            (standing self.new)) }
+            (λ replies. IsRun (desk_state self.old) commands.items replies.items
+            (desk_state self.new)) }
         ensures untouched { IfErr result (λ _. self.new ≡ self.old) }
         // What it does to the file: a session of these commands, or nothing where there was no memory for the replies.
         ensures asked { MatchResult result (λ replies. Asks S.Store self.old
-            (session_of commands.items replies.items (standing self.new).stopped) self.new)
+            (session_of commands.items replies.items (desk_state self.new).stopped) self.new)
             (λ _. Asks S.Store self.old no_session self.new) }
     {
-        // What the tables stand for, a crash leaves: this tells the proof.
+        // What the tables represent, a crash leaves: this tells the proof.
         shown_is_stored(&self.store);
         let mut replies = Vec::with_capacity(alloc, commands.len())?;
         for command in &commands {

@@ -4,19 +4,15 @@ ghost use Rattle.er_event.specs.Event.{EventValue};
 ghost use Rattle.er_event.specs.Sound.{IsSoundButForSeeds};
 ghost use Rattle.er_store.specs.Fault.{IsFault, IsReadFault};
 ghost use Rattle.er_store.specs.Reading.{KeepsTables};
-ghost use Rattle.er_store.specs.Standing.{StandsIn, Leaves};
+ghost use Rattle.er_store.specs.Representing.{RepresentsIn, Leaves};
 ghost use Rattle.er_store.specs.Store as tables;
 ghost use Rattle.er_desk.specs.Headline.{AreTheStandings};
 
-use er_event::{Cause, Refusal};
+use er_event::Refusal;
 use er_rank::{Row, are_lists, standings_of};
 use er_store::Store;
 use sqlite::Alter;
 use std::alloc::Global;
-
-const BAD_ROW: Refusal = Refusal::Store {
-    cause: Cause::BadRow,
-};
 
 /// The standings by the totals and the meetings that the tables keep. Lists that are of no event end the store.
 pub fn read_standings<S: Alter>(alloc: Global, store: &mut Store<S>) -> Result<Vec<Row>, Refusal>
@@ -27,7 +23,7 @@ pub fn read_standings<S: Alter>(alloc: Global, store: &mut Store<S>) -> Result<V
     ensures clean { HasCleanDisk (tables.state S.Store store.new)
         → HasCleanDisk (tables.state S.Store store.old) }
     ensures found { HasCleanDisk (tables.state S.Store store.new) → (e : EventValue) (s : ℕ)
-        → StandsIn (tables.version_in store.old) (tables.state S.Store store.old).now e s
+        → RepresentsIn (tables.version_in store.old) (tables.state S.Store store.old).now e s
         → IsSoundButForSeeds e
         → MatchResult result (λ rows. AreTheStandings e rows.items) IsFault }
     ensures same { HasCleanDisk (tables.state S.Store store.new)
@@ -43,8 +39,7 @@ pub fn read_standings<S: Alter>(alloc: Global, store: &mut Store<S>) -> Result<V
     let tallies = store.tallies(alloc)?;
     let meetings = store.meetings(alloc)?;
     if !are_lists(alloc, tallies.as_slice(), meetings.as_slice())? {
-        store.stop();
-        return Err(BAD_ROW);
+        return Err(store.refuse_rows());
     }
     Ok(standings_of(alloc, tallies.as_slice(), meetings.as_slice())?)
 }

@@ -1,8 +1,9 @@
 -- Examples of the definitions, which compute, and the limits as the rules have them.
 use Rattle.er_event.proofs.Prelude.{MAX_PLAYERS, MAX_SERIAL, Swiss, Player, Match, PairingRow, BracketRow, Games, open_match, with_player}
-use Rattle.er_event.proofs.Prelude.{with_dropped, with_score, EventValue, Line, is_lawful_name, is_counted, match_at, is_swiss_score}
+use Rattle.er_event.proofs.Prelude.{with_dropped, with_score, EventValue, Appearance, is_lawful_name, is_counted, match_at, is_swiss_score}
 use Rattle.er_event.proofs.Prelude.{is_playoff_score, totals, totals_of, with_round, SetScore}
-use Rattle.er_event.specs.{declared.changes.Change.Change, declared.totals.Totals.Totals, Lines.own_lines, Recounted.is_recounted}
+use Rattle.er_event.specs.{declared.changes.Change.Change, declared.totals.Totals.Totals, Appearances.own_appearances}
+use Rattle.er_event.specs.{Recounted.is_recounted}
 use Rattle.std.specs.{Prelude.{◌≡◌, ℕ, pos, Bool, true, false, List, [], ◌∷◌, ◌++◌, map, replicate, codes, Some, None, refl}, Str.is_utf8}
 use Rattle.std.specs.Str.{chars}
 use Rattle.er_event.specs.{declared.rows.player.PlayerRow.PlayerRow, inside.Reading.has_missed}
@@ -243,10 +244,10 @@ one_player_dropped = refl
 
 -- ---- totals
 
-abbrev line : ℕ → ℕ → ℕ → ℕ → Line
-line opponent won lost drawn = record { round = 1; player = 1; opponent = opponent; games = Some (games won lost drawn) }
+abbrev appearance : ℕ → ℕ → ℕ → ℕ → Appearance
+appearance opponent won lost drawn = record { round = 1; player = 1; opponent = opponent; games = Some (games won lost drawn) }
 
-pub two_matches : totals_of (line 2 2 1 0 ∷ line 3 1 1 1 ∷ []) ≡ record { points = 4; rounds = 2; game_points = 10; games = 6 }
+pub two_matches : totals_of (appearance 2 2 1 0 ∷ appearance 3 1 1 1 ∷ []) ≡ record { points = 4; rounds = 2; game_points = 10; games = 6 }
 two_matches = refl
 
 -- a round that was missed counts, and earns nothing; no games at all are a draw
@@ -258,7 +259,7 @@ pub missed_round : totals_of (record { round = 1; player = 1; opponent = 0; game
 }
 missed_round = refl
 
-pub no_games : totals_of (line 2 0 0 0 ∷ []) ≡ record { points = 1; rounds = 1; game_points = 0; games = 0 }
+pub no_games : totals_of (appearance 2 0 0 0 ∷ []) ≡ record { points = 1; rounds = 1; game_points = 0; games = 0 }
 no_games = refl
 
 -- ---- a late entry
@@ -292,8 +293,8 @@ pub missed_once_complete : map (totals over) (1 ∷ 2 ∷ 3 ∷ 4 ∷ 5 ∷ 6 �
     ≡ sum 3 1 6 3 ∷ sum 0 1 0 2 ∷ sum 0 1 3 3 ∷ sum 3 1 6 2 ∷ sum 0 1 0 0 ∷ sum 0 0 0 0 ∷ []
 missed_once_complete = refl
 
-pub the_missed_line : own_lines over 5 ≡ record { round = 1; player = 5; opponent = 0; games = None } ∷ []
-the_missed_line = refl
+pub the_missed_appearance : own_appearances over 5 ≡ record { round = 1; player = 5; opponent = 0; games = None } ∷ []
+the_missed_appearance = refl
 
 -- who sat in the first round can't have missed it, and nobody has missed a second one
 pub who_missed_a_round : map (has_missed over.stored) (late 2 (codes "Bo") 1 ∷ late 5 (codes "Ed") 1 ∷ late 5 (codes "Ed") 2 ∷ [])

@@ -1,5 +1,6 @@
 -- What a player's rounds come to is what the matches come to, and a round for each complete one that the player missed.
-use Rattle.er_event.proofs.Prelude.{Line, dropped_at, lines_from, own, totals, totals_of, EventValue, is_counted, numbers, Player}
+use Rattle.er_event.proofs.Prelude.{Appearance, dropped_at, appearances_from, own, totals, totals_of, EventValue, is_counted, numbers}
+use Rattle.er_event.proofs.Prelude.{Player}
 use Rattle.er_event.proofs.Prelude.{Round, Bool, List, None, [], ap, ap₂, arith, cond, false, length, length-append}
 use Rattle.er_event.proofs.Prelude.{map, refl, suc, take, true, zero, ℕ, ◌++◌, ◌+◌, ◌-◌, ◌<◌, ◌==◌, ◌∙◌, ◌∷◌, ◌≡◌, ◌≢◌, ◌≤◌}
 use Rattle.er_event.proofs.Prelude.{common_steps, nat_tests, range_with_len, All, HasMissed, inl, inr, get_or, take_more, Games}
@@ -8,7 +9,7 @@ use Rattle.std.proofs.{Common.{filter, nat_le}, lemmas.Bool.{cases_Bool, cases_e
 use Rattle.std.proofs.lemmas.List.{Sums.sum_by-append, take-append-le}
 use Rattle.er_event.specs.{Change.after, declared.changes.Change.Change}
 use Rattle.er_event.specs.declared.changes.Change.TheVariants.{AddPlayer, AddRound, SetDropped, SetScore}
-use Rattle.er_event.specs.{Lines.{has_missed, missed_line, missed_in, missed_from}, inside.Joined.{joined_in, joined_of}}
+use Rattle.er_event.specs.{Appearances.{has_missed, missed_appearance, missed_in, missed_from}, inside.Joined.{joined_in, joined_of}}
 use Rattle.er_event.specs.{Totals.{plus, missed_totals, points_of, game_points_of, games_of}}
 use Rattle.er_event.proofs.{DropLemmas.{find-below, find-numbered, first_number}, PartsLemmas.number_at, TotalLemmas.own-append}
 
@@ -19,9 +20,9 @@ Counted r = is_counted r.matches
 abbrev pub complete : ℕ → List Round → ℕ
 complete first rounds = length (filter Counted (take first rounds))
 
--- ---- lists of lines one after the other
+-- ---- lists of appearances one after the other
 
-pub totals_of-append : (xs ys : List Line) → totals_of (xs ++ ys) ≡ plus (totals_of xs) (totals_of ys)
+pub totals_of-append : (xs ys : List Appearance) → totals_of (xs ++ ys) ≡ plus (totals_of xs) (totals_of ys)
 totals_of-append xs ys = grind (
   arith,
   common_steps,
@@ -33,15 +34,15 @@ totals_of-append xs ys = grind (
 
 -- ---- one round
 
-abbrev line : ℕ → ℕ → Line
-line n player = record { round = n; player = player; opponent = 0; games = None }
+abbrev appearance : ℕ → ℕ → Appearance
+appearance n player = record { round = n; player = player; opponent = 0; games = None }
 
-abbrev lines_of : ℕ → List Player → List Line
-lines_of n ps = map (missed_line n) (filter (has_missed n) ps)
+abbrev appearances_of : ℕ → List Player → List Appearance
+appearances_of n ps = map (missed_appearance n) (filter (has_missed n) ps)
 
--- a player's one line, or none
-abbrev once : ℕ → ℕ → ℕ → List Line
-once n player joined = cond (nat_le n joined) (line n player ∷ []) []
+-- a player's one appearance, or none
+abbrev once : ℕ → ℕ → ℕ → List Appearance
+once n player joined = cond (nat_le n joined) (appearance n player ∷ []) []
 
 none-joined : (n : ℕ) → 1 ≤ n → nat_le n 0 ≡ false
 none-joined n low = grind (arith, nat_tests)
@@ -49,12 +50,12 @@ none-joined n low = grind (arith, nat_tests)
 joined-below : (k player : ℕ) (ps : List Player) → numbers ps ≡ range_with_len k (length ps) → player < k → joined_of ps player ≡ 0
 joined-below k player ps numbered below = ap joined_in (find-below k ps player numbered below)
 
-own-lines : (player n k : ℕ) (ps : List Player) → numbers ps ≡ range_with_len k (length ps) → 1 ≤ n
-    → own player (lines_of n ps) ≡ once n player (joined_of ps player)
-own-lines player n k [] numbered low = grind (arith, none-joined n low)
-own-lines player n k (q ∷ qs) numbered low =
+own-appearances : (player n k : ℕ) (ps : List Player) → numbers ps ≡ range_with_len k (length ps) → 1 ≤ n
+    → own player (appearances_of n ps) ≡ once n player (joined_of ps player)
+own-appearances player n k [] numbered low = grind (arith, none-joined n low)
+own-appearances player n k (q ∷ qs) numbered low =
     let both = first_number q qs k numbered in
-    let later = own-lines player n (k + 1) qs both.1 low in
+    let later = own-appearances player n (k + 1) qs both.1 low in
     elim (cases_eq q.no player) [
       | inl same ↦
           let none = joined-below (k + 1) player qs both.1 (omega (arith, both.0, same)) in
@@ -91,7 +92,7 @@ one-more n player joined r rs = elim (cases_Bool (nat_le n joined)) [
 own-in : (player n : ℕ) (ps : List Player) (r : Round) → numbers ps ≡ range_with_len 1 (length ps) → 1 ≤ n
     → own player (missed_in ps n r) ≡ cond (is_counted r.matches) (once n player (joined_of ps player)) []
 own-in player n ps r numbered low = elim (cases_Bool (is_counted r.matches)) [
-  | inl counted ↦ rw counted (own-lines player n 1 ps numbered low)
+  | inl counted ↦ rw counted (own-appearances player n 1 ps numbered low)
   | inr unfinished ↦ rw unfinished refl
 ]
 
@@ -107,13 +108,13 @@ missed-totals player n ps (r ∷ rs) numbered low =
 
 pub totals-split : (e : EventValue) (player : ℕ) → numbers e.players ≡ range_with_len 1 (length e.players)
     → totals e player
-    ≡ plus (totals_of (own player (lines_from 1 e.stored))) (missed_totals (complete (joined_of e.players player) e.stored))
+    ≡ plus (totals_of (own player (appearances_from 1 e.stored))) (missed_totals (complete (joined_of e.players player) e.stored))
 totals-split e player numbered =
     let missed = missed-totals player 1 e.players e.stored numbered (omega arith) in
     let all : joined_of e.players player + 1 - 1 ≡ joined_of e.players player = omega arith in
-    ap totals_of (own-append player (lines_from 1 e.stored) (missed_from e.players 1 e.stored))
-    ∙ (totals_of-append (own player (lines_from 1 e.stored)) (own player (missed_from e.players 1 e.stored))
-    ∙ ap (plus (totals_of (own player (lines_from 1 e.stored)))) (missed ∙ ap (λ (n : ℕ). missed_totals (complete n e.stored)) all))
+    ap totals_of (own-append player (appearances_from 1 e.stored) (missed_from e.players 1 e.stored))
+    ∙ (totals_of-append (own player (appearances_from 1 e.stored)) (own player (missed_from e.players 1 e.stored))
+    ∙ ap (plus (totals_of (own player (appearances_from 1 e.stored)))) (missed ∙ ap (λ (n : ℕ). missed_totals (complete n e.stored)) all))
 
 -- ---- how many they are
 

@@ -1,5 +1,6 @@
 -- What the matches of one player can come to at most.
-use Rattle.er_event.proofs.Prelude.{EventValue, counted_lines, lines_from, lines_of_match, lines_of_score, own, IsRound, IsSoundButForSeeds}
+use Rattle.er_event.proofs.Prelude.{EventValue, counted_appearances, appearances_from, appearances_of_match, appearances_of_score, own}
+use Rattle.er_event.proofs.Prelude.{IsRound, IsSoundButForSeeds}
 use Rattle.er_event.proofs.Prelude.{totals, totals_of, Match, Round, Games, AreOver, IsSeatedOnce, All, IfSome, List, None, Option, Some}
 use Rattle.er_event.proofs.Prelude.{[], arith, flat_map, length, refl, suc, ℕ, ◌+◌, ◌∷◌, ◌≢◌, common_steps}
 use Rattle.std.proofs.lemmas.Bool.{cases_eq}
@@ -16,14 +17,14 @@ round-few known ms round k d below = grind (arith, common_steps)
 none-over : (n : ℕ) → AreOver n (totals_of [])
 none-over n = record { points = omega arith; rounds_are = omega arith; game_points = omega arith; games = omega arith }
 
--- a match gives a player one line at most
+-- a match gives a player one appearance at most
 score-over : (player round a b : ℕ) (o : Option Games) → IfSome o AreFew → a ≢ b
-    → AreOver 1 (totals_of (own player (lines_of_score round a b o)))
+    → AreOver 1 (totals_of (own player (appearances_of_score round a b o)))
 score-over player round a b None few apart = none-over 1
 score-over player round a b (Some s) few apart = grind (arith, common_steps)
 
 pub round-over : (player round : ℕ) (ms : List Match) → IsSeatedOnce ms → All HasFew ms
-    → AreOver 1 (totals_of (own player (flat_map (lines_of_match round) ms)))
+    → AreOver 1 (totals_of (own player (flat_map (appearances_of_match round) ms)))
 round-over player round [] once few = none-over 1
 round-over player round (m ∷ rest) once few =
     let more = round-over player round rest (λ i j d before within. once (suc (suc i)) (suc (suc j)) d (omega arith) (omega arith))
@@ -34,11 +35,11 @@ round-over player round (m ∷ rest) once few =
     grind (arith, common_steps, own-append, cases_eq m.a player, cases_eq m.b player)
 
 counted-over : (player round : ℕ) (r : Round) → IsSeatedOnce r.matches → All HasFew r.matches
-    → AreOver 1 (totals_of (own player (counted_lines round r)))
+    → AreOver 1 (totals_of (own player (counted_appearances round r)))
 counted-over player round r once few = grind (arith, common_steps, round-over player round r.matches once few, none-over)
 
 rounds-over : (player n : ℕ) (rounds : List Round) → All (λ (r : Round). IsSeatedOnce r.matches × All HasFew r.matches) rounds
-    → AreOver (length rounds) (totals_of (own player (lines_from n rounds)))
+    → AreOver (length rounds) (totals_of (own player (appearances_from n rounds)))
 rounds-over player n [] all = none-over 0
 rounds-over player n (r ∷ later) all =
     let here = counted-over player n r (all 0 r (omega arith)).0 (all 0 r (omega arith)).1 in
@@ -47,7 +48,7 @@ rounds-over player n (r ∷ later) all =
 
 -- the matches alone
 pub played-over : (e : EventValue) → IsSoundButForSeeds e → (player : ℕ)
-    → AreOver (length e.stored) (totals_of (own player (lines_from 1 e.stored)))
+    → AreOver (length e.stored) (totals_of (own player (appearances_from 1 e.stored)))
 played-over e sound player = rounds-over player 1 e.stored
     (λ k d below. let round = sound.rounds.each k d below in (round.seated_once, round-few _ _ round))
 

@@ -1,5 +1,6 @@
 -- What the rounds of all players come to, by the seats of each round.
-use Rattle.er_event.proofs.Prelude.{counted_lines, lines_from, lines_of_match, own, totals_of, IsAbsent, Match, Round, Games, AreOver, IsSeatedOnce, All}
+use Rattle.er_event.proofs.Prelude.{counted_appearances, appearances_from, appearances_of_match, own, totals_of, IsAbsent, Match, Round}
+use Rattle.er_event.proofs.Prelude.{Games, AreOver, IsSeatedOnce, All}
 use Rattle.er_event.proofs.Prelude.{List, None, Option, Some, [], arith, flat_map, get_or, length, refl, seats, set, suc, sym, take, zero, ℕ}
 use Rattle.er_event.proofs.Prelude.{◌+◌, ◌<◌, ◌==◌, ◌∙◌, ◌∷◌, ◌≡◌, ◌≢◌, ◌≤◌, ◌⊎◌, ap, subst, inl, inr, true, false, get_or_default, nat_tests, none-some, same_Some}
 use Rattle.er_event.proofs.Prelude.{All-cons, IfSome, IsSoundButForSeeds, EventValue, open_match, scored, scored_slot, ◌++◌, length-append, Player, ap₂, totals, ◌-◌, length-set}
@@ -9,7 +10,7 @@ use Rattle.er_event.specs.{Change.{after, new_player}, declared.changes.Change.C
 use Rattle.er_event.specs.declared.changes.Change.TheVariants.{AddPlayer, AddRound, SetDropped, SetScore}
 use Rattle.er_event.specs.inside.{Joined.joined_of, Played.{with_new, ArePlayed, IsRescored, Rescores}, Seats.{sits_at, seat_of}, Seen.AreSeen}
 use Rattle.er_event.proofs.{MissedLemmas.{Counted, complete, joined-at, joined-dropped, joined-others, totals-split, totals_of-append}, PartsLemmas.number_at, SeatLemmas.{All-seats, seats-All, seats-set, sit-apart}}
-use Rattle.er_event.proofs.{SeatTables.no-seat, TotalLemmas.{absent_lines, lines_from-push, one_match, own-append, own-more}}
+use Rattle.er_event.proofs.{SeatTables.no-seat, TotalLemmas.{absent_appearances, appearances_from-push, one_match, own-append, own-more}}
 
 -- ---- the match that a number sits at
 
@@ -61,7 +62,7 @@ same-seats old m after h = seats-set m h.place old h.first h.second ∙ ap (flat
 
 seen-at : (ms : List Match) → IsSeatedOnce ms → (k : ℕ) (m : Match) (player : ℕ) → k < length ms → get_or ms k m ≡ m
     → (player ≡ m.a) ⊎ (player ≡ m.b) → (g : Option Games) → AreSeen m player g
-    → (round : ℕ) → totals_of (own player (flat_map (lines_of_match round) ms)) ≡ totals_of_games g
+    → (round : ℕ) → totals_of (own player (flat_map (appearances_of_match round) ms)) ≡ totals_of_games g
 seen-at ms once k m player below here sits None seen round = ap totals_of (one_match ms once k m player below (sym here) sits round ∙ seen round)
 seen-at ms once k m player below here sits (Some g) seen round =
     ap totals_of (one_match ms once k m player below (sym here) sits round) ∙ seen.2 round
@@ -81,14 +82,15 @@ module _ (old : List Match) (once : IsSeatedOnce old) (player : ℕ) where
       seats-All (λ s. s ≢ player) after (subst (All (λ s. s ≢ player)) (same-seats old m after h) (All-seats (λ s. s ≢ player) old away))
 
   pub unseen : seat_of old player ≡ None → (new : Option Match) (after : List Match) → IsRescored old new after
-      → (round : ℕ) → totals_of (own player (flat_map (lines_of_match round) after)) ≡ totals_of_games None
-  unseen none None after is round = ap totals_of (absent_lines player round after (rw is (lost player old none)))
-  unseen none (Some m) after is round = ap totals_of (absent_lines player round after (absent-after m after (lost player old none) is))
+      → (round : ℕ) → totals_of (own player (flat_map (appearances_of_match round) after)) ≡ totals_of_games None
+  unseen none None after is round = ap totals_of (absent_appearances player round after (rw is (lost player old none)))
+  unseen none (Some m) after is round = ap totals_of (absent_appearances player round after
+      (absent-after m after (lost player old none) is))
 
   module _ (m : Match) (is : seat_of old player ≡ Some m) (g : Option Games) where
     -- of the match as it was
     pub seen-old : AreSeen m player g → (new : Option Match) → ((s : Match) → new ≡ Some s → s.a ≢ m.a) → (after : List Match)
-        → IsRescored old new after → (round : ℕ) → totals_of (own player (flat_map (lines_of_match round) after)) ≡ totals_of_games g
+        → IsRescored old new after → (round : ℕ) → totals_of (own player (flat_map (appearances_of_match round) after)) ≡ totals_of_games g
     seen-old seen None other after same round =
         let it = found player old m is in
         rw same (seen-at old once it.place m player it.within it.here it.sits g seen round)
@@ -105,7 +107,7 @@ module _ (old : List Match) (once : IsSeatedOnce old) (player : ℕ) where
 
     -- of the match with its new score
     pub seen-new : (s : Match) → s.a ≡ m.a → AreSeen s player g → (after : List Match) → Rescores old s after
-        → (round : ℕ) → totals_of (own player (flat_map (lines_of_match round) after)) ≡ totals_of_games g
+        → (round : ℕ) → totals_of (own player (flat_map (appearances_of_match round) after)) ≡ totals_of_games g
     seen-new s first seen after h round =
         let it = found player old m is in
         let listed : get_or old h.place m ≡ get_or old h.place s = get_or_default old h.place m s h.within in
@@ -136,7 +138,7 @@ module _ (old : List Match) (once : IsSeatedOnce old) (player : ℕ) where
 
 module _ (old : List Match) (once : IsSeatedOnce old) (player : ℕ) (m : Match) (is : seat_of old player ≡ Some m) (g : Option Games) where
   pub seen-with : (new : Option Match) → AreSeen (with_new m new) player g → (after : List Match) → IsRescored old new after
-      → (round : ℕ) → totals_of (own player (flat_map (lines_of_match round) after)) ≡ totals_of_games g
+      → (round : ℕ) → totals_of (own player (flat_map (appearances_of_match round) after)) ≡ totals_of_games g
   seen-with None seen after same round = seen-old old once player m is g seen None (λ s e. absurd (none-some s e)) after same round
   seen-with (Some s) seen after h round = elim (cases_Bool (s.a == m.a)) [
     | inl same ↦
@@ -156,10 +158,11 @@ new-apart m (Some s) apart h = cond_both (s.a == m.a) s m (λ (n : Match). n.a �
 pub over-none : AreOver 0 (totals_of [])
 over-none = record { points = omega arith; rounds_are = omega arith; game_points = omega arith; games = omega arith }
 
-pub lines-more : (player : ℕ) (rounds : List Round) (i : ℕ) (r : Round) → i < length rounds → r ≡ get_or rounds i r
-    → plus (totals_of (own player (lines_from 1 (take i rounds)))) (totals_of (own player (counted_lines (1 + length (take i rounds)) r)))
-    ≡ totals_of (own player (lines_from 1 (take (i + 1) rounds)))
-lines-more player rounds i r below is = sym (ap totals_of (own-more player rounds i r below is) ∙ totals_of-append _ _)
+pub appearances-more : (player : ℕ) (rounds : List Round) (i : ℕ) (r : Round) → i < length rounds → r ≡ get_or rounds i r
+    → plus (totals_of (own player (appearances_from 1 (take i rounds))))
+    (totals_of (own player (counted_appearances (1 + length (take i rounds)) r)))
+    ≡ totals_of (own player (appearances_from 1 (take (i + 1) rounds)))
+appearances-more player rounds i r below is = sym (ap totals_of (own-more player rounds i r below is) ∙ totals_of-append _ _)
 
 pub over-weaker : (i j : ℕ) (t : Totals) → i ≤ j → AreOver i t → AreOver j t
 over-weaker i j t low over = record {
@@ -190,7 +193,8 @@ complete-min (suc j) (suc n) (suc m) (r ∷ rs) done low few within =
 
 -- ---- all players
 
-pub gathered-is : (e : EventValue) → IsSoundButForSeeds e → (n : ℕ) → n ≤ length e.stored → (g : Gathered) → ArePlayed (lines_from 1 e.stored) g.played
+pub gathered-is : (e : EventValue) → IsSoundButForSeeds e → (n : ℕ) → n ≤ length e.stored → (g : Gathered)
+    → ArePlayed (appearances_from 1 e.stored) g.played
     → length g.played ≡ 513 → g.complete ≡ complete n e.stored
     → (p : Player) → 1 ≤ p.no → p.no ≤ 512 → p.joined ≤ n → joined_of e.players p.no ≡ p.joined → gathered_of g p ≡ totals e p.no
 gathered-is e sound n within g played long count p low high few joined =
@@ -198,7 +202,7 @@ gathered-is e sound n within g played long count p low high few joined =
     let missed : min g.complete p.joined ≡ complete (joined_of e.players p.no) e.stored = rw (count, joined) (sym first) in
     ap₂ plus (played p.no low (omega arith)) (ap missed_totals missed) ∙ sym (totals-split e p.no sound.players.numbered)
 
-pub gathered-now : (e : EventValue) → IsSoundButForSeeds e → (g : Gathered) → ArePlayed (lines_from 1 e.stored) g.played
+pub gathered-now : (e : EventValue) → IsSoundButForSeeds e → (g : Gathered) → ArePlayed (appearances_from 1 e.stored) g.played
     → length g.played ≡ 513 → g.complete ≡ complete (length e.stored) e.stored → AreTotals e e.players g
 gathered-now e sound g played long count = λ k d below.
     let p = get_or e.players k d in
@@ -235,11 +239,11 @@ slot-apart ms t s n low high is once same =
     let it = slot-rescores ms t s n low high is in
     (sit-apart ms once).0 it.place n it.within (it.first ∙ (same ∙ sym it.second))
 
-pub lines-push : (player : ℕ) (rounds : List Round) (r : Round)
-    → plus (totals_of (own player (lines_from 1 rounds))) (totals_of (own player (counted_lines (1 + length rounds) r)))
-    ≡ totals_of (own player (lines_from 1 (rounds ++ r ∷ [])))
-lines-push player rounds r = sym (ap totals_of (ap (own player) (lines_from-push 1 rounds r)
-    ∙ own-append player (lines_from 1 rounds) (counted_lines (1 + length rounds) r)) ∙ totals_of-append _ _)
+pub appearances-push : (player : ℕ) (rounds : List Round) (r : Round)
+    → plus (totals_of (own player (appearances_from 1 rounds))) (totals_of (own player (counted_appearances (1 + length rounds) r)))
+    ≡ totals_of (own player (appearances_from 1 (rounds ++ r ∷ [])))
+appearances-push player rounds r = sym (ap totals_of (ap (own player) (appearances_from-push 1 rounds r)
+    ∙ own-append player (appearances_from 1 rounds) (counted_appearances (1 + length rounds) r)) ∙ totals_of-append _ _)
 
 pub stored-grows : (e : EventValue) (c : Change) → length e.stored ≤ length (after e c).stored
 stored-grows e (AddRound matches) = omega (arith, length-append e.stored (record { matches = matches } ∷ []))
@@ -257,7 +261,7 @@ joined-stays e (SetDropped gone) sound k p below is =
 joined-stays e _ sound k p below is = joined-at e.players k p sound.players.numbered below is
 
 pub gathered-after : (e : EventValue) (c : Change) → IsSoundButForSeeds e → IsSoundButForSeeds (after e c) → (g : Gathered)
-    → ArePlayed (lines_from 1 (after e c).stored) g.played
+    → ArePlayed (appearances_from 1 (after e c).stored) g.played
     → length g.played ≡ 513 → g.complete ≡ complete (length e.stored) (after e c).stored → AreTotals (after e c) e.players g
 gathered-after e c sound next g played long count = λ k d below.
     let p = get_or e.players k d in

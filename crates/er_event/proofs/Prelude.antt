@@ -25,7 +25,8 @@ pub use Rattle.er_event.specs.Bracket.{following, winner}
 pub use Rattle.er_event.specs.Change.{scored_slot, Fits, scored, with_score, has_name, score_table, IsEnd, one_more, stage_of}
 pub use Rattle.er_event.specs.Change.{with_bracket_score, with_player, with_dropped, with_round, dropped_at, with_phase}
 pub use Rattle.er_event.specs.Event.{EventValue}
-pub use Rattle.er_event.specs.Lines.{own, lines_from, lines_of_match, counted_lines, Line, lines_of_score}
+pub use Rattle.er_event.specs.Appearances.{own, appearances_from, appearances_of_match, counted_appearances, Appearance}
+pub use Rattle.er_event.specs.Appearances.{appearances_of_score}
 pub use Rattle.er_event.specs.Match.{is_known}
 pub use Rattle.er_event.specs.Name.{is_lawful_name}
 pub use Rattle.er_event.specs.Pairings.{FitRows, AreTables, FitsRow, table_rows, is_of}

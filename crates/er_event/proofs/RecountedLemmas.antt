@@ -1,11 +1,12 @@
 -- Whoever sits at none of the matches that count anew keeps what the matches come to.
-use Rattle.er_event.proofs.Prelude.{open_match, Fits, scored, scored_slot, with_round, with_score, EventValue, counted_lines, lines_from}
-use Rattle.er_event.proofs.Prelude.{lines_of_match, own, IsAbsent, recounted, recounted_in, is_counted, IsSoundButForSeeds}
+use Rattle.er_event.proofs.Prelude.{open_match, Fits, scored, scored_slot, with_round, with_score, EventValue, counted_appearances}
+use Rattle.er_event.proofs.Prelude.{appearances_from}
+use Rattle.er_event.proofs.Prelude.{appearances_of_match, own, IsAbsent, recounted, recounted_in, is_counted, IsSoundButForSeeds}
 use Rattle.er_event.proofs.Prelude.{numbers, totals, totals_of, AddRound, SetScore, Match, Round, Games, All, Bool, Contains, IsFalse, List}
 use Rattle.er_event.proofs.Prelude.{[], ap, arith, false, flat_map, get_or, if◌then◌else◌, length, refl, suc, sym, true, zero, ℕ, ◌+◌, ◌-◌}
-use Rattle.er_event.proofs.Prelude.{◌<◌, ◌∙◌, ◌∷◌, ◌≡◌, ◌≢◌, set, common_steps, All-cons, get_or_default, Line, ◌++◌}
-use Rattle.er_event.proofs.{RescoredLemmas.{as-scored}, TotalLemmas.{absent, absent_lines}}
-use Rattle.er_event.proofs.TotalLemmas.{lines_from-push, own-append}
+use Rattle.er_event.proofs.Prelude.{◌<◌, ◌∙◌, ◌∷◌, ◌≡◌, ◌≢◌, set, common_steps, All-cons, get_or_default, Appearance, ◌++◌}
+use Rattle.er_event.proofs.{RescoredLemmas.{as-scored}, TotalLemmas.{absent, absent_appearances}}
+use Rattle.er_event.proofs.TotalLemmas.{appearances_from-push, own-append}
 use Rattle.er_event.proofs.Prelude.{Some, ap₂, inl, inr, match_at, none-some, rescored, subst, ◌&&◌, ◌==◌, ◌||◌, ◌≤◌}
 use Rattle.er_event.proofs.Prelude.{nat_tests, range_with_len, SetDropped, cond}
 use Rattle.std.proofs.{Common.{filter, nat_le}, lemmas.Bool.cases_Bool, lemmas.List.take-set-le}
@@ -18,13 +19,13 @@ use Rattle.er_event.proofs.{MissedLemmas.{joined-at, joined-stored, totals-split
 -- ---- a round that is added
 
 counted_by : (player n : ℕ) (counts : Bool) (ms : List Match) → IsAbsent player (if counts then ms else [])
-    → own player (if counts then flat_map (lines_of_match n) ms else []) ≡ []
-counted_by player n true ms away = absent_lines player n ms away
+    → own player (if counts then flat_map (appearances_of_match n) ms else []) ≡ []
+counted_by player n true ms away = absent_appearances player n ms away
 counted_by player n false ms away = refl
 
 pub added-same : (e : EventValue) (ms : List Match) (player : ℕ) → IsAbsent player (if is_counted ms then ms else [])
-    → totals_of (own player (lines_from 1 (with_round e ms).stored)) ≡ totals_of (own player (lines_from 1 e.stored))
-added-same e ms player away = grind (arith, common_steps, lines_from-push, own-append, counted_by)
+    → totals_of (own player (appearances_from 1 (with_round e ms).stored)) ≡ totals_of (own player (appearances_from 1 e.stored))
+added-same e ms player away = grind (arith, common_steps, appearances_from-push, own-append, counted_by)
 
 -- ---- a score
 
@@ -32,19 +33,19 @@ abbrev IsAway : ℕ → Match → Type 0
 IsAway player m = (m.a ≢ player) × (m.b ≢ player)
 
 own-set : (player n k : ℕ) (ms : List Match) (new d : Match) → IsAway player new → (k < length ms → IsAway player (get_or ms k d))
-    → own player (flat_map (lines_of_match n) (set ms k new)) ≡ own player (flat_map (lines_of_match n) ms)
+    → own player (flat_map (appearances_of_match n) (set ms k new)) ≡ own player (flat_map (appearances_of_match n) ms)
 own-set player n k [] new d away before = refl
 own-set player n zero (m ∷ ms) new d away before =
-    let rest = flat_map (lines_of_match n) ms in
+    let rest = flat_map (appearances_of_match n) ms in
     let was = before (omega arith) in
     let same = absent player n new away.0 away.1 ∙ sym (absent player n m was.0 was.1) in
-    own-append player (lines_of_match n new) rest
-    ∙ (ap (λ (ls : List Line). ls ++ own player rest) same ∙ sym (own-append player (lines_of_match n m) rest))
+    own-append player (appearances_of_match n new) rest
+    ∙ (ap (λ (ls : List Appearance). ls ++ own player rest) same ∙ sym (own-append player (appearances_of_match n m) rest))
 own-set player n (suc k) (m ∷ ms) new d away before =
     let more = own-set player n k ms new d away (λ below. before (omega arith)) in
-    own-append player (lines_of_match n m) (flat_map (lines_of_match n) (set ms k new))
-    ∙ (ap (λ (ls : List Line). own player (lines_of_match n m) ++ ls) more
-    ∙ sym (own-append player (lines_of_match n m) (flat_map (lines_of_match n) ms)))
+    own-append player (appearances_of_match n m) (flat_map (appearances_of_match n) (set ms k new))
+    ∙ (ap (λ (ls : List Appearance). own player (appearances_of_match n m) ++ ls) more
+    ∙ sym (own-append player (appearances_of_match n m) (flat_map (appearances_of_match n) ms)))
 
 -- a complete round stays complete
 counted-set : (k : ℕ) (ms : List Match) (s : Games) (m : Match) → is_counted ms ≡ true → is_counted (set ms k (scored s m)) ≡ true
@@ -62,38 +63,40 @@ absent-scored player (suc k) (m ∷ ms) s d away =
     All-cons (λ (n : Match). (n.a ≢ player) × (n.b ≢ player)) m (set ms k (scored s (get_or ms k d))) (away 0 m (omega arith))
     (absent-scored player k ms s d (λ j d' below. away (suc j) d' (omega arith)))
 
-scored-lines : (player n t : ℕ) (ms : List Match) (s : Games) → IsAbsent player (recounted_in ms t s)
-    → own player (counted_lines n (record { matches = scored_slot ms t s })) ≡ own player (counted_lines n (record { matches = ms }))
-scored-lines player n t ms s away = by_tests (is_counted ms) refl (is_counted (scored_slot ms t s)) refl away
+scored-appearances : (player n t : ℕ) (ms : List Match) (s : Games) → IsAbsent player (recounted_in ms t s)
+    → own player (counted_appearances n (record { matches = scored_slot ms t s }))
+    ≡ own player (counted_appearances n (record { matches = ms }))
+scored-appearances player n t ms s away = by_tests (is_counted ms) refl (is_counted (scored_slot ms t s)) refl away
   where
     by_tests : (before : Bool) → is_counted ms ≡ before → (now : Bool) → is_counted (scored_slot ms t s) ≡ now
         → IsAbsent player (if before then get_or ms (t - 1) (open_match 0 0) ∷ [] else if now then ms else [])
-        → own player (if now then flat_map (lines_of_match n) (scored_slot ms t s) else []) ≡ own player
-        (if before then flat_map (lines_of_match n) ms else [])
+        → own player (if now then flat_map (appearances_of_match n) (scored_slot ms t s) else []) ≡ own player
+        (if before then flat_map (appearances_of_match n) ms else [])
     by_tests true is true now away =
         let here = away 0 (open_match 0 0) (omega arith) in
         own-set player n (t - 1) ms (scored s (get_or ms (t - 1) (open_match 0 0))) (open_match 0 0) here (λ below. here)
     by_tests true is false now away =
         absurd (let never = sym (counted-set (t - 1) ms s (get_or ms (t - 1) (open_match 0 0)) is) ∙ now in cc)
-    by_tests false is true now away = absent_lines player n (scored_slot ms t s) (absent-scored player (t - 1) ms s (open_match 0 0) away)
+    by_tests false is true now away = absent_appearances player n (scored_slot ms t s)
+        (absent-scored player (t - 1) ms s (open_match 0 0) away)
     by_tests false is false now away = refl
 
 scored-rounds : (player n k : ℕ) (rounds : List Round) (new : Round)
-    → ((j : ℕ) → own player (counted_lines j new) ≡ own player (counted_lines j (get_or rounds k (record { matches = [] }))))
-    → own player (lines_from n (set rounds k new)) ≡ own player (lines_from n rounds)
+    → ((j : ℕ) → own player (counted_appearances j new) ≡ own player (counted_appearances j (get_or rounds k (record { matches = [] }))))
+    → own player (appearances_from n (set rounds k new)) ≡ own player (appearances_from n rounds)
 scored-rounds player n k [] new same = refl
 scored-rounds player n zero (r ∷ rounds) new same = grind (arith, common_steps)
 scored-rounds player n (suc k) (r ∷ rounds) new same =
-    grind (arith, common_steps, counted_lines, lines_from, own-append, scored-rounds player (n + 1) k rounds new same)
+    grind (arith, common_steps, counted_appearances, appearances_from, own-append, scored-rounds player (n + 1) k rounds new same)
 
 pub scored-same : (e : EventValue) (k t : ℕ) (s : Games) (player : ℕ) → Fits e (SetScore k t s)
     → IsAbsent player (recounted e (SetScore k t s))
-    → totals_of (own player (lines_from 1 (with_score e k t s).stored)) ≡ totals_of (own player (lines_from 1 e.stored))
+    → totals_of (own player (appearances_from 1 (with_score e k t s).stored)) ≡ totals_of (own player (appearances_from 1 e.stored))
 scored-same e k t s player fits away =
     let ms = (get_or e.stored (k - 1) (record { matches = [] })).matches in
-    ap (λ (rs : List Round). totals_of (own player (lines_from 1 rs))) (sym (as-scored e k t s fits))
+    ap (λ (rs : List Round). totals_of (own player (appearances_from 1 rs))) (sym (as-scored e k t s fits))
     ∙ ap totals_of (scored-rounds player 1 (k - 1) e.stored (record { matches = scored_slot ms t s })
-    (λ j. scored-lines player j t ms s away))
+    (λ j. scored-appearances player j t ms s away))
 
 -- ---- the rounds that were missed
 
@@ -160,7 +163,7 @@ number-known (p ∷ ps) (suc k) d below = let has = number-known ps k d (omega a
 
 -- whose matches and missed rounds count as before keeps the totals
 pub totals-same : (e : EventValue) (c : Change) (player : ℕ) → IsSoundButForSeeds e → Fits e c → Contains (numbers e.players) player
-    → totals_of (own player (lines_from 1 (after e c).stored)) ≡ totals_of (own player (lines_from 1 e.stored))
+    → totals_of (own player (appearances_from 1 (after e c).stored)) ≡ totals_of (own player (appearances_from 1 e.stored))
     → nat_le 1 (completed e c) && nat_le (completed e c) (joined_of e.players player) ≡ false
     → totals (after e c) player ≡ totals e player
 totals-same e c player sound fits known played none =
@@ -180,7 +183,7 @@ sits-absent player ms is = λ k d below.
 -- a player of the event whom the change doesn't count anew keeps the totals, if whoever sits at no match that counts anew keeps the matches
 pub kept-others : (e : EventValue) (c : Change) (ms : List Match) (round : ℕ) → IsSoundButForSeeds e → Fits e c → round ≡ completed e c
     → ((player : ℕ) → IsAbsent player ms
-    → totals_of (own player (lines_from 1 (after e c).stored)) ≡ totals_of (own player (lines_from 1 e.stored)))
+    → totals_of (own player (appearances_from 1 (after e c).stored)) ≡ totals_of (own player (appearances_from 1 e.stored)))
     → All (λ (p : Player). IsFalse (includes (record { matches = ms; completed = round }) p)
     → totals (after e c) p.no ≡ totals e p.no) e.players
 kept-others e c ms round sound fits is keep k d below none =

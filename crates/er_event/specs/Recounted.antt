@@ -9,7 +9,7 @@ use Rattle.er_event.specs.declared.scores.Games.{Games}
 use Rattle.er_event.specs.Bracket.{open_match}
 use Rattle.er_event.specs.Change.{scored_slot, with_player, Fits}
 use Rattle.er_event.specs.Event.{EventValue}
-use Rattle.er_event.specs.Lines.{has_missed}
+use Rattle.er_event.specs.Appearances.{has_missed}
 use Rattle.er_event.specs.Round.{is_counted}
 use Rattle.er_event.specs.Sound.{IsSoundButForSeeds, numbers}
 use Rattle.er_event.specs.Totals.{totals}

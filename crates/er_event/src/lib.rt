@@ -33,7 +33,7 @@ pub use refusals::{Cause, Place, Refusal};
 pub use rounds::Round;
 pub use rows::{
     BracketRow, EventRow, MOST_OLD_ROUNDS, PairingRow, PlayerRow, TallyRow, match_at_table,
-    read_tally,
+    read_flag, read_tally,
 };
 pub use scores::{Games, Score};
 pub use slips::SlipRow;

@@ -5,7 +5,7 @@ mod pairing;
 mod player;
 mod tally;
 
-ghost use Rattle.std.specs.Prelude.{◌≡◌, ◌≢◌, Bool, IfSome, IsNone};
+ghost use Rattle.std.specs.Prelude.{◌≡◌, Bool, IfSome, Some};
 ghost use Rattle.er_event.specs.Rows.{flag};
 
 pub use bracket::{BracketRow, read_bracket};
@@ -14,12 +14,12 @@ pub use pairing::{PairingRow, match_at_table, read_stored};
 pub use player::{PlayerRow, read_players};
 pub use tally::{TallyRow, is_row_of, read_tally};
 
-/// What the number of a column that is yes or no says.
-fn flag_of(value: i64) -> Option<bool>
-    ensures value { IfSome result (λ b. value ≡ flag b) }
-    ensures none { IsNone result → (b : Bool) → value ≢ flag b }
+/// What the number of a column says that is yes or no: 1 or 0.
+pub fn read_flag(number: i64) -> Option<bool>
+    ensures value { IfSome result (λ set. number ≡ flag set) }
+    ensures exact { (set : Bool) → number ≡ flag set → result ≡ Some set }
 {
-    match value {
+    match number {
         0 => Some(false),
         1 => Some(true),
         _ => None,

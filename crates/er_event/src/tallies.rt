@@ -1,6 +1,6 @@
 ghost use Rattle.std.specs.Prelude.{◌≡◌, ◌≤◌, ◌↔◌, ℕ, [], IsTrue, IsFalse, All, ◌==◌, ◌||◌, ◌&&◌, nat_le, if◌then◌else◌, length};
 ghost use Rattle.er_event.specs.Change.{after, Fits};
-ghost use Rattle.er_event.specs.Lines.{has_missed, own, lines_from};
+ghost use Rattle.er_event.specs.Appearances.{has_missed, own, appearances_from};
 ghost use Rattle.er_event.specs.Recounted.{recounted, recounted_in, completed, completed_in, sits, includes, recount_of};
 ghost use Rattle.er_event.specs.Round.{is_counted, IsAbsent};
 ghost use Rattle.er_event.specs.Rows.{tally_rows};
@@ -155,8 +155,8 @@ impl Event {
         ensures value { result.now ≡ recounted self.now change.now }
         ensures sound { IsSoundButForSeeds self.now }
         ensures others { (player : ℕ) → IsAbsent player result.now
-            → totals_of (own player (lines_from 1 (after self.now change.now).stored))
-            ≡ totals_of (own player (lines_from 1 self.now.stored)) }
+            → totals_of (own player (appearances_from 1 (after self.now change.now).stored))
+            ≡ totals_of (own player (appearances_from 1 self.now.stored)) }
     {
         let stored = self.stored();
         match change {

@@ -1,7 +1,7 @@
 ghost use Rattle.std.specs.Prelude.{◌≡◌, ◌≢◌, ℕ, List, [], ◌∷◌, ◌++◌, Some, ◌+◌, ◌<◌, ◌≤◌, ◌==◌, nat_lt, if◌then◌else◌, length, take, filter, flat_map, slice_index_or, All, IfSome};
 ghost use Rattle.er_share.specs.declared.TheConstants.{MAX_ROUNDS};
 ghost use Rattle.er_event.specs.declared.rounds.Round.{Round};
-ghost use Rattle.er_event.specs.Lines.{own, lines_of_match, counted_lines, lines_from};
+ghost use Rattle.er_event.specs.Appearances.{own, appearances_of_match, counted_appearances, appearances_from};
 ghost use Rattle.er_event.specs.Totals.{totals_of, totals_of_games, plus, missed_totals, totals};
 ghost use Rattle.std.specs.List.{range_with_len};
 ghost use Rattle.er_event.specs.inside.Joined.{joined_of};
@@ -112,7 +112,7 @@ fn own_games(matches: &[Match], player: u16) -> Option<Games>
     requires seated { IsSeatedOnce matches.now }
     requires player { 0 < player }
     ensures value { (round : ℕ)
-        → totals_of (own player (flat_map (lines_of_match round) matches.now))
+        → totals_of (own player (flat_map (appearances_of_match round) matches.now))
         ≡ totals_of_games result }
     ensures few { IfSome result AreFew }
 {
@@ -129,7 +129,7 @@ fn counted_games(matches: &[Match], player: u16) -> Option<Games>
     requires seated { IsSeatedOnce matches.now }
     requires player { 0 < player }
     ensures value { (number : ℕ)
-        → totals_of (own player (counted_lines number (record { matches = matches.now })))
+        → totals_of (own player (counted_appearances number (record { matches = matches.now })))
         ≡ totals_of_games result }
     ensures few { IfSome result AreFew }
 {
@@ -145,7 +145,7 @@ fn totals_in(rounds: &[Round], player: u16) -> Totals
     requires few { length rounds.now ≤ MAX_ROUNDS }
     requires seated { All (λ round. IsSeatedOnce round.matches) rounds.now }
     requires player { 0 < player }
-    ensures value { result ≡ totals_of (own player (lines_from 1 rounds.now)) }
+    ensures value { result ≡ totals_of (own player (appearances_from 1 rounds.now)) }
     ensures over { AreOver (length rounds.now) result }
 {
     let mut totals = Totals::none();
@@ -191,7 +191,7 @@ fn games_with(matches: &[Match], table: usize, score: Score, player: u16) -> Opt
     requires seated { IsSeatedOnce (scored_slot matches.now table score) }
     requires player { 0 < player }
     ensures value { (round : ℕ)
-        → totals_of (own player (flat_map (lines_of_match round)
+        → totals_of (own player (flat_map (appearances_of_match round)
         (scored_slot matches.now table score))) ≡ totals_of_games result }
     ensures few { IfSome result AreFew }
 {
@@ -209,7 +209,7 @@ fn counted_games_with(matches: &[Match], table: usize, score: Score, player: u16
     requires seated { IsSeatedOnce (scored_slot matches.now table score) }
     requires player { 0 < player }
     ensures value { (number : ℕ)
-        → totals_of (own player (counted_lines number
+        → totals_of (own player (counted_appearances number
         (record { matches = scored_slot matches.now table score }))) ≡ totals_of_games result }
     ensures few { IfSome result AreFew }
 {
@@ -237,7 +237,7 @@ fn games_at(rounds: &[Round], at: usize, new: &NewScore, player: u16) -> Option<
     requires player { 0 < player }
     ensures value { (round : Round)
         → round ≡ slice_index_or (rescored rounds.now new.now.place new.now.table new.now.score) at
-        round → (number : ℕ) → totals_of (own player (counted_lines number round))
+        round → (number : ℕ) → totals_of (own player (counted_appearances number round))
         ≡ totals_of_games result }
     ensures few { IfSome result AreFew }
 {
@@ -257,7 +257,7 @@ fn totals_with(rounds: &[Round], new: &NewScore, player: u16) -> Totals
         (rescored rounds.now new.now.place new.now.table new.now.score) }
     requires player { 0 < player }
     ensures { result ≡ totals_of (own player
-        (lines_from 1 (rescored rounds.now new.now.place new.now.table new.now.score))) }
+        (appearances_from 1 (rescored rounds.now new.now.place new.now.table new.now.score))) }
 {
     let mut totals = Totals::none();
     for at in 0..rounds.len() {
@@ -274,7 +274,7 @@ fn totals_with_round(rounds: &[Round], matches: &[Match], player: u16) -> Totals
     requires seated { All (λ round. IsSeatedOnce round.matches) rounds.now }
     requires seated_now { IsSeatedOnce matches.now }
     requires player { 0 < player }
-    ensures { result ≡ totals_of (own player (lines_from 1 (rounds.now
+    ensures { result ≡ totals_of (own player (appearances_from 1 (rounds.now
         ++ record { matches = matches.now } ∷ []))) }
 {
     let totals = totals_in(rounds, player);
@@ -391,7 +391,7 @@ impl Event {
     fn played_after(&self, change: &Change, player: PlayerNo) -> Totals
         requires { Fits self.now change.now }
         ensures { result
-            ≡ totals_of (own player (lines_from 1 (after self.now change.now).stored)) }
+            ≡ totals_of (own player (appearances_from 1 (after self.now change.now).stored)) }
     {
         let stored = self.stored();
         match change {

@@ -4,7 +4,8 @@ use Rattle.std.proofs.{Common.{sum_by, get_or, All, Option, refl, sym, ap, ◌�
 use Rattle.std.proofs.{lemmas.List.Elements.{All-map, All-filter, filter_passes}, lemmas.List.Sums.{sum_by-cons, length-filter}}
 use Rattle.std.specs.List.{range_with_len}
 use Rattle.er_event.specs.{declared.scores.Games.Games, declared.tallies.Meeting.Meeting, declared.tallies.Tally.Tally, Event.EventValue}
-use Rattle.er_event.specs.{Lines.{Line, lines, own_lines}, Round.is_bye, Sound.IsSoundButForSeeds, Tallies.{tally_by, tallies}}
+use Rattle.er_event.specs.{Appearances.{Appearance, appearances, own_appearances}, Round.is_bye, Sound.IsSoundButForSeeds}
+use Rattle.er_event.specs.{Tallies.{tally_by, tallies}}
 use Rattle.er_event.specs.{Tallies.{counted_matches, meeting_by, meetings}, Totals.{points_by, game_points_by, games_by, points_of}}
 use Rattle.er_event.specs.Totals.{game_points_of, games_of, totals}
 use Rattle.er_rank.specs.{declared.lists.TheConstants.MAX_GAMES_OF_MATCH, Meeting.{encounters, totals_of, IsRecord, AreTallies}}
@@ -19,16 +20,16 @@ points-low h1 = grind (arith, common_steps)
 game_points-low : (seen : Option Games) → game_points_by seen ≤ 3 * games_by seen
 game_points-low h1 = grind (arith, common_steps)
 
--- what short lines come to
-record AreShort (own : List Line) : Type 0 where
+-- what short appearances come to
+record AreShort (own : List Appearance) : Type 0 where
   points : sum_by points_of own ≤ 3 * length own
   games : sum_by games_of own ≤ MAX_GAMES_OF_MATCH * length own
   game_points : sum_by game_points_of own ≤ 3 * sum_by games_of own
 
-short-lines : (own : List Line) → All (λ (l : Line). games_of l ≤ MAX_GAMES_OF_MATCH) own → AreShort own
-short-lines [] short = record { points = omega arith; games = omega arith; game_points = omega arith }
-short-lines (l ∷ own) short =
-    let rest = short-lines own (λ k d below. short (suc k) d (omega arith)) in
+short-appearances : (own : List Appearance) → All (λ (l : Appearance). games_of l ≤ MAX_GAMES_OF_MATCH) own → AreShort own
+short-appearances [] short = record { points = omega arith; games = omega arith; game_points = omega arith }
+short-appearances (l ∷ own) short =
+    let rest = short-appearances own (λ k d below. short (suc k) d (omega arith)) in
     let games = sum_by-cons games_of l own in
     record {
       points = omega (arith, sum_by-cons points_of l own, points-low l.games, rest.points);
@@ -40,11 +41,11 @@ module _ (e : EventValue) (sound : IsSoundButForSeeds e) where
   totals-record : (player : ℕ) → IsRecord (totals e player)
   totals-record player =
       let within = AreWithin-sound e sound in
-      let own : Line → Bool = λ l. l.player == player in
-      let short = short-lines (own_lines e player) (All-filter own (λ (l : Line). games_of l ≤ MAX_GAMES_OF_MATCH)
-      (lines e) within.short) in
+      let own : Appearance → Bool = λ l. l.player == player in
+      let short = short-appearances (own_appearances e player) (All-filter own (λ (l : Appearance). games_of l ≤ MAX_GAMES_OF_MATCH)
+      (appearances e) within.short) in
       record {
-        rounds = omega (arith, within.few player, length-filter own (lines e));
+        rounds = omega (arith, within.few player, length-filter own (appearances e));
         points = short.points;
         games = short.games;
         game_points = short.game_points;

@@ -9,7 +9,7 @@ use Rattle.er_share.specs.Share.{IsShareOf}
 use Rattle.er_event.specs.Event.{EventValue}
 use Rattle.er_event.specs.Sound.{IsSoundButForSeeds}
 use Rattle.er_event.specs.declared.players.Player.{Player}
-use Rattle.er_event.specs.Lines.{own_lines}
+use Rattle.er_event.specs.Appearances.{own_appearances}
 use Rattle.er_event.specs.Totals.{totals}
 use Rattle.er_rank.specs.declared.rows.Row.{Row}
 
@@ -21,7 +21,7 @@ game_win event player = let own = totals event player in percentage own.game_poi
 
 -- one entry for each match; a bye is no opponent
 abbrev pub opponents : EventValue → ℕ → List ℕ
-opponents event player = filter (λ q. nat_lt 0 q) (map (λ l. l.opponent) (own_lines event player))
+opponents event player = filter (λ q. nat_lt 0 q) (map (λ l. l.opponent) (own_appearances event player))
 
 abbrev pub opponents_match_win : EventValue → ℕ → Fraction
 opponents_match_win event player = average (map (match_win event) (opponents event player))

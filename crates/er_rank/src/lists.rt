@@ -34,9 +34,9 @@ fn are_tallies(list: &[Tally]) -> bool
     true
 }
 
-/// Counts one match more of a player, whose opponent's matches come to this. It is false where that breaks a limit: the
+/// Counts one match more of a player, whose opponent's matches come to this, unless that breaks a limit: the
 /// player is none of those counted, or has as many matches as there may be rounds, or the totals are too great.
-fn count(counts: &mut [u8], player: PlayerNo, opponent: Totals) -> bool
+fn try_count(counts: &mut [u8], player: PlayerNo, opponent: Totals) -> bool
     ensures may { (before : List Encounter) → AreCountsOf before counts.old
         → AreEncounters (length counts.old) before
         → (IsTrue result ↔ AreEncounters (length counts.old) (with_match before player opponent)) }
@@ -58,8 +58,8 @@ fn are_meetings(alloc: Global, players: usize, meetings: &[Meeting]) -> Result<b
     let mut counts = vec![in alloc; 0; players]?;
     let counts = counts.as_mut_slice();
     for meeting in meetings {
-        if !count(counts, meeting.lo, meeting.hi_totals)
-            || !count(counts, meeting.hi, meeting.lo_totals)
+        if !try_count(counts, meeting.lo, meeting.hi_totals)
+            || !try_count(counts, meeting.hi, meeting.lo_totals)
         {
             return Ok(false);
         }

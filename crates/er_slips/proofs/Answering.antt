@@ -1,29 +1,32 @@
 -- What the desk answers, and how serving an input ends.
-use Rattle.std.proofs.{lemmas.Grind.common_steps, Common.{◌≡◌, ◌⊎◌, inl, inr, ℕ, ◌==◌, false, true≢false, arith, List, Option}}
-use Rattle.std.proofs.Common.{Some, None, Result, Ok, Err, IsTrue, IsFalse, IfOk, IfSome, MatchResult, Vec, Global, is_ok}
+use Rattle.std.proofs.{lemmas.Grind.common_steps, Common.{◌≡◌, ◌⊎◌, ◌≤◌, inl, inr, ℕ, ◌==◌, false, true≢false, arith, List, Option}}
+use Rattle.std.proofs.Common.{Some, None, Bool, true, length, take, nat_lt, if◌then◌else◌, Result, Ok, Err, IsTrue, IsFalse, IfOk, IfSome, MatchResult, Vec, Global, is_ok}
 use Rattle.std.proofs.{Common.{refl, sym, ap, subst, ◌∙◌}, lemmas.Bool.Decides.nat_tests}
 use Rattle.std.specs.{Io.KnownBytes.Keeps, declared.alloc.AllocError.AllocError}
 use Rattle.er_event.specs.{declared.refusals.Refusal.Refusal, declared.refusals.Refusal.TheVariants.{Memory, NeedsReopen, NoSuchMatch}}
 use Rattle.er_event.specs.{declared.commands.TheConstants.MAX_SERIAL, declared.scores.Games.Games, declared.slips.SlipRow.SlipRow}
 use Rattle.er_event.specs.Event.{EventValue}
-use Rattle.er_json.specs.Slip.{slip_text}
+use Rattle.er_json.specs.Slip.{slip_games, slip_text}
 use Rattle.er_paper.specs.Texts.{rows_text}
 use Rattle.er_rank.specs.declared.rows.Row.{Row}
 use Rattle.er_store.specs.{Fault.IsReadFault, Slip.FindsSlip}
-use Rattle.er_desk.specs.Desk.{Standing, Turn, ShowsEvent}
+use Rattle.er_desk.specs.Desk.{DeskState, Turn, ShowsEvent}
 use Rattle.er_desk.specs.Desk.{ReadsRows, ReadsSlip}
 use Rattle.er_desk.specs.{Headline.AreTheStandings, Reply.{Reply, receipt, reply_to, IsDue}, Run.{Session, no_session}}
-use Rattle.er_slips.specs.{declared.answer.Answer.Answer, declared.request.asked.Asked.Asked}
-use Rattle.er_slips.specs.{declared.request.asked.Asked.TheVariants.{Standings, Pairings, Slip, Report}, declared.request.asked.Fault.Fault}
-use Rattle.er_slips.specs.{declared.request.asked.Unasked.Unasked, declared.request.asked.Unasked.TheVariants.Refused, Head.HasNoHead}
-use Rattle.er_slips.specs.declared.request.asked.Unasked.TheVariants as unasked
-use Rattle.er_slips.specs.{declared.serve.Served.Served, declared.serve.Served.TheVariants.{Answered, ReadFault, WriteFault}, Request.{Asks, headed, headless}}
-use Rattle.er_slips.specs.{Request.TellsAsked, Answer.{AnswerValue, answer_value, fault_answer, refusal_answer, slip_answer, text_answer}}
+use Rattle.er_slips.specs.{declared.answer.Answer.Answer, declared.request.wanted.Request.Request}
+use Rattle.er_slips.specs.{declared.request.wanted.Request.TheVariants.{Standings, Pairings, Slip, Report}}
+use Rattle.er_slips.specs.{declared.request.wanted.Fault.Fault}
+use Rattle.er_slips.specs.{declared.request.wanted.NoRequest.NoRequest, declared.request.wanted.NoRequest.TheVariants.Refused}
+use Rattle.er_slips.specs.declared.request.wanted.NoRequest.TheVariants as no_request
+use Rattle.er_slips.specs.{declared.request.Next.Next, declared.request.Next.TheVariants.{Get, Body}}
+use Rattle.er_slips.specs.declared.request.wanted.Fault.TheVariants.{BadRequest}
+use Rattle.er_slips.specs.{declared.serve.Served.Served, declared.serve.Served.TheVariants.{Answered, ReadFault, WriteFault}, Request.{Asks, headed, headless, HasBody, IsWhole, next_of, asked_with, reported}}
+use Rattle.er_slips.specs.{Request.TellsRequest, Answer.{AnswerValue, answer_value, fault_answer, refusal_answer, slip_answer, text_answer}}
 use Rattle.er_slips.specs.{Answer.status_of, Whole.{reply_answer, row_answer, IsAnswered, submitted, IsAnswerUnless503}}
 use Rattle.er_slips.specs.Serving.{IsRowsAnswer, IsSlipAnswer, AnswersRequest, IsServed, IsUnserved, Writes, EndsServing, IsWritten}
 use Rattle.er_event.specs.declared.commands.Command.TheVariants.{Result as Hand}
 
-pub reopening : (desk : Standing) (Shows : EventValue → AnswerValue → Type 0) (answer : AnswerValue) (why : Refusal)
+pub reopening : (desk : DeskState) (Shows : EventValue → AnswerValue → Type 0) (answer : AnswerValue) (why : Refusal)
     → IsTrue desk.stopped × (why ≡ NeedsReopen) → answer ≡ refusal_answer why → ShowsEvent refusal_answer desk Shows answer
 reopening desk Shows answer why stopped is = inr (stopped.0, is ∙ ap refusal_answer stopped.1)
 
@@ -49,76 +52,106 @@ rows-made e event rows made answer same of is =
     (made-is made answer (text_answer (rows_text e rows)) of is)
 
 -- rows that were read leave the desk at its event
-pub rows-answered : (rows : Vec Row Global) (old new : Standing) (answer : AnswerValue) → ReadsRows old (Ok rows) new
+pub rows-answered : (rows : Vec Row Global) (old new : DeskState) (answer : AnswerValue) → ReadsRows old (Ok rows) new
     → (IsFalse new.stopped → (answer ≡ text_answer (rows_text new.event rows.items)) ⊎ (answer ≡ refusal_answer Memory))
     → IsRowsAnswer old.event (Ok rows) answer
 rows-answered rows old new answer (inl (running, same, e)) due =
-    subst (λ (s : Standing). IsFalse s.stopped → (answer ≡ text_answer (rows_text s.event rows.items)) ⊎ (answer ≡ refusal_answer Memory))
+    subst (λ (s : DeskState). IsFalse s.stopped → (answer ≡ text_answer (rows_text s.event rows.items)) ⊎ (answer ≡ refusal_answer Memory))
     same due running
 rows-answered rows old new answer (inr (inl (running, same, why, fault, e))) due = absurd (true≢false (ap is_ok e))
 rows-answered rows old new answer (inr (inr (stopped, same, e))) due = absurd (true≢false (ap is_ok e))
 
 -- ---- how serving ends
 
-module _ (Stood : Type 0) (input : Option (List ℕ)) (old : Standing) (session : Session) (new : Standing) (before after : Option (List ℕ))
+module _ (Represented : Type 0) (input : Option (List ℕ)) (old : DeskState) (session : Session) (new : DeskState)
+    (before after : Option (List ℕ))
     (answer : AnswerValue) where
-  ends : (served : Served) → Writes before after served answer → IsServed Stood input old answer session new ⊎ IsUnserved input old answer session new
-      → EndsServing Stood input old session new before after served
+  ends : (served : Served) → Writes before after served answer → IsServed Represented input old answer session new
+      ⊎ IsUnserved input old answer session new
+      → EndsServing Represented input old session new before after served
   ends h1 wrote due = grind (arith, common_steps)
 
-  asks : (i : Option (List ℕ)) (asked : Asked) → IfSome i (λ xs. TellsAsked xs (Ok asked)) → IfSome i (λ xs. Asks xs (Ok asked))
+  asks : (i : Option (List ℕ)) (asked : Request) → IfSome i (λ xs. TellsRequest xs (Ok asked)) → IfSome i (λ xs. Asks xs (Ok asked))
   asks h1 asked told = grind (arith, common_steps)
 
-  asks-fault : (i : Option (List ℕ)) (fault : Fault) → IfSome i (λ xs. TellsAsked xs (Err (Refused fault)))
+  asks-fault : (i : Option (List ℕ)) (fault : Fault) → IfSome i (λ xs. TellsRequest xs (Err (Refused fault)))
       → IfSome i (λ xs. Asks xs (Err fault))
   asks-fault h1 fault told = grind (arith, common_steps)
 
-  pub ends-asked : (served : Served) (asked : Asked) → IfSome input (λ xs. TellsAsked xs (Ok asked))
-      → AnswersRequest Stood old (Ok asked) answer session new
-      → Writes before after served answer → EndsServing Stood input old session new before after served
+  pub ends-asked : (served : Served) (asked : Request) → IfSome input (λ xs. TellsRequest xs (Ok asked))
+      → AnswersRequest Represented old (Ok asked) answer session new
+      → Writes before after served answer → EndsServing Represented input old session new before after served
   ends-asked served asked told answers wrote = ends served wrote (inl (Ok asked, asks input asked told, answers))
 
-  pub ends-refused : (served : Served) (why : Unasked) (fault : Fault) → why ≡ Refused fault → IfSome input (λ xs. TellsAsked xs (Err why))
+  pub ends-refused : (served : Served) (why : NoRequest) (fault : Fault) → why ≡ Refused fault
+      → IfSome input (λ xs. TellsRequest xs (Err why))
       → answer ≡ fault_answer fault → session ≡ no_session → new ≡ old
-      → Writes before after served answer → EndsServing Stood input old session new before after served
+      → Writes before after served answer → EndsServing Represented input old session new before after served
   ends-refused served why fault of told is nothing same wrote =
       ends served wrote (inl (
         Err fault,
-        asks-fault input fault (subst (λ u. IfSome input (λ xs. TellsAsked xs (Err u))) of told),
+        asks-fault input fault (subst (λ u. IfSome input (λ xs. TellsRequest xs (Err u))) of told),
         (is, nothing, same),
       ))
 
 pub keeps : (known : Option (List ℕ)) → Keeps known known
 keeps h1 = grind (arith, common_steps)
 
-pub written-unread : (Runs Stood : Type 0) (input before : Option (List ℕ)) → IfSome input (λ xs. Runs → Stood → Keeps before before)
+pub written-unread : (Runs Represented : Type 0) (input before : Option (List ℕ))
+    → IfSome input (λ xs. Runs → Represented → Keeps before before)
 written-unread h1 h2 h3 before = grind (arith, common_steps)
 
-pub ends-unserved : (Stood : Type 0) (input : Option (List ℕ)) (old : Standing) (before after : Option (List ℕ)) (answer : AnswerValue)
-    (served : Served) (why : Unasked) → why ≡ unasked.Memory → IfSome input (λ xs. TellsAsked xs (Err why))
-    → answer ≡ refusal_answer Memory → Writes before after served answer → EndsServing Stood input old no_session old before after served
-ends-unserved Stood input old before after answer served why of told is wrote =
-    ends Stood input old no_session old before after answer served wrote
-    (inr (is, subst (λ u. IfSome input (λ xs. TellsAsked xs (Err u))) of told, refl, refl))
+pub ends-unserved : (Represented : Type 0) (input : Option (List ℕ)) (old : DeskState) (before after : Option (List ℕ))
+    (answer : AnswerValue)
+    (served : Served) (why : NoRequest) → why ≡ no_request.Memory → IfSome input (λ xs. TellsRequest xs (Err why))
+    → answer ≡ refusal_answer Memory → Writes before after served answer
+    → EndsServing Represented input old no_session old before after served
+ends-unserved Represented input old before after answer served why of told is wrote =
+    ends Represented input old no_session old before after answer served wrote
+    (inr (is, subst (λ u. IfSome input (λ xs. TellsRequest xs (Err u))) of told, refl, refl))
 
 -- ---- the answer of a desk that runs, over tables that stand
 
 same-refusal : {A : Type 0} (why other : Refusal) → ◌≡◌ {A = Result A Refusal} (Err why) (Err other) → why ≡ other
 same-refusal why other is = cc
 
-module _ (old : Standing) (session : Session) (new : Standing) (input : List ℕ) (answer : AnswerValue) (runs : IsFalse old.stopped) where
-  exact : (asked : Result Asked Fault) → Asks input asked → IsAnswered old.event old.serial asked answer
+-- a body that is too short asks for nothing
+there : (round table n : ℕ) (rest : List ℕ) (asked : Request) → Ok asked ≡ asked_with (Ok (Body round table n)) rest → n ≤ length rest
+there round table n rest asked e = by (nat_lt (length rest) n) refl e
+  where
+    by : (short : Bool) → nat_lt (length rest) n ≡ short
+        → ◌≡◌ {A = Result Request Fault} (Ok asked) (if short then Err BadRequest else reported round table (slip_games (take n rest))) → n
+        ≤ length rest
+    by true is e = absurd (true≢false (ap is_ok e))
+    by false is e = grind (arith, nat_tests)
+
+module _ (old : DeskState) (session : Session) (new : DeskState) (input : List ℕ) (answer : AnswerValue) (runs : IsFalse old.stopped) where
+  exact : (asked : Result Request Fault) → Asks input asked → IsAnswered old.event old.serial asked answer
       → IsAnswerUnless503 old.event old.serial input answer
   exact asked is answered = inl (submitted asked, record { asked = asked; asks = is; answered = answered; command = refl })
 
-  -- something is asked for behind a head alone
-  headed_so : (asked : Asked) → Asks input (Ok asked) → HasNoHead input → ⊥
-  headed_so asked (headed head rest is e) none = none head rest is
-  headed_so asked (headless so e) none = absurd (true≢false (ap is_ok e))
+  -- something is asked for by a whole request alone
+  whole : (asked : Request) → Asks input (Ok asked) → (next : Next) × IsWhole input next
+  whole asked (headed head rest is e) = by (next_of head) refl e
+    where
+      by : (due : Result Next Fault) → next_of head ≡ due → Ok asked ≡ asked_with due rest → (next : Next) × IsWhole input next
+      by (Err fault) of e = absurd (true≢false (ap is_ok e))
+      by (Ok (Get it)) of e = (Get it, record { head = head; rest = rest; heads = is; passes = of; body = tt })
+      by (Ok (Body round table n)) of e = (
+        Body round table n,
+        record {
+          head = head;
+          rest = rest;
+          heads = is;
+          passes = of;
+          body = there round table n rest asked e;
+        },
+      )
+  whole asked (headless so e) = absurd (true≢false (ap is_ok e))
 
-  module _ (asked : Asked) (of : Asks input (Ok asked)) where
+  module _ (asked : Request) (of : Asks input (Ok asked)) where
     hindered : (why : Refusal) → status_of why ≡ 503 → answer ≡ refusal_answer why → IsAnswerUnless503 old.event old.serial input answer
-    hindered why is same = inr (ap (λ (a : AnswerValue). a.status) same ∙ is, headed_so asked of)
+    hindered why is same = (let request = whole asked of in inr (ap (λ (a : AnswerValue). a.status) same ∙ is, request.0, request.1))
 
     faulty : (why : Refusal) → IsReadFault why → answer ≡ refusal_answer why → IsAnswerUnless503 old.event old.serial input answer
     faulty why (inl (inl memory)) e = hindered why (ap status_of memory) e
@@ -180,28 +213,32 @@ module _ (old : Standing) (session : Session) (new : Standing) (input : List ℕ
       faulty (Slip round table) is why (subst IsReadFault (sym (same-refusal why other f)) fault) e
   slip-by round table (Err why) is (inr (inr (stopped, same, f))) found e = runs-on stopped
 
-  answered-by : (Stood : Type 0) → Stood → (asked : Result Asked Fault) → Asks input asked → AnswersRequest Stood old asked answer session new
+  answered-by : (Represented : Type 0) → Represented → (asked : Result Request Fault) → Asks input asked
+      → AnswersRequest Represented old asked answer session new
       → IsAnswerUnless503 old.event old.serial input answer
-  answered-by Stood stood (Err fault) is answers = exact (Err fault) is answers.0
-  answered-by Stood stood (Ok Standings) is (read, reads, found, e, _) = rows-by read is reads (found stood) e
-  answered-by Stood stood (Ok (Pairings round)) is (inl (running, inl shown), _, _) = exact (Ok (Pairings round)) is shown
-  answered-by Stood stood (Ok (Pairings round)) is (inl (running, inr memory), _, _) = hindered (Pairings round) is Memory refl memory
-  answered-by Stood stood (Ok (Pairings round)) is (inr (stopped, e), _, _) = runs-on stopped
-  answered-by Stood stood (Ok (Slip round table)) is (read, reads, found, e, _) = slip-by round table read is reads (found stood) e
-  answered-by Stood stood (Ok (Report round table score)) is (reply, turn, e, _) = reply-by round table score reply is turn e
+  answered-by Represented represented (Err fault) is answers = exact (Err fault) is answers.0
+  answered-by Represented represented (Ok Standings) is (read, reads, found, e, _) = rows-by read is reads (found represented) e
+  answered-by Represented represented (Ok (Pairings round)) is (inl (running, inl shown), _, _) = exact (Ok (Pairings round)) is shown
+  answered-by Represented represented (Ok (Pairings round)) is (inl (running, inr memory), _, _) = hindered (Pairings round) is Memory
+      refl memory
+  answered-by Represented represented (Ok (Pairings round)) is (inr (stopped, e), _, _) = runs-on stopped
+  answered-by Represented represented (Ok (Slip round table)) is (read, reads, found, e, _) = slip-by round table read is reads
+      (found represented) e
+  answered-by Represented represented (Ok (Report round table score)) is (reply, turn, e, _) = reply-by round table score reply is turn e
 
-  due-by : (Stood : Type 0) → Stood → IsServed Stood (Some input) old answer session new ⊎ IsUnserved (Some input) old answer session new
+  due-by : (Represented : Type 0) → Represented → IsServed Represented (Some input) old answer session new
+      ⊎ IsUnserved (Some input) old answer session new
       → IsAnswerUnless503 old.event old.serial input answer
-  due-by Stood stood (inl (asked, is, answers)) = answered-by Stood stood asked is answers
-  due-by Stood stood (inr unserved) = inr (ap (λ (a : AnswerValue). a.status) unserved.0, unserved.1)
+  due-by Represented represented (inl (asked, is, answers)) = answered-by Represented represented asked is answers
+  due-by Represented represented (inr unserved) = (let body = unserved.1 in inr (ap (λ (a : AnswerValue). a.status) unserved.0, _, body.3))
 
-pub written : (Stood : Type 0) (input : Option (List ℕ)) (old : Standing) (session : Session) (new : Standing)
+pub written : (Represented : Type 0) (input : Option (List ℕ)) (old : DeskState) (session : Session) (new : DeskState)
     (before after : Option (List ℕ)) (served : Served)
-    → EndsServing Stood input old session new before after served
-    → IfSome input (λ xs. IsFalse old.stopped → Stood → IsWritten old xs before after served)
-written Stood None old session new before after served e = tt
-written Stood (Some xs) old session new before after ReadFault e = λ runs stood. e.0
-written Stood (Some xs) old session new before after (Answered status) (answer, wrote, due) =
-    λ runs stood. (answer, wrote, due-by old session new xs answer runs Stood stood due)
-written Stood (Some xs) old session new before after (WriteFault sent) (answer, wrote, due) =
-    λ runs stood. (answer, wrote, due-by old session new xs answer runs Stood stood due)
+    → EndsServing Represented input old session new before after served
+    → IfSome input (λ xs. IsFalse old.stopped → Represented → IsWritten old xs before after served)
+written Represented None old session new before after served e = tt
+written Represented (Some xs) old session new before after ReadFault e = λ runs represented. e.0
+written Represented (Some xs) old session new before after (Answered status) (answer, wrote, due) =
+    λ runs represented. (answer, wrote, due-by old session new xs answer runs Represented represented due)
+written Represented (Some xs) old session new before after (WriteFault sent) (answer, wrote, due) =
+    λ runs represented. (answer, wrote, due-by old session new xs answer runs Represented represented due)

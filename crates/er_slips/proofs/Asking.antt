@@ -9,12 +9,13 @@ use Rattle.httparse.specs.{Grammar.{RequestHead, ReadsRequest}, Spans.{span_byte
 use Rattle.httparse.specs.{declared.spans.HeaderSpan.HeaderSpan, declared.spans.RequestSpans.RequestSpans}
 use Rattle.httparse.proofs.GrammarLemmas.{ReadsRequest-append}
 use Rattle.er_slips.specs.{declared.request.head.Head.Head, declared.request.head.Head.TheVariants.Found}
-use Rattle.er_slips.specs.{declared.request.asked.Fault.Fault, declared.request.Next.Next, declared.request.Next.TheVariants.{Get, Body}}
-use Rattle.er_slips.specs.{declared.request.asked.Asked.Asked, declared.request.asked.Unasked.Unasked}
-use Rattle.er_slips.specs.{declared.request.asked.Fault.TheVariants.BadRequest, declared.request.head.TheConstants.MAX_HEAD, Head.ShowsHead}
-use Rattle.er_slips.specs.{Head.{HasNoHead, IfFound, IsHead}, Request.{path_of, next_of, asked_with, asked_of, reported, Asks, headed, IsDueUnlessMemory}}
-use Rattle.er_slips.specs.Request.{TellsAsked}
-use Rattle.er_slips.specs.declared.request.asked.Unasked.TheVariants as unasked
+use Rattle.er_slips.specs.{declared.request.wanted.Fault.Fault, declared.request.Next.Next, declared.request.Next.TheVariants.{Get, Body}}
+use Rattle.er_slips.specs.{declared.request.wanted.Request.Request, declared.request.wanted.NoRequest.NoRequest}
+use Rattle.er_slips.specs.{declared.request.wanted.Fault.TheVariants.BadRequest, declared.request.head.TheConstants.MAX_HEAD}
+use Rattle.er_slips.specs.{Head.ShowsHead}
+use Rattle.er_slips.specs.{Head.{HasNoHead, IfFound, IsHead}, Request.{path_of, next_of, asked_with, asked_of, reported, Asks, headed, IsDueUnlessMemory, IsWhole}}
+use Rattle.er_slips.specs.Request.{TellsRequest}
+use Rattle.er_slips.specs.declared.request.wanted.NoRequest.TheVariants as no_request
 
 -- ---- the path is text
 
@@ -69,36 +70,24 @@ module _ (input after : Option (List ℕ)) (bytes : List ℕ) (headers : List He
           is xs (sym e) (reads, omega (arith, shows.at.len, size, few), shows.few)
 
   -- what it asks for, by what its head says
-  pub asks-by : (result : Result Asked Fault) → ((xs : List ℕ) → input ≡ Some xs → result ≡ asked_of shows.head (drop spans.len xs))
+  pub asks-by : (result : Result Request Fault) → ((xs : List ℕ) → input ≡ Some xs → result ≡ asked_of shows.head (drop spans.len xs))
       → IfSome input (λ xs. Asks xs result)
   asks-by result is = of-head (λ xs. Asks xs result) (λ xs e head. headed shows.head (drop spans.len xs) head (is xs e))
 
-  pub has-head : IfSome input (λ xs. HasNoHead xs → ⊥)
-  has-head = of-head (λ xs. HasNoHead xs → ⊥) (λ xs e head none. none shows.head (drop spans.len xs) head)
-
-  pub asks-get : (asked : Asked) → next_of shows.head ≡ Ok (Get asked) → IfSome input (λ xs. Asks xs (Ok asked))
+  pub asks-get : (asked : Request) → next_of shows.head ≡ Ok (Get asked) → IfSome input (λ xs. Asks xs (Ok asked))
   asks-get asked e = asks-by (Ok asked) (λ xs is. ap (λ n. asked_with n (drop spans.len xs)) (sym e))
 
   pub asks-fault : (fault : Fault) → next_of shows.head ≡ Err fault → IfSome input (λ xs. Asks xs (Err fault))
   asks-fault fault e = asks-by (Err fault) (λ xs is. ap (λ n. asked_with n (drop spans.len xs)) (sym e))
 
-  pub asks-next : (r : Result Next Unasked) (u : Unasked) → IsDueUnlessMemory (next_of shows.head) r → r ≡ Err u
-      → IfSome input (λ xs. TellsAsked xs (Err u))
-  asks-next (Ok n) u t e = absurd (cc)
-  asks-next (Err (unasked.Refused fault)) u t e = let is : unasked.Refused fault ≡ u =
-      cc in subst (λ v. IfSome input (λ xs. TellsAsked xs (Err v))) is (asks-fault fault t)
-  asks-next (Err unasked.Memory) u t e = let is : unasked.Memory ≡ u =
-      cc in subst (λ v. IfSome input (λ xs. TellsAsked xs (Err v))) is has-head
-  asks-next (Err unasked.Unread) u t e = absurd t
-
   -- ---- with a body
 
-  tells-asked : (xs : List ℕ) (due : Result Asked Fault) (r : Result Asked Unasked) → IsDueUnlessMemory due r → (HasNoHead xs → ⊥)
-      → Asks xs due → TellsAsked xs r
-  tells-asked xs due (Ok asked) t head is = subst (Asks xs) t is
-  tells-asked xs due (Err (unasked.Refused fault)) t head is = subst (Asks xs) t is
-  tells-asked xs due (Err unasked.Memory) t head is = head
-  tells-asked xs due (Err unasked.Unread) t head is = absurd t
+  tells-asked : (xs : List ℕ) (due : Result Request Fault) (r : Result Request NoRequest) → IsDueUnlessMemory due r
+      → (round table n : ℕ) × IsWhole xs (Body round table n) → Asks xs due → TellsRequest xs r
+  tells-asked xs due (Ok asked) t body is = subst (Asks xs) t is
+  tells-asked xs due (Err (no_request.Refused fault)) t body is = subst (Asks xs) t is
+  tells-asked xs due (Err no_request.Memory) t body is = body
+  tells-asked xs due (Err no_request.Unread) t body is = absurd t
 
   behind : (xs : List ℕ) (a : Option (List ℕ)) (front : List ℕ) → Consumes (Some xs) a front
       → (ys : List ℕ) × (xs ≡ front ++ ys) × (IsAtEnd a → ys ≡ [])
@@ -116,12 +105,11 @@ module _ (input after : Option (List ℕ)) (bytes : List ℕ) (headers : List He
     size : length (take count buf) ≡ count
     size = length-take-le count buf fits
 
-    pub asks-body : (end : ℕ) → spans.len + n ≡ end → end ≤ count → (r : Result Asked Unasked)
-        → IsDueUnlessMemory (reported round table (slip_games (slice_range buf spans.len end))) r → IfSome input (λ xs. TellsAsked xs r)
+    pub asks-body : (end : ℕ) → spans.len + n ≡ end → end ≤ count → (r : Result Request NoRequest)
+        → IsDueUnlessMemory (reported round table (slip_games (slice_range buf spans.len end))) r → IfSome input (λ xs. TellsRequest xs r)
     asks-body end sum enough r t =
         let due = reported round table (slip_games (slice_range buf spans.len end)) in
-        of-head (λ xs. TellsAsked xs r) (λ xs is head.
-        tells-asked xs due r t (λ none. none shows.head (drop spans.len xs) head) (headed shows.head (drop spans.len xs) head (
+        of-head (λ xs. TellsRequest xs r) (λ xs is head.
         let more = behind xs later (take count buf) (subst (λ i. Consumes i later (take count buf)) is came-on) in
         let left : end - spans.len ≡ n = omega arith in
         let rest : drop spans.len xs ≡ drop spans.len (take count buf) ++ more.0 =
@@ -135,8 +123,11 @@ module _ (input after : Option (List ℕ)) (bytes : List ℕ) (headers : List He
         let body : slice_range buf spans.len end ≡ take n (drop spans.len xs) =
         ap (λ k. take k (drop spans.len buf)) left ∙ sym part ∙ sym (take-append-le n (drop spans.len (take count buf)) more.0 long)
         ∙ ap (take n) (sym rest) in
-        ap (λ b. reported round table (slip_games b)) body ∙ sym (long-enough round table n (drop spans.len xs) whole) ∙ ap
-        (λ (k : Result Next Fault). asked_with k (drop spans.len xs)) (sym is-next))))
+        let asked = ap (λ b. reported round table (slip_games b)) body ∙ sym (long-enough round table n (drop spans.len xs) whole) ∙ ap
+        (λ (k : Result Next Fault). asked_with k (drop spans.len xs)) (sym is-next) in
+        tells-asked xs due r t
+        (round, table, n, record { head = shows.head; rest = drop spans.len xs; heads = head; passes = is-next; body = whole })
+        (headed shows.head (drop spans.len xs) head asked))
 
     pub asks-short : spans.len ≤ count → count < spans.len + n → IsAtEnd later → IfSome input (λ xs. Asks xs (Err BadRequest))
     asks-short past few-came ended = asks-by (Err BadRequest) (λ xs is.
@@ -155,6 +146,3 @@ head-fits bytes headers spans n xs e shows = grind (arith, common_steps)
 
 pub shows-of : (h : Head) (spans : RequestSpans) (P : RequestSpans → Type 0) → h ≡ Found spans → IfFound h P → P spans
 shows-of h spans P e p = subst (λ k. IfFound k P) e p
-
-pub is-next : (due : Result Next Fault) (r : Result Next Unasked) (next : Next) → IsDueUnlessMemory due r → r ≡ Ok next → due ≡ Ok next
-is-next due r next t e = subst (λ k. IsDueUnlessMemory due k) e t

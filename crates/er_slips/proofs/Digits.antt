@@ -4,7 +4,7 @@ use Rattle.std.proofs.Common.{Some, None, Result, Ok, Err, refl, sym, ap, ◌∙
 use Rattle.std.proofs.{lemmas.Fmt.IsAscii-from_digits, lemmas.Str.IsUtf8-from_ascii}
 use Rattle.std.proofs.lemmas.Str.Parse.{IsNumeralModel, numerals_by_value, parse_digits, digits_value_short}
 use Rattle.std.specs.{Char.is_ascii_digit, List.list_all, Str.IsUtf8, Str.Parse.{digits_value, ParsesUnsigned}, Result.result_ok}
-use Rattle.er_slips.specs.{declared.request.fields.TheConstants.MAX_BODY, declared.request.asked.Fault.TheVariants.TooLarge}
+use Rattle.er_slips.specs.{declared.request.fields.TheConstants.MAX_BODY, declared.request.wanted.Fault.TheVariants.TooLarge}
 use Rattle.er_slips.specs.Request.{number_of, length_of}
 
 numerals : IsNumeralModel (λ word. list_all is_ascii_digit word ≡ true) (digits_value 10)

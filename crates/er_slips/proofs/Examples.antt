@@ -11,8 +11,9 @@ use Rattle.er_json.specs.Slip.{slip_games, slip_text}
 use Rattle.er_paper.specs.Texts.{pairings_text}
 use Rattle.er_desk.specs.Reply.{IsDue}
 use Rattle.er_slips.specs.{declared.request.fields.TheConstants.MAX_BODY, declared.request.head.TheConstants.{MAX_HEAD, MAX_FIELDS}}
-use Rattle.er_slips.specs.{declared.request.asked.Asked.TheVariants.Pairings, declared.request.asked.Fault.TheVariants.BadRequest}
-use Rattle.er_slips.specs.{declared.request.asked.Fault.TheVariants.{NotFound, NotAllowed, TooLarge}, Request.{route_of, path_of, asked_of}}
+use Rattle.er_slips.specs.{declared.request.wanted.Request.TheVariants.Pairings, declared.request.wanted.Fault.TheVariants.BadRequest}
+use Rattle.er_slips.specs.{declared.request.wanted.Fault.TheVariants.{NotFound, NotAllowed, TooLarge}}
+use Rattle.er_slips.specs.{Request.{route_of, path_of, asked_of}}
 use Rattle.er_slips.specs.{Request.reported, Answer.{AnswerValue, fault_answer, refusal_answer, receipt_answer, slip_answer, text_answer}}
 use Rattle.er_slips.specs.{Answer.status_of, Whole.{row_answer, pairings_answer}}
 use Rattle.er_event.specs.declared.commands.Command.TheVariants.{Result as Hand}

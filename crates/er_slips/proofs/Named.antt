@@ -4,7 +4,7 @@ use Rattle.std.proofs.Common.{length, map, filter, get_or, Option, Some, None, E
 use Rattle.std.proofs.{Common.if◌then◌else◌, lemmas.List.get_or-map, lemmas.List.Elements.filter-append}
 use Rattle.std.specs.{List.list_any, Option.is_some}
 use Rattle.httparse.specs.{Spans.header_bytes, declared.spans.HeaderSpan.HeaderSpan}
-use Rattle.er_slips.specs.{declared.request.asked.Fault.TheVariants.BadRequest, Request.{HeadField, is_named, only_length, body_length}}
+use Rattle.er_slips.specs.{declared.request.wanted.Fault.TheVariants.BadRequest, Request.{HeadField, is_named, only_length, body_length}}
 
 abbrev pub refused : HeadField → Bool
 refused field = is_named (codes "transfer-encoding") field

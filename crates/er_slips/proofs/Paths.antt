@@ -1,6 +1,6 @@
 -- Which route a path has, in plain words.
 use Rattle.std.proofs.{lemmas.Grind.common_steps, Common.{◌≡◌, ◌≢◌, ℕ, zero, suc, ◌-◌, ◌<◌, Bool, true, false, cond, not, ◌&&◌, ◌||◌, List}}
-use Rattle.std.proofs.Common.{[], ◌∷◌, ◌++◌, codes, drop, length, get_or, Option, Some, None, refl, sym, ap, ap₂, ◌∙◌, arith, nat_eq}
+use Rattle.std.proofs.Common.{[], ◌∷◌, ◌++◌, codes, drop, length, get_or, Option, Some, None, option_map, refl, sym, ap, ap₂, ◌∙◌, arith, nat_eq}
 use Rattle.std.proofs.{Common.{◌==◌, ltb, append-nil, length-append, lit<, Fits, w8}, lemmas.Bool.Decides.nat_tests}
 use Rattle.std.specs.{Cmp.Lexicographic.pointwise, List.starts_with}
 use Rattle.matchit.specs.{Rows.{Rows, Seen, prepend, ends, param_token, rows, rows_of}, Seek.{step, or_else, seek, first, after_param}}
@@ -8,8 +8,25 @@ use Rattle.matchit.specs.{Seek.{segment, has_slash, longest_suffix, cuts}, Level
 use Rattle.matchit.proofs.SeekLemmas.{first-prefix, step-append, step-hit, step-miss, prepend-nil, seek-empty, param_step-empty}
 use Rattle.matchit.proofs.{SeekLemmas.{or_else-none, own-append}, ParamLemmas.{after_param-end, after_param-stop, after_param-kid}}
 use Rattle.matchit.proofs.RenameLemmas.{first-rename}
-use Rattle.er_slips.specs.Routes.{routes, before, after, is_empty, ends_in_number, after_round, in_rounds, after_root, number_of_route}
+use Rattle.er_slips.specs.Routes.{routes, before, after, is_empty, ends_in_number, after_round, in_rounds, after_root, pattern_of}
 use Rattle.er_slips.specs.Routes.{round_pattern, table_pattern}
+use Rattle.er_slips.specs.declared.request.routes.Pattern.{Pattern}
+use Rattle.er_slips.specs.declared.request.routes.Pattern.TheVariants.{Standings, Round, Table}
+
+-- ---- the key of a pattern among the router's
+
+abbrev key : Pattern → ℕ
+key Standings = 0
+key Round = 1
+key Table = 2
+
+abbrev keyed : Option Pattern → Option ℕ
+keyed None = None
+keyed (Some pattern) = Some (key pattern)
+
+keyed_if : (b : Bool) (one other : Option Pattern) → cond b (keyed one) (keyed other) ≡ keyed (cond b one other)
+keyed_if true one other = refl
+keyed_if false one other = refl
 
 -- ---- a text's first part
 
@@ -101,18 +118,18 @@ or_yes h1 = grind (arith, common_steps)
 
 -- ---- a table's number
 
-last_by : (v : Bool) (c : ℕ) (p : List ℕ) → has_slash (c ∷ p) ≡ v → after_param (ends (Some 2)) (c ∷ p) ≡ ends_in_number (c ∷ p)
+last_by : (v : Bool) (c : ℕ) (p : List ℕ) → has_slash (c ∷ p) ≡ v → after_param (ends (Some 2)) (c ∷ p) ≡ keyed (ends_in_number (c ∷ p))
 last_by false c p e =
     let whole = no_slash (c ∷ p) e in
     after_param-end [] (Some 2) c p tt refl e
-    ∙ sym (ap₂ (λ (b a : List ℕ). cond (is_empty b || not (is_empty a)) None (Some 2)) whole.1 whole.0)
+    ∙ sym (ap₂ (λ (b a : List ℕ). keyed (cond (is_empty b || not (is_empty a)) None (Some Table))) whole.1 whole.0)
 last_by true c p e =
     let cut = with_slash (c ∷ p) e in
     after_param-stop [] (Some 2) c p refl e
-    ∙ sym (ap (λ (b : Bool). cond (is_empty (before (c ∷ p)) || not b) None (Some 2)) cut.2
-    ∙ ap (λ (b : Bool). cond b None (Some 2)) (or_yes (is_empty (before (c ∷ p)))))
+    ∙ sym (ap (λ (b : Bool). keyed (cond (is_empty (before (c ∷ p)) || not b) None (Some Table))) cut.2
+    ∙ ap (λ (b : Bool). keyed (cond b None (Some Table))) (or_yes (is_empty (before (c ∷ p)))))
 
-last_number : (text : List ℕ) → IsText text → first (prepend (param_token ∷ []) (ends (Some 2))) text ≡ ends_in_number text
+last_number : (text : List ℕ) → IsText text → first (prepend (param_token ∷ []) (ends (Some 2))) text ≡ keyed (ends_in_number text)
 unfolding seek
 last_number [] h = refl
 last_number (c ∷ p) h =
@@ -125,11 +142,12 @@ last_number (c ∷ p) h =
 tables_text : IsText (codes "/tables/")
 tables_text = (lit< tt, (lit< tt, (lit< tt, (lit< tt, (lit< tt, (lit< tt, (lit< tt, (lit< tt, tt))))))))
 
-round_rest : (text : List ℕ) → IsText text → first (rows tables) text ≡ after_round text
+round_rest : (text : List ℕ) → IsText text → first (rows tables) text ≡ keyed (after_round text)
 unfolding tables
 round_rest text h =
     first-prefix (codes "/tables/") (prepend (param_token ∷ []) (ends (Some 2))) text tables_text
     ∙ ap (λ (o : Option ℕ). cond (starts_with nat_eq text (codes "/tables/")) o None) (last_number (drop 8 text) (text_drop 8 text h))
+    ∙ keyed_if (starts_with nat_eq text (codes "/tables/")) (ends_in_number (drop 8 text)) None
 
 -- ---- a round's number
 
@@ -145,7 +163,7 @@ unfolding tables
 longest_is seg = refl
 
 abbrev rounds_from : List ℕ → List ℕ → Option ℕ
-rounds_from b a = cond (is_empty b) None (cond (is_empty a) (Some 1) (after_round a))
+rounds_from b a = keyed (cond (is_empty b) None (cond (is_empty a) (Some Round) (after_round a)))
 
 kid_rest : (c : ℕ) (p : List ℕ) → IsCut (c ∷ p) → drop (length (segment (c ∷ p)) - 1) (c ∷ p) ≡ after (c ∷ p)
 kid_rest c p cut = grind (arith, common_steps)
@@ -159,24 +177,24 @@ rounds_slash : (v : Bool) (c : ℕ) (p : List ℕ) → is_empty (before (c ∷ p
 rounds_slash v c p q cut = grind (arith, common_steps)
 
 slash_by : (v : Bool) (c : ℕ) (p : List ℕ) → is_empty (before (c ∷ p)) ≡ v → IsCut (c ∷ p) → has_slash (c ∷ p) ≡ true → IsText (c ∷ p)
-    → after_param (rows_of (tables ∷ []) ++ ends (Some 1)) (c ∷ p) ≡ in_rounds (c ∷ p)
+    → after_param (rows_of (tables ∷ []) ++ ends (Some 1)) (c ∷ p) ≡ keyed (in_rounds (c ∷ p))
 unfolding tables
 slash_by true c p q cut e h =
-    after_param-stop (tables ∷ []) (Some 1) c p (longest_slash true c p q cut) e ∙ sym (rounds_slash true c p q cut)
+    after_param-stop (tables ∷ []) (Some 1) c p (longest_slash true c p q cut) e ∙ sym (ap keyed (rounds_slash true c p q cut))
 slash_by false c p q cut e h =
     after_param-kid (tables ∷ []) 0 tables (Some 1) c p suffixed (lit< tt) (sym (longest_slash false c p q cut))
     ∙ ap (first (rows tables)) (kid_rest c p cut) ∙ round_rest (after (c ∷ p)) (text_after (c ∷ p) h)
-    ∙ sym (rounds_slash false c p q cut)
+    ∙ sym (ap keyed (rounds_slash false c p q cut))
 
 rounds_by : (v : Bool) (c : ℕ) (p : List ℕ) → has_slash (c ∷ p) ≡ v → IsText (c ∷ p)
-    → after_param (rows_of (tables ∷ []) ++ ends (Some 1)) (c ∷ p) ≡ in_rounds (c ∷ p)
+    → after_param (rows_of (tables ∷ []) ++ ends (Some 1)) (c ∷ p) ≡ keyed (in_rounds (c ∷ p))
 rounds_by false c p e h =
     let whole = no_slash (c ∷ p) e in
     let longest = longest_is (segment (c ∷ p)) ∙ ap chosen whole.2 ∙ ap (λ (b : Bool). cond b (47 ∷ []) []) (cuts_none (c ∷ p) e) in
     after_param-end (tables ∷ []) (Some 1) c p suffixed longest e ∙ sym (ap₂ rounds_from whole.1 whole.0)
 rounds_by true c p e h = slash_by (is_empty (before (c ∷ p))) c p refl (with_slash (c ∷ p) e) e h
 
-rounds_rest : (text : List ℕ) → IsText text → first (prepend (param_token ∷ []) after_number) text ≡ in_rounds text
+rounds_rest : (text : List ℕ) → IsText text → first (prepend (param_token ∷ []) after_number) text ≡ keyed (in_rounds text)
 unfolding tables seek
 rounds_rest [] h = refl
 rounds_rest (c ∷ p) h =
@@ -211,11 +229,11 @@ begins_standings text = starts_with nat_eq text (codes "standings")
 one_only : (text : List ℕ) → begins_rounds text ≡ true → begins_standings text ≡ false
 one_only h1 e = grind (arith, common_steps)
 
-root_by : (r s z : Bool) (o : Option ℕ) → (r ≡ true → s ≡ false)
-    → or_else (cond r o None) (cond s (cond z (Some 0) None) None) ≡ cond r o (cond (s && z) (Some 0) None)
+root_by : (r s z : Bool) (o : Option Pattern) → (r ≡ true → s ≡ false)
+    → or_else (cond r (keyed o) None) (cond s (cond z (Some 0) None) None) ≡ keyed (cond r o (cond (s && z) (Some Standings) None))
 root_by h1 s z o n = grind (arith, common_steps)
 
-root : (text : List ℕ) → IsText text → first (rounds_rows ++ standings_rows) text ≡ after_root text
+root : (text : List ℕ) → IsText text → first (rounds_rows ++ standings_rows) text ≡ keyed (after_root text)
 root text h =
     two 114 115 (codes "ounds/") (codes "tandings") (prepend (param_token ∷ []) after_number) (ends (Some 0)) text (lit< tt) (lit< tt)
     (λ e. omega arith)
@@ -229,10 +247,11 @@ root text h =
 abbrev plain : Rows
 plain = (table_pattern, 2) ∷ (round_pattern, 1) ∷ (codes "/standings", 0) ∷ []
 
-pub first_plain : (path : List ℕ) → IsText path → first plain path ≡ number_of_route path
+pub first_plain : (path : List ℕ) → IsText path → first plain path ≡ keyed (pattern_of path)
 first_plain path h =
     first-prefix (47 ∷ []) (rounds_rows ++ standings_rows) path (lit< tt, tt)
     ∙ ap (λ (o : Option ℕ). cond (starts_with nat_eq path (codes "/")) o None) (root (drop 1 path) (text_drop 1 path h))
+    ∙ keyed_if (starts_with nat_eq path (codes "/")) (after_root (drop 1 path)) None
 
 -- ---- the router's own rows
 
@@ -245,27 +264,27 @@ text_at n = cond (n == 2) (codes "/rounds/{r}/tables/{t}") (cond (n == 1) (codes
 abbrev names_at : ℕ → List (ℕ × ℕ)
 names_at n = cond (n == 2) ((9, 10) ∷ (20, 21) ∷ []) (cond (n == 1) ((9, 10) ∷ []) [])
 
-abbrev route_at : ℕ → RouteOf ℕ
-route_at n = record { pattern = pattern_at n; text = text_at n; names = names_at n; value = n }
+abbrev value_at : ℕ → Pattern
+value_at n = cond (n == 2) Table (cond (n == 1) Round Standings)
+
+abbrev route_at : ℕ → RouteOf Pattern
+route_at n = record { pattern = pattern_at n; text = text_at n; names = names_at n; value = value_at n }
 
 routes_are : routes ≡ rename route_at plain
 routes_are = refl
 
-pub first_routes : (path : List ℕ) → IsText path → first routes path ≡ map_key route_at (number_of_route path)
+pub first_routes : (path : List ℕ) → IsText path → first routes path ≡ map_key route_at (keyed (pattern_of path))
 first_routes path h = ap (λ r. first r path) routes_are ∙ first-rename route_at plain path ∙ ap (map_key route_at) (first_plain path h)
 
-none_some : (r : RouteOf ℕ) → None ≡ Some r → ⊥
-none_some r e = absurd (cc)
+pub found_pattern : (o : Option Pattern) (r : RouteOf Pattern) → map_key route_at (keyed o) ≡ Some r → o ≡ Some r.value
+found_pattern None r e = absurd (cc)
+found_pattern (Some Standings) r e = ap (option_map (λ (r : RouteOf Pattern). r.value)) e
+found_pattern (Some Round) r e = ap (option_map (λ (r : RouteOf Pattern). r.value)) e
+found_pattern (Some Table) r e = ap (option_map (λ (r : RouteOf Pattern). r.value)) e
 
-abbrev value_of : ℕ → Option (RouteOf ℕ) → Option ℕ
-value_of n None = Some n
-value_of n (Some r) = Some r.value
-
-pub found_number : (o : Option ℕ) (r : RouteOf ℕ) → map_key route_at o ≡ Some r → o ≡ Some r.value
-found_number h1 r e = grind (arith, common_steps)
-
-pub no_number : (o : Option ℕ) → map_key route_at o ≡ None → o ≡ None
-no_number h1 e = grind (arith, common_steps)
+pub no_pattern : (o : Option Pattern) → map_key route_at (keyed o) ≡ None → o ≡ None
+no_pattern None e = refl
+no_pattern (Some pattern) e = absurd (cc)
 
 pub text_from : (p : List ℕ) → ((i : ℕ) → Fits w8 (get_or p i 0)) → IsText p
 text_from [] h = tt

@@ -4,7 +4,7 @@ use Rattle.er_event.specs.{declared.refusals.Refusal.Refusal, declared.refusals.
 use Rattle.er_event.specs.{declared.scores.Games.Games, Event.EventValue}
 use Rattle.er_rules.specs.Retry.{IsRetryRefusal, NoDoubleEffect}
 use Rattle.er_desk.specs.Reply.{reply_to}
-use Rattle.er_slips.specs.{declared.request.asked.Asked.TheVariants.Report, Answer.{AnswerValue, refusal_answer}, Whole.reply_answer}
+use Rattle.er_slips.specs.{declared.request.wanted.Request.TheVariants.Report, Answer.{AnswerValue, refusal_answer}, Whole.reply_answer}
 use Rattle.er_slips.specs.{Whole.IsAnswered, Retry.{HasScore, Retries}}
 use Rattle.er_slips.proofs.Unique.{one_asked}
 use Rattle.er_event.specs.declared.commands.Command.TheVariants.{Result as Hand}

@@ -1,7 +1,7 @@
 -- A whole input asks for one thing, and has one answer.
 use Rattle.std.proofs.Common.{◌≡◌, inl, inr, List, ℕ, Result, Ok, Err, sym, ap, ap₂, subst, ◌∙◌}
 use Rattle.httparse.proofs.GrammarLemmas.{request_unique}
-use Rattle.er_slips.specs.{declared.request.asked.Asked.Asked, declared.request.asked.Fault.Fault, Request.{Asks, headed, headless}}
+use Rattle.er_slips.specs.{declared.request.wanted.Request.Request, declared.request.wanted.Fault.Fault, Request.{Asks, headed, headless}}
 use Rattle.er_slips.specs.Request.{asked_of}
 use Rattle.er_event.specs.declared.commands.Command.{Command}
 use Rattle.er_event.specs.declared.commands.Command.TheVariants.{Result as Hand}
@@ -10,10 +10,10 @@ use Rattle.er_rank.specs.Standings.{HasOneStandings}
 use Rattle.er_rules.specs.Step.{Steps}
 use Rattle.er_paper.specs.Texts.{rows_text}
 use Rattle.er_desk.specs.Reply.{Reply, IsDue, reply_to}
-use Rattle.er_slips.specs.declared.request.asked.Asked.TheVariants.{Standings, Pairings, Slip, Report}
+use Rattle.er_slips.specs.declared.request.wanted.Request.TheVariants.{Standings, Pairings, Slip, Report}
 use Rattle.er_slips.specs.{Answer.{AnswerValue, text_answer}, Whole.{IsAnswered, OneAnswer, reply_answer, submitted}}
 
-pub one_asked : (input : List ℕ) (r q : Result Asked Fault) → Asks input r → Asks input q → r ≡ q
+pub one_asked : (input : List ℕ) (r q : Result Request Fault) → Asks input r → Asks input q → r ≡ q
 one_asked input r q (headed h rest is e) (headed k more also f) =
     let same = request_unique input h k rest more is.0 also.0 in
     e ∙ ap₂ asked_of same.0 same.1 ∙ sym f
@@ -35,7 +35,8 @@ module _ (standings : HasOneStandings) (step : OneStep) (event : EventValue) (se
   one_reply round table score r q (result, inr (over, needs), due) (other, answers, same) = absurd needs
   one_reply round table score r q (result, inl (steps, few), due) (other, inr (over, needs), same) = absurd needs
 
-  one_answered : (asked : Result Asked Fault) (a b : AnswerValue) → IsAnswered event serial asked a → IsAnswered event serial asked b → a ≡ b
+  one_answered : (asked : Result Request Fault) (a b : AnswerValue) → IsAnswered event serial asked a
+      → IsAnswered event serial asked b → a ≡ b
   one_answered (Err fault) a b is also = is ∙ sym also
   one_answered (Ok Standings) a b (text, of, is) (other, it, also) =
       let rows = standings event of.rows sound of.standings it.rows it.standings in
@@ -49,6 +50,6 @@ pub one_answer : HasOneStandings → OneStep → OneAnswer
 one_answer standings step event serial input one other submits also sound is it =
     let asked = one_asked input is.asked it.asked is.asks it.asks in (
       one_answered standings step event serial sound it.asked one other
-          (subst (λ (r : Result Asked Fault). IsAnswered event serial r one) asked is.answered) it.answered,
+          (subst (λ (r : Result Request Fault). IsAnswered event serial r one) asked is.answered) it.answered,
       is.command ∙ ap submitted asked ∙ sym it.command,
     )

@@ -7,8 +7,8 @@ use Rattle.er_event.specs.declared.scores.Games.{Games}
 use Rattle.er_event.specs.Refusal.{entry_of}
 use Rattle.er_slips.specs.declared.answer.Answer.{Answer}
 use Rattle.er_slips.specs.declared.answer.Answer.TheVariants.{Short, Long}
-use Rattle.er_slips.specs.declared.request.asked.Fault.{Fault}
-use Rattle.er_slips.specs.declared.request.asked.Fault.TheVariants.{BadRequest, NotFound, NotAllowed, TooLarge}
+use Rattle.er_slips.specs.declared.request.wanted.Fault.{Fault}
+use Rattle.er_slips.specs.declared.request.wanted.Fault.TheVariants.{BadRequest, NotFound, NotAllowed, TooLarge}
 
 -- a status, and the bytes that begin with it
 pub record AnswerValue : Type 0 where

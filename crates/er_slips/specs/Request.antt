@@ -10,18 +10,20 @@ use Rattle.httparse.specs.Spans.{name_and_value}
 use Rattle.er_event.specs.declared.scores.Games.{Games}
 use Rattle.er_json.specs.Slip.{slip_games}
 use Rattle.er_slips.specs.declared.request.fields.TheConstants.{MAX_BODY}
+use Rattle.er_slips.specs.declared.request.routes.Pattern.{Pattern}
+use Rattle.er_slips.specs.declared.request.routes.Pattern.TheVariants as pattern
 use Rattle.er_slips.specs.declared.request.routes.Route.{Route}
 use Rattle.er_slips.specs.declared.request.routes.Route.TheVariants as route
-use Rattle.er_slips.specs.declared.request.asked.Asked.{Asked}
-use Rattle.er_slips.specs.declared.request.asked.Asked.TheVariants.{Standings, Pairings, Slip, Report}
+use Rattle.er_slips.specs.declared.request.wanted.Request.{Request}
+use Rattle.er_slips.specs.declared.request.wanted.Request.TheVariants.{Standings, Pairings, Slip, Report}
 use Rattle.er_slips.specs.declared.request.Next.{Next}
 use Rattle.er_slips.specs.declared.request.Next.TheVariants.{Get, Body}
-use Rattle.er_slips.specs.declared.request.asked.Fault.{Fault}
-use Rattle.er_slips.specs.declared.request.asked.Fault.TheVariants.{BadRequest, NotFound, NotAllowed, TooLarge}
-use Rattle.er_slips.specs.declared.request.asked.Unasked.{Unasked}
-use Rattle.er_slips.specs.declared.request.asked.Unasked.TheVariants as unasked
+use Rattle.er_slips.specs.declared.request.wanted.Fault.{Fault}
+use Rattle.er_slips.specs.declared.request.wanted.Fault.TheVariants.{BadRequest, NotFound, NotAllowed, TooLarge}
+use Rattle.er_slips.specs.declared.request.wanted.NoRequest.{NoRequest}
+use Rattle.er_slips.specs.declared.request.wanted.NoRequest.TheVariants as no_request
 use Rattle.er_slips.specs.Head.{IsHead, HasNoHead}
-use Rattle.er_slips.specs.Routes.{before, after, number_of_route}
+use Rattle.er_slips.specs.Routes.{before, after, pattern_of}
 
 -- ---- the route
 
@@ -52,12 +54,14 @@ round_route rest = option_map route.Round (round_of (before rest))
 abbrev pub table_route : List ℕ → Option Route
 table_route rest = table_with (round_of (before rest)) (number_of (drop 8 (after rest)))
 
-abbrev pub route_by : List ℕ → Option ℕ → Option Route
+abbrev pub route_by : List ℕ → Option Pattern → Option Route
 route_by path None = None
-route_by path (Some n) = if n == 0 then Some route.Standings else if n == 1 then round_route (drop 8 path) else table_route (drop 8 path)
+route_by path (Some pattern.Standings) = Some route.Standings
+route_by path (Some pattern.Round) = round_route (drop 8 path)
+route_by path (Some pattern.Table) = table_route (drop 8 path)
 
 abbrev pub route_of : List ℕ → Option Route
-route_of path = route_by path (number_of_route path)
+route_of path = route_by path (pattern_of path)
 
 -- ---- the length of a body
 
@@ -109,40 +113,53 @@ next_of head = next_on (route_of (path_of head.target)) head.method (map name_an
 
 -- ---- the body's part
 
-abbrev pub reported : ℕ → ℕ → Option Games → Result Asked Fault
+abbrev pub reported : ℕ → ℕ → Option Games → Result Request Fault
 reported round table None = Err BadRequest
 reported round table (Some games) = Ok (Report round table games)
 
-abbrev pub asked_with : Result Next Fault → List ℕ → Result Asked Fault
+abbrev pub asked_with : Result Next Fault → List ℕ → Result Request Fault
 asked_with (Err fault) rest = Err fault
 asked_with (Ok (Get asked)) rest = Ok asked
 asked_with (Ok (Body round table n)) rest =
     if nat_lt (length rest) n then Err BadRequest else reported round table (slip_games (take n rest))
 
 -- what is asked for, or the first check that fails
-abbrev pub asked_of : RequestHead → List ℕ → Result Asked Fault
+abbrev pub asked_of : RequestHead → List ℕ → Result Request Fault
 asked_of head rest = asked_with (next_of head) rest
 
 -- ---- the whole input
 
 -- Asked of a whole input. There is one such answer, since a text has at most one head.
-pub data Asks (input : List ℕ) (result : Result Asked Fault) : Type 0 where
+pub data Asks (input : List ℕ) (result : Result Request Fault) : Type 0 where
   headed : (head : RequestHead) (rest : List ℕ) → IsHead input head rest → result ≡ asked_of head rest → Asks input result
   headless : HasNoHead input → result ≡ Err BadRequest → Asks input result
 
--- what reading an input tells of it: memory is wanting only behind a head
-abbrev pub TellsAsked : List ℕ → Result Asked Unasked → Type 0
-TellsAsked input (Ok asked) = Asks input (Ok asked)
-TellsAsked input (Err (unasked.Refused fault)) = Asks input (Err fault)
-TellsAsked input (Err unasked.Memory) = HasNoHead input → ⊥
-TellsAsked input (Err unasked.Unread) = Unit {0}
+-- behind a head that asks for this, its body is whole; a GET has none
+abbrev pub HasBody : List ℕ → Next → Type 0
+HasBody rest (Get asked) = Unit {0}
+HasBody rest (Body round table n) = n ≤ length rest
+
+-- a head that passes each check, and asks for this, with the whole of its body
+pub record IsWhole (input : List ℕ) (next : Next) : Type 0 where
+  pub head : RequestHead
+  pub rest : List ℕ
+  pub heads : IsHead input head rest
+  pub passes : next_of head ≡ Ok next
+  pub body : HasBody rest next
+
+-- what reading an input tells of it: memory is wanting only for a body, once it is whole
+abbrev pub TellsRequest : List ℕ → Result Request NoRequest → Type 0
+TellsRequest input (Ok asked) = Asks input (Ok asked)
+TellsRequest input (Err (no_request.Refused fault)) = Asks input (Err fault)
+TellsRequest input (Err no_request.Memory) = (round table n : ℕ) × IsWhole input (Body round table n)
+TellsRequest input (Err no_request.Unread) = Unit {0}
 
 -- what is due, or want of memory
-abbrev pub IsDueUnlessMemory : {A : Type 0} → Result A Fault → Result A Unasked → Type 0
+abbrev pub IsDueUnlessMemory : {A : Type 0} → Result A Fault → Result A NoRequest → Type 0
 IsDueUnlessMemory due (Ok told) = due ≡ Ok told
-IsDueUnlessMemory due (Err (unasked.Refused fault)) = due ≡ Err fault
-IsDueUnlessMemory due (Err unasked.Memory) = Unit {0}
-IsDueUnlessMemory due (Err unasked.Unread) = ⊥
+IsDueUnlessMemory due (Err (no_request.Refused fault)) = due ≡ Err fault
+IsDueUnlessMemory due (Err no_request.Memory) = Unit {0}
+IsDueUnlessMemory due (Err no_request.Unread) = ⊥
 
 -- a body has at most 4096 bytes
 abbrev pub IsShort : Next → Type 0

@@ -9,7 +9,7 @@ use Rattle.er_event.specs.Event.{EventValue}
 use Rattle.er_event.specs.Round.{match_at}
 use Rattle.er_rules.specs.Step.{Steps}
 use Rattle.er_rules.specs.Fold.{Folds}
-use Rattle.er_slips.specs.declared.request.asked.Asked.TheVariants.{Report}
+use Rattle.er_slips.specs.declared.request.wanted.Request.TheVariants.{Report}
 use Rattle.er_slips.specs.Answer.{AnswerValue, refusal_answer}
 use Rattle.er_slips.specs.Request.{Asks}
 use Rattle.er_slips.specs.Whole.{IsAnswer}

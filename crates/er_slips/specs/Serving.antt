@@ -14,17 +14,17 @@ use Rattle.er_rank.specs.declared.rows.Row.{Row}
 use Rattle.er_store.specs.Slip.{FindsSlip}
 use Rattle.er_desk.specs.declared.desk.Desk.{Desk}
 use Rattle.er_desk.specs.Asking as desk
-use Rattle.er_desk.specs.Desk.{Standing, Turn, ReadsRows, ReadsSlip, ShowsEvent, ShowsOwn, standing, state}
+use Rattle.er_desk.specs.Desk.{DeskState, Turn, ReadsRows, ReadsSlip, ShowsEvent, ShowsOwn, desk_state, state}
 use Rattle.er_desk.specs.Headline.{AreTheStandings}
 use Rattle.er_desk.specs.Reply.{Reply}
 use Rattle.er_desk.specs.Run.{Session, session_of, no_session}
-use Rattle.er_slips.specs.declared.request.asked.Asked.{Asked}
-use Rattle.er_slips.specs.declared.request.asked.Asked.TheVariants.{Standings, Pairings, Slip, Report}
-use Rattle.er_slips.specs.declared.request.asked.Fault.{Fault}
+use Rattle.er_slips.specs.declared.request.wanted.Request.{Request}
+use Rattle.er_slips.specs.declared.request.wanted.Request.TheVariants.{Standings, Pairings, Slip, Report}
+use Rattle.er_slips.specs.declared.request.wanted.Fault.{Fault}
 use Rattle.er_slips.specs.declared.serve.Served.{Served}
 use Rattle.er_slips.specs.declared.serve.Served.TheVariants.{Answered, ReadFault, WriteFault}
-use Rattle.er_slips.specs.Head.{HasNoHead}
-use Rattle.er_slips.specs.Request.{Asks}
+use Rattle.er_slips.specs.declared.request.Next.TheVariants.{Body}
+use Rattle.er_slips.specs.Request.{Asks, IsWhole}
 use Rattle.er_slips.specs.Answer.{AnswerValue, fault_answer, refusal_answer, text_answer}
 use Rattle.er_slips.specs.Whole.{ShowsPairings, row_answer, reply_answer, IsAnswerUnless503}
 
@@ -40,39 +40,41 @@ abbrev pub IsRowsAnswer : EventValue → Result (Vec Row Global) Refusal → Ans
 IsRowsAnswer event (Ok rows) answer = (answer ≡ text_answer (rows_text event rows.items)) ⊎ (answer ≡ refusal_answer Memory)
 IsRowsAnswer event (Err why) answer = answer ≡ refusal_answer why
 
--- What is asked of the desk, its answer, the session that it asks of the file, and where it stands then. `Stood` is that
--- its tables stood for its event, on a clean disk: on this rests what is read of them. Only a score is a command.
-abbrev pub AnswersRequest : Type 0 → Standing → Result Asked Fault → AnswerValue → Session → Standing → Type 0
-AnswersRequest Stood old (Err fault) answer session new = (answer ≡ fault_answer fault) × (session ≡ no_session) × (new ≡ old)
-AnswersRequest Stood old (Ok Standings) answer session new =
+-- What is asked of the desk, its answer, the session that it asks of the file, and the desk's state then. `Represented` is that
+-- its tables represented its event, on a clean disk: on this rests what is read of them. Only a score is a command.
+abbrev pub AnswersRequest : Type 0 → DeskState → Result Request Fault → AnswerValue → Session → DeskState → Type 0
+AnswersRequest Represented old (Err fault) answer session new = (answer ≡ fault_answer fault) × (session ≡ no_session) × (new ≡ old)
+AnswersRequest Represented old (Ok Standings) answer session new =
     (read : Result (Vec Row Global) Refusal) × ReadsRows old read new
-    × (Stood → IfOk read (λ rows. AreTheStandings old.event rows.items)) × IsRowsAnswer old.event read answer × (session ≡ no_session)
-AnswersRequest Stood old (Ok (Pairings round)) answer session new =
+    × (Represented → IfOk read (λ rows. AreTheStandings old.event rows.items)) × IsRowsAnswer old.event read answer × (session ≡ no_session)
+AnswersRequest Represented old (Ok (Pairings round)) answer session new =
     ShowsEvent refusal_answer old (ShowsPairings round) answer × (session ≡ no_session) × (new ≡ old)
-AnswersRequest Stood old (Ok (Slip round table)) answer session new =
-    (read : Result SlipRow Refusal) × ReadsSlip old read new × (Stood → FindsSlip old.event round table read) × IsSlipAnswer read answer
+AnswersRequest Represented old (Ok (Slip round table)) answer session new =
+    (read : Result SlipRow Refusal) × ReadsSlip old read new × (Represented → FindsSlip old.event round table read)
+    × IsSlipAnswer read answer
     × (session ≡ no_session)
-AnswersRequest Stood old (Ok (Report round table score)) answer session new =
+AnswersRequest Represented old (Ok (Report round table score)) answer session new =
     (reply : Reply) × Turn old (Hand round table score) reply new × (answer ≡ reply_answer reply)
     × (session ≡ session_of (Hand round table score ∷ []) (reply ∷ []) new.stopped)
 
 -- a desk is asked this, answers so, and its file takes the session
-pub record Answers {S : Type 0} (g : Ghosts S) (old : Desk S g) (asked : Asked) (answer : AnswerValue) (new : Desk S g) : Type 0 where
+pub record Answers {S : Type 0} (g : Ghosts S) (old : Desk S g) (asked : Request) (answer : AnswerValue) (new : Desk S g) : Type 0 where
   pub session : Session
-  pub answers : AnswersRequest (HasCleanDisk (state g new) × ShowsOwn g old) (standing old) (Ok asked) answer session (standing new)
+  pub answers : AnswersRequest (HasCleanDisk (state g new) × ShowsOwn g old) (desk_state old) (Ok asked) answer session (desk_state new)
   pub asks : desk.Asks g old session new
 
 -- ---- one request
 
 -- the desk was asked what the input asks for
-abbrev pub IsServed : Type 0 → Option (List ℕ) → Standing → AnswerValue → Session → Standing → Type 0
-IsServed Stood input old answer session new =
-    (asked : Result Asked Fault) × IfSome input (λ xs. Asks xs asked) × AnswersRequest Stood old asked answer session new
+abbrev pub IsServed : Type 0 → Option (List ℕ) → DeskState → AnswerValue → Session → DeskState → Type 0
+IsServed Represented input old answer session new =
+    (asked : Result Request Fault) × IfSome input (λ xs. Asks xs asked) × AnswersRequest Represented old asked answer session new
 
--- or memory was wanting before it was asked, and it stays as it is; of an input that has no head that needs none
-abbrev pub IsUnserved : Option (List ℕ) → Standing → AnswerValue → Session → Standing → Type 0
+-- or memory was wanting for a body, before the desk was asked, and it stays as it is
+abbrev pub IsUnserved : Option (List ℕ) → DeskState → AnswerValue → Session → DeskState → Type 0
 IsUnserved input old answer session new =
-    (answer ≡ refusal_answer Memory) × IfSome input (λ xs. HasNoHead xs → ⊥) × (session ≡ no_session) × (new ≡ old)
+    (answer ≡ refusal_answer Memory) × IfSome input (λ xs. (round table n : ℕ) × IsWhole xs (Body round table n))
+    × (session ≡ no_session) × (new ≡ old)
 
 -- what was written of an answer
 abbrev pub Writes : Option (List ℕ) → Option (List ℕ) → Served → AnswerValue → Type 0
@@ -82,25 +84,25 @@ Writes before after ReadFault answer = ⊥
 
 -- how serving an input ends: with an answer, of which all or the first bytes were written, or by a read that failed,
 -- with nothing submitted or written
-abbrev pub EndsServing : Type 0 → Option (List ℕ) → Standing → Session → Standing → (before after : Option (List ℕ)) → Served → Type 0
-EndsServing Stood input old session new before after ReadFault = Keeps before after × (session ≡ no_session) × (new ≡ old)
-EndsServing Stood input old session new before after (Answered status) =
+abbrev pub EndsServing : Type 0 → Option (List ℕ) → DeskState → Session → DeskState → (before after : Option (List ℕ)) → Served → Type 0
+EndsServing Represented input old session new before after ReadFault = Keeps before after × (session ≡ no_session) × (new ≡ old)
+EndsServing Represented input old session new before after (Answered status) =
     (answer : AnswerValue) × Writes before after (Answered status) answer
-    × (IsServed Stood input old answer session new ⊎ IsUnserved input old answer session new)
-EndsServing Stood input old session new before after (WriteFault sent) =
+    × (IsServed Represented input old answer session new ⊎ IsUnserved input old answer session new)
+EndsServing Represented input old session new before after (WriteFault sent) =
     (answer : AnswerValue) × Writes before after (WriteFault sent) answer
-    × (IsServed Stood input old answer session new ⊎ IsUnserved input old answer session new)
+    × (IsServed Represented input old answer session new ⊎ IsUnserved input old answer session new)
 
 -- What serving one request does: one score is the session, or nothing is.
 pub record Serves {S : Type 0} (g : Ghosts S) (input : Option (List ℕ)) (old new : Desk S g) (before after : Option (List ℕ)) (served : Served)
     : Type 0 where
   pub session : Session
-  pub ends : EndsServing (HasCleanDisk (state g new) × ShowsOwn g old) input (standing old) session (standing new) before after served
+  pub ends : EndsServing (HasCleanDisk (state g new) × ShowsOwn g old) input (desk_state old) session (desk_state new) before after served
   pub asks : desk.Asks g old session new
 
--- What was written where the desk runs and its tables stand for its event: the answer to the input on that event and
+-- What was written where the desk runs and its tables represent its event: the answer to the input on that event and
 -- serial, and nothing else but a 503.
-abbrev pub IsWritten : Standing → List ℕ → Option (List ℕ) → Option (List ℕ) → Served → Type 0
+abbrev pub IsWritten : DeskState → List ℕ → Option (List ℕ) → Option (List ℕ) → Served → Type 0
 IsWritten old input before after ReadFault = Keeps before after
 IsWritten old input before after (Answered status) =
     (answer : AnswerValue) × Writes before after (Answered status) answer

@@ -10,11 +10,11 @@ use Rattle.er_event.specs.Sound.{IsSoundButForSeeds}
 use Rattle.er_json.specs.Slip.{slip_text}
 use Rattle.er_paper.specs.Texts.{IsStandingsText, pairings_text}
 use Rattle.er_desk.specs.Reply.{Reply, IsDue}
-use Rattle.er_slips.specs.declared.request.asked.Asked.{Asked}
-use Rattle.er_slips.specs.declared.request.asked.Asked.TheVariants.{Standings, Pairings, Slip, Report}
-use Rattle.er_slips.specs.declared.request.asked.Fault.{Fault}
-use Rattle.er_slips.specs.Head.{HasNoHead}
-use Rattle.er_slips.specs.Request.{Asks}
+use Rattle.er_slips.specs.declared.request.wanted.Request.{Request}
+use Rattle.er_slips.specs.declared.request.wanted.Request.TheVariants.{Standings, Pairings, Slip, Report}
+use Rattle.er_slips.specs.declared.request.wanted.Fault.{Fault}
+use Rattle.er_slips.specs.declared.request.Next.{Next}
+use Rattle.er_slips.specs.Request.{Asks, IsWhole}
 use Rattle.er_slips.specs.Answer.{AnswerValue, fault_answer, refusal_answer, receipt_answer, text_answer, slip_answer}
 
 abbrev pub ShowsStandings : EventValue → AnswerValue → Type 0
@@ -39,7 +39,7 @@ reply_answer (Err why) = refusal_answer why
 
 -- The answer to what is asked, where memory and the store serve. A score is never late: its reply is the same in tables of
 -- either version.
-abbrev pub IsAnswered : EventValue → ℕ → Result Asked Fault → AnswerValue → Type 0
+abbrev pub IsAnswered : EventValue → ℕ → Result Request Fault → AnswerValue → Type 0
 IsAnswered event serial (Err fault) answer = answer ≡ fault_answer fault
 IsAnswered event serial (Ok Standings) answer = ShowsStandings event answer
 IsAnswered event serial (Ok (Pairings round)) answer = ShowsPairings round event answer
@@ -48,7 +48,7 @@ IsAnswered event serial (Ok (Report round table score)) answer =
     (reply : Reply) × IsDue 2 event serial (Hand round table score) reply × (answer ≡ reply_answer reply)
 
 -- a score that is handed in is submitted, and nothing else is
-abbrev pub submitted : Result Asked Fault → Option Command
+abbrev pub submitted : Result Request Fault → Option Command
 submitted (Err fault) = None
 submitted (Ok Standings) = None
 submitted (Ok (Pairings round)) = None
@@ -57,7 +57,7 @@ submitted (Ok (Report round table score)) = Some (Hand round table score)
 
 -- the answer to a whole input, and the command that is submitted for it
 pub record IsAnswer (event : EventValue) (serial : ℕ) (input : List ℕ) (answer : AnswerValue) (submits : Option Command) : Type 0 where
-  pub asked : Result Asked Fault
+  pub asked : Result Request Fault
   pub asks : Asks input asked
   pub answered : IsAnswered event serial asked answer
   pub command : submits ≡ submitted asked
@@ -68,8 +68,9 @@ OneAnswer = (event : EventValue) (serial : ℕ) (input : List ℕ) (one other : 
     → IsSoundButForSeeds event → IsAnswer event serial input one submits → IsAnswer event serial input other also
     → (one ≡ other) × (submits ≡ also)
 
--- The answer to the input on this event, and else a 503: memory was wanting, or the store has a fault. An input that has
--- no head is never answered so.
+-- The answer to the input on this event, and else a 503: memory was wanting, or the store has a fault. So is answered only
+-- a head that passes each check, with the whole of its body: a 400 for a head or a length, a 404, a 405 and a 413 are
+-- always answered.
 abbrev pub IsAnswerUnless503 : EventValue → ℕ → List ℕ → AnswerValue → Type 0
 IsAnswerUnless503 event serial input answer =
-    ((submits : Option Command) × IsAnswer event serial input answer submits) ⊎ ((answer.status ≡ 503) × (HasNoHead input → ⊥))
+    ((submits : Option Command) × IsAnswer event serial input answer submits) ⊎ ((answer.status ≡ 503) × (next : Next) × IsWhole input next)

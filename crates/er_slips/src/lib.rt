@@ -6,5 +6,5 @@ pub mod laws;
 mod request;
 mod serve;
 
-pub use request::{MAX_BODY, MAX_FIELDS, MAX_HEAD};
+pub use request::{MAX_BODY, MAX_FIELDS, MAX_HEAD, Routes};
 pub use serve::{Served, serve_one};

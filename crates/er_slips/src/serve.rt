@@ -1,8 +1,8 @@
 ghost use Rattle.std.specs.Prelude.{◌≡◌, ◌⊎◌, IfSome, IsFalse, MatchResult};
 ghost use Rattle.sqlite.specs.State.{HasCleanDisk};
-ghost use Rattle.er_desk.specs.Desk.{ShowsEvent, ShowsOwn, standing, state};
+ghost use Rattle.er_desk.specs.Desk.{ShowsEvent, ShowsOwn, desk_state, state};
 ghost use Rattle.er_paper.specs.Texts.{rows_text};
-ghost use Rattle.er_slips.specs.declared.request.asked.Asked.TheVariants as asked;
+ghost use Rattle.er_slips.specs.declared.request.wanted.Request.TheVariants as asked;
 ghost use Rattle.er_slips.specs.Answer.{answer_value, refusal_answer, text_answer};
 ghost use Rattle.er_slips.specs.Whole.{ShowsPairings, reply_answer};
 ghost use Rattle.er_slips.specs.Serving.{IsSlipAnswer, Answers, Writes, Serves, IsWritten};
@@ -13,7 +13,7 @@ use crate::answer::{
     Answer, fault_answer, pairings_answer, receipt_answer, refusal_answer, slip_answer,
     standings_answer,
 };
-use crate::request::{Asked, Unasked, read_request};
+use crate::request::{NoRequest, Request, Routes, read_request};
 use crate::serve::sending::{Sent, send};
 use er_desk::{Desk, Reply};
 use er_event::{Command, Games, Refusal, SlipRow};
@@ -45,7 +45,7 @@ fn answer_or_memory(answer: Result<Answer, AllocError>) -> Answer
 
 /// The answer with these rows of standings.
 fn rows_answer<S: Alter>(alloc: Global, desk: &Desk<S>, rows: &[Row]) -> Answer
-    ensures { IsFalse (standing desk.now).stopped
+    ensures { IsFalse (desk_state desk.now).stopped
         → (answer_value result ≡ text_answer (rows_text desk.now.event rows.now))
         ⊎ (answer_value result ≡ refusal_answer Refusal.Memory) }
 {
@@ -65,7 +65,7 @@ fn standings<S: Alter>(alloc: Global, desk: &mut Desk<S>) -> Answer
 }
 
 fn pairings<S: Alter>(alloc: Global, desk: &Desk<S>, round: u8) -> Answer
-    ensures { ShowsEvent refusal_answer (standing desk.now) (ShowsPairings round)
+    ensures { ShowsEvent refusal_answer (desk_state desk.now) (ShowsPairings round)
         (answer_value result) }
 {
     match desk.event() {
@@ -123,16 +123,16 @@ fn report<S: Alter>(
 }
 
 /// What the desk answers. It is asked once.
-fn answer<S: Alter>(alloc: Global, desk: &mut Desk<S>, asked: Asked) -> Answer
+fn answer<S: Alter>(alloc: Global, desk: &mut Desk<S>, asked: Request) -> Answer
     ensures { Answers S.Store desk.old asked (answer_value result) desk.new }
 {
     // To look at a desk asks nothing of its file: this tells the proof.
     desk.asks_nothing();
     match asked {
-        Asked::Standings => standings(alloc, desk),
-        Asked::Pairings { round } => pairings(alloc, desk, round),
-        Asked::Slip { round, table } => slip(alloc, desk, round, table),
-        Asked::Report {
+        Request::Standings => standings(alloc, desk),
+        Request::Pairings { round } => pairings(alloc, desk, round),
+        Request::Slip { round, table } => slip(alloc, desk, round, table),
+        Request::Report {
             round,
             table,
             score,
@@ -156,6 +156,7 @@ fn deliver<W: Write>(writer: &mut W, answer: &Answer) -> Served
 /// Reads one request, asks the desk at most once, and writes one answer. Nothing of the answer is written before the whole of it is made.
 pub fn serve_one<S: Alter, R: Read, W: Write>(
     alloc: Global,
+    routes: &Routes,
     desk: &mut Desk<S>,
     reader: &mut R,
     writer: &mut W,
@@ -163,18 +164,19 @@ pub fn serve_one<S: Alter, R: Read, W: Write>(
     // One score is handed to the desk, or nothing is, and the file takes just that.
     ensures serves { Serves S.Store (R.remaining reader.old) desk.old desk.new
         (W.contents writer.old) (W.contents writer.new) result }
-    // Where the desk runs and its tables stand for its event, what is written is the answer to the input, or a 503.
-    ensures written { IfSome (R.remaining reader.old) (λ input. IsFalse (standing desk.old).stopped
+    // Where the desk runs and its tables represent its event, what is written is the answer to the input, or a 503.
+    ensures written { IfSome (R.remaining reader.old)
+        (λ input. IsFalse (desk_state desk.old).stopped
         → HasCleanDisk (state S.Store desk.new) × ShowsOwn S.Store desk.old
-        → IsWritten (standing desk.old) input (W.contents writer.old)
+        → IsWritten (desk_state desk.old) input (W.contents writer.old)
         (W.contents writer.new) result) }
 {
     // A desk that is not asked leaves its file as it is: this tells the proof.
     desk.asks_nothing();
-    match read_request(alloc, reader) {
+    match read_request(alloc, routes, reader) {
         Ok(asked) => deliver(writer, &answer(alloc, desk, asked)),
-        Err(Unasked::Refused(fault)) => deliver(writer, &fault_answer(fault)),
-        Err(Unasked::Memory) => deliver(writer, &refusal_answer(&Refusal::Memory)),
-        Err(Unasked::Unread) => Served::ReadFault,
+        Err(NoRequest::Refused(fault)) => deliver(writer, &fault_answer(fault)),
+        Err(NoRequest::Memory) => deliver(writer, &refusal_answer(&Refusal::Memory)),
+        Err(NoRequest::Unread) => Served::ReadFault,
     }
 }

@@ -4,7 +4,8 @@ use Rattle.er_store.proofs.Prelude.{pairing_rows_from, bracket_rows_from, common
 use Rattle.er_store.proofs.Prelude.{◌∷◌, ◌++◌, map, true, refl, sym, ap, ◌∙◌, arith, append-nil, not-suc-le-zero, get_or, take, ◌≤◌}
 use Rattle.er_store.proofs.Prelude.{IsPermutation, map-append, take_all, take_more, Row, Int, put_row, rowid, Database, State, is_int}
 use Rattle.er_store.proofs.Prelude.{Place, rows_in, rows_with, PairingTable, Match, Round, PairingRow, EventValue, with_round, pairing_row}
-use Rattle.er_store.proofs.Prelude.{round_rows, pairing_rows, TallyRow, pairing_columns, stored_pairing, StandsWith, IsKeyed, Puts, Moves}
+use Rattle.er_store.proofs.Prelude.{round_rows, pairing_rows, TallyRow, pairing_columns, stored_pairing, RepresentsWith, IsKeyed, Puts}
+use Rattle.er_store.proofs.Prelude.{Moves}
 use Rattle.er_store.proofs.Prelude.{BringsToWith, all_from_test, test_from_all, BracketTable, BracketRow, with_stage, bracket_row}
 use Rattle.er_store.proofs.Prelude.{stage_rows, bracket_rows, bracket_columns, stored_slot, Layout, version_of}
 use Rattle.sqlite_trees.proofs.TreeLemmas.{IsTable-put_row, all-put_row}
@@ -33,31 +34,33 @@ keyed_put id columns rows keyed = record {
 
 -- The round has one match more.
 pub pairing_added : (e : EventValue) (before : List Match) (m : Match) (id : ℤ) {l : Layout} {old new : State} {s : ℕ}
-    {kept : List TallyRow} → StandsWith l old.now (with_round e before) s kept
+    {kept : List TallyRow} → RepresentsWith l old.now (with_round e before) s kept
     → Puts pairing_tree (stored_pairing id (next_row e before m)) old new
     → BringsToWith l old new (with_round e (before ++ m ∷ [])) s kept
-pairing_added e before m id {old = old} stands put =
+pairing_added e before m id {old = old} represents put =
     let row = next_row e before m in
     let all = newest_more pairing_row (λ (r : Round). r.matches) pairing_rows_from pairing_rows_are e.stored (record { matches = before })
     (record { matches = before ++ m ∷ [] }) m refl in
-    pairings_set stands (with_round e (before ++ m ∷ [])).stored put.goes (row_put stands PairingTable _ (pairing_columns row) _ put refl
+    pairings_set represents (with_round e (before ++ m ∷ [])).stored put.goes
+    (row_put represents PairingTable _ (pairing_columns row) _ put refl
     (ap (map pairing_columns) all ∙ map-append pairing_columns (pairing_rows (with_round e before)) (row ∷ [])))
-    (rw put.rows (keyed_put id _ (old.now.trees pairing_tree) stands.has.keyed.pairings))
+    (rw put.rows (keyed_put id _ (old.now.trees pairing_tree) represents.has.keyed.pairings))
 
--- tables that show the same rows of another event stand for that one
-pub stands_as : {l : Layout} {db : Database} {e f : EventValue} {s : ℕ} {kept : List TallyRow} → f.rounds ≡ e.rounds
+-- tables that show the same rows of another event represent that one
+pub represents_as : {l : Layout} {db : Database} {e f : EventValue} {s : ℕ} {kept : List TallyRow} → f.rounds ≡ e.rounds
     → f.players ≡ e.players → ((table : Place) → IsPermutation (rows_in l db table) (rows_with (version_of l) e s kept table)
-    → IsPermutation (rows_in l db table) (rows_with (version_of l) f s kept table)) → StandsWith l db e s kept → StandsWith l db f s kept
-stands_as rounds players same stands = record {
-  low = stands.low;
-  keeps = keeps_as rounds players stands.keeps;
-  has = record { tables = stands.has.tables; rows = λ table. same table (stands.has.rows table); keyed = stands.has.keyed };
+    → IsPermutation (rows_in l db table) (rows_with (version_of l) f s kept table)) → RepresentsWith l db e s kept
+    → RepresentsWith l db f s kept
+represents_as rounds players same represents = record {
+  low = represents.low;
+  keeps = keeps_as rounds players represents.keeps;
+  has = record { tables = represents.has.tables; rows = λ table. same table (represents.has.rows table); keyed = represents.has.keyed };
 }
 
 -- a round of no match has no row
 pub none_added : (e : EventValue) {l : Layout} {db : Database} {s : ℕ} {kept : List TallyRow}
-    → StandsWith l db e s kept → StandsWith l db (with_round e []) s kept
-none_added e = stands_as refl refl (elim [ PairingTable ↦ λ rows. rw (pairing_none e) rows | _ ↦ λ rows. rows ])
+    → RepresentsWith l db e s kept → RepresentsWith l db (with_round e []) s kept
+none_added e = represents_as refl refl (elim [ PairingTable ↦ λ rows. rw (pairing_none e) rows | _ ↦ λ rows. rows ])
 
 -- ---- matches, one after the other
 
@@ -87,22 +90,22 @@ pub record Adds (l : Layout) (event : List Match → EventValue) (count : ℕ) (
     (old new : State) : Type 0 where
   pub none : count ≡ 0 → Same old new
   pub some : 0 < count → Moves l old new
-  pub stands : StandsWith l new.now (event matches) serial totals
+  pub represents : RepresentsWith l new.now (event matches) serial totals
 
 pub adds_none : (s : State) (event : List Match → EventValue) (serial : ℕ) → {l : Layout} {totals : List TallyRow}
-    → StandsWith l s.now (event []) serial totals → Adds l event 0 [] serial totals s s
-adds_none s event serial stands =
+    → RepresentsWith l s.now (event []) serial totals → Adds l event 0 [] serial totals s s
+adds_none s event serial represents =
     record {
       none = λ _. record { is_open = refl; mode = refl; now_is = refl; committed_is = refl };
       some = λ never. absurd (not-suc-le-zero never);
-      stands = stands;
+      represents = represents;
     }
 
 pub adds_one : {l : Layout} {old mid new : State} {event : List Match → EventValue} {count : ℕ} {before after : List Match} {serial : ℕ}
     {totals : List TallyRow} → Adds l event count before serial totals old mid → BringsToWith l mid new (event after) serial totals
     → Adds l event (count + 1) after serial totals old new
 adds_one {l} {old} {mid} {new} {event} {count} was made =
-    record { none = λ never. absurd (omega (arith, never)); some = λ _. moves count was.none was.some; stands = made.stands }
+    record { none = λ never. absurd (omega (arith, never)); some = λ _. moves count was.none was.some; represents = made.represents }
   where
     moves : (n : ℕ) → (n ≡ 0 → Same old mid) → (0 < n → Moves l old mid) → Moves l old new
     moves zero none some = same_moves (none refl) made.moves
@@ -121,7 +124,7 @@ pub adds_all : {l : Layout} {old new : State} {event : List Match → EventValue
     (at : ℕ) (matches : List Match) → 0 < length matches → length matches ≤ at → Adds l event at (take at matches) serial totals old new
     → BringsToWith l old new (event matches) serial totals
 adds_all at matches some past adds =
-    record { moves = adds.some (omega arith); stands = rw (take_all at matches past) at adds.stands }
+    record { moves = adds.some (omega arith); represents = rw (take_all at matches past) at adds.represents }
 
 -- ---- the rows of one more stage
 
@@ -136,16 +139,16 @@ slots_none e = grind (arith, common_steps, append-nil, bracket_rows_are, rows_mo
 
 -- The stage has one match more.
 pub slot_added : (e : EventValue) (before : List Match) (m : Match) (id : ℤ) {l : Layout} {old new : State} {s : ℕ} {kept : List TallyRow}
-    → StandsWith l old.now (with_stage e before) s kept → Puts bracket_tree (stored_slot id (next_slot e before m)) old new
+    → RepresentsWith l old.now (with_stage e before) s kept → Puts bracket_tree (stored_slot id (next_slot e before m)) old new
     → BringsToWith l old new (with_stage e (before ++ m ∷ [])) s kept
-slot_added e before m id {old = old} stands put =
+slot_added e before m id {old = old} represents put =
     let all = newest_more bracket_row (λ ms. ms) bracket_rows_from bracket_rows_are e.bracket.stages before (before ++ m ∷ []) m refl in
-    bracket_set stands (with_stage e (before ++ m ∷ [])).bracket.stages put.goes (row_put stands BracketTable _
+    bracket_set represents (with_stage e (before ++ m ∷ [])).bracket.stages put.goes (row_put represents BracketTable _
     (bracket_columns (next_slot e before m)) _ put refl (ap (map bracket_columns) all
     ∙ map-append bracket_columns (bracket_rows (with_stage e before)) (next_slot e before m ∷ [])))
-    (rw put.rows (keyed_put id _ (old.now.trees bracket_tree) stands.has.keyed.bracket))
+    (rw put.rows (keyed_put id _ (old.now.trees bracket_tree) represents.has.keyed.bracket))
 
 -- a stage of no match has no row
 pub no_slot_added : (e : EventValue) {l : Layout} {db : Database} {s : ℕ} {kept : List TallyRow}
-    → StandsWith l db e s kept → StandsWith l db (with_stage e []) s kept
-no_slot_added e = stands_as refl refl (elim [ BracketTable ↦ λ rows. rw (slots_none e) rows | _ ↦ λ rows. rows ])
+    → RepresentsWith l db e s kept → RepresentsWith l db (with_stage e []) s kept
+no_slot_added e = represents_as refl refl (elim [ BracketTable ↦ λ rows. rw (slots_none e) rows | _ ↦ λ rows. rows ])

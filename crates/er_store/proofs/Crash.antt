@@ -4,7 +4,7 @@ use Rattle.er_store.proofs.Prelude.{HasCleanDisk, Survives, survives_then, Event
 use Rattle.er_store.proofs.Prelude.{Err}
 use Rattle.er_store.proofs.Prelude.{true≢false, Row, Error, Held, state, Ghosts, KeepsTables, Stays}
 use Rattle.sqlite.specs.{State.{KeepsCommit, IsRolledBack, ExecutesInside}, Steps.FailsToCommit}
-use Rattle.er_store.specs.Standing.{Either}
+use Rattle.er_store.specs.Representing.{Either}
 use Rattle.sqlite.specs.State as sqlite
 
 -- ---- what a crash leaves of a change
@@ -25,7 +25,7 @@ shows_leaves_in v s e serial settles shows trees may = grind (arith, common_step
 
 -- what is stored in a version is stored
 pub stored_either : {v : ℕ} {e : EventValue} {serial : ℕ} {trees : Trees} → IsStoredIn v e serial trees → IsStored e serial trees
-stored_either it = record { schema = it.schema; sound = it.sound; stands = (it.stands.layout, it.stands.stands) }
+stored_either it = record { schema = it.schema; sound = it.sound; represents = (it.represents.layout, it.represents.represents) }
 
 pub shows_leaves : (v : ℕ) (s : State) (e : EventValue) (serial : ℕ) → Settles s → Shows v s e serial → (trees : Trees)
     → s.may_leave trees → IsStored e serial trees

@@ -7,12 +7,15 @@ use Rattle.er_store.proofs.Prelude.{one_permutation, Value, Query, Index, View, 
 use Rattle.er_store.proofs.Prelude.{with_phase, flag, event_row, TallyRow, event, player, pairing, bracket, tally, insert_event}
 use Rattle.er_store.proofs.Prelude.{insert_player, insert_pairing, insert_slot, insert_tally, set_serial, set_phase, number, event_columns}
 use Rattle.er_store.proofs.Prelude.{pairing_columns, bracket_columns, tally_columns, event_places, stored_event, stored_player}
-use Rattle.er_store.proofs.Prelude.{stored_pairing, stored_slot, stored_tally, at_places, HasTables, HasTablesAt, StandsWith, Some}
+use Rattle.er_store.proofs.Prelude.{stored_pairing, stored_slot, stored_tally, at_places, HasTables, HasTablesAt, RepresentsWith, Some}
 use Rattle.er_store.proofs.Prelude.{Layout, Old, version_of, CanRead, Puts, Ran}
 use Rattle.er_store.proofs.Prelude.{BringsToWith, SelectsWith, value_cmp}
 use Rattle.er_store.proofs.Prelude.{New, Moved, IsPermutation, Goes, cast_row, players_tree, player2, insert_player2, stored_player2}
 use Rattle.er_event.specs.Rows.{phase_code}
 use Rattle.er_store.proofs.{Writing.{cast_int, cast_null, puts_one, event_rows, replaces}}
+use Rattle.er_store.proofs.Prelude.{everything}
+use Rattle.er_store.proofs.Named.{event_means, player_means}
+use Rattle.er_store.specs.inside.Making.{IsFound}
 use Rattle.er_store.proofs.Meaning.{OldMean, old_mean, SecondMean, second_mean, MovesMean, moves_mean, players_at}
 use Rattle.er_store.proofs.{Meaning.{Means, full, event_query, serial_terms}}
 use Rattle.er_store.proofs.{Meaning.{phase_terms, readable, WritesMean, writes_mean}, Together.row_set}
@@ -47,6 +50,11 @@ selected {l} {schema} {params} {sql} {q} has selects =
 pub can_read : {version : ℕ} (schema : Schema) → HasTables version schema → CanRead schema
 can_read schema (l, is, has) = at_ours schema has CanRead (readable has.others schema.indexes schema.views l)
 
+-- and that of the players is found by its name
+pub player_found : {schema : Schema} → HasTablesAt Old schema → IsFound schema 1 (player player_tree)
+unfolding everything
+player_found {schema} has = at_ours schema has (λ s. IsFound s 1 (player player_tree)) (record { named = refl; is = refl })
+
 -- ---- where the tables stand
 
 pub event_at : (l : Layout) {schema : Schema} → HasTablesAt l schema → slice_get schema.tables 0 ≡ Some (event event_tree)
@@ -79,12 +87,11 @@ inside_ok false a e never = absurd (ok_is_no_err a e (never refl))
 
 -- ---- the rows that are put in
 
-pub puts_player : (num : ℕ) (name : List ℕ) (dropped : Bool) {old new : State} → HasTablesAt Old old.now.schema
+pub puts_player : (num : ℕ) (name : List ℕ) (dropped : Bool) {at tree : ℕ} {old new : State} → IsFound old.now.schema at (player tree)
     → Ran insert_player (number num ∷ Text name ∷ Int (flag dropped) ∷ []) old new
-    → Puts player_tree (stored_player num name dropped) old new
-puts_player num name dropped has =
-    puts_one (player player_tree) (stored_player num name dropped) (old_meant has).player (ap (λ ts. slice_get ts 1) has.are) refl
-    (simp (cast_int, cast_null))
+    → Puts tree (stored_player num name dropped) old new
+puts_player num name dropped {at} {tree} there =
+    puts_one (player tree) (stored_player num name dropped) (player_means at tree there) there.is refl (simp (cast_int, cast_null))
 
 pub second_at : (l : Layout) → version_of l ≡ 2 → {schema : Schema} → HasTablesAt l schema
     → slice_get schema.tables (players_at l) ≡ Some (player2 (players_tree l))
@@ -103,11 +110,10 @@ abbrev pub event_parameters : ℕ → EventValue → ℕ → Row
 event_parameters version e serial =
     number version ∷ number serial ∷ Text e.name ∷ number e.rounds ∷ number e.cut ∷ number (phase_code e.phase) ∷ []
 
-pub puts_event : (version : ℕ) (e : EventValue) (serial : ℕ) {l : Layout} {old new : State} → HasTablesAt l old.now.schema
-    → Ran insert_event (event_parameters version e serial) old new → Puts event_tree (stored_event version e serial) old new
-puts_event version e serial {l} has =
-    puts_one (event event_tree) (stored_event version e serial) (meant has).event (event_at l has) refl
-    (simp (cast_int, cast_null))
+pub puts_event : (version : ℕ) (e : EventValue) (serial : ℕ) {at tree : ℕ} {old new : State} → IsFound old.now.schema at (event tree)
+    → Ran insert_event (event_parameters version e serial) old new → Puts tree (stored_event version e serial) old new
+puts_event version e serial {at} {tree} there =
+    puts_one (event tree) (stored_event version e serial) (event_means at tree there) there.is refl (simp (cast_int, cast_null))
 
 -- a pairing's row takes the next rowid
 pub puts_pairing : (r : PairingRow) {l : Layout} {old new : State} → HasTablesAt l old.now.schema
@@ -167,24 +173,24 @@ event_replaced l terms x was now {old = old} has shown means shows cast ran =
     }
 
 sets_event : (terms : List Term) (v : Value) (phase : Phase) (t : ℕ) → t ≤ 999999
-    → {sql : List ℕ} {l : Layout} {old new : State} {e : EventValue} {s : ℕ} {kept : List TallyRow} → StandsWith l old.now e s kept
+    → {sql : List ℕ} {l : Layout} {old new : State} {e : EventValue} {s : ℕ} {kept : List TallyRow} → RepresentsWith l old.now e s kept
     → Means sql (Update 0 (record { lets = []; body = event_query terms })) old.now.schema
     → ((r : Row) → at_places event_places r ≡ event_columns (event_row (version_of l) e s)
     → (eval_all terms ((v ∷ []) ∷ r ∷ []) ≡ number 1 ∷ stored_event (version_of l) (with_phase e phase) t) × (rowid r ≡ Int (pos 1)))
     → Ran sql (v ∷ []) old new → BringsToWith l old new (with_phase e phase) t kept
-sets_event terms v phase t low {l = l} {e = e} {s} stands means shows ran =
+sets_event terms v phase t low {l = l} {e = e} {s} represents means shows ran =
     let set = event_replaced l terms v (event_columns (event_row (version_of l) e s)) (stored_event (version_of l) (with_phase e phase) t)
-    stands.has.tables (stands.has.rows EventTable) means shows (simp (cast_int, cast_null)) ran in
-    row_set stands phase t low set.goes set.rows
+    represents.has.tables (represents.has.rows EventTable) means shows (simp (cast_int, cast_null)) ran in
+    row_set represents phase t low set.goes set.rows
 
 pub serial_set : (t : ℕ) → t ≤ 999999 → {l : Layout} {old new : State} {e : EventValue} {s : ℕ} {kept : List TallyRow}
-    → StandsWith l old.now e s kept → Ran set_serial (number t ∷ []) old new → BringsToWith l old new e t kept
-serial_set t low {e = e} {s} stands =
-    sets_event serial_terms (number t) e.phase t low stands (meant stands.has.tables).serial (λ r h. (cc, cc))
+    → RepresentsWith l old.now e s kept → Ran set_serial (number t ∷ []) old new → BringsToWith l old new e t kept
+serial_set t low {e = e} {s} represents =
+    sets_event serial_terms (number t) e.phase t low represents (meant represents.has.tables).serial (λ r h. (cc, cc))
 
 pub phase_set : (phase : Phase) {l : Layout} {old new : State} {e : EventValue} {s : ℕ} {kept : List TallyRow}
-    → StandsWith l old.now e s kept
+    → RepresentsWith l old.now e s kept
     → Ran set_phase (number (phase_code phase) ∷ []) old new → BringsToWith l old new (with_phase e phase) s kept
-phase_set phase {e = e} {s} stands =
-    sets_event phase_terms (number (phase_code phase)) phase s stands.low stands (meant stands.has.tables).phase
+phase_set phase {e = e} {s} represents =
+    sets_event phase_terms (number (phase_code phase)) phase s represents.low represents (meant represents.has.tables).phase
     (λ r h. (cc, cc))

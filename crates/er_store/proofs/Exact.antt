@@ -11,7 +11,7 @@ use Rattle.er_store.proofs.Prelude.{IsPermutation-trans, Error, SqliteFailure, I
 use Rattle.er_store.proofs.Prelude.{BracketTable, EventTable, PlayerTable, TallyTable, EventValue, Player, Match}
 use Rattle.er_store.proofs.Prelude.{numbers, numbered_from, event_row, player_row, player_rows, bracket_row}
 use Rattle.er_store.proofs.Prelude.{bracket_rows, tally_row, tally_rows, stage_rows, totals, event_columns, player_columns, bracket_columns}
-use Rattle.er_store.proofs.Prelude.{tally_columns, event_places, bracket_places, tally_places, StandsAt, out_of_memory}
+use Rattle.er_store.proofs.Prelude.{tally_columns, event_places, bracket_places, tally_places, RepresentsAt, out_of_memory}
 use Rattle.er_store.proofs.Meaning.{columns, read_terms}
 use Rattle.std.specs.{List.Sorted.IsSorted, Prelude.All}
 use Rattle.std.proofs.{lemmas.List.Sorted.All-permutation, Common.{unwrap_or, is_lt}, Math.ListN.{get_or-map, length-map}}
@@ -151,30 +151,31 @@ map-same columns inj (x ∷ xs) (y ∷ ys) h = ap₂ ◌∷◌ (inj x y (cc)) (m
 
 -- ---- the event's row
 
-pub event_exact : (l : Layout) (db : Database) (e : EventValue) (s : ℕ) (listed : List Row) → StandsAt l db e s
+pub event_exact : (l : Layout) (db : Database) (e : EventValue) (s : ℕ) (listed : List Row) → RepresentsAt l db e s
     → Lists by_first (map (at_places event_places) (db.trees event_tree)) listed
     → listed ≡ map event_columns (event_row (version_of l) e s ∷ [])
-event_exact l db e s listed stands h = one_permutation (event_columns (event_row (version_of l) e s)) listed
-    (IsPermutation-trans _ _ _ (IsPermutation-sym _ _ (stands.has.rows EventTable)) h.same)
+event_exact l db e s listed represents h = one_permutation (event_columns (event_row (version_of l) e s)) listed
+    (IsPermutation-trans _ _ _ (IsPermutation-sym _ _ (represents.has.rows EventTable)) h.same)
 
 -- ---- the players
 
-pub players_exact : (l : Layout) (db : Database) (e : EventValue) (s : ℕ) (listed : List Row) → StandsAt l db e s
+pub players_exact : (l : Layout) (db : Database) (e : EventValue) (s : ℕ) (listed : List Row) → RepresentsAt l db e s
     → numbers e.players ≡ range_with_len 1 (length e.players)
     → Lists by_first (map (player_shown l) (db.trees (players_tree l))) listed → listed ≡ map player_columns (player_rows e)
-players_exact l db e s listed stands numbered h =
+players_exact l db e s listed represents numbered h =
     listed_by_one _ listed (map player_columns (player_rows e)) (rw (map-map player_columns player_row e.players)
-    (numbered_rise (λ p. player_columns (player_row p)) (λ p. refl) 1 e.players numbered)) (stands.has.rows PlayerTable) h
+    (numbered_rise (λ p. player_columns (player_row p)) (λ p. refl) 1 e.players numbered)) (represents.has.rows PlayerTable) h
 
 -- ---- the totals
 
-pub tallies_exact : (l : Layout) (db : Database) (e : EventValue) (s : ℕ) (listed : List Row) → StandsAt l db e s
+pub tallies_exact : (l : Layout) (db : Database) (e : EventValue) (s : ℕ) (listed : List Row) → RepresentsAt l db e s
     → numbers e.players ≡ range_with_len 1 (length e.players)
     → Lists by_first (map (at_places tally_places) (db.trees tally_tree)) listed → listed ≡ map tally_columns (tally_rows e)
-tallies_exact l db e s listed stands numbered h =
+tallies_exact l db e s listed represents numbered h =
     listed_by_one _ listed (map tally_columns (tally_rows e))
     (rw (map-map tally_columns (λ (p : Player). tally_row p.no (totals e p.no)) e.players)
-    (numbered_rise (λ p. tally_columns (tally_row p.no (totals e p.no))) (λ p. refl) 1 e.players numbered)) (stands.has.rows TallyTable) h
+    (numbered_rise (λ p. tally_columns (tally_row p.no (totals e p.no))) (λ p. refl) 1 e.players numbered))
+    (represents.has.rows TallyTable) h
 
 -- ---- the matches of the playoff
 
@@ -192,13 +193,14 @@ stages_rise : (stages : List (List Match))
 stages_rise [] = tt
 stages_rise (ms ∷ later) = (λ k. slots_rise k ms, stages_rise later)
 
-pub bracket_exact : (l : Layout) (db : Database) (e : EventValue) (s : ℕ) (listed : List Row) → StandsAt l db e s
+pub bracket_exact : (l : Layout) (db : Database) (e : EventValue) (s : ℕ) (listed : List Row) → RepresentsAt l db e s
     → Lists by_first_two (map (at_places bracket_places) (db.trees bracket_tree)) listed → listed ≡ map bracket_columns (bracket_rows e)
-bracket_exact l db e s listed stands h =
+bracket_exact l db e s listed represents h =
     let stages = e.bracket.stages in
     let rise = rises_from bracket_columns bracket_row (λ k n. refl) (numbered_from 1) 1 stages (stages_rise stages) in
     listed_by_two _ listed (map bracket_columns (bracket_rows e))
-    (subst (λ rows. IsAscending IsBelow (map bracket_columns rows)) (sym (bracket_rows_are 1 stages)) rise) (stands.has.rows BracketTable) h
+    (subst (λ rows. IsAscending IsBelow (map bracket_columns rows)) (sym (bracket_rows_are 1 stages)) rise)
+    (represents.has.rows BracketTable) h
 
 -- ---- why a row is refused
 

@@ -1,4 +1,4 @@
--- What the join of a slip reads of tables that stand for an event.
+-- What the join of a slip reads of tables that represent an event.
 use Rattle.er_store.proofs.Prelude.{pairing_tree, Layout, Old, New, Moved, players_tree, player_shown}
 use Rattle.er_store.proofs.Prelude.{column, is_lawful_name, is_bye, is_at, number, ◌≡◌, Bool, true, false, ◌&&◌, cond, if◌then◌else◌, List}
 use Rattle.er_store.proofs.Prelude.{[], ◌∷◌, ◌++◌, map, filter, flat_map, refl, ap, ap₂, subst, ◌∙◌, arith, list_all, IsPermutation, Binary}
@@ -10,7 +10,7 @@ use Rattle.er_store.proofs.Prelude.{All-from_recursion, All-weaker, recursion_fr
 use Rattle.er_store.proofs.Prelude.{IsPermutation-filter, PairingTable, PlayerTable, Match, Round, Games, SlipRow, EventValue, seats}
 use Rattle.er_store.proofs.Prelude.{match_at, pairing_row, pairing_rows, bye_score, slip_of, numbers, names, IsRound, IsSoundButForSeeds}
 use Rattle.er_store.proofs.Prelude.{NamedPairing, pairing_columns, named_columns, at_places, pairing_places}
-use Rattle.er_store.proofs.Prelude.{StandsAt, Side, number_in, name_in, match_of_slip, named_pairing, named_pairings, IsPlayer}
+use Rattle.er_store.proofs.Prelude.{RepresentsAt, Side, number_in, name_in, match_of_slip, named_pairing, named_pairings, IsPlayer}
 use Rattle.er_store.proofs.Prelude.{IsLawful, Refusal, Memory, Store, IsFault}
 use Rattle.std.proofs.{lemmas.List.Sorted.length_permutation, Common.AllPairs, lemmas.List.Elements.All-from_get_or}
 use Rattle.std.specs.Option.{ok_or}
@@ -124,7 +124,7 @@ picked Old n rows = refl
 picked New n rows = refl
 picked Moved n rows = refl
 
--- 0 stands for nobody
+-- 0 represents nobody
 abbrev Known : EventValue → ℕ → Type 0
 Known e n = (n ≡ 0) ⊎ Contains (numbers e.players) n
 
@@ -160,18 +160,18 @@ module _ (e : EventValue) (sound : IsSoundButForSeeds e) where
   lawful_side n (inr known) = subst (λ (o : Side). IfSome o IsPlayer) (sym (somebody n known)) (lawful_player n known)
 
   -- one row has the number, or that of NULLs
-  sits : (l : Layout) (db : Database) (s n : ℕ) → StandsAt l db e s → Known e n
+  sits : (l : Layout) (db : Database) (s n : ℕ) → RepresentsAt l db e s → Known e n
       → (row : Row) × (numbered_as (number n) (db.trees (players_tree l)) ≡ row ∷ [])
       × (column row 2 ≡ text_or_null (name_in (second_of e n)))
-  sits l db s n stands (inl none) =
+  sits l db s n represents (inl none) =
       let rows = db.trees (players_tree l) in
       let out = picks_none e.players n (omega (arith, none)) sound.players.numbered in
-      let all = none_picked (player_shown l) (picks n) rows (rows_of e.players) (stands.has.rows PlayerTable) out in
+      let all = none_picked (player_shown l) (picks n) rows (rows_of e.players) (represents.has.rows PlayerTable) out in
       ([], ap or_nulls (picked l n rows ∙ all), ap (λ k. text_or_null (name_in (second_of e k))) (sym none))
-  sits l db s n stands (inr known) =
+  sits l db s n represents (inr known) =
       let rows = db.trees (players_tree l) in
       let one = picks_one e.players n sound.players.numbered known in
-      let it = one_picked (player_shown l) (picks n) rows (rows_of e.players) (row_of one.it) (stands.has.rows PlayerTable) one.alone in
+      let it = one_picked (player_shown l) (picks n) rows (rows_of e.players) (row_of one.it) (represents.has.rows PlayerTable) one.alone in
       let name : column it.0 2 ≡ Text one.it.name = sym (named l it.0) ∙ ap (λ (r : Row). column r 1) it.2 in
       let own = ap (λ (o : Option Player). Text (name_found o)) (sym one.first) in
       let named = ap (λ (o : Side). text_or_null (name_in o)) (sym (somebody n known)) in
@@ -285,16 +285,16 @@ module _ (e : EventValue) (sound : IsSoundButForSeeds e) (k t : ℕ) (n : ℕ ×
   slip_pairing : pairing_row k n ≡ (named_pairing slip).pairing
   slip_pairing = row_same k t n found.1 ∙ ap (λ m. pairing_row k (t, m)) (sym (same_match e k t n.1))
 
-  slip_read : (l : Layout) (db : Database) (s : ℕ) (rows : List Row) → StandsAt l db e s
+  slip_read : (l : Layout) (db : Database) (s : ℕ) (rows : List Row) → RepresentsAt l db e s
       → rows_at e k t ≡ pairing_columns (pairing_row k n) ∷ []
       → IsAnswer (slip_query (players_tree l)) (overlay db.trees []) (number k ∷ number t ∷ []) rows
       → rows ≡ named_columns (named_pairing slip) ∷ []
-  slip_read l db s rows stands alone a =
+  slip_read l db s rows represents alone a =
       let it = one_picked (at_places pairing_places) (picks_table k t) (db.trees pairing_tree) (map pairing_columns (pairing_rows e))
-      (pairing_columns (pairing_row k n)) (stands.has.rows PairingTable) alone in
+      (pairing_columns (pairing_row k n)) (represents.has.rows PairingTable) alone in
       let p = it.0 in
-      let low = sits e sound l db s (min n.1.a n.1.b) stands known_low in
-      let high = sits e sound l db s (max n.1.a n.1.b) stands known_high in
+      let low = sits e sound l db s (min n.1.a n.1.b) represents known_low in
+      let high = sits e sound l db s (max n.1.a n.1.b) represents known_high in
       let lo : column p 3 ≡ number (min n.1.a n.1.b) = ap (λ (r : Row). column r 2) it.2 in
       let hi : column p 4 ≡ number (max n.1.a n.1.b) = ap (λ (r : Row). column r 3) it.2 in
       let read = slip_one (players_tree l) db.trees (number k ∷ number t ∷ []) p low.0 high.0 rows it.1
@@ -309,10 +309,10 @@ module _ (e : EventValue) (sound : IsSoundButForSeeds e) (k t : ℕ) (n : ℕ ×
 -- ---- the event
 
 -- what is read of it, and that its slip is lawful
-pub slip_exact : (l : Layout) (db : Database) (e : EventValue) (s k t : ℕ) (rows : List Row) → StandsAt l db e s → IsSoundButForSeeds e
+pub slip_exact : (l : Layout) (db : Database) (e : EventValue) (s k t : ℕ) (rows : List Row) → RepresentsAt l db e s → IsSoundButForSeeds e
     → IsAnswer (slip_query (players_tree l)) (overlay db.trees []) (number k ∷ number t ∷ []) rows
     → rows ≡ map named_columns (named_pairings e k t)
-slip_exact l db e s k t rows stands sound a =
+slip_exact l db e s k t rows represents sound a =
     by_case (numbered_at e k t) (table_alone e k t (all_bye_last e sound)) (numbered-match e k t)
     (finds (IsMatch (numbers e.players)) t e k (all_matches e sound))
   where
@@ -321,8 +321,8 @@ slip_exact l db e s k t rows stands sound a =
         → rows ≡ map named_columns (named_pairings e k t)
     by_case None alone is found = rw is (slip_none (players_tree l) db.trees (number k ∷ number t ∷ []) rows
         (none_picked (at_places pairing_places) (picks_table k t)
-        (db.trees pairing_tree) (map pairing_columns (pairing_rows e)) (stands.has.rows PairingTable) alone) a)
-    by_case (Some n) alone is found = rw is (slip_read e sound k t n found l db s rows stands alone a)
+        (db.trees pairing_tree) (map pairing_columns (pairing_rows e)) (represents.has.rows PairingTable) alone) a)
+    by_case (Some n) alone is found = rw is (slip_read e sound k t n found l db s rows represents alone a)
 
 pub slips_lawful : (e : EventValue) (k t : ℕ) → IsSoundButForSeeds e → IfSome (slip_of e k t) IsLawful
 slips_lawful e k t sound = rw (numbered-match e k t) ((elim (numbered_at e k t) as (λ o. IfSome o

@@ -7,7 +7,7 @@ use Rattle.er_store.proofs.Prelude.{nat_tests, Row, column, Match, Round, Pairin
 use Rattle.er_store.proofs.Prelude.{match_at, pairing_row, round_rows, pairing_rows, numbers, IsRound, IsSoundButForSeeds, pairing_columns}
 use Rattle.er_store.proofs.Prelude.{common_steps, not, ◌⊎◌, inl, inr, IsPermutation, IsPermutation-refl, IsPermutation-trans}
 use Rattle.er_store.proofs.Prelude.{IsPermutation-map, recursion_from_All, IsAscending, Database, PairingTable, table_of, pairing_rows_from}
-use Rattle.er_store.proofs.Prelude.{at_places, pairing_places, number, Layout, StandsAt, by_first_two, Lists, all_weaker}
+use Rattle.er_store.proofs.Prelude.{at_places, pairing_places, number, Layout, RepresentsAt, by_first_two, Lists, all_weaker}
 use Rattle.er_store.proofs.Prelude.{IsPermutation-filter_both}
 use Rattle.std.specs.Option.{option_and_then}
 use Rattle.std.proofs.lemmas.List.Sorted.{IsPermutation-append}
@@ -180,12 +180,13 @@ keyed_rows_are k (r ∷ rounds) = ap (λ rows. keyed_round_rows k r.matches ++ r
 
 -- ---- what is listed
 
-pub pairings_exact : (l : Layout) (db : Database) (e : EventValue) (s : ℕ) (listed : List Row) → StandsAt l db e s → IsSoundButForSeeds e
+pub pairings_exact : (l : Layout) (db : Database) (e : EventValue) (s : ℕ) (listed : List Row) → RepresentsAt l db e s
+    → IsSoundButForSeeds e
     → Lists by_first_two (map (at_places pairing_places) (db.trees pairing_tree)) listed
     → listed ≡ map pairing_columns (keyed_pairing_rows e)
-pairings_exact l db e s listed stands sound h =
+pairings_exact l db e s listed represents sound h =
     let last = recursion_from_All (λ (r : Round). ByeLast r.matches) e.stored (all_bye_last e sound) in
     let rise = rises_from pairing_columns pairing_row (λ k n. refl) (λ (r : Round). by_key (numbered_from 1 r.matches)) 1 e.stored
     (rounds_rise e.stored last) in
     listed_by_two _ listed (map pairing_columns (keyed_pairing_rows e))
-    (subst Rise (sym (keyed_rows_are 1 e.stored)) rise) (IsPermutation-trans _ _ _ (stands.has.rows PairingTable) (keyed_permutes e)) h
+    (subst Rise (sym (keyed_rows_are 1 e.stored)) rise) (IsPermutation-trans _ _ _ (represents.has.rows PairingTable) (keyed_permutes e)) h

@@ -1,6 +1,7 @@
 -- Which layouts tables of a version have.
 use Rattle.er_store.proofs.Prelude.{◌≡◌, ℕ, refl, sym, ap, ◌∙◌, ◌∷◌, List, slice_get, inl, inr, same_Some, Table, Schema}
-use Rattle.er_store.proofs.Prelude.{Layout, Old, New, Moved, version_of, with_ours, HasTablesAt, StandsAt, StandsIn, Database, EventValue}
+use Rattle.er_store.proofs.Prelude.{Layout, Old, New, Moved, version_of, with_ours, HasTablesAt, RepresentsAt, RepresentsIn, Database}
+use Rattle.er_store.proofs.Prelude.{EventValue}
 use Rattle.er_store.proofs.Prelude.{event_row, player, player2, player_tree, subst, length, arith, []}
 use Rattle.er_event.specs.Version.{IsVersion}
 use Rattle.er_store.specs.Damage.{said_version}
@@ -11,8 +12,8 @@ is_old Old is = refl
 is_old New is = absurd (cc)
 is_old Moved is = absurd (cc)
 
-pub in_first : {db : Database} {e : EventValue} {s : ℕ} → StandsIn 1 db e s → StandsAt Old db e s
-in_first {db} {e} {s} it = subst (λ l. StandsAt l db e s) (is_old it.layout it.is) it.stands
+pub in_first : {db : Database} {e : EventValue} {s : ℕ} → RepresentsIn 1 db e s → RepresentsAt Old db e s
+in_first {db} {e} {s} it = subst (λ l. RepresentsAt l db e s) (is_old it.layout it.is) it.represents
 
 -- and any other is of version 2
 pub is_second : (l : Layout) (version : ℕ) → version_of l ≡ version → (version ≡ 1 → ⊥) → version_of l ≡ 2

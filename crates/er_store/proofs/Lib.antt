@@ -1,5 +1,6 @@
 mod Prelude
 mod Meaning
+mod Named
 mod Layouts
 mod Writing
 mod Effects
@@ -19,6 +20,9 @@ mod Meetings
 mod Selecting
 mod Crash
 mod Creates
+mod Made
+mod Behind
+mod Beside
 mod Clearing
 mod Migrating
 mod MovedCrash

@@ -1,9 +1,9 @@
 -- What a read leaves, why it is refused, and rows as typed rows.
 use Rattle.er_store.proofs.Prelude.{arith, common_steps, ◌≡◌, ◌⊎◌, inl, inr, ℕ, List, Result, Ok, Err, IfErr, IsErrAnd, refl, sym, ap}
-use Rattle.er_store.proofs.Prelude.{subst, ◌∙◌, Database, State, IsUnchanged, Row, Error, Place, EventValue, HasTables, StandsFor}
+use Rattle.er_store.proofs.Prelude.{subst, ◌∙◌, Database, State, IsUnchanged, Row, Error, Place, EventValue, HasTables, Represents}
 use Rattle.er_store.proofs.Prelude.{out_of_memory, IsReadRefused, KeepsTables, IsFault, reading_refusal, IsNotRun, Bool, true, false, []}
 use Rattle.er_store.proofs.Prelude.{is_ok, IsOk, true≢false, Schema, CompileError, understood, ◌≢◌, ◌<◌, zero, suc, ◌∷◌, map, length}
-use Rattle.er_store.proofs.Prelude.{get_or, not-suc-le-zero, AreKeyed, StandsIn, StandsAt, Layout, version_of}
+use Rattle.er_store.proofs.Prelude.{get_or, not-suc-le-zero, AreKeyed, RepresentsIn, RepresentsAt, Layout, version_of}
 use Rattle.er_store.specs.Loading.{HoldsEvent}
 use Rattle.std.proofs.Common.{OnOk, OnErr, IsErr}
 use Rattle.sqlite.specs.declared.error.Error.TheVariants.{SqlInputError, MultipleStatement}
@@ -23,8 +23,8 @@ pub kept_tables : (version : ℕ) (old new : State) → IsUnchanged old new → 
     → HasTables version new.now.schema
 kept_tables version old new same = subst (λ (d : Database). HasTables version d.schema) (sym same.0.now_is)
 
-pub kept_stands : (old new : State) (e : EventValue) (s : ℕ) → IsUnchanged old new → StandsFor old.now e s → StandsFor new.now e s
-kept_stands old new e s same = subst (λ (d : Database). StandsFor d e s) (sym same.0.now_is)
+pub kept_represents : (old new : State) (e : EventValue) (s : ℕ) → IsUnchanged old new → Represents old.now e s → Represents new.now e s
+kept_represents old new e s same = subst (λ (d : Database). Represents d e s) (sym same.0.now_is)
 
 pub unchanged_keeps : (old new : State) → IsUnchanged old new → KeepsTables old new
 unchanged_keeps old new same settled is_open = (same.0.now_is, same.0.committed_is ∙ sym settled)
@@ -60,20 +60,20 @@ pub told : {A E : Type 0} (r : Result A E) (e : E) (P : E → Type 0) → IsErrA
 told (Ok a) e P is p = tt
 told (Err x) e P is p = subst P (sym is) p
 
--- tables that hold an event stand for it, where the rowids are numbers and rise
-pub stands_where : {v : ℕ} {db : Database} {e : EventValue} {s : ℕ} → HoldsEvent v db e s → AreKeyed db → StandsIn v db e s
-stands_where it keyed = record {
+-- tables that hold an event represent it, where the rowids are numbers and rise
+pub represents_where : {v : ℕ} {db : Database} {e : EventValue} {s : ℕ} → HoldsEvent v db e s → AreKeyed db → RepresentsIn v db e s
+represents_where it keyed = record {
   layout = it.layout;
   is = it.is;
-  stands = record {
+  represents = record {
     low = it.holds.low;
     keeps = it.holds.keeps;
     has = record { tables = it.tables; rows = it.holds.rows; keyed = keyed };
   };
 }
 
-pub in_version : {l : Layout} {db : Database} {e : EventValue} {s : ℕ} → StandsAt l db e s → StandsIn (version_of l) db e s
-in_version {l} stands = record { layout = l; is = refl; stands = stands }
+pub in_version : {l : Layout} {db : Database} {e : EventValue} {s : ℕ} → RepresentsAt l db e s → RepresentsIn (version_of l) db e s
+in_version {l} represents = record { layout = l; is = refl; represents = represents }
 
 -- ---- what a look for the event's table tells
 

@@ -1,6 +1,6 @@
 -- What the rows of a sound event tell, and a crash leaves of it.
 use Rattle.er_store.proofs.Prelude.{common_steps, ◌≡◌, ℕ, List, [], ◌∷◌, refl, sym, ap, ap₂, ◌∙◌, arith, Row, Trees, Table, Schema}
-use Rattle.er_store.proofs.Prelude.{Database, EventValue, HasTablesAt, Layout, version_of, StandsFor, IsStored, ◌≤◌, inl, inr, subst}
+use Rattle.er_store.proofs.Prelude.{Database, EventValue, HasTablesAt, Layout, version_of, Represents, IsStored, ◌≤◌, inl, inr, subst}
 use Rattle.er_store.proofs.Prelude.{IsPermutation-sym}
 use Rattle.er_store.proofs.Prelude.{IsPermutation-trans, Parts, Place, EventTable, PlayerTable, PairingTable, BracketTable, TallyTable}
 use Rattle.er_store.proofs.Prelude.{TallyRow, tally_rows, IsSoundButForSeeds, IsRowFault}
@@ -11,7 +11,7 @@ use Rattle.er_event.specs.Version.{Keeps}
 use Rattle.er_store.specs.Loading.{HoldsEventAt, ListsParts, ListsTallies}
 use Rattle.er_store.proofs.Keyed.{keyed_permutes}
 
--- ---- what a crash leaves stands for the event again where it is opened
+-- ---- what a crash leaves represents the event again where it is opened
 
 same_table : (row : Row) (a b : Table) → IsTableRow row a → IsTableRow row b → a ≡ b
 same_table row a b p q = grind (arith, common_steps)
@@ -31,19 +31,19 @@ schemas_agree a b db p q = same_tables _ a.tables b.tables p.lists.listed.tables
 has_again : (l : Layout) (a b : Schema) → a.tables ≡ b.tables → HasTablesAt l a → HasTablesAt l b
 has_again l a b same has = record { others = has.others; are = sym same ∙ has.are; apart = has.apart }
 
--- a database whose trees are stored stands for the event, whatever schema was read of them
-pub stands_again : (db : Database) (e : EventValue) (s : ℕ) → IsSound db.schema db.trees → IsStored e s db.trees → StandsFor db e s
-stands_again db e s sound it =
-    let stands = it.stands.1 in
+-- a database whose trees are stored represents the event, whatever schema was read of them
+pub represents_again : (db : Database) (e : EventValue) (s : ℕ) → IsSound db.schema db.trees → IsStored e s db.trees → Represents db e s
+represents_again db e s sound it =
+    let represents = it.represents.1 in
     let tables = schemas_agree it.schema db.schema db.trees it.sound sound in (
-      it.stands.0,
+      it.represents.0,
       record {
-        low = stands.low;
-        keeps = stands.keeps;
+        low = represents.low;
+        keeps = represents.keeps;
         has = record {
-          tables = has_again it.stands.0 it.schema db.schema tables stands.has.tables;
-          rows = stands.has.rows;
-          keyed = record { pairings = stands.has.keyed.pairings; bracket = stands.has.keyed.bracket };
+          tables = has_again it.represents.0 it.schema db.schema tables represents.has.tables;
+          rows = represents.has.rows;
+          keyed = record { pairings = represents.has.keyed.pairings; bracket = represents.has.keyed.bracket };
         };
       },
     )

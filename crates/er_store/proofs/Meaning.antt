@@ -5,7 +5,7 @@ use Rattle.er_store.proofs.Prelude.{◌∷◌}
 use Rattle.er_store.proofs.Prelude.{List, pos, false, is_ok, sym, ◌∙◌, true≢false, Table, Schema, Term, col, Query, Command, Insert, Update}
 use Rattle.er_store.proofs.Prelude.{Values, Null, Int, Binary, Index, View, Compare, Eq, Gt, ToNumeric, IsPlain, command_of, with_ours}
 use Rattle.er_store.proofs.Prelude.{CanRead, table_query, SelectsWith, Selects, number, event_places, player_places, pairing_places}
-use Rattle.er_store.proofs.Prelude.{bracket_places, tally_places, no_schema, insert_event, insert_player, insert_pairing, insert_slot}
+use Rattle.er_store.proofs.Prelude.{bracket_places, tally_places, no_schema, insert_pairing, insert_slot}
 use Rattle.er_store.proofs.Prelude.{insert_tally, read_event, read_pairings, read_bracket, read_tallies, read_meetings}
 use Rattle.er_store.proofs.Prelude.{understood, listing_schema, everything}
 use Rattle.er_store.proofs.Prelude.{insert_player2, set_dropped2, players_text, slip_text, player2_places}
@@ -119,7 +119,6 @@ pub record Means (sql : List ℕ) (command : Command) (schema : Schema) : Type 0
 
 -- what each statement that writes a row means, but for those of players
 pub record WritesMean (schema : Schema) : Type 0 where
-  pub event : Means insert_event (Insert 0 (Values event_terms 8)) schema
   pub pairing : Means insert_pairing (Insert 2 (Values pairing_terms 10)) schema
   pub slot : Means insert_slot (Insert 3 (Values slot_terms 9)) schema
   pub tally : Means insert_tally (Insert 4 (Values tally_terms 6)) schema
@@ -132,7 +131,6 @@ pub record WritesMean (schema : Schema) : Type 0 where
 
 -- and those of players in version 1
 pub record OldMean (schema : Schema) : Type 0 where
-  pub player : Means insert_player (Insert 1 (Values player_terms 4)) schema
   pub dropped : Means set_dropped (Update 1 (record { lets = []; body = rows_query player_tree dropped_tests dropped_terms })) schema
 
 -- of version 2, where the table stands at this place and has this tree
@@ -168,7 +166,6 @@ module _ (others : List Table) (indexes : List Index) (views : List View) where
   pub writes_mean : (l : Layout) → WritesMean (full l)
   unfolding understood everything
   writes_mean Old = record {
-    event = record { is = refl; plain = (refl, refl) };
     pairing = record { is = refl; plain = (refl, refl) };
     slot = record { is = refl; plain = (refl, refl) };
     tally = record { is = refl; plain = (refl, refl) };
@@ -179,7 +176,6 @@ module _ (others : List Table) (indexes : List Index) (views : List View) where
     totals = record { is = refl; plain = (refl, refl) };
   }
   writes_mean New = record {
-    event = record { is = refl; plain = (refl, refl) };
     pairing = record { is = refl; plain = (refl, refl) };
     slot = record { is = refl; plain = (refl, refl) };
     tally = record { is = refl; plain = (refl, refl) };
@@ -190,7 +186,6 @@ module _ (others : List Table) (indexes : List Index) (views : List View) where
     totals = record { is = refl; plain = (refl, refl) };
   }
   writes_mean Moved = record {
-    event = record { is = refl; plain = (refl, refl) };
     pairing = record { is = refl; plain = (refl, refl) };
     slot = record { is = refl; plain = (refl, refl) };
     tally = record { is = refl; plain = (refl, refl) };
@@ -203,10 +198,7 @@ module _ (others : List Table) (indexes : List Index) (views : List View) where
 
   pub old_mean : OldMean (full Old)
   unfolding understood everything
-  old_mean = record {
-    player = record { is = refl; plain = (refl, refl) };
-    dropped = record { is = refl; plain = (refl, refl) };
-  }
+  old_mean = record { dropped = record { is = refl; plain = (refl, refl) } }
 
   pub second_mean : (l : Layout) → version_of l ≡ 2 → SecondMean (players_at l) (players_tree l) (full l)
   unfolding understood everything

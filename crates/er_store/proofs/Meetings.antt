@@ -11,7 +11,7 @@ use Rattle.er_store.proofs.Prelude.{list_all, Int, Binary, Database, is_true, Ro
 use Rattle.er_store.proofs.Prelude.{State, Env, holds, Trees, IsAscending, Compare, Gt, value_cmp-Int, filter-map, IsPermutation-filter}
 use Rattle.er_store.proofs.Prelude.{PairingTable, TallyTable, Player, pairing_row, round_rows, pairing_rows_from, pairing_rows, tally_row}
 use Rattle.er_store.proofs.Prelude.{tally_rows, flag, by_first_two, Lists, first_columns, number, pairing_columns, tally_columns}
-use Rattle.er_store.proofs.Prelude.{meeting_columns, at_places, pairing_places, tally_places, Layout, StandsAt, Selects, binary, Shown}
+use Rattle.er_store.proofs.Prelude.{meeting_columns, at_places, pairing_places, tally_places, Layout, RepresentsAt, Selects, binary, Shown}
 use Rattle.er_store.proofs.Prelude.{map-map}
 use Rattle.std.proofs.{Common.{int_cmp, is_some}, lemmas.Bool.Decides.Decides-int_eq, lemmas.List.Folds.find-append}
 use Rattle.std.specs.{Prelude.⊤, Option.option_or, Ordering.int_eq}
@@ -298,7 +298,7 @@ pair-passes k j m known = by_bye (is_bye m) refl
         let greater : int_cmp (pos (min m.a m.b)) (pos 0) ≡ Greater = grind (arith, nat_tests, both.0, both.1) in
         rw (value_cmp-Int (pos (min m.a m.b)) (pos 0), greater, is) refl
 
-module _ (l : Layout) (db : Database) (e : EventValue) (s : ℕ) (stands : StandsAt l db e s) (sound : IsSoundButForSeeds e) where
+module _ (l : Layout) (db : Database) (e : EventValue) (s : ℕ) (represents : RepresentsAt l db e s) (sound : IsSoundButForSeeds e) where
   abbrev row_by : Player → Row
   row_by p = tally_columns (tally_row p.no (totals e p.no))
 
@@ -309,7 +309,7 @@ module _ (l : Layout) (db : Database) (e : EventValue) (s : ℕ) (stands : Stand
       let picked = picks_row row_by row_by n (record { numbered = λ p. refl; others = λ p apart. refl }) e.players sound.players.numbered
       known (map-map tally_columns (λ (p : Player). tally_row p.no (totals e p.no)) e.players) refl in
       let it = one_picked (at_places tally_places) (picks n) (db.trees tally_tree) (map tally_columns (tally_rows e)) (row_by picked.it)
-      (stands.has.rows TallyTable) picked.alone in
+      (represents.has.rows TallyTable) picked.alone in
       (it.0, ap or_nulls it.1, it.2 ∙ ap (λ (k : ℕ). tally_columns (tally_row k (totals e k))) picked.is)
 
   pair-mates : (k j : ℕ) (m : Match) → IsMatch (numbers e.players) m → is_bye m ≡ false
@@ -368,14 +368,14 @@ rounds-rise come_to (r ∷ later) = (
 
 -- ---- what is read
 
-pub meetings-exact : (l : Layout) (db : Database) (e : EventValue) (s : ℕ) (rows : List Row) → StandsAt l db e s → IsSoundButForSeeds e
+pub meetings-exact : (l : Layout) (db : Database) (e : EventValue) (s : ℕ) (rows : List Row) → RepresentsAt l db e s → IsSoundButForSeeds e
     → Lists by_first_two (flat_map (mates db.trees) (filter is_no_bye (map (at_places pairing_places) (db.trees pairing_tree)))) rows
     → rows ≡ map meeting_columns (meeting_rows e)
-meetings-exact l db e s rows stands sound h =
+meetings-exact l db e s rows represents sound h =
     let stored = map (at_places pairing_places) (db.trees pairing_tree) in
     let kept = IsPermutation-flat_map (mates db.trees) (filter is_no_bye stored) (filter is_no_bye (map pairing_columns (pairing_rows e)))
-    (IsPermutation-filter is_no_bye stored (map pairing_columns (pairing_rows e)) (stands.has.rows PairingTable)) in
-    let are = rounds-mates l db e s stands sound 1 e.stored (all_matches e sound) in
+    (IsPermutation-filter is_no_bye stored (map pairing_columns (pairing_rows e)) (represents.has.rows PairingTable)) in
+    let are = rounds-mates l db e s represents sound 1 e.stored (all_matches e sound) in
     let rise = rises_from meeting_columns (meeting_row (totals e)) (λ k n. refl) (λ (r : Round). pairs_from 1 r.matches) 1 e.stored
     (rounds-rise (totals e) e.stored) in
     listed_by_two _ rows (map meeting_columns (meeting_rows e))
@@ -384,11 +384,12 @@ meetings-exact l db e s rows stands sound h =
 -- ---- as typed rows
 
 -- typed rows with the columns of the rows that are read
-pub meetings-read : (l : Layout) (db : Database) (e : EventValue) (s : ℕ) (rows : List Row) (typed : List MeetingRow) → StandsAt l db e s
+pub meetings-read : (l : Layout) (db : Database) (e : EventValue) (s : ℕ) (rows : List Row) (typed : List MeetingRow)
+    → RepresentsAt l db e s
     → IsSoundButForSeeds e → Lists by_first_two (flat_map (mates db.trees)
     (filter is_no_bye (map (at_places pairing_places) (db.trees pairing_tree)))) rows
     → map meeting_columns typed ≡ map (first_columns 13) rows → typed ≡ meeting_rows e
-meetings-read l db e s rows typed stands sound h columns =
+meetings-read l db e s rows typed represents sound h columns =
     map-same meeting_columns (λ r s h. grind arith) typed (meeting_rows e) (columns
-    ∙ ap (map (first_columns 13)) (meetings-exact l db e s rows stands sound h)
+    ∙ ap (map (first_columns 13)) (meetings-exact l db e s rows represents sound h)
     ∙ map-map (first_columns 13) meeting_columns (meeting_rows e))

@@ -6,7 +6,7 @@ use Rattle.er_store.proofs.Prelude.{Row, Int, column, number, Table, Schema, Dat
 use Rattle.er_store.proofs.Prelude.{BracketTable, TallyTable, Player, EventValue, event_row, player_row, player_columns, event_columns}
 use Rattle.er_store.proofs.Prelude.{player_shown, stored_event, stored_player2, player_tree, moved_tree, event_tree, player, Goes, Puts}
 use Rattle.er_store.proofs.Prelude.{Ran, Old, Moved}
-use Rattle.er_store.proofs.Prelude.{with_ours, HasTablesAt, StandsAt}
+use Rattle.er_store.proofs.Prelude.{with_ours, HasTablesAt, RepresentsAt}
 use Rattle.std.proofs.{lemmas.List.Sorted.All-permutation, Math.ListN.get_or-map}
 use Rattle.sqlite.specs.State as sqlite
 use Rattle.sqlite_schema.specs.declared.schema.Keys.{Keys}
@@ -80,7 +80,7 @@ player2_created {old} {new} {e} {s} may ran =
     let are : new.now.schema.tables ≡ with_ours Moved [] = ap (λ (it : Schema). it.tables) made.schema in
     let empty : new.now.trees moved_tree ≡ [] = made.empty in
     let kept = made.others in
-    let was = may.stands.has.rows in
+    let was = may.represents.has.rows in
     record {
       was = made.was;
       shows = made.shows;
@@ -95,7 +95,11 @@ player2_created {old} {new} {e} {s} may ran =
           | BracketTable ↦ rw kept.1.1.1.0 (was BracketTable)
           | TallyTable ↦ rw kept.1.1.1.1.0 (was TallyTable)
         ];
-        keyed = record { pairings = rw kept.1.1.0 may.stands.has.keyed.pairings; bracket = rw kept.1.1.1.0 may.stands.has.keyed.bracket };
+        keyed = record {
+          pairings = rw kept.1.1.0 may.represents.has.keyed.pairings;
+          bracket = rw kept.1.1.1.0
+              may.represents.has.keyed.bracket;
+        };
       };
       former = kept.1.0;
     }
@@ -173,10 +177,10 @@ lead_by_number [] = tt
 lead_by_number (p ∷ ps) = ((pos p.no, refl), lead_by_number ps)
 
 -- the rows of version 1's players are told by numbers
-pub former_numbered : {db : Database} {e : EventValue} {s : ℕ} → StandsAt Old db e s → All HasNumber (db.trees player_tree)
-former_numbered {db} {e} stands k d below =
+pub former_numbered : {db : Database} {e : EventValue} {s : ℕ} → RepresentsAt Old db e s → All HasNumber (db.trees player_tree)
+former_numbered {db} {e} represents k d below =
     let rows = db.trees player_tree in
-    let all = All-permutation LeadsByNumber _ (map (player_shown Old) rows) (IsPermutation-sym _ _ (stands.has.rows PlayerTable))
+    let all = All-permutation LeadsByNumber _ (map (player_shown Old) rows) (IsPermutation-sym _ _ (represents.has.rows PlayerTable))
     (All-from_recursion LeadsByNumber _ (lead_by_number e.players)) in
     let long : k < length (map (player_shown Old) rows) = subst (λ n. k < n) (sym (length-map rows (player_shown Old))) below in
     subst LeadsByNumber (get_or-map (player_shown Old) rows k d) (all k (player_shown Old d) long)
@@ -184,6 +188,6 @@ former_numbered {db} {e} stands k d below =
 pub is_moved : {old new : State} {e : EventValue} {s : ℕ} → s ≤ 999999 → IsMoving old new 2 e.players e s [] → IsMoved new e s
 is_moved low end = record {
   sound = end.sound;
-  stands = record { low = low; keeps = record { rounds = λ is. absurd (cc); players = λ is. absurd (cc) }; has = end.has };
+  represents = record { low = low; keeps = record { rounds = λ is. absurd (cc); players = λ is. absurd (cc) }; has = end.has };
   emptied = end.former;
 }

@@ -103,9 +103,10 @@ pub use Rattle.er_store.specs.Rows.{player_columns, bracket_places, event_column
 pub use Rattle.er_store.specs.Shape.{Form, Shape}
 pub use Rattle.er_store.specs.Slip.{match_of_slip, is_swapped, Side, number_in, name_in, named_pairing, IsPlayer, IsLawful, named_pairings}
 pub use Rattle.er_store.specs.Layout.{Layout, Old, version_of, players_tree, with_ours}
-pub use Rattle.er_store.specs.Standing.{StandsFor, StandsAt, HasTables, HasTablesAt, StandsWith, IsOther, CanRead, IsKeyed, Shows}
-pub use Rattle.er_store.specs.Standing.{IsStored, StandsIn, IsStoredIn}
-pub use Rattle.er_store.specs.Standing.{rows_in, rows_with, KeepsRest, KeepsOthers, HasRows, AreKeyed}
+pub use Rattle.er_store.specs.Representing.{Represents, RepresentsAt, HasTables, HasTablesAt, RepresentsWith, IsOther, CanRead, IsKeyed}
+pub use Rattle.er_store.specs.Representing.{Shows}
+pub use Rattle.er_store.specs.Representing.{IsStored, RepresentsIn, IsStoredIn}
+pub use Rattle.er_store.specs.Representing.{rows_in, rows_with, KeepsRest, KeepsOthers, HasRows, AreKeyed}
 pub use Rattle.er_store.specs.Tables.{event_tree, player_tree, pairing_tree, bracket_tree, tally_tree}
 pub use Rattle.er_store.specs.Tables.{no_schema, pairing, bracket, read_event, player, tally, set_serial, set_phase, set_dropped, set_score}
 pub use Rattle.er_store.specs.Tables.{set_slot_score, set_tally, insert_event, insert_player, insert_pairing, insert_slot, insert_tally}

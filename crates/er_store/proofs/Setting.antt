@@ -7,7 +7,7 @@ use Rattle.er_store.proofs.Prelude.{Trees, put_row, without_rowid, cast, cast_ro
 use Rattle.er_store.proofs.Prelude.{filter-map, IsPermutation-filter, filter_same, at_places, number, HasTablesAt, Layout, Old, IsOther}
 use Rattle.er_store.proofs.Prelude.{Ran, Goes}
 use Rattle.er_store.proofs.Prelude.{length, Contains, true, range_with_len, IsPermutation-trans, Int, Text, PlayerTable, Player, EventValue}
-use Rattle.er_store.proofs.Prelude.{dropped_at, TallyRow, player, set_dropped, stored_player, StandsWith, BringsToWith, TallyTable}
+use Rattle.er_store.proofs.Prelude.{dropped_at, TallyRow, player, set_dropped, stored_player, RepresentsWith, BringsToWith, TallyTable}
 use Rattle.er_store.proofs.Prelude.{Totals, tally_row, tally_rows_by, tally, set_tally, stored_tally, set_for, map-map, true≢false, Less}
 use Rattle.er_store.proofs.Prelude.{Equal, is_eq, AllByRecursion, Value, Null, value_cmp_total, is_int, filter_all, all_weaker}
 use Rattle.er_store.proofs.Prelude.{all_from_test, test_from_all, BracketTable, PairingTable, Games, Match, is_bye, match_at, slot_at}
@@ -119,19 +119,19 @@ dropped_keeps n ps keeps first =
     same p true early = early
     same p false early = early
 
-pub player_dropped : (n : ℕ) {old new : State} {e : EventValue} {s : ℕ} {kept : List TallyRow} → StandsWith Old old.now e s kept
+pub player_dropped : (n : ℕ) {old new : State} {e : EventValue} {s : ℕ} {kept : List TallyRow} → RepresentsWith Old old.now e s kept
     → numbers e.players ≡ range_with_len 1 (length e.players) → Contains (numbers e.players) n
     → Ran set_dropped (number n ∷ []) old new → BringsToWith Old old new (with_dropped e n) s kept
-player_dropped n {old} {new} {e} stands numbered known ran =
-    let has = stands.has.tables in
+player_dropped n {old} {new} {e} represents numbered known ran =
+    let has = represents.has.tables in
     let one = picks_one e.players n numbered known in
     let it = one.it in
     let row = stored_player n it.name true in
-    let early : it.joined ≡ 0 = is_early e.players n it (stands.keeps.players refl) one.first in
+    let early : it.joined ≡ 0 = is_early e.players n it (represents.keeps.players refl) one.first in
     let set = sets_number Old (player player_tree) (λ r. at_places (2 ∷ 3 ∷ []) r ++ number 0 ∷ []) n row (old_meant has).dropped has
     (ap (λ ts. slice_get ts 1) has.are) (λ x other. other.1) (λ db. refl) (λ r h. let is = one.is in cc) (simp (cast_int, cast_null))
-    (stands.has.rows PlayerTable) one.alone ran in
-    players_set stands (map (dropped_at n) e.players) (dropped_keeps n e.players stands.keeps.players) set.0
+    (represents.has.rows PlayerTable) one.alone ran in
+    players_set represents (map (dropped_at n) e.players) (dropped_keeps n e.players represents.keeps.players) set.0
     (IsPermutation-trans _ _ _ set.1 (rw (same_number it.no n one.is, one.is, early) at one.replaced))
 
 -- what is read of a player of version 2
@@ -149,17 +149,17 @@ shown_second Moved is rows all same = same
 
 -- a player of version 2
 pub second_dropped : (n : ℕ) (l : Layout) → version_of l ≡ 2 → {old new : State} {e : EventValue} {s : ℕ} {kept : List TallyRow}
-    → StandsWith l old.now e s kept → numbers e.players ≡ range_with_len 1 (length e.players) → Contains (numbers e.players) n
+    → RepresentsWith l old.now e s kept → numbers e.players ≡ range_with_len 1 (length e.players) → Contains (numbers e.players) n
     → Ran set_dropped2 (number n ∷ []) old new → BringsToWith l old new (with_dropped e n) s kept
-second_dropped n l is {old} {new} {e} stands numbered known ran =
-    let has = stands.has.tables in
+second_dropped n l is {old} {new} {e} represents numbered known ran =
+    let has = represents.has.tables in
     let one = picks_one e.players n numbered known in
     let it = one.it in
     let row = stored_player2 n it.name true it.joined in
     let set = sets_number l (player2 (players_tree l)) (at_places (2 ∷ 3 ∷ 4 ∷ [])) n row (second_meant l is has).dropped has
     (second_at l is has) (λ x other. other.1) (λ db. bare db (players_tree l)) (λ r h. let is = one.is in cc) (simp (cast_int, cast_null))
-    (second_shown l is _ _ (stands.has.rows PlayerTable)) one.alone ran in
-    players_set stands (map (dropped_at n) e.players) (dropped_keeps n e.players stands.keeps.players) set.0 (shown_second l is _ _
+    (second_shown l is _ _ (represents.has.rows PlayerTable)) one.alone ran in
+    players_set represents (map (dropped_at n) e.players) (dropped_keeps n e.players represents.keeps.players) set.0 (shown_second l is _ _
     (IsPermutation-trans _ _ _ set.1 (rw (same_number it.no n one.is, one.is) at one.replaced)))
 
 -- ---- what the UPDATE of one player's totals does, which a WHERE picks
@@ -178,11 +178,11 @@ are_rows n t come_to = record {
 }
 
 pub totals_set : (n : ℕ) (t : Totals) (come_to : ℕ → Totals) {l : Layout} {old new : State} {e : EventValue} {s : ℕ}
-    → StandsWith l old.now e s (tally_rows_by come_to e.players) → numbers e.players ≡ range_with_len 1 (length e.players)
+    → RepresentsWith l old.now e s (tally_rows_by come_to e.players) → numbers e.players ≡ range_with_len 1 (length e.players)
     → Contains (numbers e.players) n → Ran set_tally (totals_row n t) old new
     → BringsToWith l old new e s (tally_rows_by (set_for n t come_to) e.players)
-totals_set n t come_to {l = l} {e = e} stands numbered known ran =
-    let has = stands.has.tables in
+totals_set n t come_to {l = l} {e = e} represents numbered known ran =
+    let has = represents.has.tables in
     let rows : (ℕ → Totals) → List TallyRow = λ f. tally_rows_by f e.players in
     let shown : (f : ℕ → Totals) → map tally_columns (rows f) ≡ map (row_by f) e.players =
     λ f. map-map tally_columns (λ (p : Player). tally_row p.no (f p.no)) e.players in
@@ -191,8 +191,8 @@ totals_set n t come_to {l = l} {e = e} stands numbered known ran =
     let it = one.it in
     let set = sets_number l (tally tally_tree) (at_places (2 ∷ 3 ∷ 4 ∷ 5 ∷ [])) n (stored_tally (tally_row n t)) (meant has).totals has
     (tally_at l has) (λ x other. other.4) (λ db. refl) (λ r h. let is = one.is in cc)
-    (simp (cast_int, cast_null)) (stands.has.rows TallyTable) one.alone ran in
-    tallies_set stands (rows next) set.0 (IsPermutation-trans _ _ _ set.1 (rw (same_number it.no n one.is, one.is) at one.replaced))
+    (simp (cast_int, cast_null)) (represents.has.rows TallyTable) one.alone ran in
+    tallies_set represents (rows next) set.0 (IsPermutation-trans _ _ _ set.1 (rw (same_number it.no n one.is, one.is) at one.replaced))
 
 -- ---- the rows without the one that is picked
 
@@ -298,27 +298,27 @@ abbrev pub scores : ℕ → ℕ → Games → Row
 scores k t s = number k ∷ number t ∷ number s.x ∷ number s.y ∷ number s.d ∷ []
 
 pub pairing_scored : (k t : ℕ) (score : Games) {m : Match} {l : Layout} {old new : State} {e : EventValue} {s : ℕ} {kept : List TallyRow}
-    → StandsWith l old.now e s kept → match_at e k t ≡ Some m → is_bye m ≡ false
+    → RepresentsWith l old.now e s kept → match_at e k t ≡ Some m → is_bye m ≡ false
     → Ran set_score (scores k t score) old new → BringsToWith l old new (with_score e k t score) s kept
-pairing_scored k t score {m} {l} {e = e} stands found seat ran =
-    let has = stands.has.tables in
+pairing_scored k t score {m} {l} {e = e} represents found seat ran =
+    let has = represents.has.tables in
     let one = picks_one_table e k t score m found seat in
     let row = pairing_row k (one.it.0, scored score one.it.1) in
     let set = sets_row (pairing pairing_tree) (3 ∷ 4 ∷ 5 ∷ 6 ∷ 7 ∷ 8 ∷ 9 ∷ []) l k t (pairing_columns row) (meant has).score
     (λ db. refl) (pairing_at l has) (λ x other. other.2) (λ r id own h. cc) (λ id. simp cast_int) (λ id. refl)
-    has (stands.has.rows PairingTable) stands.has.keyed.pairings one.alone ran in
-    pairings_set stands (with_score e k t score).stored set.goes (IsPermutation-trans _ _ _ set.rows one.replaced) set.keyed
+    has (represents.has.rows PairingTable) represents.has.keyed.pairings one.alone ran in
+    pairings_set represents (with_score e k t score).stored set.goes (IsPermutation-trans _ _ _ set.rows one.replaced) set.keyed
 
 -- ---- a match of the playoff
 
 pub slot_scored : (k t : ℕ) (score : Games) {m : Match} {l : Layout} {old new : State} {e : EventValue} {s : ℕ} {kept : List TallyRow}
-    → StandsWith l old.now e s kept → slot_at e k t ≡ Some m
+    → RepresentsWith l old.now e s kept → slot_at e k t ≡ Some m
     → Ran set_slot_score (scores k t score) old new → BringsToWith l old new (with_slot_score e k t score) s kept
-slot_scored k t score {m} {l} {e = e} stands found ran =
-    let has = stands.has.tables in
+slot_scored k t score {m} {l} {e = e} represents found ran =
+    let has = represents.has.tables in
     let one = picks_one_slot e k t score m found in
     let row = bracket_row k (one.it.0, scored score one.it.1) in
     let set = sets_row (bracket bracket_tree) (3 ∷ 4 ∷ 5 ∷ 6 ∷ 7 ∷ 8 ∷ []) l k t (bracket_columns row) (meant has).slot_score (λ db. refl)
     (bracket_at l has) (λ x other. other.3) (λ r id own h. cc) (λ id. simp cast_int) (λ id. refl)
-    has (stands.has.rows BracketTable) stands.has.keyed.bracket one.alone ran in
-    bracket_set stands (with_slot_score e k t score).bracket.stages set.goes (IsPermutation-trans _ _ _ set.rows one.replaced) set.keyed
+    has (represents.has.rows BracketTable) represents.has.keyed.bracket one.alone ran in
+    bracket_set represents (with_slot_score e k t score).bracket.stages set.goes (IsPermutation-trans _ _ _ set.rows one.replaced) set.keyed

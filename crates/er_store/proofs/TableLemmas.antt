@@ -1,7 +1,8 @@
 -- The five shapes are tables, which are looked at one after another.
 use Rattle.er_store.proofs.Prelude.{arith, ℕ, List, [], ◌∷◌, refl, ap, map, subst, sym, ◌≡◌, ◌∙◌, Row, State, Error, Form, event_places}
 use Rattle.er_store.proofs.Prelude.{pairing_places, bracket_places, tally_places}
-use Rattle.er_store.proofs.Prelude.{Shape, Lists, IsReadRefused, first_columns, HasTablesAt, StandsAt, StandsFor, Layout, Old, version_of}
+use Rattle.er_store.proofs.Prelude.{Shape, Lists, IsReadRefused, first_columns, HasTablesAt, RepresentsAt, Represents, Layout, Old}
+use Rattle.er_store.proofs.Prelude.{version_of}
 use Rattle.er_store.proofs.Prelude.{player_shown, EventValue, IsSoundButForSeeds, Shown}
 use Rattle.er_store.proofs.Prelude.{FailsToQuery, common_steps, Result, Ok, Err, IsErrAnd, on_ok_weaker, Database, unchanged_then, Refusal}
 use Rattle.er_store.proofs.Prelude.{Damaged, Place, IsFault}
@@ -41,10 +42,11 @@ module _ {R : Type 0} (form : Form R) (table : Shape R) (it : IsOurs form table)
       → IsReadRefused old new e
   refused l serves e has = read_refused (table.tree l) (it.terms l) it.keys old new e (chosen l serves has)
 
-  -- the rows are those of the event, where the tables stand for one
+  -- the rows are those of the event, where the tables represent one
   pub are_rows : (l : Layout) → Serves l → {rows : List Row} → Shown sql [] old new rows → (e : EventValue) (s : ℕ)
-      → StandsAt l old.now e s → IsSoundButForSeeds e → rows ≡ map form.columns (table.rows (version_of l) e s)
-  are_rows l serves {rows} shows e s stands sound = it.exact l old.now e s rows stands sound (listed l serves stands.has.tables shows)
+      → RepresentsAt l old.now e s → IsSoundButForSeeds e → rows ≡ map form.columns (table.rows (version_of l) e s)
+  are_rows l serves {rows} shows e s represents sound = it.exact l old.now e s rows represents sound
+      (listed l serves represents.has.tables shows)
 
   -- what typed rows with their columns are
   pub finds_rows : {rows given : List Row} → Shown sql [] old new rows → given ≡ rows
@@ -52,9 +54,9 @@ module _ {R : Type 0} (form : Form R) (table : Shape R) (it : IsOurs form table)
   finds_rows {rows} {given} shows same typed are = record {
     reads = may_read form sql old new rows given (it.begins version) same shows typed are;
     lists = lists;
-    exact = λ l serves e s stands sound.
+    exact = λ l serves e s represents sound.
         map-same form.columns it.same typed (table.rows (version_of l) e s)
-        (it.exact l old.now e s (map form.columns typed) stands sound (lists l serves stands.has.tables));
+        (it.exact l old.now e s (map form.columns typed) represents sound (lists l serves represents.has.tables));
   }
     where
       lists : (l : Layout) → Serves l → HasTablesAt l old.now.schema → IsListed form table l old.now typed
@@ -74,7 +76,7 @@ event_is_ours = record {
   selects = λ l schema has. selected has (λ others indexes views. event_selected others indexes views l);
   lists = λ l. answer_lists _ _ _ _ _ (sorted_by_one 0 0 (2 ∷ 3 ∷ 4 ∷ 5 ∷ 6 ∷ 7 ∷ []));
   whole = λ l r. refl;
-  exact = λ l db e s rows stands sound. event_exact l db e s rows stands;
+  exact = λ l db e s rows represents sound. event_exact l db e s rows represents;
   same = λ r s h. grind arith;
 }
 
@@ -95,7 +97,7 @@ player_is_ours = record {
   selects = λ l schema has. selected has (λ others indexes views. players_selected others indexes views l);
   lists = λ l. answer_lists _ _ _ _ _ (sorted_players l);
   whole = four_shown;
-  exact = λ l db e s rows stands sound. players_exact l db e s rows stands sound.players.numbered;
+  exact = λ l db e s rows represents sound. players_exact l db e s rows represents sound.players.numbered;
   same = λ r s h. grind arith;
 }
 
@@ -119,7 +121,7 @@ bracket_is_ours = record {
   selects = λ l schema has. selected has (λ others indexes views. bracket_selected others indexes views l);
   lists = λ l. answer_lists _ _ _ _ _ (sorted_by_two 6 1 2 (3 ∷ 4 ∷ 5 ∷ 6 ∷ 7 ∷ 8 ∷ []));
   whole = λ l r. refl;
-  exact = λ l db e s rows stands sound. bracket_exact l db e s rows stands;
+  exact = λ l db e s rows represents sound. bracket_exact l db e s rows represents;
   same = λ r s h. grind arith;
 }
 
@@ -131,7 +133,7 @@ tally_is_ours = record {
   selects = λ l schema has. selected has (λ others indexes views. tallies_selected others indexes views l);
   lists = λ l. answer_lists _ _ _ _ _ (sorted_by_one 8 0 (2 ∷ 3 ∷ 4 ∷ 5 ∷ []));
   whole = λ l r. refl;
-  exact = λ l db e s rows stands sound. tallies_exact l db e s rows stands sound.players.numbered;
+  exact = λ l db e s rows represents sound. tallies_exact l db e s rows represents sound.players.numbered;
   same = λ r s h. grind arith;
 }
 
@@ -174,7 +176,7 @@ module _ {A B : Type 0} {F : Database → A → Type 0} {M : Database → Refusa
 -- the tables before this one were read, and it was not
 pub first_misread : (table : Place) {Bad : Type 0} (db : Database) (why : Refusal) → (Bad → IsFirstMisread db table)
     → ((at : Place) → why ≡ Damaged at → (at ≡ table) × Bad)
-    → ((e : EventValue) (s : ℕ) → StandsFor db e s → IsSoundButForSeeds e → IsFault why) → MissesTables db why
+    → ((e : EventValue) (s : ℕ) → Represents db e s → IsSoundButForSeeds e → IsFault why) → MissesTables db why
 first_misread table db why before misread refused = record {
   misread = λ place h. let it = misread place h in subst (IsFirstMisread db) (sym it.0) (before it.1);
   refused = refused;

@@ -1,5 +1,5 @@
 -- No table can be made where its name is taken.
-use Rattle.er_store.proofs.Prelude.{◌≡◌, ℕ, Bool, true, false, List, [], Option, Some, None, Ok, Err, Schema, State, Ran, refl, sym}
+use Rattle.er_store.proofs.Prelude.{◌≡◌, ℕ, Bool, true, false, List, [], Option, Some, None, Ok, Err, Schema, State, Ran, Row, refl, sym}
 use Rattle.er_store.proofs.Prelude.{◌∙◌, true≢false, understood, everything, if◌then◌else◌}
 use Rattle.std.specs.{Prelude.{◌||◌, is_some, codes}, Option.option_or, Fmt.digits}
 use Rattle.sqlite_ast.specs.declared.CreateTable.{CreateTable}
@@ -14,10 +14,10 @@ use Rattle.sqlite.specs.{Listing.misses_table, State.ExecutesIn}
 use Rattle.er_store.specs.{Tables.player2_text, Migrated.IsTaken}
 
 -- the statement is refused, and not for want of a table
-record IsRefused {X : Type 0} (c : Checked X) : Type 0 where
-  why : CompileError
-  is : c ≡ Err why
-  named : misses_table (Err why) ≡ false
+pub record IsRefused {X : Type 0} (c : Checked X) : Type 0 where
+  pub why : CompileError
+  pub is : c ≡ Err why
+  pub named : misses_table (Err why) ≡ false
 
 -- by what the name was found to be
 refused : {X : Type 0} (attached reserved missing : Bool) (table view index : Option ℕ) (goes : Bool → Checked X) → missing ≡ false
@@ -45,7 +45,7 @@ planned_refused schema p def is not used =
     let it = create_refused schema p.formats def not used in
     record { why = it.why; is = rw (is, it.is) refl; named = it.named }
 
-compiled_refused : (schema : Schema) (sql : List ℕ) (p : Parsed) (def : CreateTable) → first sql ≡ Ok p → p.statement ≡ written.CreateTable def
+pub compiled_refused : (schema : Schema) (sql : List ℕ) (p : Parsed) (def : CreateTable) → first sql ≡ Ok p → p.statement ≡ written.CreateTable def
     → def.if_missing ≡ false → is_used schema def.name ≡ true → IsRefused (compiled schema sql)
 unfolding compiled
 compiled_refused schema sql p def reads is not used =
@@ -56,15 +56,19 @@ understood_refused : (schema : Schema) (sql : List ℕ) → IsRefused (compiled 
 unfolding understood
 understood_refused schema sql it = (it.why, rw (it.is, it.named) refl)
 
-player2_refused : (schema : Schema) → is_used schema (codes "player2") ≡ true → (why : CompileError) × (understood schema player2_text ≡ Err why)
-unfolding everything digits
-player2_refused schema used = understood_refused schema player2_text (compiled_refused schema player2_text _ _ refl refl refl used)
-
--- so the statement that makes `player2` can't have gone well
-pub not_made : (old new : State) → IsTaken old.now → Ran player2_text [] old new → ⊥
+-- so a statement that is refused can't have gone well
+pub never_ran : (sql : List ℕ) (params : Row) (old new : State) → IsRefused (compiled old.now.schema sql) → Ran sql params old new → ⊥
 unfolding ExecutesIn
-not_made old new used ran =
-    let it = player2_refused old.now.schema used in
+never_ran sql params old new refused ran =
+    let it = understood_refused old.now.schema sql refused in
     let c = ran.executes.0 in
     let both : Err it.0 ≡ Ok c.0 = sym it.1 ∙ c.1.is in
     cc
+
+-- as the one that makes `player2`
+player2_refused : (schema : Schema) → is_used schema (codes "player2") ≡ true → IsRefused (compiled schema player2_text)
+unfolding everything digits
+player2_refused schema used = compiled_refused schema player2_text _ _ refl refl refl used
+
+pub not_made : (old new : State) → IsTaken old.now → Ran player2_text [] old new → ⊥
+not_made old new used = never_ran player2_text [] old new (player2_refused old.now.schema used)

@@ -7,17 +7,18 @@ use Rattle.er_store.proofs.Prelude.{Schema, Trees, put_row, rowid, is_taken, Dat
 use Rattle.er_store.proofs.Prelude.{BracketTable, TallyTable, EventValue, Phase, new_player, with_player, with_phase, player_row}
 use Rattle.er_store.proofs.Prelude.{pairing_rows_from, bracket_rows_from, Player, Round, Match, TallyRow, player_columns}
 use Rattle.er_store.proofs.Prelude.{pairing_columns, bracket_columns, tally_columns, stored_event, stored_player, stored_tally, rows_in}
-use Rattle.er_store.proofs.Prelude.{rows_with, HasTablesAt, HasRows, StandsWith, IsKeyed, IsOther, KeepsRest, Goes, Puts}
+use Rattle.er_store.proofs.Prelude.{rows_with, HasTablesAt, HasRows, RepresentsWith, IsKeyed, IsOther, KeepsRest, Goes, Puts}
 use Rattle.er_store.proofs.Prelude.{Moves, player_shown}
 use Rattle.er_store.proofs.Prelude.{Layout, Old, version_of, players_tree, with_ours}
 use Rattle.er_event.specs.Version.{IsVersion, Keeps, KeepsPlayers}
-use Rattle.er_store.proofs.Prelude.{◌==◌, if◌then◌else◌, true, inl, inr, New, Moved, StandsIn, tally_rows, made_players, tally_schema}
+use Rattle.er_store.proofs.Prelude.{◌==◌, if◌then◌else◌, true, inl, inr, New, Moved, RepresentsIn, tally_rows, made_players, tally_schema}
 use Rattle.er_store.proofs.Prelude.{player, player2, stored_player2}
 use Rattle.er_store.proofs.Prelude.{BringsToWith, CreatesAll, all_weaker, value_cmp, All-cons, All-nil}
 use Rattle.std.proofs.lemmas.List.Elements.{All-append}
 use Rattle.std.proofs.lemmas.List.Sorted.{IsPermutation-to_front, IsPermutation-middle, IsPermutation-cons}
 use Rattle.std.specs.Ordering.{match_ordering}
-use Rattle.er_store.specs.Standing.{tree_of, shown_of, IsNew}
+use Rattle.er_store.proofs.Prelude.{everything, event}
+use Rattle.er_store.specs.{Representing.{tree_of, shown_of, IsNew}, inside.Making.IsFound}
 
 -- ---- a row with a free rowid is one more row
 
@@ -123,7 +124,7 @@ moves_then {l} {a} {b} {c} p q = record {
 
 pub makes_then : {l : Layout} {a b c : State} {e f : EventValue} {s : ℕ} {kept new : List TallyRow} → BringsToWith l a b e s kept
     → BringsToWith l b c f s new → BringsToWith l a c f s new
-makes_then p q = record { moves = moves_then p.moves q.moves; stands = q.stands }
+makes_then p q = record { moves = moves_then p.moves q.moves; represents = q.represents }
 
 -- ---- the changes
 
@@ -151,14 +152,14 @@ rows_set l tree {old} {new} {before} has goes follows pairings bracket =
 
 -- and makes of the tables those of an event that has these
 table_set : (l : Layout) (tree : ℕ) {old new : State} {e f : EventValue} {s t : ℕ} {before after : List TallyRow}
-    → ((x : ℕ) → IsOther l x → x ≢ tree) → StandsWith l old.now e s before → Goes tree old new → t ≤ 999999 → Keeps (version_of l) f
+    → ((x : ℕ) → IsOther l x → x ≢ tree) → RepresentsWith l old.now e s before → Goes tree old new → t ≤ 999999 → Keeps (version_of l) f
     → Follows l tree new.now (rows_with (version_of l) e s before) (rows_with (version_of l) f t after)
     → ((pairing_tree ≢ tree → IsKeyed (new.now.trees pairing_tree)) → IsKeyed (new.now.trees pairing_tree))
     → ((bracket_tree ≢ tree → IsKeyed (new.now.trees bracket_tree)) → IsKeyed (new.now.trees bracket_tree))
     → BringsToWith l old new f t after
-table_set l tree {old} {new} apart stands goes low keeps follows pairings bracket = record {
+table_set l tree {old} {new} apart represents goes low keeps follows pairings bracket = record {
   moves = goes_moves l tree old new apart goes;
-  stands = record { low = low; keeps = keeps; has = rows_set l tree stands.has goes follows pairings bracket };
+  represents = record { low = low; keeps = keeps; has = rows_set l tree represents.has goes follows pairings bracket };
 }
 
 -- an event of the same rounds and players can be kept, too
@@ -177,15 +178,16 @@ players_apart Old = record { event = λ e. cc; pairing = λ e. cc; bracket = λ 
 players_apart New = record { event = λ e. cc; pairing = λ e. cc; bracket = λ e. cc; tally = λ e. cc }
 players_apart Moved = record { event = λ e. cc; pairing = λ e. cc; bracket = λ e. cc; tally = λ e. cc }
 
-module _ {l : Layout} {old new : State} {e : EventValue} {s : ℕ} {kept : List TallyRow} (stands : StandsWith l old.now e s kept) where
+module _ {l : Layout} {old new : State} {e : EventValue} {s : ℕ} {kept : List TallyRow}
+    (represents : RepresentsWith l old.now e s kept) where
   -- the players' rows alone are others
   pub players_set : (players : List Player) → KeepsPlayers (version_of l) players → Goes (players_tree l) old new
       → IsPermutation (rows_in l new.now PlayerTable) (map player_columns (map player_row players))
       → BringsToWith l old new (record e { players = players }) s kept
   players_set players fit goes set =
       let apart = players_apart l in
-      table_set l (players_tree l) (λ t other. other.1) stands goes stands.low
-      (record { rounds = stands.keeps.rounds; players = fit }) (elim [
+      table_set l (players_tree l) (λ t other. other.1) represents goes represents.low
+      (record { rounds = represents.keeps.rounds; players = fit }) (elim [
         | EventTable ↦ λ same. same (λ e. apart.event (sym e))
         | PlayerTable ↦ λ same. set
         | PairingTable ↦ λ same. same (λ e. apart.pairing (sym e))
@@ -198,27 +200,29 @@ module _ {l : Layout} {old new : State} {e : EventValue} {s : ℕ} {kept : List 
       → IsPermutation (rows_in l new.now PairingTable) (map pairing_columns (pairing_rows_from 1 stored))
       → IsKeyed (new.now.trees pairing_tree)
       → BringsToWith l old new (record e { stored = stored }) s kept
-  pairings_set stored goes set keyed = table_set l 3 (λ t other. other.2) stands goes stands.low (keeps_as refl refl stands.keeps) (elim [
-    | PairingTable ↦ λ same. set
-    | PlayerTable ↦ λ same. same (players_apart l).pairing
-    | _ ↦ λ same. same (λ e. cc)
-  ]) (λ _. keyed) (λ keyed. keyed (λ e. cc))
+  pairings_set stored goes set keyed = table_set l 3 (λ t other. other.2) represents goes represents.low
+      (keeps_as refl refl represents.keeps) (elim [
+        | PairingTable ↦ λ same. set
+        | PlayerTable ↦ λ same. same (players_apart l).pairing
+        | _ ↦ λ same. same (λ e. cc)
+      ]) (λ _. keyed) (λ keyed. keyed (λ e. cc))
 
   -- the bracket's rows alone are others
   pub bracket_set : (stages : List (List Match)) → Goes bracket_tree old new
       → IsPermutation (rows_in l new.now BracketTable) (map bracket_columns (bracket_rows_from 1 stages))
       → IsKeyed (new.now.trees bracket_tree)
       → BringsToWith l old new (record e { bracket = record { stages = stages } }) s kept
-  bracket_set stages goes set keyed = table_set l 6 (λ t other. other.3) stands goes stands.low (keeps_as refl refl stands.keeps) (elim [
-    | BracketTable ↦ λ same. set
-    | PlayerTable ↦ λ same. same (players_apart l).bracket
-    | _ ↦ λ same. same (λ e. cc)
-  ]) (λ keyed. keyed (λ e. cc)) (λ _. keyed)
+  bracket_set stages goes set keyed = table_set l 6 (λ t other. other.3) represents goes represents.low
+      (keeps_as refl refl represents.keeps) (elim [
+        | BracketTable ↦ λ same. set
+        | PlayerTable ↦ λ same. same (players_apart l).bracket
+        | _ ↦ λ same. same (λ e. cc)
+      ]) (λ keyed. keyed (λ e. cc)) (λ _. keyed)
 
   -- the rows of totals alone are others
   pub tallies_set : (after : List TallyRow) → Goes tally_tree old new
       → IsPermutation (rows_in l new.now TallyTable) (map tally_columns after) → BringsToWith l old new e s after
-  tallies_set after goes set = table_set l 8 (λ t other. other.4) stands goes stands.low stands.keeps (elim [
+  tallies_set after goes set = table_set l 8 (λ t other. other.4) represents goes represents.low represents.keeps (elim [
     | TallyTable ↦ λ same. set
     | PlayerTable ↦ λ same. same (players_apart l).tally
     | _ ↦ λ same. same (λ e. cc)
@@ -228,7 +232,7 @@ module _ {l : Layout} {old new : State} {e : EventValue} {s : ℕ} {kept : List 
   pub row_set : (phase : Phase) (t : ℕ) → t ≤ 999999 → Goes event_tree old new
       → new.now.trees event_tree ≡ stored_event (version_of l) (with_phase e phase) t ∷ []
       → BringsToWith l old new (with_phase e phase) t kept
-  row_set phase t low goes set = table_set l 0 (λ t other. other.0) stands goes low (keeps_as refl refl stands.keeps) (elim [
+  row_set phase t low goes set = table_set l 0 (λ t other. other.0) represents goes low (keeps_as refl refl represents.keeps) (elim [
     | EventTable ↦ λ same. rw set (IsPermutation-refl _)
     | PlayerTable ↦ λ same. same (players_apart l).event
     | _ ↦ λ same. same (λ e. cc)
@@ -237,35 +241,36 @@ module _ {l : Layout} {old new : State} {e : EventValue} {s : ℕ} {kept : List 
   -- a table into which a row was put shows that row and those before it
   pub row_put : (at : Place) (row shows : Row) (all : List Row) → Puts (tree_of l at) row old new → shown_of l at row ≡ shows
       → all ≡ rows_with (version_of l) e s kept at ++ shows ∷ [] → IsPermutation (rows_in l new.now at) all
-  row_put at row shows all put is more = rw (put.rows, more) (shows_more _ row _ shows _ put.free is (stands.has.rows at))
+  row_put at row shows all put is more = rw (put.rows, more) (shows_more _ row _ shows _ put.free is (represents.has.rows at))
 
   pub tally_added : (row : TallyRow) → Puts tally_tree (stored_tally row) old new → BringsToWith l old new e s (kept ++ row ∷ [])
   tally_added row put = tallies_set (kept ++ row ∷ []) put.goes
       (row_put TallyTable _ (tally_columns row) _ put refl (map-append tally_columns kept (row ∷ [])))
 
 -- one more player, in a row of either version; version 1 takes nobody who missed a round
-player_added : {l : Layout} {old new : State} {e : EventValue} {s : ℕ} {kept : List TallyRow} → StandsWith l old.now e s kept
+player_added : {l : Layout} {old new : State} {e : EventValue} {s : ℕ} {kept : List TallyRow} → RepresentsWith l old.now e s kept
     → (name : List ℕ) (row : Row) → player_shown l row ≡ player_columns (player_row (new_player e name))
     → (version_of l ≡ 1 → length e.stored ≡ 0) → Puts (players_tree l) row old new → BringsToWith l old new (with_player e name) s kept
-player_added {e = e} stands name row shows early put =
+player_added {e = e} represents name row shows early put =
     let p = new_player e name in
     let IsEarly : Player → Type 0 = λ q. q.joined ≡ 0 in
-    players_set stands (e.players ++ p ∷ [])
-    (λ first. All-append IsEarly e.players (p ∷ []) (stands.keeps.players first) (All-cons IsEarly p [] (early first) (All-nil IsEarly)))
-    put.goes (row_put stands PlayerTable row (player_columns (player_row p)) _ put shows (simp map-append))
+    players_set represents (e.players ++ p ∷ [])
+    (λ first. All-append IsEarly e.players (p ∷ []) (represents.keeps.players first)
+    (All-cons IsEarly p [] (early first) (All-nil IsEarly)))
+    put.goes (row_put represents PlayerTable row (player_columns (player_row p)) _ put shows (simp map-append))
 
-pub old_player_added : {old new : State} {e : EventValue} {s : ℕ} {kept : List TallyRow} → StandsWith Old old.now e s kept
+pub old_player_added : {old new : State} {e : EventValue} {s : ℕ} {kept : List TallyRow} → RepresentsWith Old old.now e s kept
     → (name : List ℕ) → length e.stored ≡ 0 → Puts player_tree (stored_player (length e.players + 1) name false) old new
     → BringsToWith Old old new (with_player e name) s kept
-old_player_added stands name early = player_added stands name _ (rw early refl) (λ first. early)
+old_player_added represents name early = player_added represents name _ (rw early refl) (λ first. early)
 
 pub second_player_added : (l : Layout) → version_of l ≡ 2 → {old new : State} {e : EventValue} {s : ℕ} {kept : List TallyRow}
-    → StandsWith l old.now e s kept → (name : List ℕ)
+    → RepresentsWith l old.now e s kept → (name : List ℕ)
     → Puts (players_tree l) (stored_player2 (length e.players + 1) name false (length e.stored)) old new
     → BringsToWith l old new (with_player e name) s kept
-second_player_added Old is stands name = absurd (cc)
-second_player_added New is stands name = player_added stands name _ refl (λ first. absurd (cc))
-second_player_added Moved is stands name = player_added stands name _ refl (λ first. absurd (cc))
+second_player_added Old is represents name = absurd (cc)
+second_player_added New is represents name = player_added represents name _ refl (λ first. absurd (cc))
+second_player_added Moved is represents name = player_added represents name _ refl (λ first. absurd (cc))
 
 -- ---- creation
 
@@ -280,6 +285,12 @@ made_has version schema = by_version (version == 2)
         → HasTablesAt (if b then New else Old) schema
     by_version true is = record { others = []; are = ap (λ s. s.tables) is; apart = tt }
     by_version false is = record { others = []; are = ap (λ s. s.tables) is; apart = tt }
+
+-- where `event` is the first of the tables that creation made
+pub made_first : (version : ℕ) (schema : Schema) → schema ≡ tally_schema (made_players version) → IsFound schema 0 (event event_tree)
+unfolding everything
+made_first version schema is =
+    subst (λ s. IsFound s 0 (event event_tree)) (sym is) (record { named = refl; is = refl })
 
 pub made_version : (version : ℕ) → IsVersion version → version_of (made_layout version) ≡ version
 made_version version (inl one) = rw one refl
@@ -328,14 +339,14 @@ new_rows l {mid} {new} fresh has none put =
     }
 
 pub event_put : (version : ℕ) → IsVersion version → {old mid new : State} {e : EventValue} → IsNew e → Keeps version e
-    → CreatesAll (made_players version) old mid → Puts event_tree (stored_event version e 0) mid new → StandsIn version new.now e 0
+    → CreatesAll (made_players version) old mid → Puts event_tree (stored_event version e 0) mid new → RepresentsIn version new.now e 0
 event_put version known {mid = mid} {new} {e} fresh keeps all put =
     let l = made_layout version in
     let is = made_version version known in
     record {
       layout = l;
       is = is;
-      stands = record {
+      represents = record {
         low = omega arith;
         keeps = rw is keeps;
         has = new_rows l {mid = mid} {new = new} fresh (made_has version mid.now.schema all.schema) (none_made version all)

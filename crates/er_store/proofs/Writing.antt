@@ -16,7 +16,7 @@ use Rattle.sqlite_rules.proofs.ActionLemmas.{no_works}
 use Rattle.sqlite_schema.specs.{declared.program.Program.Program, declared.schema.Keys.Keys, declared.schema.Reference.Reference}
 use Rattle.sqlite_schema.specs.Rules.{ParentKey, parent_key}
 use Rattle.er_store.proofs.Meaning.{Means, event_query}
-use Rattle.er_store.specs.Standing.{LeadsElsewhere}
+use Rattle.er_store.specs.Representing.{LeadsElsewhere}
 
 -- ---- what columns make of the values that are written here
 

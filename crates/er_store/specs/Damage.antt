@@ -23,7 +23,7 @@ use Rattle.std.specs.Ordering.{int_eq}
 use Rattle.er_store.specs.Tables.{players_text, read_event, read_pairings, read_bracket, read_tallies}
 use Rattle.er_store.specs.Shape.{Form, event_form, player_form, pairing_form, bracket_form, tally_form}
 use Rattle.er_store.specs.Reading.{first_columns}
-use Rattle.er_store.specs.Standing.{HasTables, AreKeyed, Shows}
+use Rattle.er_store.specs.Representing.{HasTables, AreKeyed, Shows}
 use Rattle.er_store.specs.Loading.{HoldsEvent}
 use Rattle.sqlite.specs.State.{State}
 
@@ -137,12 +137,12 @@ IsAtFault db place =
 
 -- if it is damage, this table is the first at fault
 abbrev pub IfDamaged : (Place → Type 0) → Refusal → Type 0
-IfDamaged P why = (place : Place) → why ≡ Damaged place → P place
+IfDamaged P why = (table : Place) → why ≡ Damaged table → P table
 
 -- What is found in tables of this version, whatever they hold: it is what they show, and where the tables are ours, they
--- stand for it, and a change can be written to them.
+-- represent it, and a change can be written to them.
 pub record FindsEvent (version : ℕ) (old new : State) (e : EventValue) (serial : ℕ) : Type 0 where
   pub parts : ReadsParts old.now (parts_of version e serial)
   pub tallies : ReadsTallies old.now (tally_rows e)
   pub shows : HasTables version old.now.schema → HoldsEvent version old.now e serial
-  pub stands : HasTables version old.now.schema → AreKeyed old.now → Shows version new e serial
+  pub represents : HasTables version old.now.schema → AreKeyed old.now → Shows version new e serial

@@ -10,7 +10,7 @@ use Rattle.er_event.specs.Sound.{IsSoundButForSeeds}
 use Rattle.er_event.specs.Rows.{tally_rows}
 use Rattle.er_event.specs.Version.{Keeps}
 use Rattle.er_store.specs.Layout.{Layout, version_of}
-use Rattle.er_store.specs.Standing.{HasTablesAt, rows_in, rows_with}
+use Rattle.er_store.specs.Representing.{HasTablesAt, rows_in, rows_with}
 use Rattle.er_store.specs.Reading.{Lists}
 use Rattle.er_store.specs.Shape.{Form, Shape, event_form, player_form, pairing_form, bracket_form, tally_form, event_table, player_table}
 use Rattle.er_store.specs.Shape.{pairing_table, bracket_table, tally_table}

@@ -12,15 +12,15 @@ use Rattle.er_store.specs.declared.Store.{Store}
 use Rattle.er_store.specs.Fault.{IsFault}
 use Rattle.er_store.specs.Tables.{player_tree}
 use Rattle.er_store.specs.Layout.{StandsAlone}
-use Rattle.er_store.specs.Standing.{IsStoredIn, Shows}
+use Rattle.er_store.specs.Representing.{IsStoredIn, Shows}
 use Rattle.er_store.specs.Store.{version_in, is_stopped}
 
--- The tables stand for the event in version 1, and alone in the file.
+-- The tables represent the event in version 1, and alone in the file.
 pub record MayMigrate (s : State) (e : EventValue) (serial : ℕ) : Type 0 where
   pub shows : Shows 1 s e serial
   pub alone : StandsAlone s.now.schema
 
--- They stand for it in version 2, totals included, and `player` has no rows.
+-- They represent it in version 2, totals included, and `player` has no rows.
 pub record IsMigrated (s : State) (e : EventValue) (serial : ℕ) : Type 0 where
   pub shows : Shows 2 s e serial
   pub emptied : s.now.trees player_tree ≡ []

@@ -88,6 +88,10 @@ player2 tree = record {
   is_counted = false;
 }
 
+-- the table of players of a version
+abbrev pub players_of : ℕ → ℕ → Table
+players_of version tree = if version == 2 then player2 tree else player tree
+
 abbrev pub pairing : ℕ → Table
 pairing tree = record {
   name = codes "pairing";

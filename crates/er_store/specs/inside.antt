@@ -5,3 +5,4 @@ pub mod Meetings
 pub mod Queries
 pub mod Lookup
 pub mod Moving
+pub mod Making

@@ -2,8 +2,9 @@ ghost use Rattle.std.specs.Prelude.{◌≡◌, ℕ, [], IsErr, OnOk};
 ghost use Rattle.sqlite.specs.State.{HasCleanDisk};
 ghost use Rattle.sqlite.specs.Held.{state};
 ghost use Rattle.er_event.specs.Event.{EventValue};
-ghost use Rattle.er_store.specs.Tables.{player_tree, player, player2, no_schema, event_schema, player_schema, pairing_schema, bracket_schema, tally_schema};
+ghost use Rattle.er_store.specs.Tables.{player_tree, event, player, player2, players_of, pairing, bracket, tally, no_schema, event_schema, player_schema, pairing_schema, bracket_schema, tally_schema};
 ghost use Rattle.er_store.specs.inside.Steps.{Stays, made_players, Creates, CreatesAll};
+ghost use Rattle.er_store.specs.inside.Making.{MakesTable, MakesFive};
 ghost use Rattle.er_store.specs.inside.Moving.{MayMove, IsMoving};
 ghost use Rattle.er_store.specs.Migrated.{IsTaken};
 
@@ -20,6 +21,9 @@ fn create_event<S: Alter>(tx: &mut Transaction<'_, S>) -> Result<(), Error>
         → (state S.Store tx.old.conn.now).now.schema ≡ no_schema
         → OnOk result (Creates no_schema event_schema (state S.Store tx.old.conn.now)
         (state S.Store tx.new.conn.now)) }
+    ensures beside { HasCleanDisk (state S.Store tx.new.conn.now)
+        → OnOk result (MakesTable event (state S.Store tx.old.conn.now)
+        (state S.Store tx.new.conn.now)) }
     ensures stays { Stays (state S.Store tx.old.conn.now) (state S.Store tx.new.conn.now) }
 {
     run(tx, CREATE_EVENT, &[])
@@ -35,6 +39,9 @@ fn create_player<S: Alter>(tx: &mut Transaction<'_, S>) -> Result<(), Error>
         → (state S.Store tx.old.conn.now).now.schema ≡ event_schema
         → OnOk result (Creates event_schema (player_schema (player player_tree))
         (state S.Store tx.old.conn.now) (state S.Store tx.new.conn.now)) }
+    ensures beside { HasCleanDisk (state S.Store tx.new.conn.now)
+        → OnOk result (MakesTable player (state S.Store tx.old.conn.now)
+        (state S.Store tx.new.conn.now)) }
     ensures stays { Stays (state S.Store tx.old.conn.now) (state S.Store tx.new.conn.now) }
 {
     run(tx, CREATE_PLAYER, &[])
@@ -56,6 +63,9 @@ pub fn create_player2<S: Alter>(tx: &mut Transaction<'_, S>) -> Result<(), Error
         e s ((state S.Store tx.old.conn.now).now.trees player_tree)) }
     ensures taken { HasCleanDisk (state S.Store tx.new.conn.now)
         → IsTaken (state S.Store tx.old.conn.now).now → IsErr result }
+    ensures beside { HasCleanDisk (state S.Store tx.new.conn.now)
+        → OnOk result (MakesTable player2 (state S.Store tx.old.conn.now)
+        (state S.Store tx.new.conn.now)) }
     ensures stays { Stays (state S.Store tx.old.conn.now) (state S.Store tx.new.conn.now) }
 {
     run(tx, CREATE_PLAYER2, &[])
@@ -72,6 +82,9 @@ fn create_pairing<S: Alter>(tx: &mut Transaction<'_, S>) -> Result<(), Error>
         → (state S.Store tx.old.conn.now).now.schema ≡ player_schema (made_players version)
         → OnOk result (Creates (player_schema (made_players version))
         (pairing_schema (made_players version)) (state S.Store tx.old.conn.now)
+        (state S.Store tx.new.conn.now)) }
+    ensures beside { HasCleanDisk (state S.Store tx.new.conn.now)
+        → OnOk result (MakesTable pairing (state S.Store tx.old.conn.now)
         (state S.Store tx.new.conn.now)) }
     ensures stays { Stays (state S.Store tx.old.conn.now) (state S.Store tx.new.conn.now) }
 {
@@ -90,6 +103,9 @@ fn create_bracket<S: Alter>(tx: &mut Transaction<'_, S>) -> Result<(), Error>
         → OnOk result (Creates (pairing_schema (made_players version))
         (bracket_schema (made_players version)) (state S.Store tx.old.conn.now)
         (state S.Store tx.new.conn.now)) }
+    ensures beside { HasCleanDisk (state S.Store tx.new.conn.now)
+        → OnOk result (MakesTable bracket (state S.Store tx.old.conn.now)
+        (state S.Store tx.new.conn.now)) }
     ensures stays { Stays (state S.Store tx.old.conn.now) (state S.Store tx.new.conn.now) }
 {
     run(tx, CREATE_BRACKET, &[])
@@ -107,6 +123,9 @@ fn create_tally<S: Alter>(tx: &mut Transaction<'_, S>) -> Result<(), Error>
         → OnOk result (Creates (bracket_schema (made_players version))
         (tally_schema (made_players version)) (state S.Store tx.old.conn.now)
         (state S.Store tx.new.conn.now)) }
+    ensures beside { HasCleanDisk (state S.Store tx.new.conn.now)
+        → OnOk result (MakesTable tally (state S.Store tx.old.conn.now)
+        (state S.Store tx.new.conn.now)) }
     ensures stays { Stays (state S.Store tx.old.conn.now) (state S.Store tx.new.conn.now) }
 {
     run(tx, CREATE_TALLY, &[])
@@ -119,6 +138,9 @@ fn create_players<S: Alter>(tx: &mut Transaction<'_, S>, version: u8) -> Result<
         → (state S.Store tx.old.conn.now).now.schema ≡ event_schema
         → OnOk result (Creates event_schema (player_schema (made_players version))
         (state S.Store tx.old.conn.now) (state S.Store tx.new.conn.now)) }
+    ensures beside { HasCleanDisk (state S.Store tx.new.conn.now)
+        → OnOk result (MakesTable (players_of version) (state S.Store tx.old.conn.now)
+        (state S.Store tx.new.conn.now)) }
     ensures stays { Stays (state S.Store tx.old.conn.now) (state S.Store tx.new.conn.now) }
 {
     if version == 2 {
@@ -134,6 +156,9 @@ pub fn create_all<S: Alter>(tx: &mut Transaction<'_, S>, version: u8) -> Result<
     ensures creates { HasCleanDisk (state S.Store tx.new.conn.now)
         → (state S.Store tx.old.conn.now).now.schema ≡ no_schema
         → OnOk result (CreatesAll (made_players version) (state S.Store tx.old.conn.now)
+        (state S.Store tx.new.conn.now)) }
+    ensures beside { HasCleanDisk (state S.Store tx.new.conn.now)
+        → OnOk result (MakesFive version (state S.Store tx.old.conn.now)
         (state S.Store tx.new.conn.now)) }
     ensures stays { Stays (state S.Store tx.old.conn.now) (state S.Store tx.new.conn.now) }
 {

@@ -1,25 +1,25 @@
-//! Laws of tables that stand for an event. A law is called for its contract alone, which is the law.
+//! Laws of tables that represent an event. A law is called for its contract alone, which is the law.
 
 ghost use Rattle.std.specs.Prelude.{ℕ, ◌≡◌, false, IsTrue};
 ghost use Rattle.sqlite.specs.Effect.{Database, IsDatabase};
 ghost use Rattle.sqlite.specs.Held.{state};
 ghost use Rattle.er_event.specs.Event.{EventValue};
-ghost use Rattle.er_store.specs.Standing.{StandsFor, IsStored, Shows, Leaves};
+ghost use Rattle.er_store.specs.Representing.{Represents, IsStored, Shows, Leaves};
 ghost use Rattle.er_store.specs.Store as tables;
 
 use crate::Store;
 use sqlite::{Alter, Connection};
 
-/// While its tables stand for an event, with nothing pending, each thing that a crash may leave stands for it.
+/// While its tables represent an event, with nothing pending, each thing that a crash may leave represents it.
 pub fn shown_is_stored<S: Alter>(store: &Store<S>)
     ensures { (v : ℕ) (e : EventValue) (s : ℕ) → Shows v (tables.state S.Store store.now) e s
         → Leaves (tables.state S.Store store.now) (IsStored e s) }
 {}
 
-/// What a crash left of an event stands for it again, whatever schema is read of it.
-pub fn stored_stands()
+/// What a crash left of an event represents it again, whatever schema is read of it.
+pub fn stored_represents()
     ensures { (db : Database) (e : EventValue) (s : ℕ) → IsDatabase db → IsStored e s db.trees
-        → StandsFor db e s }
+        → Represents db e s }
 {}
 
 /// Outside a transaction an open connection sees the last commit, and that obeys its schema. Two calls of the connection say so.

@@ -18,7 +18,8 @@ mod transactions;
 
 pub use creation::{CREATE_BRACKET, CREATE_EVENT, CREATE_PAIRING, CREATE_PLAYER};
 use er_event::{Change, Event, Meeting, Refusal, SlipRow, Tally};
-use faults::refusal_of;
+use faults::BAD_ROW;
+pub use faults::refusal_of;
 use laws::sees_last_commit;
 use loading::load_tables;
 use migration::migrate_tables;
@@ -45,6 +46,7 @@ impl<S: Alter> Store<S> {
     ghost use Rattle.sqlite.specs.Held.{state};
     ghost use Rattle.sqlite.specs.Tree.{Trees};
     ghost use Rattle.er_event.specs.declared.commands.TheConstants.{MAX_SERIAL};
+    ghost use Rattle.er_event.specs.declared.refusals.Cause.TheVariants.{BadRow};
     ghost use Rattle.er_event.specs.Event.{EventValue};
     ghost use Rattle.er_event.specs.Sound.{IsSoundButForSeeds};
     ghost use Rattle.er_event.specs.Change.{after, Fits};
@@ -56,7 +58,8 @@ impl<S: Alter> Store<S> {
     ghost use Rattle.er_event.specs.declared.rows.event.TheConstants.{MOST_OLD_ROUNDS};
     ghost use Rattle.er_store.specs.Layout.{StandsAlone};
     ghost use Rattle.er_store.specs.Migrated.{MayMigrate, IsMigrated, IsStoredWhole, IsTaken, MigratesStore, turn_of};
-    ghost use Rattle.er_store.specs.Standing.{HasTables, AreKeyed, StandsFor, StandsIn, IsNew, IsStored, IsStoredIn, Shows, Leaves, Either, KeepsOthers, CanRead, ReadsEvent};
+    ghost use Rattle.er_store.specs.Representing.{HasTables, AreKeyed, Represents, RepresentsIn, IsNew, IsStored, IsStoredIn, Shows, Leaves, Either, KeepsOthers, CanRead, ReadsEvent};
+    ghost use Rattle.er_store.specs.Beside.{ShowsBeside, IsStoredBeside};
     ghost use Rattle.er_store.specs.Store as store;
     ghost use Rattle.er_store.specs.Store.{connection, is_stopped, version_in};
     ghost use Rattle.er_store.specs.Fault.{IsFault, IsReadFault, IsLoadFault, FaultOrDamage};
@@ -88,6 +91,9 @@ impl<S: Alter> Store<S> {
         ensures acknowledged { IfOk result (λ made. HasCleanDisk (store.state S.Store made)
             → (state S.Store conn).now.schema ≡ no_schema → (trees : Trees)
             → (store.state S.Store made).may_leave trees → IsStoredIn version event.now 0 trees) }
+        // Whatever stood in the file stands as it was, and the five tables are there beside it, after a crash too.
+        ensures beside { IfOk result (λ made. HasCleanDisk (store.state S.Store made)
+            → ShowsBeside version event.now (state S.Store conn).now (store.state S.Store made)) }
         ensures absent { IfOk result (λ made. HasCleanDisk (store.state S.Store made)
             → (CanRead (state S.Store conn).now.schema → ⊥)
             × ((version : ℕ) → HasTables version (state S.Store conn).now.schema → ⊥)) }
@@ -111,6 +117,9 @@ impl<S: Alter> Store<S> {
         ensures crash { IfErr result (λ e. (state S.Store conn).now.schema ≡ no_schema
             → Leaves (state S.Store e.0)
             (Either (state S.Store conn).may_leave (IsStoredIn version event.now 0))) }
+        ensures beside_crash { IfErr result (λ e. Leaves (state S.Store e.0)
+            (Either (state S.Store conn).may_leave
+            (IsStoredBeside version event.now (state S.Store conn).now))) }
     {
         match has_event(&mut conn) {
             Ok(true) => return Err((conn, Refusal::EventExists)),
@@ -140,6 +149,9 @@ impl<S: Alter> Store<S> {
         ensures acknowledged { IfOk result (λ made. HasCleanDisk (store.state S.Store made)
             → (state S.Store conn).now.schema ≡ no_schema → (trees : Trees)
             → (store.state S.Store made).may_leave trees → IsStoredIn 2 event.now 0 trees) }
+        // Whatever stood in the file stands as it was, and the five tables are there beside it, after a crash too.
+        ensures beside { IfOk result (λ made. HasCleanDisk (store.state S.Store made)
+            → ShowsBeside 2 event.now (state S.Store conn).now (store.state S.Store made)) }
         ensures absent { IfOk result (λ made. HasCleanDisk (store.state S.Store made)
             → (CanRead (state S.Store conn).now.schema → ⊥)
             × ((version : ℕ) → HasTables version (state S.Store conn).now.schema → ⊥)) }
@@ -163,6 +175,9 @@ impl<S: Alter> Store<S> {
         ensures crash { IfErr result (λ e. (state S.Store conn).now.schema ≡ no_schema
             → Leaves (state S.Store e.0)
             (Either (state S.Store conn).may_leave (IsStoredIn 2 event.now 0))) }
+        ensures beside_crash { IfErr result (λ e. Leaves (state S.Store e.0)
+            (Either (state S.Store conn).may_leave
+            (IsStoredBeside 2 event.now (state S.Store conn).now))) }
     {
         Store::create_in(conn, 2, event)
     }
@@ -187,6 +202,9 @@ impl<S: Alter> Store<S> {
         ensures acknowledged { IfOk result (λ made. HasCleanDisk (store.state S.Store made)
             → (state S.Store conn).now.schema ≡ no_schema → (trees : Trees)
             → (store.state S.Store made).may_leave trees → IsStoredIn 1 event.now 0 trees) }
+        // Whatever stood in the file stands as it was, and the five tables are there beside it, after a crash too.
+        ensures beside { IfOk result (λ made. HasCleanDisk (store.state S.Store made)
+            → ShowsBeside 1 event.now (state S.Store conn).now (store.state S.Store made)) }
         ensures absent { IfOk result (λ made. HasCleanDisk (store.state S.Store made)
             → (CanRead (state S.Store conn).now.schema → ⊥)
             × ((version : ℕ) → HasTables version (state S.Store conn).now.schema → ⊥)) }
@@ -210,6 +228,9 @@ impl<S: Alter> Store<S> {
         ensures crash { IfErr result (λ e. (state S.Store conn).now.schema ≡ no_schema
             → Leaves (state S.Store e.0)
             (Either (state S.Store conn).may_leave (IsStoredIn 1 event.now 0))) }
+        ensures beside_crash { IfErr result (λ e. Leaves (state S.Store e.0)
+            (Either (state S.Store conn).may_leave
+            (IsStoredBeside 1 event.now (state S.Store conn).now))) }
     {
         Store::create_in(conn, 1, event)
     }
@@ -228,18 +249,18 @@ impl<S: Alter> Store<S> {
             → HasCleanDisk (state S.Store conn)) (λ r. HasCleanDisk (state S.Store r.0)
             → HasCleanDisk (state S.Store conn)) }
 
-        // Where the tables stand for a sound event, it is found, and so is their version, or memory or the store fails.
-        ensures found { (e : EventValue) (s : ℕ) → StandsFor (state S.Store conn).now e s
+        // Where the tables represent a sound event, it is found, and so is their version, or memory or the store fails.
+        ensures found { (e : EventValue) (s : ℕ) → Represents (state S.Store conn).now e s
             → IsSoundButForSeeds e
             → MatchResult result (λ it. HasCleanDisk (store.state S.Store it.0) → (it.1 ≡ e)
             × (it.2 ≡ s)
             × Shows (version_in it.0) (store.state S.Store it.0) e s)
             (λ r. HasCleanDisk (state S.Store r.0) → IsFault r.1) }
         ensures version { IfOk result (λ it. HasCleanDisk (store.state S.Store it.0)
-            → (e : EventValue) (s : ℕ) (v : ℕ) → StandsIn v (state S.Store conn).now e s
+            → (e : EventValue) (s : ℕ) (v : ℕ) → RepresentsIn v (state S.Store conn).now e s
             → IsSoundButForSeeds e → version_in it.0 ≡ v) }
         ensures leaves { IfOk result (λ it. HasCleanDisk (store.state S.Store it.0)
-            → (e : EventValue) (s : ℕ) → StandsFor (state S.Store conn).now e s
+            → (e : EventValue) (s : ℕ) → Represents (state S.Store conn).now e s
             → IsSoundButForSeeds e → (trees : Trees)
             → (store.state S.Store it.0).may_leave trees → IsStored e s trees) }
 
@@ -251,8 +272,8 @@ impl<S: Alter> Store<S> {
             → ReadsParts (state S.Store conn).now (parts_of (version_in it.0) it.1 it.2)
             × ReadsTallies (state S.Store conn).now (tally_rows it.1)) }
 
-        // Where the tables are ours, they stand for what is found, and a change can be written to them.
-        ensures stands { IfOk result (λ it. HasCleanDisk (store.state S.Store it.0)
+        // Where the tables are ours, they represent what is found, and a change can be written to them.
+        ensures represents { IfOk result (λ it. HasCleanDisk (store.state S.Store it.0)
             → HasTables (version_in it.0) (state S.Store conn).now.schema
             → AreKeyed (state S.Store conn).now
             → Shows (version_in it.0) (store.state S.Store it.0) it.1 it.2) }
@@ -364,12 +385,12 @@ impl<S: Alter> Store<S> {
             → HasCleanDisk (store.state S.Store self.old) }
         ensures low { IfOk result (λ it. it.1 ≤ MAX_SERIAL) }
 
-        // Where the tables stand for a sound event, it is found, or memory or the store fails.
+        // Where the tables represent a sound event, it is found, or memory or the store fails.
         ensures found { IsFalse (is_stopped self.old) → HasCleanDisk (store.state S.Store self.new)
-            → (e : EventValue) (s : ℕ) → StandsFor (store.state S.Store self.old).now e s
+            → (e : EventValue) (s : ℕ) → Represents (store.state S.Store self.old).now e s
             → IsSoundButForSeeds e → MatchResult result (λ it. (it.0 ≡ e) × (it.1 ≡ s)) IsFault }
 
-        // Whatever the tables hold, what is found is what they show, in the version that the event's row has. Where they are ours, they stand for it.
+        // Whatever the tables hold, what is found is what they show, in the version that the event's row has. Where they are ours, they represent it.
         ensures reads { HasCleanDisk (store.state S.Store self.new)
             → IfOk result (λ it. (version : ℕ) × IsVersion version
             × FindsEvent version (store.state S.Store self.old) (store.state S.Store self.new) it.0
@@ -413,14 +434,14 @@ impl<S: Alter> Store<S> {
         ensures clean { HasCleanDisk (store.state S.Store self.new)
             → HasCleanDisk (store.state S.Store self.old) }
 
-        // Where the tables stand for a sound event, its slip is found, or there is no such match, or memory or the store fails.
+        // Where the tables represent a sound event, its slip is found, or there is no such match, or memory or the store fails.
         ensures found { HasCleanDisk (store.state S.Store self.new) → (e : EventValue) (s : ℕ)
-            → StandsIn (version_in self.old) (store.state S.Store self.old).now e s
+            → RepresentsIn (version_in self.old) (store.state S.Store self.old).now e s
             → IsSoundButForSeeds e
             → FindsSlip e round table result }
         ensures good { IsFalse (is_stopped self.old) → HasCleanDisk (store.state S.Store self.new)
             → (e : EventValue) (s : ℕ)
-            → StandsIn (version_in self.old) (store.state S.Store self.old).now e s
+            → RepresentsIn (version_in self.old) (store.state S.Store self.old).now e s
             → IsSoundButForSeeds e
             → IfErr result (λ why. (why ≡ Refusal.NoSuchMatch) ⊎ IsFault why) }
 
@@ -457,10 +478,10 @@ impl<S: Alter> Store<S> {
         ensures clean { HasCleanDisk (store.state S.Store self.new)
             → HasCleanDisk (store.state S.Store self.old) }
 
-        // Where the tables stand for a sound event, they are its tallies, or memory or the store fails.
+        // Where the tables represent a sound event, they are its tallies, or memory or the store fails.
         ensures found { IsFalse (is_stopped self.old) → HasCleanDisk (store.state S.Store self.new)
             → (e : EventValue) (s : ℕ)
-            → StandsIn (version_in self.old) (store.state S.Store self.old).now e s
+            → RepresentsIn (version_in self.old) (store.state S.Store self.old).now e s
             → IsSoundButForSeeds e → MatchResult result (λ list. list.items ≡ tallies e) IsFault }
 
         ensures version { version_in self.new ≡ version_in self.old }
@@ -493,9 +514,9 @@ impl<S: Alter> Store<S> {
         ensures clean { HasCleanDisk (store.state S.Store self.new)
             → HasCleanDisk (store.state S.Store self.old) }
 
-        // Where the tables stand for a sound event, they are its meetings, or memory or the store fails.
+        // Where the tables represent a sound event, they are its meetings, or memory or the store fails.
         ensures found { IsFalse (is_stopped self.old) → HasCleanDisk (store.state S.Store self.new)
-            → (e : EventValue) (s : ℕ) → StandsFor (store.state S.Store self.old).now e s
+            → (e : EventValue) (s : ℕ) → Represents (store.state S.Store self.old).now e s
             → IsSoundButForSeeds e → MatchResult result (λ list. list.items ≡ meetings e) IsFault }
 
         ensures version { version_in self.new ≡ version_in self.old }
@@ -538,7 +559,7 @@ impl<S: Alter> Store<S> {
             → IsErr result × (Shows 1 (store.state S.Store self.old) event.now serial
             → Leaves (store.state S.Store self.new) (IsStoredIn 1 event.now serial)) }
 
-        // Of tables that stand for the event in version 1, and alone: they then stand for it in version 2, totals included, and `player` has no rows.
+        // Of tables that represent the event in version 1, and alone: they then represent it in version 2, totals included, and `player` has no rows.
         ensures migrated { HasCleanDisk (store.state S.Store self.new) → version_in self.old ≡ 1
             → MayMigrate (store.state S.Store self.old) event.now serial
             → OnOk result (IsMigrated (store.state S.Store self.new) event.now serial) }
@@ -585,13 +606,24 @@ impl<S: Alter> Store<S> {
         self.needs_reopen
     }
 
-    /// Ends it as a fault does, where its rows say what no event's do.
-    pub fn stop(&mut self)
+    /// Ends it as a fault does.
+    fn stop(&mut self)
         ensures stopped { IsTrue (is_stopped self.new) }
         ensures same { connection self.new ≡ connection self.old }
         ensures version { version_in self.new ≡ version_in self.old }
     {
         self.needs_reopen = true;
+    }
+
+    /// Refuses rows that were read and are of no event, and ends the store.
+    pub fn refuse_rows(&mut self) -> Refusal
+        ensures refusal { result ≡ Refusal.Store BadRow }
+        ensures stopped { IsTrue (is_stopped self.new) }
+        ensures same { connection self.new ≡ connection self.old }
+        ensures version { version_in self.new ≡ version_in self.old }
+    {
+        self.stop();
+        BAD_ROW
     }
 
     /// Gives the connection back as it is.

@@ -9,7 +9,7 @@ ghost use Rattle.er_event.specs.Rows.{event_row, tally_rows};
 ghost use Rattle.er_event.specs.Parts.{IsFirstFault, parts_of};
 ghost use Rattle.er_event.specs.Version.{IsVersion};
 ghost use Rattle.er_store.specs.Layout.{Layout, version_of};
-ghost use Rattle.er_store.specs.Standing.{HasTables, StandsAt};
+ghost use Rattle.er_store.specs.Representing.{HasTables, RepresentsAt};
 ghost use Rattle.er_store.specs.Loading.{HoldsEvent};
 ghost use Rattle.er_store.specs.Damage.{says_second, said_version, ReadsParts, ReadsTallies, IsRowFault, IsAtFault, IfDamaged};
 ghost use Rattle.er_store.specs.Fault.{IsFault, IsLoadFault};
@@ -158,7 +158,7 @@ pub fn load_tables<S: Alter>(
         → IfOk result (λ it. HasTables it.2 (state S.Store conn.old).now.schema
         → HoldsEvent it.2 (state S.Store conn.old).now it.0 it.1) }
     ensures found { HasCleanDisk (state S.Store conn.new)
-        → (l : Layout) (e : EventValue) (s : ℕ) → StandsAt l (state S.Store conn.old).now e s
+        → (l : Layout) (e : EventValue) (s : ℕ) → RepresentsAt l (state S.Store conn.old).now e s
         → IsSoundButForSeeds e
         → MatchResult result (λ it. (it.0 ≡ e) × (it.1 ≡ s) × (it.2 ≡ version_of l)) IsFault }
     ensures fault { IfErr result IsLoadFault }

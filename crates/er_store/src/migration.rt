@@ -9,7 +9,7 @@ ghost use Rattle.er_event.specs.declared.players.Player.{Player};
 ghost use Rattle.er_event.specs.Event.{EventValue};
 ghost use Rattle.er_store.specs.Migrated.{MayMigrate, IsMigrated, IsStoredWhole, IsTaken};
 ghost use Rattle.er_store.specs.Reading.{KeepsTables};
-ghost use Rattle.er_store.specs.Standing.{Leaves, IsStoredIn, Shows};
+ghost use Rattle.er_store.specs.Representing.{Leaves, IsStoredIn, Shows};
 ghost use Rattle.er_store.specs.inside.Moving.{HaveNumbers, IsMoving, IsMoved, MayMove};
 ghost use Rattle.er_store.specs.inside.Steps.{Stays};
 

@@ -6,7 +6,7 @@ ghost use Rattle.er_event.specs.Sound.{IsSoundButForSeeds};
 ghost use Rattle.er_event.specs.declared.refusals.Place.{Place};
 ghost use Rattle.er_event.specs.declared.refusals.Refusal.{Refusal};
 ghost use Rattle.er_store.specs.Layout.{Layout, version_of};
-ghost use Rattle.er_store.specs.Standing.{StandsFor, StandsAt, StandsIn};
+ghost use Rattle.er_store.specs.Representing.{Represents, RepresentsAt, RepresentsIn};
 ghost use Rattle.er_store.specs.Tables.{slip_text};
 ghost use Rattle.er_store.specs.Damage.{IsMisreadAs};
 ghost use Rattle.er_store.specs.Fault.{reading_refusal, IsLoadFault};
@@ -38,7 +38,7 @@ pub fn read_table<T: TableRow, S: Alter>(
         → IsMisreadAs T.form (T.table.read version) (state S.Store conn.old).now) }
     ensures refused { HasCleanDisk (state S.Store conn.new) → (l : Layout)
         → T.table.read (version_of l) ≡ T.table.read version → (e : EventValue) (s : ℕ)
-        → StandsAt l (state S.Store conn.old).now e s → IsSoundButForSeeds e
+        → RepresentsAt l (state S.Store conn.old).now e s → IsSoundButForSeeds e
         → IfErr result (λ why. (why ≡ out_of_memory)
         ⊎ IsReadRefused (state S.Store conn.old) (state S.Store conn.new) why) }
     ensures same { HasCleanDisk (state S.Store conn.new)
@@ -62,10 +62,10 @@ pub fn read_meetings<S: Alter>(
     ensures clean { HasCleanDisk (state S.Store conn.new) → HasCleanDisk (state S.Store conn.old) }
     ensures mode { conn.old.in_transaction ≡ false → conn.new.in_transaction ≡ false }
     ensures exact { HasCleanDisk (state S.Store conn.new) → (e : EventValue) (s : ℕ)
-        → StandsFor (state S.Store conn.old).now e s → IsSoundButForSeeds e
+        → Represents (state S.Store conn.old).now e s → IsSoundButForSeeds e
         → IfOk result (λ rows. rows.items ≡ meeting_rows e) }
     ensures refused { HasCleanDisk (state S.Store conn.new) → (e : EventValue) (s : ℕ)
-        → StandsFor (state S.Store conn.old).now e s → IsSoundButForSeeds e
+        → Represents (state S.Store conn.old).now e s → IsSoundButForSeeds e
         → IfErr result (λ why. (why ≡ out_of_memory)
         ⊎ IsReadRefused (state S.Store conn.old) (state S.Store conn.new) why) }
     ensures same { HasCleanDisk (state S.Store conn.new)
@@ -106,10 +106,10 @@ pub fn read_slip<S: Alter>(
     ensures clean { HasCleanDisk (state S.Store conn.new) → HasCleanDisk (state S.Store conn.old) }
     ensures mode { conn.old.in_transaction ≡ false → conn.new.in_transaction ≡ false }
     ensures exact { HasCleanDisk (state S.Store conn.new) → (e : EventValue) (s : ℕ)
-        → StandsIn version (state S.Store conn.old).now e s → IsSoundButForSeeds e
+        → RepresentsIn version (state S.Store conn.old).now e s → IsSoundButForSeeds e
         → IfOk result (λ rows. rows.items ≡ named_pairings e round table) }
     ensures refused { HasCleanDisk (state S.Store conn.new) → (e : EventValue) (s : ℕ)
-        → StandsIn version (state S.Store conn.old).now e s → IsSoundButForSeeds e
+        → RepresentsIn version (state S.Store conn.old).now e s → IsSoundButForSeeds e
         → IfErr result (λ why. (why ≡ out_of_memory)
         ⊎ IsReadRefused (state S.Store conn.old) (state S.Store conn.new) why) }
     ensures same { HasCleanDisk (state S.Store conn.new)

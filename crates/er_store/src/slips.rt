@@ -8,7 +8,7 @@ ghost use Rattle.er_event.specs.Sound.{IsSoundButForSeeds};
 ghost use Rattle.er_store.specs.Fault.{IsFault, IsReadFault};
 ghost use Rattle.er_store.specs.Reading.{KeepsTables};
 ghost use Rattle.er_store.specs.Slip.{Side, number_in, name_in, named_pairing, IsPlayer, IsLawful};
-ghost use Rattle.er_store.specs.Standing.{StandsIn};
+ghost use Rattle.er_store.specs.Representing.{RepresentsIn};
 
 use crate::faults::{BAD_ROW, refusal_of};
 use crate::reading::read_slip;
@@ -69,7 +69,7 @@ pub fn find_slip<S: Alter>(
     ensures clean { HasCleanDisk (state S.Store conn.new) → HasCleanDisk (state S.Store conn.old) }
     ensures mode { conn.old.in_transaction ≡ false → conn.new.in_transaction ≡ false }
     ensures found { HasCleanDisk (state S.Store conn.new) → (e : EventValue) (s : ℕ)
-        → StandsIn version (state S.Store conn.old).now e s → IsSoundButForSeeds e
+        → RepresentsIn version (state S.Store conn.old).now e s → IsSoundButForSeeds e
         → MatchResult result (λ row. slip_of e round table ≡ Some row) (λ why. IsFault why
         ⊎ ((why ≡ Refusal.NoSuchMatch) × (slip_of e round table ≡ None))) }
     ensures allowed { IfOk result (λ slip. (slip.round ≡ round) × (slip.table ≡ table)

@@ -15,10 +15,11 @@ ghost use Rattle.er_event.specs.Rows.{phase_code, pairing_row, bracket_row, tall
 ghost use Rattle.er_store.specs.inside.Totals.{set_for};
 ghost use Rattle.er_event.specs.declared.totals.Totals.{Totals};
 ghost use Rattle.er_event.specs.declared.matches.Match.{Match};
-ghost use Rattle.er_store.specs.Tables.{event_tree, player_tree};
-ghost use Rattle.er_store.specs.Standing.{HasTablesAt, StandsWith};
+ghost use Rattle.er_store.specs.Tables as ours;
+ghost use Rattle.er_store.specs.Representing.{HasTablesAt, RepresentsWith};
 ghost use Rattle.er_store.specs.Layout.{Layout, Old, version_of, players_tree};
 ghost use Rattle.er_store.specs.inside.Steps.{Ran, Stays, Puts, BringsToWith};
+ghost use Rattle.er_store.specs.inside.Making.{IsFound};
 
 use er_event::{BracketRow, Event, Games, PairingRow, Phase, Score, TallyRow};
 use sqlite::types::ValueRef;
@@ -50,9 +51,9 @@ pub fn insert_player<S: Alter>(
     dropped: bool,
 ) -> Result<(), Error>
     ensures same_reference { tx.new.conn.ghost_name ≡ tx.old.conn.ghost_name }
-    ensures puts { HasCleanDisk (state S.Store tx.new.conn.now)
-        → HasTablesAt Old (state S.Store tx.old.conn.now).now.schema
-        → OnOk result (Puts player_tree (stored_player number name.now dropped)
+    ensures puts { HasCleanDisk (state S.Store tx.new.conn.now) → (at tree : ℕ)
+        → IsFound (state S.Store tx.old.conn.now).now.schema at (ours.player tree)
+        → OnOk result (Puts tree (stored_player number name.now dropped)
         (state S.Store tx.old.conn.now) (state S.Store tx.new.conn.now)) }
     ensures stays { Stays (state S.Store tx.old.conn.now) (state S.Store tx.new.conn.now) }
 {
@@ -91,9 +92,9 @@ pub fn insert_event<S: Alter>(
     serial: u32,
 ) -> Result<(), Error>
     ensures same_reference { tx.new.conn.ghost_name ≡ tx.old.conn.ghost_name }
-    ensures puts { HasCleanDisk (state S.Store tx.new.conn.now)
-        → (l : Layout) → HasTablesAt l (state S.Store tx.old.conn.now).now.schema
-        → OnOk result (Puts event_tree (stored_event version event.now serial)
+    ensures puts { HasCleanDisk (state S.Store tx.new.conn.now) → (at tree : ℕ)
+        → IsFound (state S.Store tx.old.conn.now).now.schema at (ours.event tree)
+        → OnOk result (Puts tree (stored_event version event.now serial)
         (state S.Store tx.old.conn.now) (state S.Store tx.new.conn.now)) }
     ensures inside { HasCleanDisk (state S.Store tx.new.conn.now)
         → OnOk result (IsTrue (state S.Store tx.new.conn.now).in_transaction) }
@@ -118,7 +119,7 @@ pub fn set_serial<S: Alter>(tx: &mut Transaction<'_, S>, serial: u32) -> Result<
     ensures same_reference { tx.new.conn.ghost_name ≡ tx.old.conn.ghost_name }
     ensures makes { HasCleanDisk (state S.Store tx.new.conn.now)
         → (l : Layout) (e : EventValue) (s : ℕ) (t : List TallyRow)
-        → StandsWith l (state S.Store tx.old.conn.now).now e s t
+        → RepresentsWith l (state S.Store tx.old.conn.now).now e s t
         → OnOk result (BringsToWith l (state S.Store tx.old.conn.now)
         (state S.Store tx.new.conn.now) e serial t) }
     ensures inside { HasCleanDisk (state S.Store tx.new.conn.now)
@@ -135,7 +136,7 @@ pub fn set_phase<S: Alter>(tx: &mut Transaction<'_, S>, phase: Phase) -> Result<
     ensures same_reference { tx.new.conn.ghost_name ≡ tx.old.conn.ghost_name }
     ensures makes { HasCleanDisk (state S.Store tx.new.conn.now)
         → (l : Layout) (e : EventValue) (s : ℕ) (t : List TallyRow)
-        → StandsWith l (state S.Store tx.old.conn.now).now e s t
+        → RepresentsWith l (state S.Store tx.old.conn.now).now e s t
         → OnOk result (BringsToWith l (state S.Store tx.old.conn.now)
         (state S.Store tx.new.conn.now) (with_phase e phase) s t) }
     ensures stays { Stays (state S.Store tx.old.conn.now) (state S.Store tx.new.conn.now) }
@@ -150,7 +151,7 @@ pub fn set_dropped<S: Alter>(tx: &mut Transaction<'_, S>, number: u32) -> Result
     ensures same_reference { tx.new.conn.ghost_name ≡ tx.old.conn.ghost_name }
     ensures makes { HasCleanDisk (state S.Store tx.new.conn.now)
         → (e : EventValue) (s : ℕ) (t : List TallyRow)
-        → StandsWith Old (state S.Store tx.old.conn.now).now e s t
+        → RepresentsWith Old (state S.Store tx.old.conn.now).now e s t
         → numbers e.players ≡ range_with_len 1 (length e.players)
         → Contains (numbers e.players) number
         → OnOk result (BringsToWith Old (state S.Store tx.old.conn.now)
@@ -167,7 +168,7 @@ pub fn set_dropped2<S: Alter>(tx: &mut Transaction<'_, S>, number: u32) -> Resul
     ensures same_reference { tx.new.conn.ghost_name ≡ tx.old.conn.ghost_name }
     ensures makes { HasCleanDisk (state S.Store tx.new.conn.now)
         → (l : Layout) → version_of l ≡ 2 → (e : EventValue) (s : ℕ) (t : List TallyRow)
-        → StandsWith l (state S.Store tx.old.conn.now).now e s t
+        → RepresentsWith l (state S.Store tx.old.conn.now).now e s t
         → numbers e.players ≡ range_with_len 1 (length e.players)
         → Contains (numbers e.players) number
         → OnOk result (BringsToWith l (state S.Store tx.old.conn.now)
@@ -190,7 +191,7 @@ pub fn set_score<S: Alter>(
     ensures same_reference { tx.new.conn.ghost_name ≡ tx.old.conn.ghost_name }
     ensures makes { HasCleanDisk (state S.Store tx.new.conn.now)
         → (l : Layout) (e : EventValue) (s : ℕ) (t : List TallyRow)
-        → StandsWith l (state S.Store tx.old.conn.now).now e s t → (m : Match)
+        → RepresentsWith l (state S.Store tx.old.conn.now).now e s t → (m : Match)
         → match_at e round table ≡ Some m → IsFalse (is_bye m)
         → OnOk result (BringsToWith l (state S.Store tx.old.conn.now)
         (state S.Store tx.new.conn.now) (with_score e round table score) s t) }
@@ -213,7 +214,7 @@ pub fn insert_pairing<S: Alter>(tx: &mut Transaction<'_, S>, row: &PairingRow) -
     ensures makes { HasCleanDisk (state S.Store tx.new.conn.now)
         → (l : Layout) (e : EventValue) (before : List Match) (m : Match) (s : ℕ)
         (t : List TallyRow)
-        → StandsWith l (state S.Store tx.old.conn.now).now (with_round e before) s t
+        → RepresentsWith l (state S.Store tx.old.conn.now).now (with_round e before) s t
         → row.now ≡ pairing_row (length e.stored + 1) (length before + 1, m)
         → OnOk result (BringsToWith l (state S.Store tx.old.conn.now)
         (state S.Store tx.new.conn.now) (with_round e (before ++ m ∷ [])) s t) }
@@ -245,7 +246,7 @@ pub fn insert_slot<S: Alter>(tx: &mut Transaction<'_, S>, row: &BracketRow) -> R
     ensures makes { HasCleanDisk (state S.Store tx.new.conn.now)
         → (l : Layout) (e : EventValue) (before : List Match) (m : Match) (s : ℕ)
         (t : List TallyRow)
-        → StandsWith l (state S.Store tx.old.conn.now).now (with_stage e before) s t
+        → RepresentsWith l (state S.Store tx.old.conn.now).now (with_stage e before) s t
         → row.now ≡ bracket_row (length e.bracket.stages + 1) (length before + 1, m)
         → OnOk result (BringsToWith l (state S.Store tx.old.conn.now)
         (state S.Store tx.new.conn.now) (with_stage e (before ++ m ∷ [])) s t) }
@@ -273,7 +274,7 @@ pub fn set_slot_score<S: Alter>(
     ensures same_reference { tx.new.conn.ghost_name ≡ tx.old.conn.ghost_name }
     ensures makes { HasCleanDisk (state S.Store tx.new.conn.now)
         → (l : Layout) (e : EventValue) (s : ℕ) (t : List TallyRow)
-        → StandsWith l (state S.Store tx.old.conn.now).now e s t → (m : Match)
+        → RepresentsWith l (state S.Store tx.old.conn.now).now e s t → (m : Match)
         → slot_at e stage slot ≡ Some m
         → OnOk result (BringsToWith l (state S.Store tx.old.conn.now)
         (state S.Store tx.new.conn.now) (with_slot_score e stage slot score) s t) }
@@ -295,7 +296,7 @@ pub fn insert_tally<S: Alter>(tx: &mut Transaction<'_, S>, row: &TallyRow) -> Re
     ensures same_reference { tx.new.conn.ghost_name ≡ tx.old.conn.ghost_name }
     ensures makes { HasCleanDisk (state S.Store tx.new.conn.now)
         → (l : Layout) (e : EventValue) (s : ℕ) (t : List TallyRow)
-        → StandsWith l (state S.Store tx.old.conn.now).now e s t
+        → RepresentsWith l (state S.Store tx.old.conn.now).now e s t
         → OnOk result (BringsToWith l (state S.Store tx.old.conn.now)
         (state S.Store tx.new.conn.now) e s (t ++ row.now ∷ [])) }
     ensures stays { Stays (state S.Store tx.old.conn.now) (state S.Store tx.new.conn.now) }
@@ -322,7 +323,7 @@ pub fn set_tally<S: Alter>(tx: &mut Transaction<'_, S>, row: &TallyRow) -> Resul
     ensures makes { HasCleanDisk (state S.Store tx.new.conn.now)
         → (l : Layout) (e : EventValue) (s : ℕ) (come_to : ℕ → Totals) (number : ℕ)
         (totals : Totals)
-        → StandsWith l (state S.Store tx.old.conn.now).now e s (tally_rows_by come_to e.players)
+        → RepresentsWith l (state S.Store tx.old.conn.now).now e s (tally_rows_by come_to e.players)
         → row.now ≡ tally_row number totals
         → numbers e.players ≡ range_with_len 1 (length e.players)
         → Contains (numbers e.players) number

@@ -13,26 +13,14 @@ ghost use Rattle.er_event.specs.Totals.{totals};
 ghost use Rattle.er_store.specs.Fault.{IsFault, IsReadFault, IsListFault};
 ghost use Rattle.er_store.specs.inside.Meetings.{meeting_rows, open_round, is_outside, counted_rows, sides_in, sides_of};
 ghost use Rattle.er_store.specs.Reading.{KeepsTables};
-ghost use Rattle.er_store.specs.Standing.{StandsFor, StandsIn};
+ghost use Rattle.er_store.specs.Representing.{Represents, RepresentsIn};
 
 use crate::faults::{BAD_ROW, refusal_of};
 use crate::reading::{read_meetings, read_table};
 use crate::rows::MeetingRow;
-use er_event::{Meeting, PlayerRow, Refusal, Tally, TallyRow, read_tally};
+use er_event::{Meeting, PlayerRow, Refusal, Tally, TallyRow, read_flag, read_tally};
 use sqlite::{Alter, Connection};
 use std::alloc::{AllocError, Global};
-
-/// What a flag in a row says.
-fn read_flag(number: i64) -> Option<bool>
-    ensures value { IfSome result (λ set. number ≡ flag set) }
-    ensures exact { (set : Bool) → number ≡ flag set → result ≡ Some set }
-{
-    match number {
-        0 => Some(false),
-        1 => Some(true),
-        _ => None,
-    }
-}
 
 /// The tally of a player, by the rows of the player and of the totals.
 fn tally_of(player: &PlayerRow, row: &TallyRow) -> Option<Tally>
@@ -144,7 +132,7 @@ pub fn find_tallies<S: Alter>(
     ensures clean { HasCleanDisk (state S.Store conn.new) → HasCleanDisk (state S.Store conn.old) }
     ensures mode { conn.old.in_transaction ≡ false → conn.new.in_transaction ≡ false }
     ensures found { HasCleanDisk (state S.Store conn.new) → (e : EventValue) (s : ℕ)
-        → StandsIn version (state S.Store conn.old).now e s → IsSoundButForSeeds e
+        → RepresentsIn version (state S.Store conn.old).now e s → IsSoundButForSeeds e
         → MatchResult result (λ list. list.items ≡ tallies e) IsFault }
     ensures fault { IfErr result IsReadFault }
     ensures same { HasCleanDisk (state S.Store conn.new)
@@ -172,7 +160,7 @@ pub fn find_meetings<S: Alter>(
     ensures clean { HasCleanDisk (state S.Store conn.new) → HasCleanDisk (state S.Store conn.old) }
     ensures mode { conn.old.in_transaction ≡ false → conn.new.in_transaction ≡ false }
     ensures found { HasCleanDisk (state S.Store conn.new) → (e : EventValue) (s : ℕ)
-        → StandsFor (state S.Store conn.old).now e s → IsSoundButForSeeds e
+        → Represents (state S.Store conn.old).now e s → IsSoundButForSeeds e
         → MatchResult result (λ list. list.items ≡ meetings e) IsFault }
     ensures fault { IfErr result IsReadFault }
     ensures same { HasCleanDisk (state S.Store conn.new)

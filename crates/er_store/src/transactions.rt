@@ -21,7 +21,9 @@ ghost use Rattle.er_event.specs.declared.matches.Match.{Match};
 ghost use Rattle.er_store.specs.inside.Steps.{IsStage};
 ghost use Rattle.er_store.specs.Tables.{no_schema, tally_schema};
 ghost use Rattle.er_store.specs.Layout.{Layout, version_of};
-ghost use Rattle.er_store.specs.Standing.{StandsAt, StandsWith, IsStored, IsStoredIn, IsNew, Shows, Leaves, Either, KeepsOthers, CanRead, ReadsEvent};
+ghost use Rattle.er_store.specs.Representing.{RepresentsAt, RepresentsWith, IsStored, IsStoredIn, IsNew, Shows, Leaves, Either, KeepsOthers, CanRead, ReadsEvent};
+ghost use Rattle.er_store.specs.Beside.{ShowsBeside, IsStoredBeside};
+ghost use Rattle.er_store.specs.inside.Making.{IsReadyBeside};
 ghost use Rattle.er_store.specs.inside.Steps.{Stays, made_players, Moves, BringsTo, BringsToWith, IsReady};
 ghost use Rattle.er_store.specs.Reading.{KeepsTables};
 
@@ -48,7 +50,7 @@ fn insert_round<S: Alter>(
     ensures same_reference { tx.new.conn.ghost_name ≡ tx.old.conn.ghost_name }
     ensures makes { HasCleanDisk (state S.Store tx.new.conn.now)
         → (l : Layout) (s : ℕ) (t : List TallyRow)
-        → StandsWith l (state S.Store tx.old.conn.now).now event.now s t
+        → RepresentsWith l (state S.Store tx.old.conn.now).now event.now s t
         → OnOk result (BringsToWith l (state S.Store tx.old.conn.now)
         (state S.Store tx.new.conn.now) (with_round event.now matches.now) s t) }
     ensures stays { Stays (state S.Store tx.old.conn.now) (state S.Store tx.new.conn.now) }
@@ -71,7 +73,7 @@ fn insert_stage<S: Alter>(
     ensures same_reference { tx.new.conn.ghost_name ≡ tx.old.conn.ghost_name }
     ensures makes { HasCleanDisk (state S.Store tx.new.conn.now)
         → (l : Layout) (e : EventValue) (s : ℕ) (t : List TallyRow)
-        → StandsWith l (state S.Store tx.old.conn.now).now e s t
+        → RepresentsWith l (state S.Store tx.old.conn.now).now e s t
         → stage ≡ length e.bracket.stages + 1
         → OnOk result (BringsToWith l (state S.Store tx.old.conn.now)
         (state S.Store tx.new.conn.now) (with_stage e matches.now) s t) }
@@ -101,7 +103,7 @@ fn begin_playoff<S: Alter>(
     ensures same_reference { tx.new.conn.ghost_name ≡ tx.old.conn.ghost_name }
     ensures makes { HasCleanDisk (state S.Store tx.new.conn.now)
         → (l : Layout) (s : ℕ) (t : List TallyRow)
-        → StandsWith l (state S.Store tx.old.conn.now).now event.now s t
+        → RepresentsWith l (state S.Store tx.old.conn.now).now event.now s t
         → OnOk result (BringsToWith l (state S.Store tx.old.conn.now)
         (state S.Store tx.new.conn.now) (with_bracket event.now matches.now) s t) }
     ensures stays { Stays (state S.Store tx.old.conn.now) (state S.Store tx.new.conn.now) }
@@ -124,7 +126,7 @@ fn score_stages<S: Alter>(
     ensures same_reference { tx.new.conn.ghost_name ≡ tx.old.conn.ghost_name }
     ensures makes { HasCleanDisk (state S.Store tx.new.conn.now)
         → (l : Layout) (s : ℕ) (t : List TallyRow)
-        → StandsWith l (state S.Store tx.old.conn.now).now event.now s t
+        → RepresentsWith l (state S.Store tx.old.conn.now).now event.now s t
         → OnOk result (BringsToWith l (state S.Store tx.old.conn.now)
         (state S.Store tx.new.conn.now)
         (with_bracket_score event.now stage slot score (option_map (λ m. m.now) next.entry) false) s
@@ -149,7 +151,7 @@ fn add_player<S: Alter>(
     ensures same_reference { tx.new.conn.ghost_name ≡ tx.old.conn.ghost_name }
     ensures makes { HasCleanDisk (state S.Store tx.new.conn.now)
         → (l : Layout) → version_of l ≡ version → (e : EventValue) (s : ℕ) (t : List TallyRow)
-        → StandsWith l (state S.Store tx.old.conn.now).now e s t
+        → RepresentsWith l (state S.Store tx.old.conn.now).now e s t
         → number ≡ length e.players + 1 → joined ≡ length e.stored → (version ≡ 1 → joined ≡ 0)
         → OnOk result (BringsToWith l (state S.Store tx.old.conn.now)
         (state S.Store tx.new.conn.now) (with_player e name.now) s t) }
@@ -167,7 +169,7 @@ fn drop_player<S: Alter>(tx: &mut Transaction<'_, S>, version: u8, number: u32) 
     ensures same_reference { tx.new.conn.ghost_name ≡ tx.old.conn.ghost_name }
     ensures makes { HasCleanDisk (state S.Store tx.new.conn.now)
         → (l : Layout) → version_of l ≡ version → (e : EventValue) (s : ℕ) (t : List TallyRow)
-        → StandsWith l (state S.Store tx.old.conn.now).now e s t
+        → RepresentsWith l (state S.Store tx.old.conn.now).now e s t
         → numbers e.players ≡ range_with_len 1 (length e.players)
         → Contains (numbers e.players) number
         → OnOk result (BringsToWith l (state S.Store tx.old.conn.now)
@@ -193,7 +195,7 @@ fn change_rows<S: Alter>(
     ensures same_reference { tx.new.conn.ghost_name ≡ tx.old.conn.ghost_name }
     ensures makes { HasCleanDisk (state S.Store tx.new.conn.now)
         → (l : Layout) → version_of l ≡ version → (s : ℕ) (t : List TallyRow)
-        → StandsWith l (state S.Store tx.old.conn.now).now event.now s t
+        → RepresentsWith l (state S.Store tx.old.conn.now).now event.now s t
         → OnOk result (BringsToWith l (state S.Store tx.old.conn.now)
         (state S.Store tx.new.conn.now) (after event.now change.now) s t) }
     ensures stays { Stays (state S.Store tx.old.conn.now) (state S.Store tx.new.conn.now) }
@@ -230,7 +232,7 @@ fn change_rows<S: Alter>(
 }
 
 /// Sets the totals of one player.
-fn recount_player<S: Alter>(
+fn set_totals<S: Alter>(
     tx: &mut Transaction<'_, S>,
     player: PlayerNo,
     now: Totals,
@@ -238,7 +240,7 @@ fn recount_player<S: Alter>(
     ensures same_reference { tx.new.conn.ghost_name ≡ tx.old.conn.ghost_name }
     ensures makes { HasCleanDisk (state S.Store tx.new.conn.now)
         → (l : Layout) (e : EventValue) (s : ℕ) (before : ℕ → Totals)
-        → StandsWith l (state S.Store tx.old.conn.now).now e s (tally_rows_by before e.players)
+        → RepresentsWith l (state S.Store tx.old.conn.now).now e s (tally_rows_by before e.players)
         → numbers e.players ≡ range_with_len 1 (length e.players)
         → Contains (numbers e.players) player
         → OnOk result (BringsToWith l (state S.Store tx.old.conn.now)
@@ -265,7 +267,7 @@ fn recount_one<S: Alter>(
         → (IsFalse (includes recount.now player.now)
         → before player.now.no ≡ gathered_of all.now player.now)
         → Moves l (state S.Store tx.old.conn.now) (state S.Store tx.old.conn.now)
-        → StandsWith l (state S.Store tx.old.conn.now).now e s (tally_rows_by before e.players)
+        → RepresentsWith l (state S.Store tx.old.conn.now).now e s (tally_rows_by before e.players)
         → OnOk result (BringsToWith l (state S.Store tx.old.conn.now)
         (state S.Store tx.new.conn.now) e s
         (tally_rows_by (set_for player.now.no (gathered_of all.now player.now) before)
@@ -273,7 +275,7 @@ fn recount_one<S: Alter>(
     ensures stays { Stays (state S.Store tx.old.conn.now) (state S.Store tx.new.conn.now) }
 {
     if recount.includes(player) {
-        recount_player(tx, player.no, all.of(player))?;
+        set_totals(tx, player.no, all.of(player))?;
     }
     Ok(())
 }
@@ -290,7 +292,7 @@ fn recount<S: Alter>(
         → (l : Layout) (e : EventValue) (s : ℕ)
         → numbers e.players ≡ numbers event.now.players
         → Moves l (state S.Store tx.old.conn.now) (state S.Store tx.old.conn.now)
-        → StandsWith l (state S.Store tx.old.conn.now).now e s
+        → RepresentsWith l (state S.Store tx.old.conn.now).now e s
         (tally_rows_by (totals event.now) e.players)
         → OnOk result (BringsToWith l (state S.Store tx.old.conn.now)
         (state S.Store tx.new.conn.now) e s
@@ -310,7 +312,7 @@ fn recount<S: Alter>(
 }
 
 /// Inserts the totals of the player whom the change adds.
-fn count_player<S: Alter>(
+fn insert_totals<S: Alter>(
     tx: &mut Transaction<'_, S>,
     event: &Event,
     change: &Change,
@@ -320,7 +322,7 @@ fn count_player<S: Alter>(
     ensures same_reference { tx.new.conn.ghost_name ≡ tx.old.conn.ghost_name }
     ensures makes { HasCleanDisk (state S.Store tx.new.conn.now)
         → (l : Layout) (e : EventValue) (s : ℕ) (t : List TallyRow)
-        → StandsWith l (state S.Store tx.old.conn.now).now e s t
+        → RepresentsWith l (state S.Store tx.old.conn.now).now e s t
         → OnOk result (BringsToWith l (state S.Store tx.old.conn.now)
         (state S.Store tx.new.conn.now) e s (t
         ++ tally_row (length event.now.players + 1)
@@ -347,7 +349,7 @@ fn change_tables<S: Alter>(
     ensures same_reference { tx.new.conn.ghost_name ≡ tx.old.conn.ghost_name }
     ensures makes { HasCleanDisk (state S.Store tx.new.conn.now)
         → (l : Layout) → version_of l ≡ version → (s : ℕ)
-        → StandsAt l (state S.Store tx.old.conn.now).now event.now s
+        → RepresentsAt l (state S.Store tx.old.conn.now).now event.now s
         → OnOk result (BringsTo l (state S.Store tx.old.conn.now) (state S.Store tx.new.conn.now)
         (after event.now change.now) s) }
     ensures stays { Stays (state S.Store tx.old.conn.now) (state S.Store tx.new.conn.now) }
@@ -357,7 +359,7 @@ fn change_tables<S: Alter>(
         Change::AddPlayer { .. } => {
             events_are_sound(event);
             others_keep_totals();
-            count_player(tx, event, change)
+            insert_totals(tx, event, change)
         }
         _ => recount(tx, event, change),
     }
@@ -377,7 +379,7 @@ fn change_event<S: Alter>(
     ensures same_reference { tx.new.conn.ghost_name ≡ tx.old.conn.ghost_name }
     ensures makes { HasCleanDisk (state S.Store tx.new.conn.now)
         → (l : Layout) → version_of l ≡ version
-        → StandsAt l (state S.Store tx.old.conn.now).now event.now serial
+        → RepresentsAt l (state S.Store tx.old.conn.now).now event.now serial
         → OnOk result (BringsTo l (state S.Store tx.old.conn.now) (state S.Store tx.new.conn.now)
         (after event.now change.now) (serial + 1)) }
     ensures inside { HasCleanDisk (state S.Store tx.new.conn.now)
@@ -436,6 +438,9 @@ fn make_event<S: Alter>(
         → (state S.Store tx.old.conn.now).now.schema ≡ no_schema
         → OnOk result (IsReady version (state S.Store tx.new.conn.now) event.now 0
         × ((state S.Store tx.new.conn.now).now.schema ≡ tally_schema (made_players version))) }
+    ensures beside { HasCleanDisk (state S.Store tx.new.conn.now)
+        → OnOk result (IsReadyBeside version event.now (state S.Store tx.old.conn.now)
+        (state S.Store tx.new.conn.now)) }
     ensures inside { HasCleanDisk (state S.Store tx.new.conn.now)
         → OnOk result (IsTrue (state S.Store tx.new.conn.now).in_transaction) }
     ensures stays { Stays (state S.Store tx.old.conn.now) (state S.Store tx.new.conn.now) }
@@ -469,6 +474,12 @@ pub fn create_tables<S: Alter>(
     ensures crash { (state S.Store conn.old).now.schema ≡ no_schema
         → Leaves (state S.Store conn.new)
         (Either (state S.Store conn.old).may_leave (IsStoredIn version event.now 0)) }
+    ensures beside { HasCleanDisk (state S.Store conn.new)
+        → OnOk result (ShowsBeside version event.now (state S.Store conn.old).now
+        (state S.Store conn.new)) }
+    ensures beside_crash { Leaves (state S.Store conn.new)
+        (Either (state S.Store conn.old).may_leave
+        (IsStoredBeside version event.now (state S.Store conn.old).now)) }
 {
     let mut tx = conn.transaction();
     make_event(&mut tx, version, event)?;

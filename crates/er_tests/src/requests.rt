@@ -5,9 +5,10 @@ use crate::helpers::{FOUR, desk_after};
 use crate::stores::THREE;
 use crate::wires::{Break, Endless, Sink, Source};
 use er_desk::Desk;
-use er_slips::{Served, serve_one};
+use er_slips::{Routes, Served, serve_one};
 use sqlite::{Alter, MemStore};
 use std::alloc::Global;
+use std::io::{Read, Write};
 use std::test::Fail;
 
 /// As many calls of read as one request may take.
@@ -158,6 +159,17 @@ fn status(answer: &str) -> Option<u16> {
     status.parse().ok()
 }
 
+/// Serves one request, on routes of its own.
+fn serve<S: Alter, R: Read, W: Write>(
+    alloc: Global,
+    desk: &mut Desk<S>,
+    reader: &mut R,
+    writer: &mut W,
+) -> Option<Served> {
+    let routes = Routes::new(alloc).ok()?;
+    Some(serve_one(alloc, &routes, desk, reader, writer))
+}
+
 /// Whether a request has just this answer, after no more calls of read than it may take.
 fn has_answer<S: Alter>(
     alloc: Global,
@@ -166,9 +178,12 @@ fn has_answer<S: Alter>(
     answer: &str,
 ) -> bool {
     let mut written = Vec::new(alloc);
-    let served = serve_one(alloc, desk, &mut request, &mut written);
+    let served = serve(alloc, desk, &mut request, &mut written);
     let status = status(answer).map(|status| Served::Answered { status });
-    Some(served) == status && written.as_slice() == answer.as_bytes() && request.calls <= MOST_CALLS
+    served.is_some()
+        && served == status
+        && written.as_slice() == answer.as_bytes()
+        && request.calls <= MOST_CALLS
 }
 
 /// The same of a request that comes whole, and then byte by byte.
@@ -379,7 +394,7 @@ fn a_score_is_taken_once(rt: HostRuntime) -> Result<(), Fail> {
 fn serve_endless(alloc: Global) -> Option<(Served, usize)> {
     let mut desk = paired(alloc)?;
     let mut endless = Endless { calls: 0 };
-    let served = serve_one(alloc, &mut desk, &mut endless, &mut Vec::new(alloc));
+    let served = serve(alloc, &mut desk, &mut endless, &mut Vec::new(alloc))?;
     Some((served, endless.calls))
 }
 
@@ -394,8 +409,8 @@ fn an_input_without_an_end_is_refused(rt: HostRuntime) -> Result<(), Fail> {
 fn ends_at(alloc: Global, desk: &mut Desk<MemStore>, call: usize) -> bool {
     let mut source = Source::failing(POST.as_bytes(), call);
     let mut written = Vec::new(alloc);
-    let served = serve_one(alloc, desk, &mut source, &mut written);
-    served == Served::ReadFault && written.is_empty() && source.calls == call
+    let served = serve(alloc, desk, &mut source, &mut written);
+    served == Some(Served::ReadFault) && written.is_empty() && source.calls == call
 }
 
 /// Whether each call in turn that fails leaves the serial at 6, and no call is made after the last byte.
@@ -425,8 +440,8 @@ fn is_cut(alloc: Global, desk: &mut Desk<MemStore>, room: usize, then: Break) ->
         room,
         then,
     };
-    let served = serve_one(alloc, desk, &mut source, &mut sink);
-    served == Served::WriteFault { sent: room }
+    let served = serve(alloc, desk, &mut source, &mut sink);
+    served == Some(Served::WriteFault { sent: room })
         && Some(sink.taken.as_slice()) == TAKEN.as_bytes().get(..room)
 }
 

@@ -3,6 +3,7 @@
 use crate::helpers::{FOUR, desk_after};
 use crate::requests::{POST, TAKEN};
 use er_cli::serve_on;
+use er_slips::Routes;
 use std::alloc::Global;
 use std::io::{Read, Write};
 use std::net::{Ipv4Addr, Shutdown, SocketAddr, TcpListener, TcpStream};
@@ -39,8 +40,9 @@ fn three_clients(rt: &HostRuntime) -> Option<(TcpListener, TcpStream, TcpStream,
 /// The status, and what is printed, where three clients of a listener are served.
 fn serve_three(rt: &HostRuntime, listener: &TcpListener) -> Option<(u8, Vec<u8>)> {
     let mut desk = desk_after(rt.alloc(), 3, 0, FOUR)?;
+    let routes = Routes::new(rt.alloc()).ok()?;
     let mut out = Vec::new(rt.alloc());
-    let status = serve_on(rt, &mut desk, listener, 3, &mut out);
+    let status = serve_on(rt, &routes, &mut desk, listener, 3, &mut out);
     Some((status, out))
 }
 

@@ -1,3 +1,4 @@
 mod Numbers
 mod Seeds
 mod Examples
+mod Taking

@@ -1,3 +1,8 @@
--- What er_values promises: a word is read as the number, the seed or the name that it is, and words as the report that
--- they are, or as none.
+-- What er_values promises: a word is taken as the number, the seed, the list or the score that it has to be, or the first
+-- fault is named.
+--
+-- Values is what words are, Usage what is at fault in words that have to be of kinds, and Taken how they are taken one
+-- after the other.
 pub mod Values
+pub mod Usage
+pub mod Taken

@@ -1,10 +1,13 @@
 -- The values that words are.
 use Rattle.std.specs.Prelude.{ℕ, ◌+◌, ◌*◌, ◌==◌, nat_lt, ◌&&◌, if◌then◌else◌, List, [], ◌∷◌, length, Option, Some, None, option_map}
-use Rattle.std.specs.Prelude.{option_and_then}
+use Rattle.std.specs.Prelude.{option_and_then, codes}
 use Rattle.std.specs.List.{list_all}
+use Rattle.std.specs.Str.{bytes_eq}
+use Rattle.er_event.specs.declared.scores.Games.{Games}
+use Rattle.er_values.specs.declared.values.ExportKind.{ExportKind}
+use Rattle.er_values.specs.declared.values.ExportKind.TheVariants as kind
 use Rattle.std.specs.Char.{is_ascii_digit, is_ascii_hexdigit, digit_value}
 use Rattle.std.specs.Str.Parse.{digits_value}
-use Rattle.er_event.specs.declared.scores.Games.{Games}
 
 -- the number below the limit that a word of digits is
 abbrev pub number_below : ℕ → List ℕ → Option ℕ
@@ -25,6 +28,12 @@ hex_bytes _ = []
 unfoldable pub seed_of : List ℕ → Option (List ℕ)
 seed_of word = if length word == 64 && list_all is_ascii_hexdigit word then Some (hex_bytes word) else None
 
+-- the kind of list that a word names
+abbrev pub kind_of : List ℕ → Option ExportKind
+kind_of word =
+    if bytes_eq word (codes "players") then Some kind.Players
+    else (if bytes_eq word (codes "results") then Some kind.Results else None)
+
 -- two values, where both are there
 abbrev pub both : {A B : Type 0} → Option A → Option B → Option (A × B)
 both (Some a) (Some b) = Some (a, b)
@@ -44,13 +53,3 @@ games_in (x ∷ y ∷ d ∷ []) =
     option_map (λ it. record { x = it.0; y = it.1; d = it.2 })
     (all_three (number_below 256 x) (number_below 256 y) (number_below 256 d))
 games_in _ = None
-
--- `ROUND TABLE X Y D`
-abbrev pub report_of : List (List ℕ) → Option (ℕ × ℕ × Games)
-report_of (round ∷ table ∷ games) = all_three (number_below 256 round) (number_below 65536 table) (games_in games)
-report_of _ = None
-
--- `STAGE SLOT X Y D`
-abbrev pub slot_report_of : List (List ℕ) → Option (ℕ × ℕ × Games)
-slot_report_of (stage ∷ slot ∷ games) = all_three (number_below 256 stage) (number_below 256 slot) (games_in games)
-slot_report_of _ = None

@@ -1,8 +1,8 @@
-//! The values that the words of a command line are: numbers, seeds, names and reports.
+//! Takes words one after the other as what they have to be, numbers, seeds, lists, scores, or says what is wrong with the first that is not so.
 #![tactic(auto)]
 
+mod usage;
 mod values;
 
-pub use values::{
-    count_of, name_of, number_of, report_of, seed_of, slot_report_of, small_number_of,
-};
+pub use usage::{UsageFault, count, end, list_kind, number, score, seed, small_number, text};
+pub use values::{ExportKind, name_of};

@@ -1,11 +1,31 @@
-ghost use Rattle.std.specs.Prelude.{◌≡◌, IfOk, map};
+ghost use Rattle.std.specs.Prelude.{◌≡◌, IfOk};
 ghost use Rattle.std.specs.List.{list_all};
 ghost use Rattle.std.specs.Char.{is_ascii_digit};
-ghost use Rattle.er_values.specs.Values.{number_below, count_of, seed_of, games_in, report_of, slot_report_of};
+ghost use Rattle.er_values.specs.Values.{kind_of, number_below, count_of, seed_of};
 
-use er_event::{Games, Items};
+use er_event::Items;
 use hex::FromHex;
 use std::alloc::{AllocError, Global};
+
+/// Which list is given as CSV.
+#[derive(Clone, Copy, Debug, PartialEq, Eq)]
+pub enum ExportKind {
+    /// The players by number.
+    Players,
+    /// The Swiss matches with their scores.
+    Results,
+}
+
+/// The kind of list that a word names.
+pub fn kind_of(word: &str) -> Option<ExportKind>
+    ensures { result ≡ kind_of word.now }
+{
+    match word {
+        "players" => Some(ExportKind::Players),
+        "results" => Some(ExportKind::Results),
+        _ => None,
+    }
+}
 
 /// How many connections are served at most before the file is given back.
 const MAX_CONNECTIONS: u32 = 1_000_000;
@@ -65,44 +85,6 @@ pub fn seed_of(word: &str) -> Option<[u8; 32]>
     ensures { result ≡ seed_of word.now }
 {
     <[u8; 32]>::from_hex(word).ok()
-}
-
-/// The games that three words are: won by the first-named player, won by the second, drawn.
-fn games_in(words: &[&str]) -> Option<Games>
-    ensures { result ≡ games_in (map (λ word. word.now) words.now) }
-{
-    let [x, y, d] = *words else {
-        return None;
-    };
-    Some(Games {
-        x: small_number_of(x)?,
-        y: small_number_of(y)?,
-        d: small_number_of(d)?,
-    })
-}
-
-/// The round, the table and the games that the words of a report are.
-pub fn report_of(words: &[&str]) -> Option<(u8, u16, Games)>
-    ensures { result ≡ report_of (map (λ word. word.now) words.now) }
-{
-    let [round, table, games @ ..] = words else {
-        return None;
-    };
-    Some((small_number_of(round)?, number_of(table)?, games_in(games)?))
-}
-
-/// The stage, the slot and the games that the words of a playoff's report are.
-pub fn slot_report_of(words: &[&str]) -> Option<(u8, u8, Games)>
-    ensures { result ≡ slot_report_of (map (λ word. word.now) words.now) }
-{
-    let [stage, slot, games @ ..] = words else {
-        return None;
-    };
-    Some((
-        small_number_of(stage)?,
-        small_number_of(slot)?,
-        games_in(games)?,
-    ))
 }
 
 /// The name that a word is, whether it is lawful or not.

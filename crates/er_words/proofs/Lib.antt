@@ -1,4 +1,3 @@
-mod WordKinds
 mod Refusals
 mod Walks
 mod WordLemmas

@@ -1,6 +1,6 @@
 -- When the parser refuses words of which none begins with a hyphen: never, where the first names a subcommand.
 use Rattle.std.proofs.{lemmas.Grind.common_steps, Common.{◌≡◌, ◌<◌, ◌≤◌, Bool, true, false, List, [], ◌∷◌, ◌++◌, length, Option, Some}}
-use Rattle.std.proofs.Common.{None, is_some, option_map, refl, sym, subst, map, slice_get, ap, ap₂, ◌∙◌, cond, arith, ◌^◌}
+use Rattle.std.proofs.Common.{None, is_some, option_map, refl, sym, subst, map, slice_get, ap, ap₂, ◌∙◌, arith, ◌^◌}
 use Rattle.std.proofs.lemmas.Option.{same_Some}
 use Rattle.clap.specs.{declared.error.ErrorKind.TheVariants.OutOfMemory, Words.{App, Row, Shape}}
 use Rattle.clap.specs.{Words.{Text, built}, Lexer.usize_max, Simple.{entered, subcommand_of}, Walk.{Held, Step, Waiting, Walk, value}}
@@ -8,7 +8,8 @@ use Rattle.clap.specs.{Walk.{walk_from, nothing_held, settled, finished}, Values
 use Rattle.clap.specs.{Kinds.{Kinds, or_else}, Faults.{fault_of, walk_fault, turn_fault, other_fault, step_fault, level_fault}}
 use Rattle.clap.specs.Faults.{entered_fault, defaults_fault, settle_fault, values_fault, check_fault}
 use Rattle.clap.proofs.FaultLemmas.{stopped_fault}
-use Rattle.er_words.specs.{Line.is_option, Words.{bare, is_subcommand, program, split_of, words_in}}
+use Rattle.er_words.specs.{declared.subcommand.Subcommand.Subcommand, Line.{is_option, split_of, subcommand_of as named}}
+use Rattle.er_words.specs.Words.{bare, program, words_in}
 use Rattle.er_words.proofs.Walks.{AllPlain, plain_met, leaf_rule, leaf_rules, leaf_built, labels}
 use Rattle.er_words.proofs.Walks.{reading_words, first_word, next_word, leaf_walk, same_name, name_walked, whole_walk, entered_is}
 use Rattle.er_words.proofs.Walks.{subcommand_is, leaf_words}
@@ -96,8 +97,9 @@ pub begins : {S : Type 0} (text : S → Text) (items : List S) (first : S) → S
 begins text [] first is = let bad : Some first ≡ None = is in cc
 begins text (item ∷ items) first is = (map text items, ap (λ x. text x ∷ map text items) (sym (same_Some first item is)))
 
-pub split_is : (name : Text) (texts rest : List Text) → texts ≡ name ∷ rest → is_subcommand name ≡ true → split_of texts ≡ Some (name, rest)
-split_is name texts rest are named = rw are (ap (λ b. cond b (Some (name, rest)) None) named)
+pub split_is : (name : Text) (subcommand : Subcommand) (texts rest : List Text) → texts ≡ name ∷ rest → Some subcommand ≡ named name
+    → Some (subcommand, rest) ≡ split_of texts
+split_is name subcommand texts rest are is = rw are (ap (option_map (λ (it : Subcommand). (it, rest))) is)
 
 module _ (app : App) (name : Text) (texts rest : List Text) (is : app ≡ program name) (are : texts ≡ name ∷ rest) where
   pub none_refused : AllPlain texts → length texts < 2 ^ 64 → fault_of app texts ≡ []

@@ -1,25 +1,44 @@
 -- Lemmas on words, and on the lines that they are.
-use Rattle.std.proofs.{lemmas.Grind.common_steps, Common.{◌≡◌, ℕ, ◌-◌, ◌≤◌, Bool, true, false, ◌||◌, cond, List, [], ◌∷◌, length, map}}
-use Rattle.std.proofs.Common.{take, drop, get_or, codes, Bor, Option, Some, None, Result, Ok, Err, refl, ap, arith}
-use Rattle.std.proofs.lemmas.{Bool.false_from_ne_true, Slice.Eq.bytes_eq-Decides, Str.{is_utf8-from_IsUtf8, IsUtf8-from_is_utf8}}
-use Rattle.std.specs.{List.list_any, Str.{IsUtf8, is_utf8, bytes_eq}, Result.IsErrAnd}
-use Rattle.er_words.specs.{declared.line.Line.Line, declared.line.LineFault.LineFault, declared.line.LineFault.TheVariants.{Usage, Memory}}
-use Rattle.er_words.specs.{Line.{Subcommand, subcommands, line_by, named_line, is_option, line_of, Reads}, Words.{names, split_of}}
-use Rattle.er_words.specs.Fields.{fields_of, with_file, script_line}
+use Rattle.std.proofs.{lemmas.Grind.common_steps, Common.{◌≡◌, ℕ, ◌-◌, ◌≤◌, Bool, true, false, ltb, List, [], ◌∷◌, length, map}}
+use Rattle.std.proofs.Common.{take, drop, get_or, codes, Bor, Option, Some, None, Result, refl, ap, arith}
+use Rattle.std.proofs.lemmas.{List.length-map, Bool.false_from_ne_true, Str.{is_utf8-from_IsUtf8, IsUtf8-from_is_utf8}}
+use Rattle.std.specs.{List.{list_any, position, position_or_len}, Str.{IsUtf8, is_utf8}}
+use Rattle.er_words.specs.{declared.line.Line.Line, declared.line.LineFault.LineFault}
+use Rattle.er_words.specs.{declared.subcommand.Subcommand.Subcommand, Line.{is_option, line_of, split_of}}
+use Rattle.er_words.specs.Usage.{ReadsBy, ReadsWords, fault_of, fault_at}
+use Rattle.er_values.specs.declared.usage.UsageFault.TheVariants.{LeadingDash, UnknownSubcommand}
+use Rattle.er_words.specs.Fields.{fields_of, with_file, script_words}
 
-pub list_any-map : {X Y : Type 0} (p : Y → Bool) (f : X → Y) (xs : List X) → list_any p (map f xs) ≡ list_any (λ x. p (f x)) xs
-list_any-map p f [] = refl
-list_any-map p f (x ∷ xs) = ap (λ rest. p (f x) || rest) (list_any-map p f xs)
+position_or_len-map : {X Y : Type 0} (p : Y → Bool) (f : X → Y) (xs : List X)
+    → position_or_len p (map f xs) ≡ position_or_len (λ x. p (f x)) xs
+position_or_len-map p f [] = refl
+position_or_len-map p f (x ∷ xs) = grind (arith, common_steps, position_or_len-map p f xs)
+
+pub position-map : {X Y : Type 0} (p : Y → Bool) (f : X → Y) (xs : List X) → position p (map f xs) ≡ position (λ x. p (f x)) xs
+position-map p f xs = grind (arith, common_steps, position_or_len-map, length-map)
+
+any-position : {X : Type 0} (p : X → Bool) (xs : List X) → list_any p xs ≡ ltb (position_or_len p xs) (length xs)
+any-position p [] = refl
+any-position p (x ∷ xs) = grind (arith, common_steps, any-position p xs)
+
+any_from_place : {X : Type 0} (p : X → Bool) (xs : List X) (place : ℕ) → position p xs ≡ Some place → list_any p xs ≡ true
+any_from_place p xs place is = grind (arith, common_steps, any-position)
+
+pub none_from_place : {X : Type 0} (p : X → Bool) (xs : List X) → position p xs ≡ None → list_any p xs ≡ false
+none_from_place p xs is = grind (arith, common_steps, any-position)
 
 -- ---- a line of a script
 
-pub script_line-no_text : (line : List ℕ) → ¬ (IsUtf8 line) → script_line line ≡ None
-script_line-no_text line none = rw (false_from_ne_true (is_utf8 line) (λ is. none (IsUtf8-from_is_utf8 line is))) refl
+pub script_words-no_text : (line : List ℕ) → ¬ (IsUtf8 line) → script_words line ≡ []
+script_words-no_text line none = rw (false_from_ne_true (is_utf8 line) (λ is. none (IsUtf8-from_is_utf8 line is))) refl
+
+script_words-text : (line : List ℕ) → IsUtf8 line → script_words line ≡ with_file (fields_of line)
+script_words-text line text = rw (is_utf8-from_IsUtf8 line text) refl
 
 -- the answer to the words of a line is the answer to the line
 pub Reads-script : (line : List ℕ) (words : List (List ℕ)) (r : Result Line LineFault) → IsUtf8 line → words ≡ with_file (fields_of line)
-    → Reads (line_of words) r → Reads (script_line line) r
-Reads-script line words r text are read = grind (arith, common_steps, is_utf8-from_IsUtf8)
+    → ReadsWords words r → ReadsWords (script_words line) r
+Reads-script line words r text are read = rw (script_words-text line text, ← are) read
 
 -- the words of a line that has fields
 pub words-fields : (fields items : List (Bor (List ℕ))) (d : Bor (List ℕ)) (line : List ℕ) (words : List (List ℕ)) → fields ≡ items
@@ -28,35 +47,19 @@ pub words-fields : (fields items : List (Bor (List ℕ))) (d : Bor (List ℕ)) (
     (λ (value : Bor (List ℕ)). value.now) (take (length fields - 1) (drop 1 fields)) → words ≡ with_file (fields_of line)
 words-fields h1 items d line words same are some is = grind (arith, common_steps)
 
--- ---- the subcommand that words name
+-- ---- the answer to words
 
-line_by-none : (table : List Subcommand) (name : List ℕ) (words : List (List ℕ))
-    → list_any (λ known. bytes_eq known name) (map (λ (s : Subcommand). s.0) table) ≡ false → line_by table name words ≡ None
-line_by-none [] name words none = refl
-line_by-none (it ∷ table) name words none = grind (arith, common_steps, line_by-none table name words, bytes_eq-Decides, false_from_ne_true)
+pub Reads-option : (words : List (List ℕ)) (place : ℕ) → position is_option words ≡ Some place
+    → (line_of words ≡ None) × (fault_of words ≡ Some (LeadingDash place))
+Reads-option words place is = (rw (any_from_place is_option words place is) refl, ap (λ (o : Option ℕ). fault_at o words) is)
 
-unsplit_by : (b : Bool) (name : List ℕ) (words : List (List ℕ)) → list_any (λ known. bytes_eq known name) names ≡ b
-    → cond {A = Option (List ℕ × List (List ℕ))} b (Some (name, words)) None ≡ None → line_by subcommands name words ≡ None
-unsplit_by true name words e none = let bad : Some (name, words) ≡ None = none in cc
-unsplit_by false name words e none = line_by-none subcommands name words e
+pub Reads-unsplit : (words : List (List ℕ)) → position is_option words ≡ None → split_of words ≡ None
+    → (line_of words ≡ None) × (fault_of words ≡ Some UnknownSubcommand)
+Reads-unsplit words plain none = (
+  rw (none_from_place is_option words plain, none) refl,
+  rw (plain, none) refl,
+)
 
-split_by : (b : Bool) (w : List ℕ) (ws : List (List ℕ)) (name : List ℕ) (rest : List (List ℕ))
-    → cond {A = Option (List ℕ × List (List ℕ))} b (Some (w, ws)) None ≡ Some (name, rest)
-    → line_by subcommands w ws ≡ line_by subcommands name rest
-split_by h1 w ws name rest is = grind (arith, common_steps)
-
-named_line-split : (words : List (List ℕ)) (name : List ℕ) (rest : List (List ℕ)) → split_of words ≡ Some (name, rest)
-    → named_line words ≡ line_by subcommands name rest
-named_line-split [] name rest is = let bad : None ≡ Some (name, rest) = is in cc
-named_line-split (w ∷ ws) name rest is = split_by (list_any (λ known. bytes_eq known w) names) w ws name rest is
-
-pub Reads-split : (words : List (List ℕ)) (name : List ℕ) (rest : List (List ℕ)) (r : Result Line LineFault)
-    → list_any is_option words ≡ false
-    → split_of words ≡ Some (name, rest) → Reads (line_by subcommands name rest) r → Reads (line_of words) r
-Reads-split words name rest r plain split read = rw (plain, named_line-split words name rest split) read
-
-pub Reads-unsplit : (words : List (List ℕ)) (r : Result Line LineFault) (why : LineFault) → list_any is_option words ≡ false
-    → (why ≡ Usage → split_of words ≡ None) → IsErrAnd r (λ e. e ≡ why) → Reads (line_of words) r
-Reads-unsplit words (Ok line) why plain unsplit failed = absurd failed
-Reads-unsplit words (Err Usage) why plain unsplit failed = grind (arith, common_steps, unsplit_by)
-Reads-unsplit words (Err Memory) why plain unsplit failed = tt
+pub Reads-split : (words : List (List ℕ)) (subcommand : Subcommand) (rest : List (List ℕ)) (r : Result Line LineFault)
+    → position is_option words ≡ None → split_of words ≡ Some (subcommand, rest) → ReadsBy subcommand rest r → ReadsWords words r
+Reads-split words subcommand rest r plain split read = rw (none_from_place is_option words plain, plain, split) read

@@ -1,14 +1,11 @@
--- What a line has done, and to which file; and which list a word names.
-use Rattle.std.specs.Prelude.{ℕ, if◌then◌else◌, List, Option, Some, None, codes}
-use Rattle.std.specs.Str.{bytes_eq}
+-- What a line has done, and to which file.
+use Rattle.std.specs.Prelude.{ℕ, List}
 use Rattle.er_event.specs.declared.commands.Command.TheVariants as command
 use Rattle.er_words.specs.declared.action.Action.{Action}
 use Rattle.er_words.specs.declared.action.Action.TheVariants as action
 use Rattle.er_words.specs.declared.action.Task.TheVariants as task
 use Rattle.er_words.specs.declared.action.Request.TheVariants as request
 use Rattle.er_words.specs.declared.action.Request.{Request}
-use Rattle.er_words.specs.declared.action.ExportKind.{ExportKind}
-use Rattle.er_words.specs.declared.action.ExportKind.TheVariants as kind
 use Rattle.er_words.specs.declared.line.Line.{Line}
 use Rattle.er_words.specs.declared.line.Line.TheVariants.{Init, Enrol, Import, Start, Pair, Result as Report, Correct, Drop, Cut, Playoff}
 use Rattle.er_words.specs.declared.line.Line.TheVariants.{Standings, Players, Slips, Bracket, Export, Serve, Migrate}
@@ -55,9 +52,3 @@ action_of (Bracket file) = asked request.Bracket
 action_of (Export file kind) = asked (request.Export kind)
 action_of (Serve file port count) = action.Open (task.Serve port count)
 action_of (Migrate file) = asked request.Migrate
-
--- the kind of list that a word names
-abbrev pub kind_of : List ℕ → Option ExportKind
-kind_of word =
-    if bytes_eq word (codes "players") then Some kind.Players
-    else (if bytes_eq word (codes "results") then Some kind.Results else None)

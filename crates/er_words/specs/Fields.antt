@@ -1,5 +1,5 @@
 -- What a line of a script is.
-use Rattle.std.specs.Prelude.{ℕ, ◌==◌, if◌then◌else◌, List, [], ◌∷◌, Option, None, option_map, codes}
+use Rattle.std.specs.Prelude.{ℕ, ◌==◌, if◌then◌else◌, List, [], ◌∷◌, Option, option_map, codes}
 use Rattle.std.specs.List.{slice_split}
 use Rattle.std.specs.Str.{is_utf8}
 use Rattle.er_words.specs.declared.action.Action.{Action}
@@ -16,9 +16,12 @@ abbrev pub with_file : List (List ℕ) → List (List ℕ)
 with_file [] = []
 with_file (name ∷ values) = name ∷ codes "script" ∷ values
 
--- the command line that a line of a script stands for. A line is UTF-8.
+-- the words of the command line that a line of a script stands for. One that is not UTF-8 has none.
+abbrev pub script_words : List ℕ → List (List ℕ)
+script_words line = if is_utf8 line then with_file (fields_of line) else []
+
 abbrev pub script_line : List ℕ → Option Line
-script_line line = if is_utf8 line then line_of (with_file (fields_of line)) else None
+script_line line = line_of (script_words line)
 
 -- what a line of a script has done
 abbrev pub script_action : List ℕ → Option Action

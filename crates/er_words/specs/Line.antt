@@ -1,15 +1,25 @@
 -- The line that words name.
-use Rattle.std.specs.Prelude.{◌≡◌, ℕ, ◌==◌, Bool, false, if◌then◌else◌, List, [], ◌∷◌, slice_index, Option, Some, None, option_map, Ok, Err}
-use Rattle.std.specs.Prelude.{Result, codes}
+use Rattle.std.specs.Prelude.{ℕ, ◌==◌, Bool, if◌then◌else◌, List, [], ◌∷◌, slice_index, Option, Some, None, option_map, option_and_then}
+use Rattle.std.specs.Prelude.{codes}
 use Rattle.std.specs.List.{list_any}
 use Rattle.std.specs.Str.{bytes_eq}
-use Rattle.er_words.specs.declared.line.LineFault.{LineFault}
-use Rattle.er_words.specs.declared.line.LineFault.TheVariants.{Usage, Memory}
+use Rattle.er_words.specs.declared.subcommand.Subcommand.{Subcommand}
+use Rattle.er_words.specs.declared.subcommand.Subcommand.TheVariants as sub
 use Rattle.er_words.specs.declared.line.Line.{Line}
 use Rattle.er_words.specs.declared.line.Line.TheVariants.{Init, Enrol, Import, Start, Pair, Result as Report, Correct, Drop, Cut, Playoff}
 use Rattle.er_words.specs.declared.line.Line.TheVariants.{Standings, Players, Slips, Bracket, Export, Serve, Migrate}
-use Rattle.er_values.specs.Values.{number_below, count_of, seed_of, both, report_of, slot_report_of}
-use Rattle.er_words.specs.Action.{kind_of}
+use Rattle.er_event.specs.declared.scores.Games.{Games}
+use Rattle.er_values.specs.Values.{number_below, count_of, seed_of, kind_of, both, all_three, games_in}
+
+-- `ROUND TABLE X Y D`
+abbrev pub report_of : List (List ℕ) → Option (ℕ × ℕ × Games)
+report_of (round ∷ table ∷ games) = all_three (number_below 256 round) (number_below 65536 table) (games_in games)
+report_of _ = None
+
+-- `STAGE SLOT X Y D`
+abbrev pub slot_report_of : List (List ℕ) → Option (ℕ × ℕ × Games)
+slot_report_of (stage ∷ slot ∷ games) = all_three (number_below 256 stage) (number_below 256 slot) (games_in games)
+slot_report_of _ = None
 
 -- the FILE that a lone word is
 abbrev pub lone_file : List (List ℕ) → Option (List ℕ)
@@ -96,45 +106,63 @@ serve_of _ = None
 abbrev pub migrate_of : List (List ℕ) → Option Line
 migrate_of words = option_map Migrate (lone_file words)
 
--- a subcommand: its name, and the line that the words after it are
-abbrev pub Subcommand : Type 0
-Subcommand = List ℕ × (List (List ℕ) → Option Line)
-
-abbrev pub subcommands : List Subcommand
+-- the subcommands, by name
+abbrev pub subcommands : List (List ℕ × Subcommand)
 subcommands =
-    (codes "init", init_of)
-    ∷ (codes "enrol", enrol_of)
-    ∷ (codes "import", import_of)
-    ∷ (codes "start", start_of)
-    ∷ (codes "pair", pair_of)
-    ∷ (codes "result", result_of)
-    ∷ (codes "correct", correct_of)
-    ∷ (codes "drop", drop_of)
-    ∷ (codes "cut", cut_of)
-    ∷ (codes "playoff", playoff_of)
-    ∷ (codes "standings", standings_of)
-    ∷ (codes "players", players_of)
-    ∷ (codes "slips", slips_of)
-    ∷ (codes "bracket", bracket_of)
-    ∷ (codes "export", export_of)
-    ∷ (codes "serve", serve_of)
-    ∷ (codes "migrate", migrate_of)
+    (codes "init", sub.Init)
+    ∷ (codes "enrol", sub.Enrol)
+    ∷ (codes "import", sub.Import)
+    ∷ (codes "start", sub.Start)
+    ∷ (codes "pair", sub.Pair)
+    ∷ (codes "result", sub.Result)
+    ∷ (codes "correct", sub.Correct)
+    ∷ (codes "drop", sub.Drop)
+    ∷ (codes "cut", sub.Cut)
+    ∷ (codes "playoff", sub.Playoff)
+    ∷ (codes "standings", sub.Standings)
+    ∷ (codes "players", sub.Players)
+    ∷ (codes "slips", sub.Slips)
+    ∷ (codes "bracket", sub.Bracket)
+    ∷ (codes "export", sub.Export)
+    ∷ (codes "serve", sub.Serve)
+    ∷ (codes "migrate", sub.Migrate)
     ∷ []
 
--- the line of the subcommand that has this name
-abbrev pub line_by : List Subcommand → List ℕ → List (List ℕ) → Option Line
-line_by [] name words = None
-line_by (subcommand ∷ table) name words = if bytes_eq name subcommand.0 then subcommand.1 words else line_by table name words
+-- the one that has this name
+abbrev pub named_in : List (List ℕ × Subcommand) → List ℕ → Option Subcommand
+named_in [] name = None
+named_in (named ∷ table) name = if bytes_eq name named.0 then Some named.1 else named_in table name
 
--- the first word names the subcommand
+abbrev pub subcommand_of : List ℕ → Option Subcommand
+subcommand_of = named_in subcommands
+
+-- the line that the words after its name are
+abbrev pub line_by : Subcommand → List (List ℕ) → Option Line
+line_by sub.Init words = init_of words
+line_by sub.Enrol words = enrol_of words
+line_by sub.Import words = import_of words
+line_by sub.Start words = start_of words
+line_by sub.Pair words = pair_of words
+line_by sub.Result words = result_of words
+line_by sub.Correct words = correct_of words
+line_by sub.Drop words = drop_of words
+line_by sub.Cut words = cut_of words
+line_by sub.Playoff words = playoff_of words
+line_by sub.Standings words = standings_of words
+line_by sub.Players words = players_of words
+line_by sub.Slips words = slips_of words
+line_by sub.Bracket words = bracket_of words
+line_by sub.Export words = export_of words
+line_by sub.Serve words = serve_of words
+line_by sub.Migrate words = migrate_of words
+
+-- the subcommand that the first word names, and the words after it
+abbrev pub split_of : List (List ℕ) → Option (Subcommand × List (List ℕ))
+split_of [] = None
+split_of (name ∷ words) = option_map (λ subcommand. (subcommand, words)) (subcommand_of name)
+
 abbrev pub named_line : List (List ℕ) → Option Line
-named_line [] = None
-named_line (name ∷ words) = line_by subcommands name words
-
--- the first word names one
-abbrev pub names_one : List (List ℕ) → Bool
-names_one [] = false
-names_one (name ∷ words) = list_any (λ subcommand. bytes_eq name subcommand.0) subcommands
+named_line words = option_and_then (λ split. line_by split.0 split.1) (split_of words)
 
 -- begins with `-`: no subcommand takes an option
 abbrev pub is_option : List ℕ → Bool
@@ -143,9 +171,3 @@ is_option word = slice_index word 0 == 45
 -- the line that words name
 abbrev pub line_of : List (List ℕ) → Option Line
 line_of words = if list_any is_option words then None else named_line words
-
--- the answer to what is read as this, or as none. Memory may be wanting for any.
-abbrev pub Reads : {T : Type 0} → Option T → Result T LineFault → Type 0
-Reads found (Ok it) = found ≡ Some it
-Reads found (Err Usage) = found ≡ None
-Reads found (Err Memory) = Unit {0}

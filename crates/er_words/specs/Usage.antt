@@ -1,49 +1,60 @@
--- What is at fault in words that are no line.
-use Rattle.std.specs.Prelude.{◌≡◌, ℕ, ◌+◌, ◌<◌, Bool, true, false, ◌&&◌, List, [], ◌∷◌, length, Option, Some, None, is_some, IsTrue}
-use Rattle.std.specs.Prelude.{IsFalse, slice_get}
-use Rattle.er_words.specs.declared.usage.Kind.{Kind}
-use Rattle.er_words.specs.declared.usage.Kind.TheVariants.{Text, SmallNumber, Number, Seed, Count, ListKind}
-use Rattle.er_words.specs.declared.usage.UsageFault.{UsageFault}
-use Rattle.er_words.specs.declared.usage.UsageFault.TheVariants.{UnknownSubcommand, LeadingDash, TooFew, TooMany, BadNumber, BadSeed}
-use Rattle.er_words.specs.declared.usage.UsageFault.TheVariants.{BadCount, BadKind}
+-- What is at fault in words that are no line: the first thing that is.
+use Rattle.std.specs.Prelude.{◌≡◌, ℕ, List, [], ◌∷◌, Option, Some, None, Result, Ok, Err}
+use Rattle.std.specs.List.{position}
+use Rattle.er_values.specs.declared.usage.UsageFault.{UsageFault}
+use Rattle.er_values.specs.declared.usage.UsageFault.TheVariants.{UnknownSubcommand, LeadingDash}
+use Rattle.er_values.specs.Usage.{Kind, Text, SmallNumber, Number, Seed, Count, ListKind, score_kinds, values_fault}
 use Rattle.er_words.specs.declared.line.Line.{Line}
-use Rattle.er_words.specs.Line.{is_option, names_one}
-use Rattle.er_values.specs.Values.{number_below, count_of, seed_of}
-use Rattle.er_words.specs.Action.{kind_of}
+use Rattle.er_words.specs.declared.line.LineFault.{LineFault}
+use Rattle.er_words.specs.declared.line.LineFault.TheVariants.{Usage, Memory}
+use Rattle.er_words.specs.declared.subcommand.Subcommand.{Subcommand}
+use Rattle.er_words.specs.declared.subcommand.Subcommand.TheVariants as sub
+use Rattle.er_words.specs.Line.{is_option, line_by, line_of, split_of}
 
--- the fault lies in this word, at this place
-abbrev pub IsOf : List ℕ → ℕ → UsageFault → Type 0
-IsOf word at (LeadingDash place) = (place ≡ at) × IsTrue (is_option word)
-IsOf word at (BadNumber place most) = (place ≡ at) × (number_below (most + 1) word ≡ None)
-IsOf word at (BadSeed place) = (place ≡ at) × (seed_of word ≡ None)
-IsOf word at (BadCount place) = (place ≡ at) × (count_of word ≡ None)
-IsOf word at (BadKind place) = (place ≡ at) × (kind_of word ≡ None)
-IsOf word at _ = ⊥
+-- what the words after a subcommand's name have to be
+abbrev pub kinds_of : Subcommand → List Kind
+kinds_of sub.Init = Text ∷ Text ∷ SmallNumber ∷ SmallNumber ∷ []
+kinds_of sub.Enrol = Text ∷ Text ∷ []
+kinds_of sub.Import = Text ∷ Text ∷ []
+kinds_of sub.Start = Text ∷ []
+kinds_of sub.Pair = Text ∷ SmallNumber ∷ Seed ∷ []
+kinds_of sub.Result = Text ∷ SmallNumber ∷ Number ∷ score_kinds
+kinds_of sub.Correct = Text ∷ SmallNumber ∷ Number ∷ score_kinds
+kinds_of sub.Drop = Text ∷ Number ∷ []
+kinds_of sub.Cut = Text ∷ []
+kinds_of sub.Playoff = Text ∷ SmallNumber ∷ SmallNumber ∷ score_kinds
+kinds_of sub.Standings = Text ∷ []
+kinds_of sub.Players = Text ∷ []
+kinds_of sub.Slips = Text ∷ SmallNumber ∷ []
+kinds_of sub.Bracket = Text ∷ []
+kinds_of sub.Export = Text ∷ ListKind ∷ []
+kinds_of sub.Serve = Text ∷ Number ∷ Count ∷ []
+kinds_of sub.Migrate = Text ∷ []
 
--- the words have the fault
-abbrev pub HasFault : List (List ℕ) → UsageFault → Type 0
-HasFault words UnknownSubcommand = IsFalse (names_one words)
-HasFault words (TooFew place) = length words ≡ place
-HasFault words (TooMany place) = place < length words
-HasFault words fault = (place : ℕ) × (word : List ℕ) × (slice_get words place ≡ Some word) × IsOf word place fault
+-- of the words after a subcommand's name
+abbrev pub split_fault : Option (Subcommand × List (List ℕ)) → Option UsageFault
+split_fault None = Some UnknownSubcommand
+split_fault (Some split) = values_fault (kinds_of split.0) 1 split.1
 
--- ---- what the words after a subcommand's name have to be
+-- a word that begins with `-`, and else from the first word on
+abbrev pub fault_at : Option ℕ → List (List ℕ) → Option UsageFault
+fault_at (Some place) words = Some (LeadingDash place)
+fault_at None words = split_fault (split_of words)
 
-abbrev pub is_of_kind : Kind → List ℕ → Bool
-is_of_kind Text word = true
-is_of_kind SmallNumber word = is_some (number_below 256 word)
-is_of_kind Number word = is_some (number_below 65536 word)
-is_of_kind Seed word = is_some (seed_of word)
-is_of_kind Count word = is_some (count_of word)
-is_of_kind ListKind word = is_some (kind_of word)
+-- the first fault of words
+abbrev pub fault_of : List (List ℕ) → Option UsageFault
+fault_of words = fault_at (position is_option words) words
 
--- one word of each of these kinds, in order
-abbrev pub are_of_kinds : List Kind → List (List ℕ) → Bool
-are_of_kinds [] [] = true
-are_of_kinds (kind ∷ kinds) (word ∷ words) = is_of_kind kind word && are_of_kinds kinds words
-are_of_kinds [] (word ∷ words) = false
-are_of_kinds (kind ∷ kinds) [] = false
+-- The answer to words that are this, if anything, and else have this fault. Memory may be wanting for any.
+abbrev pub Reads : {T : Type 0} → Option T → Option UsageFault → Result T LineFault → Type 0
+Reads found fault (Ok it) = (found ≡ Some it) × (fault ≡ None)
+Reads found fault (Err (Usage why)) = (found ≡ None) × (fault ≡ Some why)
+Reads found fault (Err Memory) = Unit {0}
 
--- the words that are read are those of these kinds
-abbrev pub Takes : List Kind → (List (List ℕ) → Option Line) → Type 0
-Takes kinds read = (words : List (List ℕ)) → are_of_kinds kinds words ≡ is_some (read words)
+-- words are read as the line that they are
+abbrev pub ReadsWords : List (List ℕ) → Result Line LineFault → Type 0
+ReadsWords words = Reads (line_of words) (fault_of words)
+
+-- the words after the subcommand's name are read as its line
+abbrev pub ReadsBy : Subcommand → List (List ℕ) → Result Line LineFault → Type 0
+ReadsBy subcommand words = Reads (line_by subcommand words) (values_fault (kinds_of subcommand) 1 words)

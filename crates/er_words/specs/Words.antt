@@ -1,23 +1,8 @@
 -- How the parser of words splits them.
-use Rattle.std.specs.Prelude.{Bool, true, if◌then◌else◌, List, [], ◌∷◌, map, Option, Some, None, unwrap_or, codes}
-use Rattle.std.specs.List.{list_any}
-use Rattle.std.specs.Str.{bytes_eq}
+use Rattle.std.specs.Prelude.{true, List, [], Some, unwrap_or, codes}
 use Rattle.clap.specs.Walk.{all_of}
 use Rattle.clap.specs.Words.{App, Row, Rule, Shape, Text, new_app, new_rule, with_rule, with_subcommand}
 use Rattle.clap.specs.Lexer.{usize_max}
-use Rattle.er_words.specs.Line.{subcommands}
-
-abbrev pub names : List Text
-names = map (λ it. it.0) subcommands
-
--- the word names a subcommand
-abbrev pub is_subcommand : Text → Bool
-is_subcommand word = list_any (λ name. bytes_eq name word) names
-
--- the subcommand's name and the words after it, where there is one of this name
-abbrev pub split_of : List Text → Option (Text × List Text)
-split_of [] = None
-split_of (name ∷ words) = if is_subcommand name then Some (name, words) else None
 
 -- any number of words
 abbrev pub words_rule : Rule

@@ -1,8 +1,6 @@
-ghost use Rattle.std.specs.Prelude.{◌≡◌};
-ghost use Rattle.er_words.specs.Action.{kind_of};
-
 use crate::paths::FilePath;
 use er_event::{Command, Items};
+use er_values::ExportKind;
 
 /// What a line has done.
 #[derive(Debug, Drop)]
@@ -47,26 +45,6 @@ pub enum Request {
     Export { kind: ExportKind },
     /// To move its tables to version 2.
     Migrate,
-}
-
-/// Which list is given as CSV.
-#[derive(Clone, Copy, Debug, PartialEq, Eq)]
-pub enum ExportKind {
-    /// The players by number.
-    Players,
-    /// The Swiss matches with their scores.
-    Results,
-}
-
-/// The kind of list that a word names.
-pub fn kind_of(word: &str) -> Option<ExportKind>
-    ensures { result ≡ kind_of word.now }
-{
-    match word {
-        "players" => Some(ExportKind::Players),
-        "results" => Some(ExportKind::Results),
-        _ => None,
-    }
 }
 
 impl From<Task> for Action {

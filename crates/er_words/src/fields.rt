@@ -1,8 +1,9 @@
 ghost use Rattle.std.specs.Prelude.{◌≡◌, ◌∷◌, IfOk, codes, map, string_bytes};
-ghost use Rattle.er_words.specs.Fields.{fields_of, script_line};
-ghost use Rattle.er_words.specs.Line.{Reads};
+ghost use Rattle.er_words.specs.Fields.{fields_of, script_words};
+ghost use Rattle.er_words.specs.Usage.{ReadsWords};
 
 use crate::line::{Line, LineFault, read_words};
+use er_values::UsageFault;
 use std::alloc::{AllocError, Global};
 
 /// The fields of a script's line, with a TAB between two.
@@ -27,16 +28,16 @@ fn words_of(alloc: Global, name: &str, values: &[&str]) -> Result<Vec<String>, A
     Ok(words)
 }
 
-/// The command line that a line of a script stands for.
+/// The command line that a line of a script stands for. One that is no text has no words.
 pub fn read_line(alloc: Global, line: &[u8]) -> Result<Line, LineFault>
-    ensures { Reads (script_line line.now) result }
+    ensures { ReadsWords (script_words line.now) result }
 {
     let Ok(line) = str::from_utf8(line) else {
-        return Err(LineFault::Usage);
+        return Err(LineFault::Usage(UsageFault::UnknownSubcommand));
     };
     let fields = fields_of(alloc, line)?;
     let [name, values @ ..] = fields.as_slice() else {
-        return Err(LineFault::Usage);
+        return Err(LineFault::Usage(UsageFault::UnknownSubcommand));
     };
     let words = words_of(alloc, name, values)?;
     read_words(alloc, &words)

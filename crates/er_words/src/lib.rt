@@ -5,11 +5,12 @@ mod action;
 mod fields;
 mod line;
 mod paths;
-mod usage;
+mod subcommand;
 mod words;
 
-pub use action::{Action, ExportKind, Request, Task};
+pub use action::{Action, Request, Task};
+pub use er_values::{ExportKind, UsageFault};
 pub use fields::read_line;
 pub use line::{Line, LineFault, read_words};
 pub use paths::FilePath;
-pub use usage::{UsageFault, usage_of};
+pub use subcommand::Subcommand;

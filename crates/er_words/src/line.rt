@@ -1,12 +1,16 @@
-ghost use Rattle.std.specs.Prelude.{◌≡◌, map, string_bytes};
-ghost use Rattle.er_words.specs.Line.{Reads, lone_file, init_of, enrol_of, import_of, start_of, pair_of, result_of, correct_of, drop_of, cut_of, playoff_of, standings_of, players_of, slips_of, bracket_of, export_of, serve_of, migrate_of, subcommands, line_by, line_of};
+ghost use Rattle.std.specs.Prelude.{[], ◌∷◌, map, string_bytes};
+ghost use Rattle.er_words.specs.declared.subcommand.Subcommand.TheVariants as sub;
+ghost use Rattle.er_words.specs.Line.{lone_file};
+ghost use Rattle.er_values.specs.Usage.{Kind, values_fault};
+ghost use Rattle.er_words.specs.Usage.{Reads, ReadsBy, ReadsWords};
 
-use crate::action::{Action, ExportKind, Request, Task, kind_of};
+use crate::action::{Action, Request, Task};
 use crate::paths::FilePath;
-use crate::words::{has_option, split_words};
+use crate::subcommand::Subcommand;
+use crate::words::{option_at, split_words};
 use er_event::{Command, Games, Items};
 use er_values::{
-    count_of, name_of, number_of, report_of, seed_of, slot_report_of, small_number_of,
+    ExportKind, UsageFault, count, end, list_kind, name_of, number, score, seed, small_number, text,
 };
 use std::alloc::{AllocError, Global};
 
@@ -90,8 +94,8 @@ pub enum Line {
 /// Why a line was not read.
 #[derive(Clone, Copy, Debug, PartialEq, Eq)]
 pub enum LineFault {
-    /// It is no command line.
-    Usage,
+    /// It is no command line, and this is why.
+    Usage(UsageFault),
     /// There was no memory to keep it.
     Memory,
 }
@@ -104,6 +108,17 @@ impl From<AllocError> for LineFault {
 
     fn from(_error: AllocError) -> Self {
         LineFault::Memory
+    }
+}
+
+impl From<UsageFault> for LineFault {
+    ghost use Rattle.std.specs.Prelude.{◌≡◌};
+    ghost use Rattle.er_words.specs.declared.line.LineFault.TheVariants.{Usage};
+
+    ghost from_gives = { λ usage fault. fault ≡ Usage usage };
+
+    fn from(usage: UsageFault) -> Self {
+        LineFault::Usage(usage)
     }
 }
 
@@ -177,23 +192,22 @@ impl Line {
 
 /// The FILE that a lone word is.
 fn lone_file(alloc: Global, words: &[&str]) -> Result<FilePath, LineFault>
-    ensures { Reads (lone_file (map (λ word. word.now) words.now)) result }
+    ensures { Reads (lone_file (map (λ word. word.now) words.now))
+        (values_fault (Kind.Text ∷ []) 1 (map (λ word. word.now) words.now)) result }
 {
-    let [file] = *words else {
-        return Err(LineFault::Usage);
-    };
+    let (file, words) = text(words, 1)?;
+    end(words, 2)?;
     Ok(FilePath::from_str(alloc, file)?)
 }
 
 fn read_init(alloc: Global, words: &[&str]) -> Result<Line, LineFault>
-    ensures { Reads (init_of (map (λ word. word.now) words.now)) result }
+    ensures { ReadsBy sub.Init (map (λ word. word.now) words.now) result }
 {
-    let [file, name, rounds, cut] = *words else {
-        return Err(LineFault::Usage);
-    };
-    let (Some(rounds), Some(cut)) = (small_number_of(rounds), small_number_of(cut)) else {
-        return Err(LineFault::Usage);
-    };
+    let (file, words) = text(words, 1)?;
+    let (name, words) = text(words, 2)?;
+    let (rounds, words) = small_number(words, 3)?;
+    let (cut, words) = small_number(words, 4)?;
+    end(words, 5)?;
     Ok(Line::Init {
         file: FilePath::from_str(alloc, file)?,
         name: name_of(alloc, name)?,
@@ -203,11 +217,11 @@ fn read_init(alloc: Global, words: &[&str]) -> Result<Line, LineFault>
 }
 
 fn read_enrol(alloc: Global, words: &[&str]) -> Result<Line, LineFault>
-    ensures { Reads (enrol_of (map (λ word. word.now) words.now)) result }
+    ensures { ReadsBy sub.Enrol (map (λ word. word.now) words.now) result }
 {
-    let [file, name] = *words else {
-        return Err(LineFault::Usage);
-    };
+    let (file, words) = text(words, 1)?;
+    let (name, words) = text(words, 2)?;
+    end(words, 3)?;
     Ok(Line::Enrol {
         file: FilePath::from_str(alloc, file)?,
         name: name_of(alloc, name)?,
@@ -215,11 +229,11 @@ fn read_enrol(alloc: Global, words: &[&str]) -> Result<Line, LineFault>
 }
 
 fn read_import(alloc: Global, words: &[&str]) -> Result<Line, LineFault>
-    ensures { Reads (import_of (map (λ word. word.now) words.now)) result }
+    ensures { ReadsBy sub.Import (map (λ word. word.now) words.now) result }
 {
-    let [file, list] = *words else {
-        return Err(LineFault::Usage);
-    };
+    let (file, words) = text(words, 1)?;
+    let (list, words) = text(words, 2)?;
+    end(words, 3)?;
     Ok(Line::Import {
         file: FilePath::from_str(alloc, file)?,
         list: FilePath::from_str(alloc, list)?,
@@ -227,7 +241,7 @@ fn read_import(alloc: Global, words: &[&str]) -> Result<Line, LineFault>
 }
 
 fn read_start(alloc: Global, words: &[&str]) -> Result<Line, LineFault>
-    ensures { Reads (start_of (map (λ word. word.now) words.now)) result }
+    ensures { ReadsBy sub.Start (map (λ word. word.now) words.now) result }
 {
     Ok(Line::Start {
         file: lone_file(alloc, words)?,
@@ -235,14 +249,12 @@ fn read_start(alloc: Global, words: &[&str]) -> Result<Line, LineFault>
 }
 
 fn read_pair(alloc: Global, words: &[&str]) -> Result<Line, LineFault>
-    ensures { Reads (pair_of (map (λ word. word.now) words.now)) result }
+    ensures { ReadsBy sub.Pair (map (λ word. word.now) words.now) result }
 {
-    let [file, round, seed] = *words else {
-        return Err(LineFault::Usage);
-    };
-    let (Some(round), Some(seed)) = (small_number_of(round), seed_of(seed)) else {
-        return Err(LineFault::Usage);
-    };
+    let (file, words) = text(words, 1)?;
+    let (round, words) = small_number(words, 2)?;
+    let (seed, words) = seed(words, 3)?;
+    end(words, 4)?;
     Ok(Line::Pair {
         file: FilePath::from_str(alloc, file)?,
         round,
@@ -251,14 +263,12 @@ fn read_pair(alloc: Global, words: &[&str]) -> Result<Line, LineFault>
 }
 
 fn read_result(alloc: Global, words: &[&str]) -> Result<Line, LineFault>
-    ensures { Reads (result_of (map (λ word. word.now) words.now)) result }
+    ensures { ReadsBy sub.Result (map (λ word. word.now) words.now) result }
 {
-    let [file, report @ ..] = words else {
-        return Err(LineFault::Usage);
-    };
-    let Some((round, table, score)) = report_of(report) else {
-        return Err(LineFault::Usage);
-    };
+    let (file, words) = text(words, 1)?;
+    let (round, words) = small_number(words, 2)?;
+    let (table, words) = number(words, 3)?;
+    let score = score(words)?;
     Ok(Line::Result {
         file: FilePath::from_str(alloc, file)?,
         round,
@@ -268,14 +278,12 @@ fn read_result(alloc: Global, words: &[&str]) -> Result<Line, LineFault>
 }
 
 fn read_correct(alloc: Global, words: &[&str]) -> Result<Line, LineFault>
-    ensures { Reads (correct_of (map (λ word. word.now) words.now)) result }
+    ensures { ReadsBy sub.Correct (map (λ word. word.now) words.now) result }
 {
-    let [file, report @ ..] = words else {
-        return Err(LineFault::Usage);
-    };
-    let Some((round, table, score)) = report_of(report) else {
-        return Err(LineFault::Usage);
-    };
+    let (file, words) = text(words, 1)?;
+    let (round, words) = small_number(words, 2)?;
+    let (table, words) = number(words, 3)?;
+    let score = score(words)?;
     Ok(Line::Correct {
         file: FilePath::from_str(alloc, file)?,
         round,
@@ -285,14 +293,11 @@ fn read_correct(alloc: Global, words: &[&str]) -> Result<Line, LineFault>
 }
 
 fn read_drop(alloc: Global, words: &[&str]) -> Result<Line, LineFault>
-    ensures { Reads (drop_of (map (λ word. word.now) words.now)) result }
+    ensures { ReadsBy sub.Drop (map (λ word. word.now) words.now) result }
 {
-    let [file, player] = *words else {
-        return Err(LineFault::Usage);
-    };
-    let Some(player) = number_of(player) else {
-        return Err(LineFault::Usage);
-    };
+    let (file, words) = text(words, 1)?;
+    let (player, words) = number(words, 2)?;
+    end(words, 3)?;
     Ok(Line::Drop {
         file: FilePath::from_str(alloc, file)?,
         player,
@@ -300,7 +305,7 @@ fn read_drop(alloc: Global, words: &[&str]) -> Result<Line, LineFault>
 }
 
 fn read_cut(alloc: Global, words: &[&str]) -> Result<Line, LineFault>
-    ensures { Reads (cut_of (map (λ word. word.now) words.now)) result }
+    ensures { ReadsBy sub.Cut (map (λ word. word.now) words.now) result }
 {
     Ok(Line::Cut {
         file: lone_file(alloc, words)?,
@@ -308,14 +313,12 @@ fn read_cut(alloc: Global, words: &[&str]) -> Result<Line, LineFault>
 }
 
 fn read_playoff(alloc: Global, words: &[&str]) -> Result<Line, LineFault>
-    ensures { Reads (playoff_of (map (λ word. word.now) words.now)) result }
+    ensures { ReadsBy sub.Playoff (map (λ word. word.now) words.now) result }
 {
-    let [file, report @ ..] = words else {
-        return Err(LineFault::Usage);
-    };
-    let Some((stage, slot, score)) = slot_report_of(report) else {
-        return Err(LineFault::Usage);
-    };
+    let (file, words) = text(words, 1)?;
+    let (stage, words) = small_number(words, 2)?;
+    let (slot, words) = small_number(words, 3)?;
+    let score = score(words)?;
     Ok(Line::Playoff {
         file: FilePath::from_str(alloc, file)?,
         stage,
@@ -325,7 +328,7 @@ fn read_playoff(alloc: Global, words: &[&str]) -> Result<Line, LineFault>
 }
 
 fn read_standings(alloc: Global, words: &[&str]) -> Result<Line, LineFault>
-    ensures { Reads (standings_of (map (λ word. word.now) words.now)) result }
+    ensures { ReadsBy sub.Standings (map (λ word. word.now) words.now) result }
 {
     Ok(Line::Standings {
         file: lone_file(alloc, words)?,
@@ -333,7 +336,7 @@ fn read_standings(alloc: Global, words: &[&str]) -> Result<Line, LineFault>
 }
 
 fn read_players(alloc: Global, words: &[&str]) -> Result<Line, LineFault>
-    ensures { Reads (players_of (map (λ word. word.now) words.now)) result }
+    ensures { ReadsBy sub.Players (map (λ word. word.now) words.now) result }
 {
     Ok(Line::Players {
         file: lone_file(alloc, words)?,
@@ -341,14 +344,11 @@ fn read_players(alloc: Global, words: &[&str]) -> Result<Line, LineFault>
 }
 
 fn read_slips(alloc: Global, words: &[&str]) -> Result<Line, LineFault>
-    ensures { Reads (slips_of (map (λ word. word.now) words.now)) result }
+    ensures { ReadsBy sub.Slips (map (λ word. word.now) words.now) result }
 {
-    let [file, round] = *words else {
-        return Err(LineFault::Usage);
-    };
-    let Some(round) = small_number_of(round) else {
-        return Err(LineFault::Usage);
-    };
+    let (file, words) = text(words, 1)?;
+    let (round, words) = small_number(words, 2)?;
+    end(words, 3)?;
     Ok(Line::Slips {
         file: FilePath::from_str(alloc, file)?,
         round,
@@ -356,7 +356,7 @@ fn read_slips(alloc: Global, words: &[&str]) -> Result<Line, LineFault>
 }
 
 fn read_bracket(alloc: Global, words: &[&str]) -> Result<Line, LineFault>
-    ensures { Reads (bracket_of (map (λ word. word.now) words.now)) result }
+    ensures { ReadsBy sub.Bracket (map (λ word. word.now) words.now) result }
 {
     Ok(Line::Bracket {
         file: lone_file(alloc, words)?,
@@ -364,14 +364,11 @@ fn read_bracket(alloc: Global, words: &[&str]) -> Result<Line, LineFault>
 }
 
 fn read_export(alloc: Global, words: &[&str]) -> Result<Line, LineFault>
-    ensures { Reads (export_of (map (λ word. word.now) words.now)) result }
+    ensures { ReadsBy sub.Export (map (λ word. word.now) words.now) result }
 {
-    let [file, kind] = *words else {
-        return Err(LineFault::Usage);
-    };
-    let Some(kind) = kind_of(kind) else {
-        return Err(LineFault::Usage);
-    };
+    let (file, words) = text(words, 1)?;
+    let (kind, words) = list_kind(words, 2)?;
+    end(words, 3)?;
     Ok(Line::Export {
         file: FilePath::from_str(alloc, file)?,
         kind,
@@ -379,14 +376,12 @@ fn read_export(alloc: Global, words: &[&str]) -> Result<Line, LineFault>
 }
 
 fn read_serve(alloc: Global, words: &[&str]) -> Result<Line, LineFault>
-    ensures { Reads (serve_of (map (λ word. word.now) words.now)) result }
+    ensures { ReadsBy sub.Serve (map (λ word. word.now) words.now) result }
 {
-    let [file, port, count] = *words else {
-        return Err(LineFault::Usage);
-    };
-    let (Some(port), Some(count)) = (number_of(port), count_of(count)) else {
-        return Err(LineFault::Usage);
-    };
+    let (file, words) = text(words, 1)?;
+    let (port, words) = number(words, 2)?;
+    let (count, words) = count(words, 3)?;
+    end(words, 4)?;
     Ok(Line::Serve {
         file: FilePath::from_str(alloc, file)?,
         port,
@@ -395,46 +390,48 @@ fn read_serve(alloc: Global, words: &[&str]) -> Result<Line, LineFault>
 }
 
 fn read_migrate(alloc: Global, words: &[&str]) -> Result<Line, LineFault>
-    ensures { Reads (migrate_of (map (λ word. word.now) words.now)) result }
+    ensures { ReadsBy sub.Migrate (map (λ word. word.now) words.now) result }
 {
     Ok(Line::Migrate {
         file: lone_file(alloc, words)?,
     })
 }
 
-/// The line of the subcommand that has this name.
-fn read_named(alloc: Global, name: &str, words: &[&str]) -> Result<Line, LineFault>
-    ensures { Reads (line_by subcommands name.now (map (λ word. word.now) words.now)) result }
+/// The line of a subcommand, by the words after its name.
+fn read_by(alloc: Global, subcommand: Subcommand, words: &[&str]) -> Result<Line, LineFault>
+    ensures { ReadsBy subcommand (map (λ word. word.now) words.now) result }
 {
-    match name {
-        "init" => read_init(alloc, words),
-        "enrol" => read_enrol(alloc, words),
-        "import" => read_import(alloc, words),
-        "start" => read_start(alloc, words),
-        "pair" => read_pair(alloc, words),
-        "result" => read_result(alloc, words),
-        "correct" => read_correct(alloc, words),
-        "drop" => read_drop(alloc, words),
-        "cut" => read_cut(alloc, words),
-        "playoff" => read_playoff(alloc, words),
-        "standings" => read_standings(alloc, words),
-        "players" => read_players(alloc, words),
-        "slips" => read_slips(alloc, words),
-        "bracket" => read_bracket(alloc, words),
-        "export" => read_export(alloc, words),
-        "serve" => read_serve(alloc, words),
-        "migrate" => read_migrate(alloc, words),
-        _ => Err(LineFault::Usage),
+    match subcommand {
+        Subcommand::Init => read_init(alloc, words),
+        Subcommand::Enrol => read_enrol(alloc, words),
+        Subcommand::Import => read_import(alloc, words),
+        Subcommand::Start => read_start(alloc, words),
+        Subcommand::Pair => read_pair(alloc, words),
+        Subcommand::Result => read_result(alloc, words),
+        Subcommand::Correct => read_correct(alloc, words),
+        Subcommand::Drop => read_drop(alloc, words),
+        Subcommand::Cut => read_cut(alloc, words),
+        Subcommand::Playoff => read_playoff(alloc, words),
+        Subcommand::Standings => read_standings(alloc, words),
+        Subcommand::Players => read_players(alloc, words),
+        Subcommand::Slips => read_slips(alloc, words),
+        Subcommand::Bracket => read_bracket(alloc, words),
+        Subcommand::Export => read_export(alloc, words),
+        Subcommand::Serve => read_serve(alloc, words),
+        Subcommand::Migrate => read_migrate(alloc, words),
     }
 }
 
-/// Reads the words of a command line, without the program's name. A word that begins with `-` is a usage fault in any place.
+/// Reads the words of a command line, without the program's name, or says what is wrong with them first: that one begins with `-`, in any place,
+/// and else what is from the first word on.
 pub fn read_words(alloc: Global, words: &[String]) -> Result<Line, LineFault>
-    ensures { Reads (line_of (map string_bytes words.now)) result }
+    ensures { ReadsWords (map string_bytes words.now) result }
 {
-    if has_option(words) {
-        return Err(LineFault::Usage);
+    if let Some(place) = option_at(words) {
+        return Err(LineFault::Usage(UsageFault::LeadingDash { place }));
     }
-    let (name, rest) = split_words(alloc, words)?;
-    read_named(alloc, name, &rest)
+    let Some((subcommand, values)) = split_words(alloc, words)? else {
+        return Err(LineFault::Usage(UsageFault::UnknownSubcommand));
+    };
+    read_by(alloc, subcommand, &values)
 }

@@ -1,54 +1,26 @@
-ghost use Rattle.std.specs.Prelude.{◌≡◌, ◌≢◌, Err, IsFalse, IfOk, None, Some, map, string_bytes};
-ghost use Rattle.std.specs.List.{list_any};
+ghost use Rattle.std.specs.Prelude.{◌≡◌, ◌≢◌, IfOk, IsOk, None, map, option_map, string_bytes};
+ghost use Rattle.std.specs.List.{position};
 ghost use Rattle.clap.specs.Words.{app_of, found_of, kind_of, rows_of};
-ghost use Rattle.er_words.specs.Line.{is_option};
-ghost use Rattle.er_words.specs.Words.{is_subcommand, program, split_of, words_in};
+ghost use Rattle.er_words.specs.Line.{is_option, split_of};
+ghost use Rattle.er_words.specs.Words.{program, words_in};
 
-use crate::line::LineFault;
+use crate::subcommand::Subcommand;
 use clap::error::ErrorKind;
 use clap::{Arg, ArgMatches, Command, Error};
 use std::alloc::{AllocError, Global};
 
-/// The names of the subcommands.
-static SUBCOMMANDS: [&str; 17] = [
-    "init",
-    "enrol",
-    "import",
-    "start",
-    "pair",
-    "result",
-    "correct",
-    "drop",
-    "cut",
-    "playoff",
-    "standings",
-    "players",
-    "slips",
-    "bracket",
-    "export",
-    "serve",
-    "migrate",
-];
-
 /// Whether a word asks for an option. There are none.
-pub fn is_option(word: &str) -> bool
+fn is_option(word: &str) -> bool
     ensures { result ≡ is_option word.now }
 {
     word.starts_with('-')
 }
 
-/// Whether one of the words asks for an option.
-pub fn has_option(words: &[String]) -> bool
-    ensures { result ≡ list_any is_option (map string_bytes words.now) }
+/// The place of the first word that asks for an option.
+pub fn option_at(words: &[String]) -> Option<usize>
+    ensures { result ≡ position is_option (map string_bytes words.now) }
 {
-    words.iter().any(|word| is_option(word.as_str()))
-}
-
-/// Whether a word names a subcommand.
-fn is_subcommand(word: &str) -> bool
-    ensures { result ≡ is_subcommand word.now }
-{
-    SUBCOMMANDS.contains(&word)
+    words.iter().position(|word| is_option(word.as_str()))
 }
 
 /// A parser that knows this subcommand alone, since one of all seventeen takes most of a line's time. It takes any number of words, which are
@@ -65,12 +37,13 @@ fn command<'a>(alloc: Global, name: &'a str) -> Result<Command<'a>, AllocError>
         .subcommand(leaf)
 }
 
-fn fault_of(error: Error) -> LineFault
-    ensures { result ≡ LineFault.Usage → kind_of error ≢ ErrorKind.OutOfMemory }
+/// Hands on that the parser had no memory.
+fn want_of_memory(error: Error) -> Result<(), AllocError>
+    ensures { IsOk result → kind_of error ≢ ErrorKind.OutOfMemory }
 {
     match error.kind() {
-        ErrorKind::OutOfMemory => LineFault::Memory,
-        _ => LineFault::Usage,
+        ErrorKind::OutOfMemory => Err(AllocError),
+        _ => Ok(()),
     }
 }
 
@@ -85,30 +58,32 @@ fn words_of<'a>(alloc: Global, matches: &ArgMatches<'a>) -> Result<Vec<&'a str>,
     }
 }
 
-/// The subcommand that the words name, and the words after it.
+/// The subcommand that the first word names, and the words after it.
 pub fn split_words<'a>(
     alloc: Global,
     words: &'a [String],
-) -> Result<(&'a str, Vec<&'a str>), LineFault>
-    requires { IsFalse (list_any is_option (map string_bytes words.now)) }
-    ensures ok { IfOk result (λ split. split_of (map string_bytes words.entry.now)
-        ≡ Some (split.0.now, map (λ word. word.now) split.1.items)) }
-    ensures usage { result ≡ Err LineFault.Usage
-        → split_of (map string_bytes words.entry.now) ≡ None }
+) -> Result<Option<(Subcommand, Vec<&'a str>)>, AllocError>
+    requires { position is_option (map string_bytes words.now) ≡ None }
+    ensures { IfOk result (λ found. option_map
+        (λ split. (split.0, map (λ word. word.now) split.1.items)) found
+        ≡ split_of (map string_bytes words.entry.now)) }
 {
     let Some(first) = words.first() else {
-        return Err(LineFault::Usage);
+        return Ok(None);
     };
     let name = first.as_str();
-    if !is_subcommand(name) {
-        return Err(LineFault::Usage);
-    }
+    let Some(subcommand) = Subcommand::named(name) else {
+        return Ok(None);
+    };
     let matches = match command(alloc, name)?.try_get_matches_from(words) {
         Ok(matches) => matches,
-        Err(error) => return Err(fault_of(error)),
+        Err(error) => {
+            want_of_memory(error)?;
+            return Ok(None);
+        }
     };
     match matches.subcommand() {
-        Some((_name, inner)) => Ok((name, words_of(alloc, inner)?)),
-        None => Err(LineFault::Usage),
+        Some((_name, inner)) => Ok(Some((subcommand, words_of(alloc, inner)?))),
+        None => Ok(None),
     }
 }

@@ -15,7 +15,7 @@ fn main(rt: HostRuntime) -> ExitCode {
     let status = match words(&rt) {
         Ok(words) if words.is_empty() => {
             if input.is_terminal() {
-                er_cli::say_awaiting(&mut err);
+                er_cli::print_awaiting(&mut err);
             }
             er_cli::run_script(&rt, &mut input, &mut out)
         }

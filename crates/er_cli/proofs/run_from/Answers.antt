@@ -13,18 +13,18 @@ always (Some x) it = it x
 -- memory may be wanting for any words
 pub returns-clause-ends : goal.returns-clause-ends
 returns-clause-ends g c =
-    let tell = c.tell in
+    let printed = c.print in
     record {
       asked = search rules;
       unread = search rules;
-      answered = λ asked. always (line_of (map string_bytes c.args.words.now)) (λ line. inr tell.ensures);
+      answered = λ asked. always (line_of (map string_bytes c.args.words.now)) (λ line. inr printed.ensures);
     }
 
 pub returns-clause-goes_on : goal.returns-clause-goes_on
 returns-clause-goes_on g c new first ends was asked =
-    let tell = c.tell in
+    let printed = c.print in
     always (line_of (map string_bytes c.args.words.now)) (λ line.
-    absent_goes_on _ _ _ new ends first _ _ _ _ _ (Refused Memory) (inr (Memory, inl refl, refl)) tell.ensures (action_of line))
+    absent_goes_on _ _ _ new ends first _ _ _ _ _ (Refused Memory) (inr (Memory, inl refl, refl)) printed.ensures (action_of line))
 
 pub returns-in-Ok-clause-goes_on : goal.returns-in-Ok-clause-goes_on
-returns-in-Ok-clause-goes_on g c new first ends was asked = rw c.in-Ok.ensures (c.act.ensures.goes_on new first ends was)
+returns-in-Ok-clause-goes_on g c new first ends was asked = rw c.in-Ok.ensures.0 (c.run_line.ensures.goes_on new first ends was)

@@ -2,7 +2,7 @@
 use Rattle.std.specs.Prelude.{◌≡◌, ◌<◌, ◌==◌, if◌then◌else◌, ℕ, List, [], length, slice_index_or, slice_set, Option, Some, None}
 use Rattle.er_event.specs.declared.matches.Match.{Match}
 use Rattle.er_event.specs.declared.totals.Totals.{Totals}
-use Rattle.er_event.specs.Lines.{Line, own}
+use Rattle.er_event.specs.Appearances.{Appearance, own}
 use Rattle.er_event.specs.Totals.{plus, totals_of}
 
 -- the match of the two who sit at this place has this score
@@ -23,13 +23,13 @@ abbrev pub with_new : Match → Option Match → Match
 with_new m None = m
 with_new m (Some scored) = if scored.a == m.a then scored else m
 
--- by number, what these lines come to; 0 is no player's
-abbrev pub ArePlayed : List Line → List Totals → Type 0
-ArePlayed lines played =
-    (player : ℕ) → 0 < player → player < length played → slice_index_or played player (totals_of []) ≡ totals_of (own player lines)
+-- by number, what these appearances come to; 0 is no player's
+abbrev pub ArePlayed : List Appearance → List Totals → Type 0
+ArePlayed appearances played =
+    (player : ℕ) → 0 < player → player < length played → slice_index_or played player (totals_of []) ≡ totals_of (own player appearances)
 
--- by number, with what these lines come to
-abbrev pub AddsLines : List Line → List Totals → List Totals → Type 0
-AddsLines lines before after =
+-- by number, with what these appearances come to
+abbrev pub AddsAppearances : List Appearance → List Totals → List Totals → Type 0
+AddsAppearances appearances before after =
     (player : ℕ) → 0 < player → player < length before
-    → slice_index_or after player (totals_of []) ≡ plus (slice_index_or before player (totals_of [])) (totals_of (own player lines))
+    → slice_index_or after player (totals_of []) ≡ plus (slice_index_or before player (totals_of [])) (totals_of (own player appearances))

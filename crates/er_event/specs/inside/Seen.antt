@@ -6,7 +6,7 @@ use Rattle.er_event.specs.declared.rounds.Round.{Round}
 use Rattle.er_event.specs.declared.scores.Games.{Games}
 use Rattle.er_event.specs.declared.totals.Totals.{Totals}
 use Rattle.er_event.specs.Change.{scored_slot}
-use Rattle.er_event.specs.Lines.{own, lines_of_match}
+use Rattle.er_event.specs.Appearances.{own, appearances_of_match}
 use Rattle.er_event.specs.Round.{seats}
 use Rattle.er_event.specs.Totals.{totals_of, totals_of_games}
 
@@ -19,10 +19,10 @@ AreFew g = (g.x ≤ 3) × (g.y ≤ 3) × (g.d ≤ 3)
 
 -- none where the player isn't in the match, or it has no score
 abbrev pub AreSeen : Match → ℕ → Option Games → Type 0
-AreSeen m player None = (round : ℕ) → own player (lines_of_match round m) ≡ []
+AreSeen m player None = (round : ℕ) → own player (appearances_of_match round m) ≡ []
 AreSeen m player (Some g) =
     ((player ≡ m.a) ⊎ (player ≡ m.b)) × AreFew g
-    × ((round : ℕ) → totals_of (own player (lines_of_match round m)) ≡ totals_of_games (Some g))
+    × ((round : ℕ) → totals_of (own player (appearances_of_match round m)) ≡ totals_of_games (Some g))
 
 -- what so many matches can come to at most
 pub record AreOver (rounds : ℕ) (t : Totals) : Type 0 where

@@ -50,8 +50,8 @@ impl Event {
         ensures sound { IfOk result IsSoundButForSeeds }
         ensures only { IfOk result (λ e. (other : EventValue) → IsOf parts.now other
             → IsSoundButForSeeds other → other ≡ e) }
-        ensures damaged { (place : Place) → result ≡ Err (PartsFault.Damaged place)
-            → IsFirstFault parts.now place }
+        ensures damaged { (table : Place) → result ≡ Err (PartsFault.Damaged table)
+            → IsFirstFault parts.now table }
     {
         let setup = read_event(parts.event.as_slice())?;
         let players = read_players(alloc, &setup, parts.players.as_slice())?;
@@ -81,8 +81,8 @@ impl Event {
         // No other sound event has these rows.
         ensures only { IfOk result (λ e. (other : EventValue) → IsOf parts other
             → IsSoundButForSeeds other → other ≡ e) }
-        ensures damaged { (place : Place) → result ≡ Err (PartsFault.Damaged place)
-            → IsFirstFault parts place }
+        ensures damaged { (table : Place) → result ≡ Err (PartsFault.Damaged table)
+            → IsFirstFault parts table }
     {
         Event::read(alloc, &parts)
     }

@@ -104,8 +104,8 @@ fn read_slots(alloc: Global, stage: u8, rows: &[BracketRow]) -> Result<Items<Mat
     ensures value { IfOk result (λ ms. rows.now ≡ stage_rows stage ms) }
     ensures exact { (ms : List Match) → All FitsSlotRow ms → rows.now ≡ stage_rows stage ms
         → MatchResult result (λ found. found ≡ ms) (λ why. why ≡ PartsFault.Memory) }
-    ensures damaged { (place : Place) → result ≡ Err (PartsFault.Damaged place)
-        → place ≡ Place.BracketTable }
+    ensures damaged { (table : Place) → result ≡ Err (PartsFault.Damaged table)
+        → table ≡ Place.BracketTable }
 {
     let mut matches = Items::new(alloc);
     for (place, row) in rows.iter().enumerate() {
@@ -139,8 +139,8 @@ fn read_next(
         → rows.now ≡ stage_rows stage ms ++ bracket_rows_from (stage + 1) later
         → MatchResult result (λ it. (it.0 ≡ ms)
         × (it.1 ≡ length (stage_rows stage ms))) (λ why. why ≡ PartsFault.Memory) }
-    ensures damaged { (place : Place) → result ≡ Err (PartsFault.Damaged place)
-        → place ≡ Place.BracketTable }
+    ensures damaged { (table : Place) → result ≡ Err (PartsFault.Damaged table)
+        → table ≡ Place.BracketTable }
 {
     let count = rows_of_stage(rows, stage);
     if count == 0 {
@@ -156,8 +156,8 @@ fn read_stages(alloc: Global, rows: &[BracketRow]) -> Result<Vec<Items<Match>>, 
     ensures exact { (stages : List (List Match)) → All FitStageRows stages
         → length stages ≤ MAX_STAGES → rows.now ≡ bracket_rows_from 1 stages
         → MatchResult result (λ found. found.items ≡ stages) (λ why. why ≡ PartsFault.Memory) }
-    ensures damaged { (place : Place) → result ≡ Err (PartsFault.Damaged place)
-        → place ≡ Place.BracketTable }
+    ensures damaged { (table : Place) → result ≡ Err (PartsFault.Damaged table)
+        → table ≡ Place.BracketTable }
 {
     let mut stages: Vec<Items<Match>> = Vec::new(alloc);
     let mut read = 0;
@@ -205,8 +205,8 @@ pub fn read_bracket(
     ensures only { IfOk result (λ stages. (others : List (List Match))
         → AreStages setup.now.phase setup.now.cut (range_with_len 1 count) others
         → rows.now ≡ bracket_rows_from 1 others → others ≡ stages.items) }
-    ensures damaged { (place : Place) → result ≡ Err (PartsFault.Damaged place)
-        → (place ≡ Place.BracketTable)
+    ensures damaged { (table : Place) → result ≡ Err (PartsFault.Damaged table)
+        → (table ≡ Place.BracketTable)
         × ((stages : List (List Match))
         → AreStages setup.now.phase setup.now.cut (range_with_len 1 count) stages
         → rows.now ≢ bracket_rows_from 1 stages) }

@@ -91,8 +91,8 @@ fn read_row(row: &EventRow) -> Result<Setup, PartsFault>
         → IsEventRow (row.now ∷ []) e) }
     ensures version { IfOk result (λ setup. (e : EventValue) (is : IsEventRow (row.now ∷ []) e)
         → is.version ≡ setup.version) }
-    ensures damaged { (place : Place) → result ≡ Err (PartsFault.Damaged place)
-        → (place ≡ Place.EventTable) × ((e : EventValue) → IsEventRow (row.now ∷ []) e → ⊥) }
+    ensures damaged { (table : Place) → result ≡ Err (PartsFault.Damaged table)
+        → (table ≡ Place.EventTable) × ((e : EventValue) → IsEventRow (row.now ∷ []) e → ⊥) }
 {
     if row.id != 1 || !is_serial(row.serial) {
         return Err(DAMAGED);
@@ -134,8 +134,8 @@ pub fn read_event(rows: &[EventRow]) -> Result<Setup, PartsFault>
         → IsEventRow rows.now e) }
     ensures version { IfOk result (λ setup. (e : EventValue) (is : IsEventRow rows.now e)
         → is.version ≡ setup.version) }
-    ensures damaged { (place : Place) → result ≡ Err (PartsFault.Damaged place)
-        → (place ≡ Place.EventTable) × ((e : EventValue) → IsEventRow rows.now e → ⊥) }
+    ensures damaged { (table : Place) → result ≡ Err (PartsFault.Damaged table)
+        → (table ≡ Place.EventTable) × ((e : EventValue) → IsEventRow rows.now e → ⊥) }
 {
     match rows {
         [row] => read_row(row),

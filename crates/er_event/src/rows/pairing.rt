@@ -160,8 +160,8 @@ fn read_tables(alloc: Global, round: u8, rows: &[PairingRow]) -> Result<Items<Ma
     ensures exact { (ms : List Match) → All FitsRow ms → AreTables ms
         → rows.now ≡ table_rows round 1 ms
         → MatchResult result (λ found. found ≡ ms) (λ why. why ≡ PartsFault.Memory) }
-    ensures damaged { (place : Place) → result ≡ Err (PartsFault.Damaged place)
-        → place ≡ Place.PairingTable }
+    ensures damaged { (table : Place) → result ≡ Err (PartsFault.Damaged table)
+        → table ≡ Place.PairingTable }
 {
     let mut matches = Items::new(alloc);
     for (place, row) in rows.iter().enumerate() {
@@ -197,8 +197,8 @@ fn read_with_bye(
         → IsTrue (is_bye b) → bye.now ≡ pairing_row round (0, b)
         → tables.now ≡ table_rows round 1 ms
         → MatchResult result (λ found. found ≡ ms ++ b ∷ []) (λ why. why ≡ PartsFault.Memory) }
-    ensures damaged { (place : Place) → result ≡ Err (PartsFault.Damaged place)
-        → place ≡ Place.PairingTable }
+    ensures damaged { (table : Place) → result ≡ Err (PartsFault.Damaged table)
+        → table ≡ Place.PairingTable }
 {
     let Some(bye) = read_bye(round, bye) else {
         return Err(DAMAGED);
@@ -220,8 +220,8 @@ fn read_round(alloc: Global, round: u8, rows: &[PairingRow]) -> Result<Items<Mat
     ensures value { IfOk result (λ ms. rows.now ≡ keyed_round_rows round ms) }
     ensures exact { (ms : List Match) → FitRows ms → rows.now ≡ keyed_round_rows round ms
         → MatchResult result (λ found. found ≡ ms) (λ why. why ≡ PartsFault.Memory) }
-    ensures damaged { (place : Place) → result ≡ Err (PartsFault.Damaged place)
-        → place ≡ Place.PairingTable }
+    ensures damaged { (table : Place) → result ≡ Err (PartsFault.Damaged table)
+        → table ≡ Place.PairingTable }
 {
     if rows.is_empty() || !is_bye_row(&rows[0]) {
         return read_tables(alloc, round, rows);
@@ -251,8 +251,8 @@ fn read_next(
         → rows.now ≡ keyed_round_rows round ms ++ keyed_rows_from (round + 1) later
         → MatchResult result (λ it. (it.0 ≡ ms)
         × (it.1 ≡ length (keyed_round_rows round ms))) (λ why. why ≡ PartsFault.Memory) }
-    ensures damaged { (place : Place) → result ≡ Err (PartsFault.Damaged place)
-        → place ≡ Place.PairingTable }
+    ensures damaged { (table : Place) → result ≡ Err (PartsFault.Damaged table)
+        → table ≡ Place.PairingTable }
 {
     let count = rows_of_round(rows, round);
     if count == 0 {
@@ -268,8 +268,8 @@ fn read_rounds(alloc: Global, rows: &[PairingRow]) -> Result<Vec<Round>, PartsFa
     ensures exact { (rounds : List Round) → All (λ (r : Round). FitRows r.matches) rounds
         → length rounds ≤ MAX_ROUNDS → rows.now ≡ keyed_rows_from 1 rounds
         → MatchResult result (λ found. found.items ≡ rounds) (λ why. why ≡ PartsFault.Memory) }
-    ensures damaged { (place : Place) → result ≡ Err (PartsFault.Damaged place)
-        → place ≡ Place.PairingTable }
+    ensures damaged { (table : Place) → result ≡ Err (PartsFault.Damaged table)
+        → table ≡ Place.PairingTable }
 {
     let mut rounds: Vec<Round> = Vec::new(alloc);
     let mut read = 0;
@@ -318,8 +318,8 @@ pub fn read_stored(
     ensures only { IfOk result (λ rounds. (others : List Round)
         → AreRounds setup.now.phase setup.now.rounds (range_with_len 1 count) others
         → rows.now ≡ keyed_rows_from 1 others → others ≡ rounds.items) }
-    ensures damaged { (place : Place) → result ≡ Err (PartsFault.Damaged place)
-        → (place ≡ Place.PairingTable)
+    ensures damaged { (table : Place) → result ≡ Err (PartsFault.Damaged table)
+        → (table ≡ Place.PairingTable)
         × ((rounds : List Round)
         → AreRounds setup.now.phase setup.now.rounds (range_with_len 1 count) rounds
         → rows.now ≢ keyed_rows_from 1 rounds) }

@@ -10,7 +10,7 @@ ghost use Rattle.er_event.specs.Version.{KeepsPlayers};
 ghost use Rattle.er_event.specs.inside.Reading.{IsLawfulPlayer};
 
 use super::event::{Setup, small_of};
-use super::flag_of;
+use super::read_flag;
 use crate::events::PartsFault;
 use crate::items::Items;
 use crate::names::Name;
@@ -43,7 +43,7 @@ fn read_player(row: &PlayerRow) -> Option<Player>
 {
     let no = number_of(row.no)?;
     let name = Name::try_from_bytes(row.name.as_slice()).ok()?;
-    let dropped = flag_of(row.dropped)?;
+    let dropped = read_flag(row.dropped)?;
     let joined = small_of(row.joined)?;
     Some(Player {
         no,
@@ -57,8 +57,8 @@ fn read_player(row: &PlayerRow) -> Option<Player>
 fn read_rows(alloc: Global, rows: &[PlayerRow]) -> Result<Vec<Player>, PartsFault>
     ensures value { IfOk result (λ players. (rows.now ≡ map player_row players.items)
         × All (λ p. IsTrue (is_lawful_name p.name)) players.items) }
-    ensures damaged { (place : Place) → result ≡ Err (PartsFault.Damaged place)
-        → (place ≡ Place.PlayerTable)
+    ensures damaged { (table : Place) → result ≡ Err (PartsFault.Damaged table)
+        → (table ≡ Place.PlayerTable)
         × ((players : List Player) → All IsLawfulPlayer players
         → rows.now ≢ map player_row players) }
 {
@@ -82,8 +82,8 @@ pub fn read_players(
     ensures value { IfOk result (λ players. (rows.now ≡ map player_row players.items)
         × ArePlayers setup.now.phase setup.now.rounds players.items) }
     ensures kept { IfOk result (λ players. KeepsPlayers setup.now.version players.items) }
-    ensures damaged { (place : Place) → result ≡ Err (PartsFault.Damaged place)
-        → (place ≡ Place.PlayerTable)
+    ensures damaged { (table : Place) → result ≡ Err (PartsFault.Damaged table)
+        → (table ≡ Place.PlayerTable)
         × ((players : List Player) → ArePlayers setup.now.phase setup.now.rounds players
         → KeepsPlayers setup.now.version players → rows.now ≢ map player_row players) }
 {

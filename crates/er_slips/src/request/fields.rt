@@ -3,8 +3,8 @@ ghost use Rattle.std.specs.Char.{to_ascii_lowercase};
 ghost use Rattle.httparse.specs.Spans.{header_bytes, IsHeaderWithin};
 ghost use Rattle.er_slips.specs.Request.{is_named, length_of, body_length};
 
-use crate::request::asked::Fault;
 use crate::request::numbers::are_digits;
+use crate::request::wanted::Fault;
 use httparse::spans::HeaderSpan;
 
 /// How many bytes a body may have.

@@ -1,10 +1,22 @@
 ghost use Rattle.std.specs.Prelude.{◌≡◌, ◌≤◌, IfOk, length, take, drop};
-ghost use Rattle.er_slips.specs.Routes.{before, after, routes, number_of_route};
+ghost use Rattle.er_slips.specs.Routes.{before, after, routes, pattern_of};
 ghost use Rattle.er_slips.specs.Request.{path_of, number_of, round_of, round_route, table_route, route_of};
 
 use crate::request::numbers::are_digits;
 use matchit::{InsertError, Router};
-use std::alloc::Global;
+use std::alloc::{AllocError, Global};
+use std::marker::Model;
+
+/// What the paths of a route look like.
+#[derive(Clone, Copy)]
+pub enum Pattern {
+    /// `/standings`
+    Standings,
+    /// `/rounds/{r}`
+    Round,
+    /// `/rounds/{r}/tables/{t}`
+    Table,
+}
 
 /// What a path names.
 #[derive(Clone, Copy)]
@@ -14,25 +26,53 @@ pub enum Route {
     Table { round: u8, table: u16 },
 }
 
-/// The three routes.
-pub fn router(alloc: Global) -> Result<Router<u32>, InsertError>
+fn router(alloc: Global) -> Result<Router<Pattern>, InsertError>
     ensures { IfOk result (λ r. r ≡ routes) }
 {
     let mut router = Router::new(alloc);
-    router.insert("/standings", 0)?;
-    router.insert("/rounds/{r}", 1)?;
-    router.insert("/rounds/{r}/tables/{t}", 2)?;
+    router.insert("/standings", Pattern::Standings)?;
+    router.insert("/rounds/{r}", Pattern::Round)?;
+    router.insert("/rounds/{r}/tables/{t}", Pattern::Table)?;
     Ok(router)
 }
 
-/// The number of the route of a path among the three.
-fn number_of_route(router: &Router<u32>, path: &str) -> Option<u32>
-    requires { router.now ≡ routes }
-    ensures { result ≡ number_of_route path.now }
-{
-    match router.at(path) {
-        Ok(found) => Some(*found.value),
-        Err(_) => None,
+/// The routes that requests are answered on, which are the same for each request.
+#[derive(Drop)]
+pub struct Routes {
+    router: Router<Pattern>,
+}
+
+impl Model for Routes {
+    ghost use Rattle.std.specs.Prelude.{◌≡◌};
+    ghost use Rattle.matchit.specs.Rows.{RowsOf};
+    ghost use Rattle.matchit.specs.Router.{RouteOf};
+    ghost use Rattle.er_slips.specs.declared.request.routes.Pattern.{Pattern};
+    ghost use Rattle.er_slips.specs.Routes.{routes};
+
+    ghost Value = { RowsOf (RouteOf Pattern) };
+
+    ghost view = { λ r. r.router };
+
+    ghost invariant = { λ r. r.router ≡ routes };
+}
+
+impl Routes {
+    /// The three routes. Fails for memory alone.
+    pub fn new(alloc: Global) -> Result<Routes, AllocError> {
+        match router(alloc) {
+            Ok(router) => Ok(Routes { router }),
+            Err(_) => Err(AllocError),
+        }
+    }
+
+    /// What the path looks like among the three.
+    fn pattern_of(&self, path: &str) -> Option<Pattern>
+        ensures { result ≡ pattern_of path.now }
+    {
+        match self.router.at(path) {
+            Ok(found) => Some(*found.value),
+            Err(_) => None,
+        }
     }
 }
 
@@ -104,14 +144,13 @@ fn table_route(rest: &[u8]) -> Option<Route>
 }
 
 /// The route of a path.
-pub fn route_of(router: &Router<u32>, path: &str) -> Option<Route>
-    requires { router.now ≡ routes }
+pub fn route_of(routes: &Routes, path: &str) -> Option<Route>
     ensures { result ≡ route_of path.now }
 {
     let rest = behind(path.as_bytes(), 8);
-    match number_of_route(router, path)? {
-        0 => Some(Route::Standings),
-        1 => round_route(rest),
-        _ => table_route(rest),
+    match routes.pattern_of(path)? {
+        Pattern::Standings => Some(Route::Standings),
+        Pattern::Round => round_route(rest),
+        Pattern::Table => table_route(rest),
     }
 }

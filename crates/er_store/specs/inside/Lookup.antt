@@ -26,7 +26,7 @@ use Rattle.sqlite.specs.Term.{Term}
 use Rattle.er_store.specs.Layout.{Layout, version_of}
 use Rattle.er_store.specs.Shape.{Form, Shape, tally_form, tally_table}
 use Rattle.er_store.specs.Reading.{Lists, first_columns, KeepsTables}
-use Rattle.er_store.specs.Standing.{HasTablesAt, StandsAt, StandsFor}
+use Rattle.er_store.specs.Representing.{HasTablesAt, RepresentsAt, Represents}
 use Rattle.er_store.specs.Loading.{IsListed, ListsParts}
 use Rattle.er_store.specs.Damage.{IsMisreadAs, MayRead, ReadsParts, IsFirstMisread, IfDamaged, said_version}
 use Rattle.er_store.specs.Tables.{read_tallies}
@@ -54,7 +54,7 @@ pub record IsOurs {R : Type 0} (form : Form R) (table : Shape R) : Type 0 where
       → IsAnswer (table_query (table.tree l) (terms l) keys) (overlay trees []) [] rows
       → Lists table.order (map (table.shown l) (trees (table.tree l))) rows
   pub whole : (l : Layout) (r : Row) → first_columns form.width (table.shown l r) ≡ table.shown l r
-  pub exact : (l : Layout) (db : Database) (e : EventValue) (s : ℕ) (rows : List Row) → StandsAt l db e s → IsSoundButForSeeds e
+  pub exact : (l : Layout) (db : Database) (e : EventValue) (s : ℕ) (rows : List Row) → RepresentsAt l db e s → IsSoundButForSeeds e
       → Lists table.order (map (table.shown l) (db.trees (table.tree l))) rows → rows ≡ map form.columns (table.rows (version_of l) e s)
   pub same : (r s : R) → form.columns r ≡ form.columns s → r ≡ s
 
@@ -75,20 +75,20 @@ pub record LooksUp {A : Type 0} (Finds : Database → A → Type 0) (Misses : Da
 pub record FindsRows {R : Type 0} (form : Form R) (table : Shape R) (sql : List ℕ) (db : Database) (rows : List R) : Type 0 where
   pub reads : MayRead form sql db rows
   pub lists : (l : Layout) → table.read (version_of l) ≡ sql → HasTablesAt l db.schema → IsListed form table l db rows
-  pub exact : (l : Layout) → table.read (version_of l) ≡ sql → (e : EventValue) (s : ℕ) → StandsAt l db e s → IsSoundButForSeeds e
+  pub exact : (l : Layout) → table.read (version_of l) ≡ sql → (e : EventValue) (s : ℕ) → RepresentsAt l db e s → IsSoundButForSeeds e
       → rows ≡ table.rows (version_of l) e s
 
 -- where the tables stand, memory or the device; and damage is of this table
 pub record MissesRows {R : Type 0} (form : Form R) (table : Shape R) (sql : List ℕ) (db : Database) (why : Refusal) : Type 0 where
   pub misread : (at : Place) → why ≡ Damaged at → (at ≡ table.place) × IsMisreadAs form sql db
-  pub refused : (l : Layout) → table.read (version_of l) ≡ sql → (e : EventValue) (s : ℕ) → StandsAt l db e s → IsSoundButForSeeds e
+  pub refused : (l : Layout) → table.read (version_of l) ≡ sql → (e : EventValue) (s : ℕ) → RepresentsAt l db e s → IsSoundButForSeeds e
       → IsFault why
 
 -- the rows of the four tables that an event is made of
 pub record FindsParts (db : Database) (parts : Parts) : Type 0 where
   pub reads : ReadsParts db parts
   pub lists : (l : Layout) → said_version parts.event ≡ version_of l → HasTablesAt l db.schema → ListsParts l db parts
-  pub exact : (l : Layout) (e : EventValue) (s : ℕ) → StandsAt l db e s → IsSoundButForSeeds e → parts ≡ parts_of (version_of l) e s
+  pub exact : (l : Layout) (e : EventValue) (s : ℕ) → RepresentsAt l db e s → IsSoundButForSeeds e → parts ≡ parts_of (version_of l) e s
 
 -- the rows are those of this sound event and serial, in tables of this version, which keep it
 pub record IsWhole (parts : Parts) (e : EventValue) (serial version : ℕ) : Type 0 where
@@ -105,4 +105,4 @@ FindsTables db it = FindsParts db it.0 × FindsRows tally_form tally_table read_
 -- where the tables stand, memory or the device; and damage is of the first table that is misread
 pub record MissesTables (db : Database) (why : Refusal) : Type 0 where
   pub misread : IfDamaged (IsFirstMisread db) why
-  pub refused : (e : EventValue) (s : ℕ) → StandsFor db e s → IsSoundButForSeeds e → IsFault why
+  pub refused : (e : EventValue) (s : ℕ) → Represents db e s → IsSoundButForSeeds e → IsFault why

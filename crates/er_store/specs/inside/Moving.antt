@@ -11,7 +11,7 @@ use Rattle.er_event.specs.Event.{EventValue}
 use Rattle.er_event.specs.Rows.{tally_rows}
 use Rattle.er_store.specs.Tables.{player_tree}
 use Rattle.er_store.specs.Layout.{Old, Moved, with_ours, StandsAlone}
-use Rattle.er_store.specs.Standing.{rows_with, HasRows, StandsAt}
+use Rattle.er_store.specs.Representing.{rows_with, HasRows, RepresentsAt}
 
 -- each row has a number for its rowid
 abbrev pub HasNumber : Row → Type 0
@@ -30,13 +30,13 @@ pub record IsMoving (old new : State) (version : ℕ) (players : List Player) (e
   pub has : HasRows Moved new.now (rows_with version (record e { players = players }) serial (tally_rows e))
   pub former : new.now.trees player_tree ≡ left
 
--- only the commit is left: the tables stand for the event in version 2, and `player` has no rows
+-- only the commit is left: the tables represent the event in version 2, and `player` has no rows
 pub record IsMoved (s : State) (e : EventValue) (serial : ℕ) : Type 0 where
   pub sound : IsDatabase s.now
-  pub stands : StandsAt Moved s.now e serial
+  pub represents : RepresentsAt Moved s.now e serial
   pub emptied : s.now.trees player_tree ≡ []
 
--- the tables stand for the event in version 1, and alone
+-- the tables represent the event in version 1, and alone
 pub record MayMove (s : State) (e : EventValue) (serial : ℕ) : Type 0 where
   pub alone : StandsAlone s.now.schema
-  pub stands : StandsAt Old s.now e serial
+  pub represents : RepresentsAt Old s.now e serial

@@ -1,5 +1,5 @@
 -- What one statement does within a transaction.
-use Rattle.std.specs.Prelude.{◌≡◌, ◌≢◌, ◌<◌, ◌≤◌, ℕ, ◌==◌, if◌then◌else◌, Ok, true, false, List, [], length, IsTrue}
+use Rattle.std.specs.Prelude.{◌≡◌, ◌≢◌, ◌<◌, ◌≤◌, ℕ, Ok, true, false, List, [], length, IsTrue}
 use Rattle.std.specs.List.{AllByRecursion}
 use Rattle.sqlite.specs.Tree.{put_row}
 use Rattle.sqlite.specs.Schema.{Schema}
@@ -12,9 +12,9 @@ use Rattle.er_event.specs.declared.matches.Match.{Match}
 use Rattle.er_event.specs.declared.rows.tally.TallyRow.{TallyRow}
 use Rattle.er_event.specs.Event.{EventValue}
 use Rattle.er_event.specs.Rows.{tally_rows}
-use Rattle.er_store.specs.Tables.{event_tree, player_tree, pairing_tree, bracket_tree, tally_tree, tally_schema, player, player2}
+use Rattle.er_store.specs.Tables.{event_tree, player_tree, pairing_tree, bracket_tree, tally_tree, tally_schema, players_of}
 use Rattle.sqlite.specs.Table.{Table}
-use Rattle.er_store.specs.Standing.{StandsWith, StandsIn, KeepsRest}
+use Rattle.er_store.specs.Representing.{RepresentsWith, RepresentsIn, KeepsRest}
 use Rattle.er_store.specs.Layout.{Layout}
 
 -- the statement went well, within a transaction
@@ -49,19 +49,19 @@ pub record Moves (layout : Layout) (old new : State) : Type 0 where
   pub sound : IsDatabase new.now
   pub keeps : KeepsRest layout old.now new.now
 
--- what a step makes of tables that stand for an event, with these rows of totals
+-- what a step makes of tables that represent an event, with these rows of totals
 pub record BringsToWith (layout : Layout) (old new : State) (e : EventValue) (serial : ℕ) (totals : List TallyRow) : Type 0 where
   pub moves : Moves layout old new
-  pub stands : StandsWith layout new.now e serial totals
+  pub represents : RepresentsWith layout new.now e serial totals
 
 -- and with those of the event
 abbrev pub BringsTo : Layout → State → State → EventValue → ℕ → Type 0
 BringsTo layout old new e serial = BringsToWith layout old new e serial (tally_rows e)
 
--- only the commit is left: the tables stand for the event in this version
+-- only the commit is left: the tables represent the event in this version
 pub record IsReady (version : ℕ) (s : State) (e : EventValue) (serial : ℕ) : Type 0 where
   pub sound : IsDatabase s.now
-  pub stands : StandsIn version s.now e serial
+  pub represents : RepresentsIn version s.now e serial
 
 -- a stage of the playoff: at most four matches, and at least one
 abbrev pub IsStage : List Match → Type 0
@@ -69,7 +69,7 @@ IsStage matches = (0 < length matches) × (length matches ≤ 4)
 
 -- the table of players that creation makes in this version
 abbrev pub made_players : ℕ → Table
-made_players version = if version == 2 then player2 player_tree else player player_tree
+made_players version = players_of version player_tree
 
 -- A table was made, with no row. The rows of the other tables stay.
 pub record Creates (before after : Schema) (old new : State) : Type 0 where

@@ -13,7 +13,7 @@ pub returns-in-Ok-clause-moved : goal.returns-in-Ok-clause-moved
 returns-in-Ok-clause-moved g c = record {
   turn = (Ok c.in-Ok.serial, c.in-Ok.ensures.turn, refl);
   clean = c.in-Ok.ensures.clean;
-  stands = λ may clean shows. c.in-Ok.ensures.stands clean shows may;
+  represents = λ may clean shows. c.in-Ok.ensures.represents clean shows may;
   crash = λ may shows. c.in-Ok.ensures.crash shows may;
 }
 
@@ -21,6 +21,6 @@ pub returns-in-Err-clause-moved : goal.returns-in-Err-clause-moved
 returns-in-Err-clause-moved g c = record {
   turn = (Err c.in-Err.why, c.in-Err.ensures.turn, refl);
   clean = c.in-Err.ensures.clean;
-  stands = λ may clean shows. c.in-Err.ensures.stands clean shows may;
+  represents = λ may clean shows. c.in-Err.ensures.represents clean shows may;
   crash = λ may shows. c.in-Err.ensures.crash shows may;
 }

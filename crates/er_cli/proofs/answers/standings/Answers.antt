@@ -2,19 +2,19 @@ use Rattle.std.proofs.Common.{◌≡◌, ◌⊎◌, inl, inr, List, Ok, Err, IsF
 use Rattle.er_event.specs.declared.refusals.Refusal.TheVariants.{Memory}
 use Rattle.er_rank.specs.declared.rows.Row.{Row}
 use Rattle.er_paper.specs.Texts.{rows_text}
-use Rattle.er_desk.specs.Desk.{Standing, ReadsRows, standing}
+use Rattle.er_desk.specs.Desk.{DeskState, ReadsRows, desk_state}
 use Rattle.er_cli.specs.{declared.texts.Answer.Answer, declared.texts.Answer.TheVariants.{Text, Refused}, Answers.IsRowsAnswer}
 use Rattle.er_cli.proofs.answers.standings.Goals as goal
 
 -- rows that were read were read by a desk that runs
-read_rows : (old new : Standing) (rows : Vec Row Global) (shown : List Row) (answer : Answer) → ReadsRows old (Ok rows) new
+read_rows : (old new : DeskState) (rows : Vec Row Global) (shown : List Row) (answer : Answer) → ReadsRows old (Ok rows) new
     → shown ≡ rows.items
     → (IsFalse new.stopped → (answer ≡ Text (rows_text new.event shown)) ⊎ (answer ≡ Refused Memory))
     → IsRowsAnswer old.event (Ok rows) answer
 read_rows old new rows shown answer (inl (runs, same, ok)) is told =
-    subst (λ (s : Standing). (answer ≡ Text (rows_text s.event rows.items)) ⊎ (answer ≡ Refused Memory)) same
+    subst (λ (s : DeskState). (answer ≡ Text (rows_text s.event rows.items)) ⊎ (answer ≡ Refused Memory)) same
     (subst (λ (rs : List Row). (answer ≡ Text (rows_text new.event rs)) ⊎ (answer ≡ Refused Memory)) is
-    (told (subst (λ (s : Standing). IsFalse s.stopped) (sym same) runs)))
+    (told (subst (λ (s : DeskState). IsFalse s.stopped) (sym same) runs)))
 read_rows old new rows shown answer (inr (inl (runs, same, why, fault, e))) is told = absurd (true≢false (ap is_ok e))
 read_rows old new rows shown answer (inr (inr (stopped, same, e))) is told = absurd (true≢false (ap is_ok e))
 
@@ -22,17 +22,17 @@ pub returns-in-Ok-clause-answers : goal.returns-in-Ok-clause-answers
 returns-in-Ok-clause-answers g c = (
   Ok c.in-Ok.rows,
   c.in-Ok.ensures.turn,
-  (λ stood. c.in-Ok.ensures.found stood.0 stood.1),
-  read_rows (standing c.args.desk.now) (standing c.stored_standings.new.self) c.in-Ok.rows c.as_slice.result.now c.rows_answer.result
+  (λ represented. c.in-Ok.ensures.found represented.0 represented.1),
+  read_rows (desk_state c.args.desk.now) (desk_state c.stored_standings.new.self) c.in-Ok.rows c.as_slice.result.now c.rows_answer.result
       c.in-Ok.ensures.turn c.as_slice.ensures.value c.rows_answer.ensures,
-  λ stood runs. tt,
+  λ represented runs. tt,
 )
 
 pub returns-in-Err-clause-answers : goal.returns-in-Err-clause-answers
 returns-in-Err-clause-answers g c = (
   Err c.in-Err.why,
   c.in-Err.ensures.turn,
-  (λ stood. tt),
+  (λ represented. tt),
   refl,
-  λ stood runs. c.in-Err.ensures.fails runs stood.0 stood.1,
+  λ represented runs. c.in-Err.ensures.fails runs represented.0 represented.1,
 )

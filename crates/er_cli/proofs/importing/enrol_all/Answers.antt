@@ -1,6 +1,6 @@
 use Rattle.std.proofs.Common.{◌≡◌, ◌+◌, ◌≤◌, None, false, arith, refl, sym, ◌∙◌, ap, subst, not, take, []}
 use Rattle.std.proofs.lemmas.List.{take_all}
-use Rattle.er_desk.specs.{Desk.standing, Run.{Session, no_session}}
+use Rattle.er_desk.specs.{Desk.desk_state, Run.{Session, no_session}}
 use Rattle.er_cli.specs.{declared.importing.Additions.Additions, Importing.{Enrols, is_stop, names_of}}
 use Rattle.er_cli.proofs.{Enrolling.{added, ended, found, runs_on, with_name}, importing.enrol_all.Goals.{in-Ok, in-Err}}
 use Rattle.er_cli.proofs.importing.enrol_all.Goals as goal
@@ -8,7 +8,7 @@ use Rattle.er_cli.proofs.importing.enrol_all.Goals as goal
 pub loop-line-init : goal.loop-line-init
 loop-line-init g c =
     let desk = c.args.desk.now in
-    let nobody : Enrols [] (standing desk) (record { added = 0; already = 0 }) None no_session (standing desk) = record {
+    let nobody : Enrols [] (desk_state desk) (record { added = 0; already = 0 }) None no_session (desk_state desk) = record {
       replies = [];
       ran = refl;
       asked = rw c.requires refl;
@@ -23,8 +23,8 @@ pub loop-line-preserved : goal.loop-line-preserved
 loop-line-preserved g c =
     let inv = c.loop-line.invariant in
     let one = c.enrol.ensures in
-    let old = standing c.args.desk.now in
-    let new = standing c.enrol.new.desk in
+    let old = desk_state c.args.desk.now in
+    let new = desk_state c.enrol.new.desk in
     let names = names_of (take (c.loop-line.line-index + 1) c.args.lines.now) in
     let before = inv.enrols in
     let then : Session = with_name before.0 c.line-item.result.name c.enrol.result new in
@@ -55,7 +55,7 @@ pub returns-in-Err-2 : goal.returns-in-Err-2
 returns-in-Err-2 g c =
     let before = c.loop-line.invariant.enrols in
     let one = c.enrol.ensures in (
-      with_name before.0 c.line-item.result.name c.enrol.result (standing c.enrol.new.desk),
+      with_name before.0 c.line-item.result.name c.enrol.result (desk_state c.enrol.new.desk),
       ended c.lists_grow.ensures c.args.lines.now c.loop-line.line-index c.line-item.result c.loop-line-test.true c.line-item.is _ _ _
           c.loop-line.additions before.0 before.1 c.enrol.result one.turn c.in-Err.why c.in-Err.is (sym c.if-is_taken.ensures),
       c.asks_then.ensures _ _ _ _ _ before.2 one.asked,

@@ -1,5 +1,5 @@
 use Rattle.std.proofs.Common.{◌+◌, ◌≤◌, IsFalse, None, take}
-use Rattle.er_desk.specs.{Asking.Asks, Desk.standing, Run.Session}
+use Rattle.er_desk.specs.{Asking.Asks, Desk.desk_state, Run.Session}
 use Rattle.er_cli.specs.Importing.{Enrols, names_of}
 use Rattle.er_cli.proofs.importing.enrol_all.Given as goal
 
@@ -7,7 +7,7 @@ abbrev pub invariant-loop-line : goal.invariant-loop-line
 invariant-loop-line g l = record {
   few : l.additions.added + l.additions.already ≤ l.line-index;
   enrols : (session : Session)
-      × Enrols (names_of (take l.line-index l.lines)) (standing l.fn.desk) l.additions None session (standing l.desk)
+      × Enrols (names_of (take l.line-index l.lines)) (desk_state l.fn.desk) l.additions None session (desk_state l.desk)
       × Asks g.S.Store l.fn.desk session l.desk;
-  runs : IsFalse (standing l.desk).stopped;
+  runs : IsFalse (desk_state l.desk).stopped;
 }

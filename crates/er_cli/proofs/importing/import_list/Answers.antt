@@ -7,4 +7,4 @@ returns-in-Ok g c =
     (it.0, inr (inr (_, c.in-Ok.ensures.ok, record { additions = _; stop = _; enrols = it.1; prints = c.print_additions.ensures })), it.2)
 
 pub returns-in-Err-Memory : goal.returns-in-Err-Memory
-returns-in-Err-Memory g c = (_, inl ((refl, refl), c.tell.ensures), c.asks_nothing.ensures)
+returns-in-Err-Memory g c = (_, inl ((refl, refl), c.print.ensures), c.asks_nothing.ensures)

@@ -2,9 +2,9 @@ use Rattle.std.proofs.Common.{inl, inr, refl}
 use Rattle.sqlite_trees.specs.View.{doubt}
 use Rattle.er_cli.proofs.script.create_desk.Goals as goal
 
-pub returns-in-Ok-create-clause-stands : goal.returns-in-Ok-create-clause-stands
+pub returns-in-Ok-create-clause-represents : goal.returns-in-Ok-create-clause-represents
 unfolding doubt
-returns-in-Ok-create-clause-stands c = c.in-Ok-create.ensures.created refl c.in-Ok.ensures.empty.2
+returns-in-Ok-create-clause-represents c = c.in-Ok-create.ensures.created refl c.in-Ok.ensures.empty.2
 
 -- in an empty store with these limits only memory or the store can fail
 pub returns-in-Err-clause-refused : goal.returns-in-Err-clause-refused

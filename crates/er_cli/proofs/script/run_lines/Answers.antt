@@ -1,5 +1,5 @@
 use Rattle.std.proofs.{Common.{map, List, [], ◌∷◌, ◌++◌, ℕ, ◌+◌, Bor}, KnownBytes.Appends-trans, lemmas.List.{take_all, take-map}}
-use Rattle.er_cli.specs.Script.{PrintsPart, standing_of}
+use Rattle.er_cli.specs.Script.{PrintsPart, desk_state_of}
 use Rattle.er_cli.proofs.{Sending.{part_after, err_is}, Runs.{Runs-push, printed-push, lines-push}}
 use Rattle.er_cli.proofs.script.run_lines.Goals as goal
 
@@ -31,7 +31,7 @@ returns-in_err-print_answer-clause-part g c =
     record {
       count = c.loop-line.line-index + 1;
       answers = so_far.0 ++ answer ∷ [];
-      last = standing_of c.answer-answer.new.self.desk;
+      last = desk_state_of c.answer-answer.new.self.desk;
       runs = rw (
         take-map (λ (line : Bor (List ℕ)). line.now) (c.loop-line.line-index + 1) c.args.lines.now,
         lines-push c.args.lines.now c.loop-line.line-index none c.loop-line-test.true,
@@ -44,4 +44,4 @@ pub returns-clause-whole : goal.returns-clause-whole
 returns-clause-whole g c =
     let so_far = c.loop-line.invariant in
     let all = take_all c.loop-line.line-index c.args.lines.now c.loop-line-test.false in
-    record { answers = so_far.0; last = standing_of c.loop-line.runner.desk; runs = rw all at so_far.1; printed = so_far.2 }
+    record { answers = so_far.0; last = desk_state_of c.loop-line.runner.desk; runs = rw all at so_far.1; printed = so_far.2 }

@@ -1,5 +1,5 @@
 use Rattle.std.proofs.Common.{◌≡◌, ℕ, arith, refl, subst}
-use Rattle.er_desk.specs.{Asking.joined, Desk.standing}
+use Rattle.er_desk.specs.{Asking.joined, Desk.desk_state}
 use Rattle.er_cli.specs.Serving.{ConnectsAll}
 use Rattle.er_cli.proofs.Connecting.{connects_more}
 use Rattle.er_cli.proofs.serving.serve_clients.Goals as goal
@@ -18,7 +18,7 @@ loop-preserved g c =
       within = omega (arith, c.loop-test.true);
       turns = (
         joined before.0 one.0,
-        connects_more c.loop.counter (standing first) before.0 (standing old) one.0 (standing new) before.1 one.1,
+        connects_more c.loop.counter (desk_state first) before.0 (desk_state old) one.0 (desk_state new) before.1 one.1,
         c.asks_then.ensures first old new before.0 one.0 before.2 one.2,
       );
     }
@@ -32,4 +32,4 @@ pub returns : goal.returns
 returns g c =
     let it = c.loop.invariant.turns in
     let all : c.loop.counter ≡ c.args.count = omega (arith, c.loop.invariant.within, c.loop-test.false) in
-    (it.0, subst (λ (n : ℕ). ConnectsAll n (standing c.args.desk.now) it.0 (standing c.loop.desk)) all it.1, it.2)
+    (it.0, subst (λ (n : ℕ). ConnectsAll n (desk_state c.args.desk.now) it.0 (desk_state c.loop.desk)) all it.1, it.2)

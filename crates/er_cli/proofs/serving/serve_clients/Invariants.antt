@@ -1,11 +1,11 @@
 use Rattle.std.proofs.Common.{◌≤◌}
-use Rattle.er_desk.specs.{Asking.Asks, Desk.standing, Run.Session}
+use Rattle.er_desk.specs.{Asking.Asks, Desk.desk_state, Run.Session}
 use Rattle.er_cli.specs.Serving.{ConnectsAll}
 use Rattle.er_cli.proofs.serving.serve_clients.Given as goal
 
 abbrev pub invariant-loop : goal.invariant-loop
 invariant-loop g l = record {
   within : l.counter ≤ l.count;
-  turns : (session : Session) × ConnectsAll l.counter (standing l.fn.desk) session (standing l.desk)
+  turns : (session : Session) × ConnectsAll l.counter (desk_state l.fn.desk) session (desk_state l.desk)
       × Asks g.S.Store l.fn.desk session l.desk;
 }

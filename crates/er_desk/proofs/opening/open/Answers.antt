@@ -1,16 +1,16 @@
 use Rattle.std.proofs.Common.{inl, inr, sym, subst, ◌∙◌}
 use Rattle.sqlite_wal.specs.Files.{image_at}
 use Rattle.sqlite.specs.{Effect.Database, Files.{AreFoundIn, over_files, file_state}}
-use Rattle.er_store.specs.Standing.{HasTables, AreKeyed}
+use Rattle.er_store.specs.Representing.{HasTables, AreKeyed}
 use Rattle.er_desk.specs.{Desk.{state, version_in}}
-use Rattle.er_desk.proofs.Adopting.{is_fault, is_spared, opened_stands, sees_unchanged, sees_kept}
+use Rattle.er_desk.proofs.Adopting.{is_fault, is_spared, opened_represents, sees_unchanged, sees_kept}
 use Rattle.er_desk.proofs.opening.open.Goals as goal
 
 pub returns-in-Ok-adopt-clause-found : goal.returns-in-Ok-adopt-clause-found
 returns-in-Ok-adopt-clause-found g c point was sound clean =
     let early = c.in-Ok-adopt.ensures.left.clean clean in
-    c.in-Ok-adopt.ensures.found point (opened_stands (file_state c.in-Ok.conn) _ (c.in-Ok.ensures.opened early)
-    (c.in-Ok.ensures.found early) point c.stored_stands.ensures was) sound clean
+    c.in-Ok-adopt.ensures.found point (opened_represents (file_state c.in-Ok.conn) _ (c.in-Ok.ensures.opened early)
+    (c.in-Ok.ensures.found early) point c.stored_represents.ensures was) sound clean
 
 pub returns-in-Ok-adopt-clause-left : goal.returns-in-Ok-adopt-clause-left
 returns-in-Ok-adopt-clause-left g c db holds clean trees may =
@@ -23,17 +23,17 @@ returns-in-Ok-adopt-clause-kept g c db holds clean is_open =
     sees_unchanged (file_state c.in-Ok.conn) _ (c.in-Ok.ensures.opened early) (c.in-Ok.ensures.found early)
     (state over_files c.in-Ok-adopt.desk) db holds (c.in-Ok-adopt.ensures.same clean)
 
-pub returns-in-Ok-adopt-clause-stands : goal.returns-in-Ok-adopt-clause-stands
-returns-in-Ok-adopt-clause-stands g c clean has keyed =
+pub returns-in-Ok-adopt-clause-represents : goal.returns-in-Ok-adopt-clause-represents
+returns-in-Ok-adopt-clause-represents g c clean has keyed =
     let same = c.in-Ok-adopt.ensures.same clean in
-    c.in-Ok-adopt.ensures.stands clean (subst (λ (d : Database). HasTables (version_in c.in-Ok-adopt.desk) d.schema) same.0.now_is has)
+    c.in-Ok-adopt.ensures.represents clean (subst (λ (d : Database). HasTables (version_in c.in-Ok-adopt.desk) d.schema) same.0.now_is has)
     (subst AreKeyed same.0.now_is keyed)
 
 pub returns-in-Err-adopt-clause-found : goal.returns-in-Err-adopt-clause-found
 returns-in-Err-adopt-clause-found g c point was sound clean =
     let early = c.in-Err-adopt.ensures.left.clean clean in
-    c.in-Err-adopt.ensures.found point (opened_stands (file_state c.in-Ok.conn) _ (c.in-Ok.ensures.opened early)
-    (c.in-Ok.ensures.found early) point c.stored_stands.ensures was) sound clean
+    c.in-Err-adopt.ensures.found point (opened_represents (file_state c.in-Ok.conn) _ (c.in-Ok.ensures.opened early)
+    (c.in-Ok.ensures.found early) point c.stored_represents.ensures was) sound clean
 
 pub returns-in-Err-adopt-clause-left : goal.returns-in-Err-adopt-clause-left
 returns-in-Err-adopt-clause-left g c db holds clean trees may =
@@ -54,6 +54,7 @@ returns-in-Err-adopt-clause-first g c clean =
       (opened.1 opened.0.is_open).0,
       subst (λ (db : Database). AreFoundIn (image_at g.S.Start) db.trees) (sym opened.0.clean) (c.in-Ok.ensures.found early).reads,
       c.in-Err-adopt.ensures.first clean,
+      λ is_open. (c.in-Err-adopt.ensures.left.kept clean opened.0.clean is_open).0,
     )
 
 pub returns-in-Err-clause-spared : goal.returns-in-Err-clause-spared

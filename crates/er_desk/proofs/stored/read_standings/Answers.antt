@@ -3,14 +3,16 @@ use Rattle.std.proofs.lemmas.Result.{err_from_is_err_and}
 use Rattle.sqlite.specs.State.{State, HasCleanDisk, IsUnchanged}
 use Rattle.er_event.specs.Event.{EventValue}
 use Rattle.er_rank.specs.Meeting.{AreListsOf}
-use Rattle.er_store.specs.{Reading.KeepsTables, Standing.{StandsFor, StandsIn, Leaves}}
+use Rattle.er_store.specs.{Reading.KeepsTables, Representing.{Represents, RepresentsIn, Leaves}}
 use Rattle.sqlite.specs.Held as sqlite
 use Rattle.er_store.specs.Store as store
 use Rattle.er_desk.proofs.Turns.{unchanged_keeps}
 use Rattle.er_desk.proofs.stored.read_standings.Goals as goal
 
-still_stands : (v : _) (old new : State) (e : EventValue) (s : _) → IsUnchanged old new → StandsIn v old.now e s → StandsFor new.now e s
-still_stands v old new e s same stands = subst (λ db. StandsFor db e s) (sym same.0.now_is) (stands.layout, stands.stands)
+still_represents : (v : _) (old new : State) (e : EventValue) (s : _) → IsUnchanged old new → RepresentsIn v old.now e s
+    → Represents new.now e s
+still_represents v old new e s same represents = subst (λ db. Represents db e s) (sym same.0.now_is)
+    (represents.layout, represents.represents)
 
 unchanged_then : (old mid new : State) → IsUnchanged old mid → IsUnchanged mid new → IsUnchanged old new
 unchanged_then old mid new one two = (
@@ -38,9 +40,9 @@ returns-in_err-tallies-clause-stops g c =
     rw (p.1, p.2) (inr (c.in_err-tallies.ensures.stops c.requires.running))
 
 pub returns-in_err-tallies-clause-found : goal.returns-in_err-tallies-clause-found
-returns-in_err-tallies-clause-found g c clean e s stands sound =
+returns-in_err-tallies-clause-found g c clean e s represents sound =
     let p = err_from_is_err_and c.from_residual.result c.from_residual.ensures.1 in
-    rw (p.1, p.2) (c.in_err-tallies.ensures.found c.requires.running clean e s stands sound)
+    rw (p.1, p.2) (c.in_err-tallies.ensures.found c.requires.running clean e s represents sound)
 
 pub returns-in_err-tallies-clause-same : goal.returns-in_err-tallies-clause-same
 returns-in_err-tallies-clause-same g c clean runs = absurd (true≢false (sym (c.in_err-tallies.ensures.stops c.requires.running).1 ∙ runs))
@@ -58,12 +60,12 @@ returns-in_err-meetings-clause-stops g c =
     rw (p.1, p.2) (inr (c.in_err-meetings.ensures.stops (c.in_ok-tallies.ensures.stops c.requires.running)))
 
 pub returns-in_err-meetings-clause-found : goal.returns-in_err-meetings-clause-found
-returns-in_err-meetings-clause-found g c clean e s stands sound =
+returns-in_err-meetings-clause-found g c clean e s represents sound =
     let early = c.meetings.ensures.clean clean in
     let running : IsFalse (store.is_stopped c.tallies.new.self) = c.in_ok-tallies.ensures.stops c.requires.running in
-    let here = still_stands (store.version_in c.args.store.now) (store.state g.S.Store c.args.store.now)
+    let here = still_represents (store.version_in c.args.store.now) (store.state g.S.Store c.args.store.now)
     (store.state g.S.Store c.tallies.new.self) e s
-    (c.in_ok-tallies.ensures.same early) stands in
+    (c.in_ok-tallies.ensures.same early) represents in
     let p = err_from_is_err_and c.from_residual-in_err-meetings.result c.from_residual-in_err-meetings.ensures.1 in
     rw (p.1, p.2) (c.in_err-meetings.ensures.found running clean e s here sound)
 
@@ -94,7 +96,7 @@ returns-in_err-are_lists-clause-stops g c =
     rw (p.1, p.2) (inl (refl, c.in_ok-meetings.ensures.stops (c.in_ok-tallies.ensures.stops c.requires.running)))
 
 pub returns-in_err-are_lists-clause-found : goal.returns-in_err-are_lists-clause-found
-returns-in_err-are_lists-clause-found g c clean e s stands sound =
+returns-in_err-are_lists-clause-found g c clean e s represents sound =
     let p = err_from_is_err_and c.from_residual-in_err-are_lists.result c.from_residual-in_err-are_lists.ensures.1 in
     rw (p.1, p.2) (inl refl)
 
@@ -124,7 +126,7 @@ returns-in_err-standings_of-clause-stops g c =
     rw (p.1, p.2) (inl (refl, c.in_ok-meetings.ensures.stops (c.in_ok-tallies.ensures.stops c.requires.running)))
 
 pub returns-in_err-standings_of-clause-found : goal.returns-in_err-standings_of-clause-found
-returns-in_err-standings_of-clause-found g c clean e s stands sound =
+returns-in_err-standings_of-clause-found g c clean e s represents sound =
     let p = err_from_is_err_and c.from_residual-in_err-standings_of.result c.from_residual-in_err-standings_of.ensures.1 in
     rw (p.1, p.2) (inl refl)
 
@@ -151,43 +153,43 @@ returns-in_err-standings_of-clause-crash g c clean trees may =
 -- ---- the lists are of no event
 
 pub returns-then-not-branch-clause-stops : goal.returns-then-not-branch-clause-stops
-returns-then-not-branch-clause-stops g c = inr (inr refl, c.stop.ensures.stopped)
+returns-then-not-branch-clause-stops g c = inr (inr c.refuse_rows.ensures.refusal, c.refuse_rows.ensures.stopped)
 
 pub returns-then-not-branch-clause-clean : goal.returns-then-not-branch-clause-clean
 returns-then-not-branch-clause-clean g c clean =
-    c.tallies.ensures.clean (c.meetings.ensures.clean (subst (λ h. HasCleanDisk (sqlite.state g.S.Store h)) c.stop.ensures.same clean))
+    c.tallies.ensures.clean (c.meetings.ensures.clean (subst (λ h. HasCleanDisk (sqlite.state g.S.Store h)) c.refuse_rows.ensures.same clean))
 
 pub returns-then-not-branch-clause-crash : goal.returns-then-not-branch-clause-crash
 returns-then-not-branch-clause-crash g c =
     let old = store.state g.S.Store c.args.store.now in
-    subst (λ h. Leaves (sqlite.state g.S.Store h) old.may_leave) (sym c.stop.ensures.same)
+    subst (λ h. Leaves (sqlite.state g.S.Store h) old.may_leave) (sym c.refuse_rows.ensures.same)
     (λ clean trees may. c.tallies.ensures.crash (c.meetings.ensures.clean clean) trees (c.meetings.ensures.crash clean trees may))
 
 pub returns-then-not-branch-clause-same : goal.returns-then-not-branch-clause-same
-returns-then-not-branch-clause-same g c clean runs = absurd (true≢false (sym c.stop.ensures.stopped ∙ runs))
+returns-then-not-branch-clause-same g c clean runs = absurd (true≢false (sym c.refuse_rows.ensures.stopped ∙ runs))
 
 pub returns-then-not-branch-clause-kept : goal.returns-then-not-branch-clause-kept
 returns-then-not-branch-clause-kept g c clean =
     let late : HasCleanDisk (store.state g.S.Store c.meetings.new.self) =
-    subst (λ h. HasCleanDisk (sqlite.state g.S.Store h)) c.stop.ensures.same clean in
+    subst (λ h. HasCleanDisk (sqlite.state g.S.Store h)) c.refuse_rows.ensures.same clean in
     let old = store.state g.S.Store c.args.store.now in
-    subst (λ h. KeepsTables old (sqlite.state g.S.Store h)) (sym c.stop.ensures.same)
+    subst (λ h. KeepsTables old (sqlite.state g.S.Store h)) (sym c.refuse_rows.ensures.same)
     (keeps_after old (store.state g.S.Store c.tallies.new.self)
     (store.state g.S.Store c.meetings.new.self) (c.in_ok-tallies.ensures.same (c.meetings.ensures.clean late))
     (unchanged_keeps _ (store.state g.S.Store c.meetings.new.self) (c.in_ok-meetings.ensures.same late)))
 
 pub returns-then-not-branch-clause-found : goal.returns-then-not-branch-clause-found
-returns-then-not-branch-clause-found g c clean e s stands sound =
+returns-then-not-branch-clause-found g c clean e s represents sound =
     let late : HasCleanDisk (store.state g.S.Store c.meetings.new.self) =
-    subst (λ h. HasCleanDisk (sqlite.state g.S.Store h)) c.stop.ensures.same clean in
+    subst (λ h. HasCleanDisk (sqlite.state g.S.Store h)) c.refuse_rows.ensures.same clean in
     let early = c.meetings.ensures.clean late in
     let running : IsFalse (store.is_stopped c.tallies.new.self) = c.in_ok-tallies.ensures.stops c.requires.running in
-    let here = still_stands (store.version_in c.args.store.now) (store.state g.S.Store c.args.store.now)
+    let here = still_represents (store.version_in c.args.store.now) (store.state g.S.Store c.args.store.now)
     (store.state g.S.Store c.tallies.new.self) e s
-    (c.in_ok-tallies.ensures.same early) stands in
+    (c.in_ok-tallies.ensures.same early) represents in
     let are : AreListsOf e c.as_slice.result.now c.as_slice-2.result.now = record {
       sound = sound;
-      tallies = c.as_slice.ensures.value ∙ c.in_ok-tallies.ensures.found c.requires.running early e s stands sound;
+      tallies = c.as_slice.ensures.value ∙ c.in_ok-tallies.ensures.found c.requires.running early e s represents sound;
       meetings = c.as_slice-2.ensures.value ∙ c.in_ok-meetings.ensures.found running late e s here sound;
     } in
     let yes : IsTrue c.in_ok-are_lists.field-0 = c.in_ok-are_lists.ensures.event e are in
@@ -200,15 +202,15 @@ pub returns-clause-stops : goal.returns-clause-stops
 returns-clause-stops g c = c.in_ok-meetings.ensures.stops (c.in_ok-tallies.ensures.stops c.requires.running)
 
 pub returns-clause-found : goal.returns-clause-found
-returns-clause-found g c clean e s stands sound =
+returns-clause-found g c clean e s represents sound =
     let early = c.meetings.ensures.clean clean in
     let running : IsFalse (store.is_stopped c.tallies.new.self) = c.in_ok-tallies.ensures.stops c.requires.running in
-    let here = still_stands (store.version_in c.args.store.now) (store.state g.S.Store c.args.store.now)
+    let here = still_represents (store.version_in c.args.store.now) (store.state g.S.Store c.args.store.now)
     (store.state g.S.Store c.tallies.new.self) e s
-    (c.in_ok-tallies.ensures.same early) stands in
+    (c.in_ok-tallies.ensures.same early) represents in
     let are : AreListsOf e c.as_slice-3.result.now c.as_slice-4.result.now = record {
       sound = sound;
-      tallies = c.as_slice-3.ensures.value ∙ c.in_ok-tallies.ensures.found c.requires.running early e s stands sound;
+      tallies = c.as_slice-3.ensures.value ∙ c.in_ok-tallies.ensures.found c.requires.running early e s represents sound;
       meetings = c.as_slice-4.ensures.value ∙ c.in_ok-meetings.ensures.found running clean e s here sound;
     } in
     (c.in_ok-standings_of.ensures.value e are, c.in_ok-standings_of.ensures.only e are)

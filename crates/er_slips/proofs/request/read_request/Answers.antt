@@ -1,6 +1,6 @@
-use Rattle.std.proofs.Common.{◌≤◌, Ok, take, ap, ◌∙◌, refl, arith}
+use Rattle.std.proofs.Common.{◌≤◌, Ok, take, ap, sym, ◌∙◌, refl, arith}
 use Rattle.er_slips.specs.Head.{ShowsHead}
-use Rattle.er_slips.proofs.Asking.{asks-get, asks-next, asks-body, asks-short, few-bytes, shows-of, is-next, head-fits}
+use Rattle.er_slips.proofs.Asking.{asks-get, asks-fault, asks-body, asks-short, few-bytes, shows-of, head-fits}
 use Rattle.er_slips.proofs.request.read_request.Goals as goal
 
 pub returns-in-Err : goal.returns-in-Err
@@ -8,9 +8,9 @@ returns-in-Err g c =
     let filled = c.read_head-head.result.1 in
     let bytes = take filled c.read_head-head.new.buf in
     let shows = shows-of _ c.in-Found.spans (ShowsHead bytes c.read_head-head.new.headers) c.in-Found.is c.read_head-head.ensures.found in
-    asks-next _ _ bytes c.read_head-head.new.headers c.in-Found.spans c.read_head-head.ensures.read
+    asks-fault _ _ bytes c.read_head-head.new.headers c.in-Found.spans c.read_head-head.ensures.read
     (few-bytes filled c.read_head-head.new.buf c.read_head-head.ensures.within) shows
-    c.next_in.result _ (c.next_in.ensures.value shows.head shows.at) c.in-Err.is
+    c.in-Err.fault (sym (c.next_of.ensures.value shows.head shows.at) ∙ c.in-Err.is)
 
 pub returns-in-Ok-Get : goal.returns-in-Ok-Get
 returns-in-Ok-Get g c =
@@ -19,8 +19,7 @@ returns-in-Ok-Get g c =
     let shows = shows-of _ c.in-Found.spans (ShowsHead bytes c.read_head-head.new.headers) c.in-Found.is c.read_head-head.ensures.found in
     asks-get _ _ bytes c.read_head-head.new.headers c.in-Found.spans c.read_head-head.ensures.read
     (few-bytes filled c.read_head-head.new.buf c.read_head-head.ensures.within) shows
-    c.in-Ok-Get.asked (is-next _ c.next_in.result _ (c.next_in.ensures.value shows.head shows.at) c.in-Ok-Get.is
-    ∙ ap Ok c.in-Ok-Get.field-0-is)
+    c.in-Ok-Get.asked (sym (c.next_of.ensures.value shows.head shows.at) ∙ c.in-Ok-Get.is ∙ ap Ok c.in-Ok-Get.field-0-is)
 
 pub returns-then-count-end : goal.returns-then-count-end
 returns-then-count-end g c =
@@ -36,7 +35,7 @@ returns-then-count-end g c =
     asks-short _ _ bytes c.read_head-head.new.headers c.in-Found.spans c.read_head-head.ensures.read
     (few-bytes filled c.read_head-head.new.buf c.read_head-head.ensures.within) shows
     c.in-Ok-Body.round c.in-Ok-Body.table c.in-Ok-Body.length
-    (is-next _ c.next_in.result _ (c.next_in.ensures.value shows.head shows.at) c.in-Ok-Body.is ∙ ap Ok c.in-Ok-Body.field-0-is)
+    (sym (c.next_of.ensures.value shows.head shows.at) ∙ c.in-Ok-Body.is ∙ ap Ok c.in-Ok-Body.field-0-is)
     _ c.read_on.new.buf c.in-Ok.count (c.in-Ok.ensures.read _ c.read_head-head.ensures.read) c.in-Ok.ensures.within
     past c.if-count-end.true (c.in-Ok.ensures.ended c.if-count-end.true)
 
@@ -48,6 +47,6 @@ returns-else-count-end g c =
     asks-body _ _ bytes c.read_head-head.new.headers c.in-Found.spans c.read_head-head.ensures.read
     (few-bytes filled c.read_head-head.new.buf c.read_head-head.ensures.within) shows
     c.in-Ok-Body.round c.in-Ok-Body.table c.in-Ok-Body.length
-    (is-next _ c.next_in.result _ (c.next_in.ensures.value shows.head shows.at) c.in-Ok-Body.is ∙ ap Ok c.in-Ok-Body.field-0-is)
+    (sym (c.next_of.ensures.value shows.head shows.at) ∙ c.in-Ok-Body.is ∙ ap Ok c.in-Ok-Body.field-0-is)
     _ c.read_on.new.buf c.in-Ok.count (c.in-Ok.ensures.read _ c.read_head-head.ensures.read) c.in-Ok.ensures.within
     _ refl c.if-count-end.false c.report.result c.report.ensures

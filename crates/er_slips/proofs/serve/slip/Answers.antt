@@ -6,6 +6,6 @@ returns g c =
     let it = c.slip-read.ensures in
     record {
       session = _;
-      answers = (c.slip-read.result, it.turn, (λ stood. it.found stood.0 stood.1), c.slip_row_answer.ensures, refl);
+      answers = (c.slip-read.result, it.turn, (λ represented. it.found represented.0 represented.1), c.slip_row_answer.ensures, refl);
       asks = it.asked;
     }

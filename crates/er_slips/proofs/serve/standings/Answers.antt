@@ -10,7 +10,7 @@ returns-in-Ok g c =
       answers = (
         Ok c.in-Ok.rows,
         one.turn,
-        (λ stood. one.found stood.0 stood.1),
+        (λ represented. one.found represented.0 represented.1),
         rows-answered c.in-Ok.rows _ _ _ one.turn (rw c.as_slice.ensures.value at c.rows_answer.ensures),
         refl,
       );
@@ -21,6 +21,6 @@ pub returns-in-Err : goal.returns-in-Err
 returns-in-Err g c =
     record {
       session = _;
-      answers = (Err c.in-Err.why, c.in-Err.ensures.turn, (λ stood. tt), c.refusal_answer.ensures, refl);
+      answers = (Err c.in-Err.why, c.in-Err.ensures.turn, (λ represented. tt), c.refusal_answer.ensures, refl);
       asks = c.in-Err.ensures.asked;
     }

@@ -1,10 +1,11 @@
 use Rattle.er_store.proofs.Prelude.{ℕ, List, Result, Ok, Err, IsOk, refl, sym, subst, ◌∙◌, true≢false, read_event, state}
 use Rattle.er_store.proofs.Prelude.{Schema, Database, IsUnchanged, Compiled, CompileError, EventValue, HasCleanDisk, HasTablesAt, Layout}
-use Rattle.er_store.proofs.Prelude.{StandsAt, StandsIn}
+use Rattle.er_store.proofs.Prelude.{RepresentsAt, RepresentsIn}
 use Rattle.er_store.proofs.Prelude.{Shows, Takes, unchanged_then}
 use Rattle.sqlite.specs.Effect.{IsDatabase}
-use Rattle.er_store.specs.{Loading.HoldsEvent, Standing.ReadsEvent}
-use Rattle.er_store.proofs.{Meaning.event_selected, Effects.at_ours, LoadLemmas.{kept_tables, kept_stands, then_keeps, stands_where}}
+use Rattle.er_store.specs.{Loading.HoldsEvent, Representing.ReadsEvent}
+use Rattle.er_store.proofs.{Meaning.event_selected, Effects.at_ours}
+use Rattle.er_store.proofs.{LoadLemmas.{kept_tables, kept_represents, then_keeps, represents_where}}
 use Rattle.er_store.proofs.Crash.{shows_leaves, survives_both, only}
 use Rattle.er_store.proofs.Store.adopt.Given as given
 use Rattle.er_store.proofs.Store.adopt.Goals as goal
@@ -25,8 +26,8 @@ same g c clean = (c.in-Ok-true.ensures.found (c.load_tables.ensures.clean clean)
 -- a connection that saw the last commit, and sees the same
 shown : (g : given.Over) (c : goal.After-result-1 g) → HasCleanDisk (state g.S.Store c.load_tables.new.conn)
     → IsUnchanged (state g.S.Store c.reads_event.new.conn) (state g.S.Store c.load_tables.new.conn) → (v : ℕ) (e : EventValue) (s : ℕ)
-    → StandsIn v (state g.S.Store c.args.conn).now e s → Shows v (state g.S.Store c.load_tables.new.conn) e s
-shown g c clean second v e s stands =
+    → RepresentsIn v (state g.S.Store c.args.conn).now e s → Shows v (state g.S.Store c.load_tables.new.conn) e s
+shown g c clean second v e s represents =
     let first = same g c clean in
     let seen = c.sees_last_commit.ensures c.requires.mode first.0.was_open in
     let nows = second.0.now_is ∙ first.0.now_is in
@@ -34,46 +35,46 @@ shown g c clean second v e s stands =
       is_open = second.0.is_open;
       sound = subst IsDatabase (sym nows) seen.1;
       settled = nows ∙ seen.0 ∙ sym (second.0.committed_is ∙ first.0.committed_is);
-      stands = subst (λ (d : Database). StandsIn v d e s) (sym nows) stands;
+      represents = subst (λ (d : Database). RepresentsIn v d e s) (sym nows) represents;
     }
 
 pub returns-in-Ok-false-clause-found : goal.returns-in-Ok-false-clause-found
-returns-in-Ok-false-clause-found g c e s stands sound clean =
+returns-in-Ok-false-clause-found g c e s represents sound clean =
     let found = (c.in-Ok-false.ensures.found clean).0 in
-    let reads = reads_ours stands.0 (state g.S.Store c.args.conn).now.schema stands.1.has.tables in
+    let reads = reads_ours represents.0 (state g.S.Store c.args.conn).now.schema represents.1.has.tables in
     absurd (true≢false (sym (found.1 reads) ∙ c.in-Ok-false.field-0-test))
 
 pub returns-in-Err-load_tables-clause-found : goal.returns-in-Err-load_tables-clause-found
-returns-in-Err-load_tables-clause-found g c e s stands sound clean =
+returns-in-Err-load_tables-clause-found g c e s represents sound clean =
     let same = (c.in-Ok-true.ensures.found (c.load_tables.ensures.clean clean)).1 in
-    let here = kept_stands _ _ e s same stands in
+    let here = kept_represents _ _ e s same represents in
     c.in-Err-load_tables.ensures.found clean here.0 e s here.1 sound
 
 pub returns-in-Ok-clause-found : goal.returns-in-Ok-clause-found
-returns-in-Ok-clause-found g c e s stands sound clean =
-    let at = subst (λ (d : Database). StandsAt stands.0 d e s) (sym (same g c clean).0.now_is) stands.1 in
-    let found = c.in-Ok.ensures.found clean stands.0 e s at sound in
-    let here : StandsIn c.in-Ok.version (state g.S.Store c.args.conn).now e s =
-    record { layout = stands.0; is = sym found.2; stands = stands.1 } in
+returns-in-Ok-clause-found g c e s represents sound clean =
+    let at = subst (λ (d : Database). RepresentsAt represents.0 d e s) (sym (same g c clean).0.now_is) represents.1 in
+    let found = c.in-Ok.ensures.found clean represents.0 e s at sound in
+    let here : RepresentsIn c.in-Ok.version (state g.S.Store c.args.conn).now e s =
+    record { layout = represents.0; is = sym found.2; represents = represents.1 } in
     (found.0, found.1, shown g c clean (c.in-Ok.ensures.same clean) c.in-Ok.version e s here)
 
 pub returns-in-Ok-clause-version : goal.returns-in-Ok-clause-version
-returns-in-Ok-clause-version g c clean e s v stands sound =
-    let at = subst (λ (d : Database). StandsAt stands.layout d e s) (sym (same g c clean).0.now_is) stands.stands in
-    (c.in-Ok.ensures.found clean stands.layout e s at sound).2 ∙ stands.is
+returns-in-Ok-clause-version g c clean e s v represents sound =
+    let at = subst (λ (d : Database). RepresentsAt represents.layout d e s) (sym (same g c clean).0.now_is) represents.represents in
+    (c.in-Ok.ensures.found clean represents.layout e s at sound).2 ∙ represents.is
 
-pub returns-in-Ok-clause-stands : goal.returns-in-Ok-clause-stands
-returns-in-Ok-clause-stands g c clean has keyed =
+pub returns-in-Ok-clause-represents : goal.returns-in-Ok-clause-represents
+returns-in-Ok-clause-represents g c clean has keyed =
     let first = same g c clean in
     let shows = subst (λ (db : Database). HoldsEvent c.in-Ok.version db c.in-Ok.event c.in-Ok.serial) first.0.now_is
     (c.in-Ok.ensures.shows clean (kept_tables _ _ _ first has)) in
-    shown g c clean (c.in-Ok.ensures.same clean) _ _ _ (stands_where shows keyed)
+    shown g c clean (c.in-Ok.ensures.same clean) _ _ _ (represents_where shows keyed)
 
 pub returns-in-Ok-clause-leaves : goal.returns-in-Ok-clause-leaves
-returns-in-Ok-clause-leaves g c clean e s stands sound =
+returns-in-Ok-clause-leaves g c clean e s represents sound =
     shows_leaves c.in-Ok.version (state g.S.Store c.load_tables.new.conn) e s
     (λ db is_open may. g.met.S.Store.settled c.load_tables.new.conn.store db is_open may)
-    (returns-in-Ok-clause-found g c e s stands sound clean).2
+    (returns-in-Ok-clause-found g c e s represents sound clean).2
 
 pub returns-in-Err-load_tables-clause-first : goal.returns-in-Err-load_tables-clause-first
 returns-in-Err-load_tables-clause-first g c clean place is =

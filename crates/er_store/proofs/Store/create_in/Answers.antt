@@ -1,5 +1,6 @@
 use Rattle.er_store.proofs.Prelude.{inl, inr, refl, sym, subst, ◌∙◌, true≢false, state, no_schema, CanRead}
 use Rattle.er_store.proofs.{LoadLemmas.{schema_kept, unchanged_keeps, then_keeps}, Meaning.unreadable, Effects.can_read, Crash.{only, was_clean}}
+use Rattle.er_store.proofs.Beside.{shown_beside, stored_beside}
 use Rattle.er_store.proofs.Store.create_in.Goals as goal
 
 pub returns-in-Ok-clause-created : goal.returns-in-Ok-clause-created
@@ -29,6 +30,21 @@ returns-in-Err-create_tables-clause-crash g c none clean trees may =
     elim (c.in-Err-create_tables.ensures.crash (schema_kept _ _ no_schema (c.in-Ok-false.ensures.found early).1 none) clean trees may) [
       | inl before ↦ inl (only (c.in-Ok-false.ensures.survives.crash early trees before))
       | inr made ↦ inr made
+    ]
+
+-- ---- whatever stood before
+
+pub returns-in-Ok-clause-beside : goal.returns-in-Ok-clause-beside
+returns-in-Ok-clause-beside g c clean =
+    let found = c.in-Ok-false.ensures.found (c.in-Ok.ensures.clean clean) in
+    shown_beside found.1.0.now_is (c.in-Ok.ensures.beside clean)
+
+pub returns-in-Err-create_tables-clause-beside_crash : goal.returns-in-Err-create_tables-clause-beside_crash
+returns-in-Err-create_tables-clause-beside_crash g c clean trees may =
+    let early = c.in-Err-create_tables.ensures.clean clean in
+    elim (c.in-Err-create_tables.ensures.beside_crash clean trees may) [
+      | inl before ↦ inl (only (c.in-Ok-false.ensures.survives.crash early trees before))
+      | inr made ↦ inr (stored_beside (c.in-Ok-false.ensures.found early).1.0.now_is made)
     ]
 
 pub returns-in-Ok-true-clause-exists : goal.returns-in-Ok-true-clause-exists

@@ -1,5 +1,6 @@
 use Rattle.er_store.proofs.Prelude.{on_ok_weaker}
 use Rattle.er_store.proofs.{Creates.{makes, player2_made}, LoadLemmas.fails, Migrating.player2_created, Taken.not_made}
+use Rattle.er_store.proofs.Made.{player2_beside}
 use Rattle.er_store.proofs.creation.create_player2.Goals as goal
 
 pub returns-clause-creates : goal.returns-clause-creates
@@ -10,3 +11,6 @@ returns-clause-moves g c clean e s may = on_ok_weaker c.run.result (player2_crea
 
 pub returns-clause-taken : goal.returns-clause-taken
 returns-clause-taken g c clean used = fails c.run.result (c.run.ensures.ran clean) (not_made _ _ used)
+
+pub returns-clause-beside : goal.returns-clause-beside
+returns-clause-beside g c clean = on_ok_weaker c.run.result player2_beside (c.run.ensures.ran clean)

@@ -24,8 +24,8 @@ returns-in-Err-clause-looks g c =
       misses = λ clean.
           record {
             misread = λ at h. (damaged_place place c.in-Err.error at (sym is ∙ h), c.in-Err.ensures.misread clean at (sym is ∙ h));
-            refused = λ l serves e s stands sound.
-                rw is (read_fault place _ _ c.in-Err.error (c.in-Err.ensures.refused clean l serves e s stands sound));
+            refused = λ l serves e s represents sound.
+                rw is (read_fault place _ _ c.in-Err.error (c.in-Err.ensures.refused clean l serves e s represents sound));
           };
       fault = c.reading_refusal.ensures.fault;
       same = λ clean. tt;

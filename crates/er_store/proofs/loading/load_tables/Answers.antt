@@ -24,8 +24,8 @@ holds {db} {parts} {rows} {e} {s} {v} (l, is, has) whole finds counted totals =
     }
 
 pub returns-in_err-parts-clause-found : goal.returns-in_err-parts-clause-found
-returns-in_err-parts-clause-found g c clean l e s stands sound =
-    let why : IsFault c.in_err-parts.field-0.0 = (c.in_err-parts.ensures.looks.misses clean).refused e s (l, stands) sound in
+returns-in_err-parts-clause-found g c clean l e s represents sound =
+    let why : IsFault c.in_err-parts.field-0.0 = (c.in_err-parts.ensures.looks.misses clean).refused e s (l, represents) sound in
     search (rules, why)
 
 pub returns-in_err-parts-clause-first : goal.returns-in_err-parts-clause-first
@@ -65,14 +65,14 @@ returns g c =
           let finds = looks.finds clean in
           IfOk-weaker c.counted_event_of.result _ _ (λ it read has.
           holds has read.0 finds.0 (sym c.as_slice.ensures ∙ read.1) (finds.1.lists has.0 refl has.2)) made.value;
-      found = λ clean l e s stands sound.
+      found = λ clean l e s represents sound.
           let finds = looks.finds clean in
-          let counted = c.as_slice.ensures ∙ finds.1.exact l refl e s stands sound in
+          let counted = c.as_slice.ensures ∙ finds.1.exact l refl e s represents sound in
           let it : IsWhole parts e s (version_of l) = record {
             known = known_layout l;
-            keeps = stands.keeps;
-            low = stands.low;
-            are = finds.0.exact l e s stands sound;
+            keeps = represents.keeps;
+            low = represents.low;
+            are = finds.0.exact l e s represents sound;
             sound = sound;
           } in
           let of : IsOf parts e =

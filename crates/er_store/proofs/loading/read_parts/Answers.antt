@@ -1,6 +1,6 @@
 use Rattle.er_store.proofs.Prelude.{rules, refl, ap, sym, ◌∙◌, ◌≡◌, EventTable, PlayerTable, PairingTable, BracketTable, players_text}
 use Rattle.er_store.proofs.Prelude.{List, Layout}
-use Rattle.er_store.proofs.Prelude.{version_of, Database, EventValue, IsSoundButForSeeds, StandsAt, ℕ, read_event}
+use Rattle.er_store.proofs.Prelude.{version_of, Database, EventValue, IsSoundButForSeeds, RepresentsAt, ℕ, read_event}
 use Rattle.er_event.specs.declared.rows.event.EventRow.{EventRow}
 use Rattle.er_store.specs.{Damage.said_version, inside.Lookup.FindsRows, Shape.{event_form, event_table}}
 use Rattle.er_store.proofs.{Layouts.{said_is, known_layout}, TableLemmas.{event_is_ours, player_is_ours, pairing_is_ours, bracket_is_ours}}
@@ -22,15 +22,15 @@ load_rows-requires-4 g c = bracket_is_ours
 -- where the tables stand, the rows of the event say which version they are of
 said : {db : Database} {events : List EventRow} → FindsRows event_form event_table read_event db events
     → (l : Layout) (e : EventValue) (s : ℕ)
-    → StandsAt l db e s → IsSoundButForSeeds e → said_version events ≡ version_of l
-said {events = events} event l e s stands sound =
-    ap said_version (event.exact l refl e s stands sound) ∙ said_is (version_of l) (known_layout l) e s
+    → RepresentsAt l db e s → IsSoundButForSeeds e → said_version events ≡ version_of l
+said {events = events} event l e s represents sound =
+    ap said_version (event.exact l refl e s represents sound) ∙ said_is (version_of l) (known_layout l) e s
 
 pub returns-in_err-event-clause-looks : goal.returns-in_err-event-clause-looks
 returns-in_err-event-clause-looks g c =
     let look = c.in_err-event.ensures.looks in
     missed_as (search rules) (λ db miss. first_misread EventTable db c.in_err-event.field-0.0 (λ bad. bad) miss.misread
-    (λ e s stands sound. miss.refused stands.0 refl e s stands.1 sound)) look
+    (λ e s represents sound. miss.refused represents.0 refl e s represents.1 sound)) look
 
 pub returns-in_err-players-clause-looks : goal.returns-in_err-players-clause-looks
 returns-in_err-players-clause-looks g c =
@@ -38,7 +38,8 @@ returns-in_err-players-clause-looks g c =
     (rw (c.said_version-version.ensures, c.as_slice.ensures) at c.in_err-players.ensures.looks) in
     missed_as (search rules) (λ db miss. first_misread PlayerTable db c.in_err-players.field-0.0
     (λ bad. (c.in_ok-event.event, miss.0.reads, tt, bad)) miss.1.misread
-    (λ e s stands sound. miss.1.refused stands.0 (ap players_text (sym (said miss.0 stands.0 e s stands.1 sound))) e s stands.1 sound)) look
+    (λ e s represents sound. miss.1.refused represents.0 (ap players_text (sym (said miss.0 represents.0 e s represents.1 sound))) e s
+    represents.1 sound)) look
 
 pub returns-in_err-pairings-clause-looks : goal.returns-in_err-pairings-clause-looks
 returns-in_err-pairings-clause-looks g c =
@@ -46,7 +47,7 @@ returns-in_err-pairings-clause-looks g c =
     (rw (c.said_version-version.ensures, c.as_slice.ensures) at c.in_ok-players.ensures.looks) c.in_err-pairings.ensures.looks) in
     missed_as (search rules) (λ db miss. first_misread PairingTable db c.in_err-pairings.field-0.0
     (λ bad. (c.in_ok-event.event, miss.0.reads, (c.in_ok-players.players, miss.1.0.reads), bad)) miss.1.1.misread
-    (λ e s stands sound. miss.1.1.refused stands.0 refl e s stands.1 sound)) look
+    (λ e s represents sound. miss.1.1.refused represents.0 refl e s represents.1 sound)) look
 
 pub returns-in_err-bracket-clause-looks : goal.returns-in_err-bracket-clause-looks
 returns-in_err-bracket-clause-looks g c =
@@ -59,7 +60,7 @@ returns-in_err-bracket-clause-looks g c =
       miss.0.reads,
       ((c.in_ok-players.players, miss.1.0.reads), (c.in_ok-pairings.pairings, miss.1.1.0.reads)),
       bad,
-    )) miss.1.1.1.misread (λ e s stands sound. miss.1.1.1.refused stands.0 refl e s stands.1 sound)) look
+    )) miss.1.1.1.misread (λ e s represents sound. miss.1.1.1.refused represents.0 refl e s represents.1 sound)) look
 
 pub returns-clause-looks : goal.returns-clause-looks
 returns-clause-looks g c =
@@ -74,10 +75,10 @@ returns-clause-looks g c =
         pairings = it.1.1.0.lists l refl has;
         bracket = it.1.1.1.lists l refl has;
       };
-      exact = λ l e s stands sound.
-          let event = it.0.exact l refl e s stands sound in
-          let players = it.1.0.exact l (ap players_text (sym (said it.0 l e s stands sound))) e s stands sound in
-          let pairings = it.1.1.0.exact l refl e s stands sound in
-          let bracket = it.1.1.1.exact l refl e s stands sound in
+      exact = λ l e s represents sound.
+          let event = it.0.exact l refl e s represents sound in
+          let players = it.1.0.exact l (ap players_text (sym (said it.0 l e s represents sound))) e s represents sound in
+          let pairings = it.1.1.0.exact l refl e s represents sound in
+          let bracket = it.1.1.1.exact l refl e s represents sound in
           cc;
     }) look

@@ -20,7 +20,7 @@ returns-in_err-tallies-clause-looks g c =
       reads.event,
       ((parts.players, reads.players), (parts.pairings, reads.pairings), (parts.bracket, reads.bracket)),
       bad,
-    )) miss.1.misread (λ e s stands sound. miss.1.refused stands.0 refl e s stands.1 sound)) look
+    )) miss.1.misread (λ e s represents sound. miss.1.refused represents.0 refl e s represents.1 sound)) look
 
 pub returns-clause-looks : goal.returns-clause-looks
 returns-clause-looks g c = found_as (λ db it. it) (looks_then c.in_ok-parts.ensures.looks c.in_ok-tallies.ensures.looks)

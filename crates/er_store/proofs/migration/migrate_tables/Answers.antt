@@ -11,7 +11,7 @@ moved : (g : given.Over) (c : goal.After-conn-2-1 g) → HasCleanDisk (state g.S
     → IsMoved (state g.S.Store c.move_players.new.tx.conn.now) c.args.event.now s
 moved g c late s may =
     let moves = rw c.transaction-tx.ensures.begun at (c.in_ok-move_players.ensures.moves (was_clean c.commit.ensures.survives late)) in
-    moves s (record { alone = may.alone; stands = in_first may.shows.stands })
+    moves s (record { alone = may.alone; represents = in_first may.shows.represents })
 
 pub returns-clause-migrated : goal.returns-clause-migrated
 returns-clause-migrated g c clean s may =

@@ -11,8 +11,10 @@ returns-clause-moves g c clean s may =
     let clean_1 = was_clean c.copy_players.ensures.stays.survives clean_2 in
     let made = c.in_ok-create_player2.ensures.moves clean_1 e s may in
     let copied = c.in_ok-copy_players.ensures.copies clean_2 e s former (moving_here made) in
-    let cleared = c.in_ok-clear_players.ensures.clears clean_3 1 e.players e s former (moving_here copied) (former_numbered may.stands) in
-    on_ok_weaker c.set_version.result (is_moved may.stands.low) (c.set_version.ensures.sets clean 1 e.players e s [] (moving_here cleared))
+    let cleared = c.in_ok-clear_players.ensures.clears clean_3 1 e.players e s former (moving_here copied)
+    (former_numbered may.represents) in
+    on_ok_weaker c.set_version.result (is_moved may.represents.low) (c.set_version.ensures.sets clean 1 e.players e s []
+    (moving_here cleared))
 
 pub returns-clause-taken : goal.returns-clause-taken
 returns-clause-taken g c clean used =

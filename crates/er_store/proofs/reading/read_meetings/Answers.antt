@@ -4,7 +4,7 @@ use Rattle.er_store.proofs.Prelude.{survives_then, meeting_rows, IsReadRefused, 
 use Rattle.er_store.proofs.Prelude.{Layout, HasTablesAt, Schema, Selects}
 use Rattle.std.proofs.Common.{length-append}
 use Rattle.er_store.proofs.{Meaning.{meeting_query, meetings_selected}, Refusals.meetings_refused, Crash.{survives_both, was_clean}}
-use Rattle.er_store.proofs.LoadLemmas.{all_err, kept_stands, told, then_keeps, unchanged_keeps}
+use Rattle.er_store.proofs.LoadLemmas.{all_err, kept_represents, told, then_keeps, unchanged_keeps}
 use Rattle.er_store.proofs.Selecting.{commits_nothing, fails_keeping, selects, begun-select, given-shown, row-among, refused-after}
 use Rattle.er_store.proofs.{Selecting.unchanged-refl, Exact.is_memory, Meetings.{meetings-listed, meetings-exact, meetings-read}}
 use Rattle.er_store.proofs.Effects.{selected}
@@ -16,9 +16,9 @@ chosen : (l : Layout) {schema : Schema} → HasTablesAt l schema → Selects sql
 chosen l has = selected has (λ others indexes views. meetings_selected others indexes views l)
 
 pub returns-in_err-rows-clause-refused : goal.returns-in_err-rows-clause-refused
-returns-in_err-rows-clause-refused g c clean e s stands sound =
+returns-in_err-rows-clause-refused g c clean e s represents sound =
     told c.from_residual.result c.in_err-rows.field-0.0 _ c.from_residual.ensures.1 (inr (meetings_refused _ _ _
-    (chosen stands.0 stands.1.has.tables) ((rw c.in_err-rows.was at c.query.follows.holds-at-none).err clean)))
+    (chosen represents.0 represents.1.has.tables) ((rw c.in_err-rows.was at c.query.follows.holds-at-none).err clean)))
 
 pub returns-in_err-rows-clause-kept : goal.returns-in_err-rows-clause-kept
 returns-in_err-rows-clause-kept g c clean =
@@ -54,7 +54,7 @@ back_unpushed : (g : given.Over) (c : goal.After-drop-meetings-in_err-push_row g
 back_unpushed g c = search rules
 
 pub returns-clause-exact : goal.returns-clause-exact
-returns-clause-exact g c clean e s stands sound =
+returns-clause-exact g c clean e s represents sound =
     let moved = c.next.follows.holds-at-none in
     let then = c.next.follows.lender-at-none.conn.now in
     let late : HasCleanDisk (state g.S.Store then) = rw (back g c) at clean in
@@ -62,19 +62,19 @@ returns-clause-exact g c clean e s stands sound =
     let now = state g.S.Store c.loop-rows.rows.conn.now in
     let shown : Shown sql.read_meetings [] now (state g.S.Store then) was.0 =
     (rw (c.in_ok-row.was, c.in_default.is) at (moved.ok late)) sql.read_meetings [] was.0 was.1 in
-    let here = kept_stands (state g.S.Store c.args.conn.now) now e s was.3 stands in
+    let here = kept_represents (state g.S.Store c.args.conn.now) now e s was.3 represents in
     let l = here.0 in
     meetings-read l now.now e s was.0 c.loop-rows.meetings.items here.1 sound (meetings-listed _ _ (chosen l here.1.has.tables) shown) was.2
 
 pub returns-in_err-row-clause-refused : goal.returns-in_err-row-clause-refused
-returns-in_err-row-clause-refused g c clean e s stands sound =
+returns-in_err-row-clause-refused g c clean e s represents sound =
     let moved = c.next.follows.holds-at-none in
     let then = state g.S.Store c.next.follows.lender-at-none.conn.now in
     let late : HasCleanDisk then = rw (back_unread g c) at clean in
     let was = c.loop-rows.invariant.3 (was_clean moved.survives late) in
     let old = state g.S.Store c.args.conn.now in
     let now = state g.S.Store c.loop-rows.rows.conn.now in
-    let here = kept_stands old now e s was.3 stands in
+    let here = kept_represents old now e s was.3 represents in
     let failed : FailsToQuery sql.read_meetings [] now then c.in_err-row.field-0.0 =
     (rw c.in_err-row.was at (moved.err late)) sql.read_meetings [] was.0 was.1 in
     let refused = meetings_refused _ _ _ (chosen here.0 here.1.has.tables) failed in
@@ -106,7 +106,7 @@ loop-rows-preserved g c =
     )
 
 pub returns-in_err-push_row-clause-refused : goal.returns-in_err-push_row-clause-refused
-returns-in_err-push_row-clause-refused g c clean e s stands sound =
+returns-in_err-push_row-clause-refused g c clean e s represents sound =
     let moved = c.next.follows.holds-at-none in
     let held = c.next.follows.lender-at-none.conn.now in
     let then = state g.S.Store held in
@@ -117,7 +117,7 @@ returns-in_err-push_row-clause-refused g c clean e s stands sound =
     let row = c.in-Some.row.now in
     let given = (rw (c.in_ok-row.was, c.in-Some.is) at (moved.ok late)) sql.read_meetings [] was.0 was.1 in
     let same : IsUnchanged old then = unchanged_then old now then was.3 (rw c.in_ok-row.was at (moved.same late)) in
-    let there = kept_stands old then e s same stands in
+    let there = kept_represents old then e s same represents in
     let it = chosen there.0 there.1.has.tables in
     let shown = given-shown g.S.Store sql.read_meetings meeting_query held (was.0 ++ row ∷ []) it (unchanged-refl old then same) given in
     let rows = meetings-exact there.0 then.now e s ((was.0 ++ row ∷ []) ++ shown.0) there.1 sound (meetings-listed _ _ it shown.1) in

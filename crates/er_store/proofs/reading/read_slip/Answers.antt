@@ -6,7 +6,7 @@ use Rattle.er_store.proofs.{Meaning.{slip_selected, slip_query}, Refusals.{slip_
 use Rattle.er_store.proofs.{LoadLemmas.{unchanged_keeps, all_ok, all_err, told}}
 use Rattle.er_store.proofs.{Selecting.{commits_nothing, shows_unchanged, fails_keeping, slip_selects}, Exact.is_memory, Joined.slip_exact}
 use Rattle.er_store.proofs.{Joined.named_typed, Effects.selected}
-use Rattle.er_store.proofs.Prelude.{StandsIn, Database, slip_text, version_of, subst}
+use Rattle.er_store.proofs.Prelude.{RepresentsIn, Database, slip_text, version_of, subst}
 use Rattle.er_store.proofs.reading.read_slip.Goals as goal
 
 chosen : (k t : ℕ) (l : Layout) {schema : Schema} → HasTablesAt l schema
@@ -14,17 +14,18 @@ chosen : (k t : ℕ) (l : Layout) {schema : Schema} → HasTablesAt l schema
 chosen k t l has = selected has (λ others indexes views. slip_selected others indexes views k t l)
 
 -- in tables of this version
-chosen_in : (k t v s : ℕ) (e : EventValue) (db : Database) (stands : StandsIn v db e s)
-    → SelectsWith (number k ∷ number t ∷ []) (slip_text v) (slip_query (players_tree stands.layout)) db.schema
-chosen_in k t v s e db stands =
+chosen_in : (k t v s : ℕ) (e : EventValue) (db : Database) (represents : RepresentsIn v db e s)
+    → SelectsWith (number k ∷ number t ∷ []) (slip_text v) (slip_query (players_tree represents.layout)) db.schema
+chosen_in k t v s e db represents =
     subst (λ version. SelectsWith (number k ∷ number t ∷ []) (slip_text version)
-    (slip_query (players_tree stands.layout)) db.schema) stands.is
-    (chosen k t stands.layout stands.stands.has.tables)
+    (slip_query (players_tree represents.layout)) db.schema) represents.is
+    (chosen k t represents.layout represents.represents.has.tables)
 
-exact : (k t v s : ℕ) (e : EventValue) (old new : State) {rows : List Row} → StandsIn v old.now e s → IsSoundButForSeeds e
+exact : (k t v s : ℕ) (e : EventValue) (old new : State) {rows : List Row} → RepresentsIn v old.now e s → IsSoundButForSeeds e
     → Shown (slip_text v) (number k ∷ number t ∷ []) old new rows → rows ≡ map named_columns (named_pairings e k t)
-exact k t v s e old new {rows} stands sound h =
-    slip_exact stands.layout old.now e s k t rows stands.stands sound (answers old new (chosen_in k t v s e old.now stands) h)
+exact k t v s e old new {rows} represents sound h =
+    slip_exact represents.layout old.now e s k t rows represents.represents sound
+    (answers old new (chosen_in k t v s e old.now represents) h)
 
 pub returns-in_err-rows-clause-kept : goal.returns-in_err-rows-clause-kept
 returns-in_err-rows-clause-kept g c clean =
@@ -36,12 +37,12 @@ returns-in_err-rows-clause-survives g c = commits_nothing _ _ (slip_selects c.ar
     (rw c.slip_text.ensures at c.query_all.ensures.survives)
 
 pub returns-in_err-rows-clause-refused : goal.returns-in_err-rows-clause-refused
-returns-in_err-rows-clause-refused g c clean e s stands sound =
+returns-in_err-rows-clause-refused g c clean e s represents sound =
     let k = c.args.round in
     let t = c.args.table in
     let fails = rw (c.slip_text.ensures, c.params-to_sql.ensures, c.params-to_sql-2.ensures) at (c.in_err-rows.ensures.err clean) in
-    told c.from_residual.result c.in_err-rows.field-0.0 _ (search rules) (inr (slip_refused (players_tree stands.layout)
-    (number k ∷ number t ∷ []) _ _ _ (chosen_in k t c.args.version s e _ stands) fails))
+    told c.from_residual.result c.in_err-rows.field-0.0 _ (search rules) (inr (slip_refused (players_tree represents.layout)
+    (number k ∷ number t ∷ []) _ _ _ (chosen_in k t c.args.version s e _ represents) fails))
 
 pub returns : goal.returns
 returns g c =
@@ -50,15 +51,15 @@ returns g c =
     record {
       clean = search rules;
       mode = search rules;
-      exact = λ clean e s stands sound.
+      exact = λ clean e s represents sound.
           let named = named_pairings e k t in
-          let are = exact k t c.args.version s e _ _ stands sound
+          let are = exact k t c.args.version s e _ _ represents sound
           (rw (c.slip_text.ensures, c.params-to_sql.ensures, c.params-to_sql-2.ensures) at (c.in_ok-rows.ensures.ok clean)) in
           IfOk-weaker c.typed_rows.result _ _ (λ typed is. named_typed typed.items named
           (is ∙ ap (map (first_columns 11)) (c.deref.ensures.value ∙ are)
           ∙ map-map (first_columns 11) named_columns named)) c.typed_rows.ensures.value;
-      refused = λ clean e s stands sound.
-          let are = exact k t c.args.version s e _ _ stands sound
+      refused = λ clean e s represents sound.
+          let are = exact k t c.args.version s e _ _ represents sound
           (rw (c.slip_text.ensures, c.params-to_sql.ensures, c.params-to_sql-2.ensures) at (c.in_ok-rows.ensures.ok clean)) in
           IfErr-weaker c.typed_rows.result _ _ (λ why never. inl (is_memory why
           (λ unless. never unless (named_pairings e k t) (c.deref.ensures.value ∙ are))))

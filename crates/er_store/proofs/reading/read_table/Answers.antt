@@ -5,10 +5,10 @@ use Rattle.er_store.proofs.Selecting.{fails_keeping}
 use Rattle.er_store.proofs.reading.read_table.Goals as goal
 
 pub returns-in_err-rows-clause-refused : goal.returns-in_err-rows-clause-refused
-returns-in_err-rows-clause-refused g c clean l serves e s stands sound =
+returns-in_err-rows-clause-refused g c clean l serves e s represents sound =
     let fails = rw c.read.ensures at (c.in_err-rows.ensures.err clean) in
     told c.from_residual.result c.in_err-rows.field-0.0 _ (search rules)
-    (inr (refused g.T.FromRow.form g.T.TableRow.table c.requires c.args.version _ _ l serves _ stands.has.tables fails))
+    (inr (refused g.T.FromRow.form g.T.TableRow.table c.requires c.args.version _ _ l serves _ represents.has.tables fails))
 
 pub returns-in_err-rows-clause-misread : goal.returns-in_err-rows-clause-misread
 returns-in_err-rows-clause-misread g c clean =
@@ -46,8 +46,9 @@ returns g c =
           IfErr-weaker c.typed_rows.result _ _
           (λ why never at h. has_wrong_kind form (table.read version) _ _ _ _ begins c.deref.ensures.value shows table.place at why never h)
           c.typed_rows.ensures.refused;
-      refused = λ clean l serves e s stands sound.
-          let are = are_rows form table it version _ _ l serves (rw c.read.ensures at (c.in_ok-rows.ensures.ok clean)) e s stands sound in
+      refused = λ clean l serves e s represents sound.
+          let are = are_rows form table it version _ _ l serves (rw c.read.ensures at (c.in_ok-rows.ensures.ok clean)) e s represents
+          sound in
           IfErr-weaker c.typed_rows.result _ _ (λ why never. inl (is_memory why
           (λ unless. never unless (table.rows (version_of l) e s) (c.deref.ensures.value ∙ are))))
           c.typed_rows.ensures.refused;

@@ -3,8 +3,8 @@ use Rattle.er_store.proofs.Effects.{puts_event}
 use Rattle.er_store.proofs.statements.insert_event.Goals as goal
 
 pub returns-clause-puts : goal.returns-clause-puts
-returns-clause-puts g c clean l has =
-    on_ok_weaker c.run.result (puts_event c.args.version c.args.event.now c.args.serial has)
+returns-clause-puts g c clean at tree there =
+    on_ok_weaker c.run.result (puts_event c.args.version c.args.event.now c.args.serial there)
     (rw (c.from-cut.ensures, c.cut.ensures.value, c.from-phase.ensures, c.code.ensures, c.phase.ensures.value) at
     (rw (c.params-to_sql-6.ensures, c.as_str.ensures.value, c.name.ensures.value, c.from-rounds.ensures, c.rounds.ensures.value) at
     (rw (c.params-to_sql-5.ensures, c.from-version.ensures) at

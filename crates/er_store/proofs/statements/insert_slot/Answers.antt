@@ -4,12 +4,12 @@ use Rattle.er_store.proofs.{Effects.puts_slot, Adding.slot_added}
 use Rattle.er_store.proofs.statements.insert_slot.Goals as goal
 
 pub returns-clause-makes : goal.returns-clause-makes
-returns-clause-makes g c clean l e before m s rows stands is =
+returns-clause-makes g c clean l e before m s rows represents is =
     let old = state g.S.Store c.args.tx.now.conn.now in
     let new = state g.S.Store c.run.new.tx.conn.now in
     let id = next_rowid (old.now.trees bracket_tree) in
-    on_ok_weaker c.run.result (λ ran. slot_added e before m id stands
-    (subst (λ (r : BracketRow). Puts bracket_tree (stored_slot id r) old new) is (puts_slot c.args.row.now stands.has.tables ran)))
+    on_ok_weaker c.run.result (λ ran. slot_added e before m id represents
+    (subst (λ (r : BracketRow). Puts bracket_tree (stored_slot id r) old new) is (puts_slot c.args.row.now represents.has.tables ran)))
     (rw (c.params-to_sql-5.ensures, c.params-to_sql-6.ensures, c.params-to_sql-7.ensures, c.params-to_sql-8.ensures) at
     (rw (c.params-to_sql.ensures, c.params-to_sql-2.ensures, c.params-to_sql-3.ensures, c.params-to_sql-4.ensures) at
     (c.run.ensures.ran clean)))

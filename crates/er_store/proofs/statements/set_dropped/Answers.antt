@@ -3,5 +3,6 @@ use Rattle.er_store.proofs.Setting.{player_dropped}
 use Rattle.er_store.proofs.statements.set_dropped.Goals as goal
 
 pub returns-clause-makes : goal.returns-clause-makes
-returns-clause-makes g c clean e s rows stands numbered known =
-    on_ok_weaker c.run.result (player_dropped c.args.number stands numbered known) (rw c.params-to_sql.ensures at (c.run.ensures.ran clean))
+returns-clause-makes g c clean e s rows represents numbered known =
+    on_ok_weaker c.run.result (player_dropped c.args.number represents numbered known)
+    (rw c.params-to_sql.ensures at (c.run.ensures.ran clean))

@@ -3,10 +3,11 @@ use Rattle.er_store.proofs.Setting.{slot_scored}
 use Rattle.er_store.proofs.statements.set_slot_score.Goals as goal
 
 pub returns-clause-makes : goal.returns-clause-makes
-returns-clause-makes g c clean l e s rows stands m found =
+returns-clause-makes g c clean l e s rows represents m found =
     let x : c.from.result ≡ c.args.score.x = search rules in
     let y : c.from-2.result ≡ c.args.score.y = search rules in
     let d : c.from-3.result ≡ c.args.score.d = search rules in
-    on_ok_weaker c.run.result (slot_scored c.args.stage c.args.slot c.args.score stands found) (rw (c.params-to_sql-5.ensures, x, y, d) at
+    on_ok_weaker c.run.result (slot_scored c.args.stage c.args.slot c.args.score represents found)
+    (rw (c.params-to_sql-5.ensures, x, y, d) at
     (rw (c.params-to_sql.ensures, c.params-to_sql-2.ensures, c.params-to_sql-3.ensures, c.params-to_sql-4.ensures) at
     (c.run.ensures.ran clean)))

@@ -3,6 +3,6 @@ use Rattle.er_store.proofs.Tallying.{memory-fault}
 use Rattle.er_store.proofs.tallies.find_meetings.Goals as goal
 
 pub returns-in-Ok-clause-found : goal.returns-in-Ok-clause-found
-returns-in-Ok-clause-found g c clean e s stands sound =
+returns-in-Ok-clause-found g c clean e s represents sound =
     memory-fault c.meetings_of.result (λ list. list.items ≡ meetings e)
-    (c.meetings_of.ensures.event e sound (c.as_slice.ensures.value ∙ c.in-Ok.ensures.exact clean e s stands sound))
+    (c.meetings_of.ensures.event e sound (c.as_slice.ensures.value ∙ c.in-Ok.ensures.exact clean e s represents sound))

@@ -1,5 +1,5 @@
 use Rattle.er_store.proofs.Prelude.{◌≡◌, ◌∙◌, state, tallies, unchanged_then, IsUnchanged, HasCleanDisk, subst, sym, ap, refl, Database}
-use Rattle.er_store.proofs.Prelude.{StandsAt, players_text}
+use Rattle.er_store.proofs.Prelude.{RepresentsAt, players_text}
 use Rattle.er_store.proofs.{LoadLemmas.{all_ok, all_err, unchanged_keeps, then_keeps}, Tallying.memory-fault}
 use Rattle.er_store.proofs.{TableLemmas.{player_is_ours, tally_is_ours}, Crash.{survives_both}}
 use Rattle.er_store.proofs.tallies.find_tallies.Given as given
@@ -12,13 +12,13 @@ pub read_table-requires-2 : goal.read_table-requires-2
 read_table-requires-2 g c = tally_is_ours
 
 pub returns-clause-found : goal.returns-clause-found
-returns-clause-found g c clean e s stands sound =
+returns-clause-found g c clean e s represents sound =
     let early = c.read_table-2.ensures.clean clean in
-    let l = stands.layout in
-    let here = subst (λ (d : Database). StandsAt l d e s) (sym (c.in-Ok.ensures.same early).0.now_is) stands.stands in
+    let l = represents.layout in
+    let here = subst (λ (d : Database). RepresentsAt l d e s) (sym (c.in-Ok.ensures.same early).0.now_is) represents.represents in
     memory-fault c.tallies_of.result (λ list. list.items ≡ tallies e)
     (c.tallies_of.ensures.event e sound (c.as_slice.ensures.value ∙ (c.in-Ok.ensures.finds early).exact l
-    (ap players_text stands.is) e s stands.stands sound)
+    (ap players_text represents.is) e s represents.represents sound)
     (c.as_slice-2.ensures.value ∙ (c.in-Ok-read_table.ensures.finds clean).exact l refl e s here sound))
 
 -- the two reads change nothing

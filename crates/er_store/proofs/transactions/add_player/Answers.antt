@@ -1,16 +1,16 @@
-use Rattle.er_store.proofs.Prelude.{on_ok_weaker, sym, ◌∙◌}
-use Rattle.er_store.proofs.{Layouts.{is_old, is_second}, Together.{old_player_added, second_player_added}}
+use Rattle.er_store.proofs.Prelude.{on_ok_weaker, sym, ◌∙◌, player_tree}
+use Rattle.er_store.proofs.{Effects.player_found, Layouts.{is_old, is_second}, Together.{old_player_added, second_player_added}}
 use Rattle.er_store.proofs.transactions.add_player.Goals as goal
 
 pub returns-then-version-eq1-clause-makes : goal.returns-then-version-eq1-clause-makes
 returns-then-version-eq1-clause-makes g c clean l is e s rows =
     let first = is_old l (is ∙ c.if-version-eq1.true) in
-    rw first (λ stands number joined early. on_ok_weaker c.insert_player.result
-    (old_player_added stands c.args.name.now (sym joined ∙ early c.if-version-eq1.true))
-    (rw number at (c.insert_player.ensures.puts clean stands.has.tables)))
+    rw first (λ represents number joined early. on_ok_weaker c.insert_player.result
+    (old_player_added represents c.args.name.now (sym joined ∙ early c.if-version-eq1.true))
+    (rw number at (c.insert_player.ensures.puts clean 1 player_tree (player_found represents.has.tables))))
 
 pub returns-else-version-eq1-clause-makes : goal.returns-else-version-eq1-clause-makes
-returns-else-version-eq1-clause-makes g c clean l is e s rows stands number joined early =
+returns-else-version-eq1-clause-makes g c clean l is e s rows represents number joined early =
     let second = is_second l c.args.version is c.if-version-eq1.false in
-    on_ok_weaker c.insert_player2.result (second_player_added l second stands c.args.name.now)
-    (rw (number, joined) at (c.insert_player2.ensures.puts clean l second stands.has.tables))
+    on_ok_weaker c.insert_player2.result (second_player_added l second represents c.args.name.now)
+    (rw (number, joined) at (c.insert_player2.ensures.puts clean l second represents.has.tables))

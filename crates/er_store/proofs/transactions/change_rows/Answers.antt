@@ -6,31 +6,31 @@ use Rattle.er_store.proofs.{Picking.numbered_before, Together.makes_then, Crash.
 use Rattle.er_store.proofs.transactions.change_rows.Goals as goal
 
 pub returns-in-AddPlayer-clause-makes : goal.returns-in-AddPlayer-clause-makes
-returns-in-AddPlayer-clause-makes g c clean l version s rows stands =
+returns-in-AddPlayer-clause-makes g c clean l version s rows represents =
     let e = c.args.event.now in
     let is : with_player e c.as_str.result.now ≡ after e c.args.change.now = ap (with_player e) c.as_str.ensures.value
     ∙ sym (ap (after e) c.in-AddPlayer.is) in
     let fits = rw c.in-AddPlayer.is at c.requires.fits in
     let takes = rw c.in-AddPlayer.is at c.requires.takes in
     let joined = ap (λ (rs : List Round). length rs) c.stored.ensures.value in
-    rw (← is) (c.add_player.ensures.makes clean l version e s rows stands (ap (λ ps. length ps + 1) c.players.ensures.value) joined
+    rw (← is) (c.add_player.ensures.makes clean l version e s rows represents (ap (λ ps. length ps + 1) c.players.ensures.value) joined
     (λ first. joined ∙ none_stored _ fits.sound (takes first)))
 
 pub returns-in-SetDropped-clause-makes : goal.returns-in-SetDropped-clause-makes
-returns-in-SetDropped-clause-makes g c clean l version s rows stands =
+returns-in-SetDropped-clause-makes g c clean l version s rows represents =
     let e = c.args.event.now in
     let number = c.from.result in
     let is : SetDropped number ≡ c.args.change.now = ap SetDropped (c.from.ensures ∙ c.get.ensures.value) ∙ sym c.in-SetDropped.is in
     let fits : Fits e (SetDropped number) = rw (← is) at c.requires.fits in
     let numbered = numbered_before number e.players fits.sound.players.numbered in
-    rw (← is) (c.drop_player.ensures.makes clean l version e s rows stands numbered fits.named)
+    rw (← is) (c.drop_player.ensures.makes clean l version e s rows represents numbered fits.named)
 
 pub returns-in-SetScore-clause-makes : goal.returns-in-SetScore-clause-makes
-returns-in-SetScore-clause-makes g c clean l version s rows stands =
+returns-in-SetScore-clause-makes g c clean l version s rows represents =
     let e = c.args.event.now in
     let is : SetScore c.from-in-SetScore.result c.from-in-SetScore-2.result c.in-SetScore.score ≡ c.args.change.now = search rules in
     let fits : Fits e (SetScore c.from-in-SetScore.result c.from-in-SetScore-2.result c.in-SetScore.score) = rw (← is) at c.requires.fits in
-    rw (← is) (c.set_score.ensures.makes clean l e s rows stands fits.named.0 fits.named.1 fits.named.2)
+    rw (← is) (c.set_score.ensures.makes clean l e s rows represents fits.named.0 fits.named.1 fits.named.2)
 
 -- what holds of the stage that a reference leads to
 led : (o : Option (Bor (List Match))) (next : Option (List Match)) → option_map (λ (m : Bor (List Match)). m.now) o ≡ next
@@ -46,18 +46,18 @@ score_stages-requires-clause-few g c =
     led c.as_ref.result it.next c.as_ref.ensures.value (next_is e it.stage it.slot it.score it.next it.finished fits.sound)
 
 pub returns-in_ok-set_phase-in-SetBracketScore-clause-makes : goal.returns-in_ok-set_phase-in-SetBracketScore-clause-makes
-returns-in_ok-set_phase-in-SetBracketScore-clause-makes g c clean l version s rows stands =
+returns-in_ok-set_phase-in-SetBracketScore-clause-makes g c clean l version s rows represents =
     let e = c.args.event.now in
     let it = c.in-SetBracketScore in
     let one = c.in_ok-score_stages-in-SetBracketScore.ensures.makes
-    (was_clean c.set_phase-then-finished.ensures.stays.survives clean) l s rows stands in
-    let two = c.in_ok-set_phase-in-SetBracketScore.ensures.makes clean l _ s rows one.stands in
+    (was_clean c.set_phase-then-finished.ensures.stays.survives clean) l s rows represents in
+    let two = c.in_ok-set_phase-in-SetBracketScore.ensures.makes clean l _ s rows one.represents in
     rw (it.is, c.if-finished.true, ← c.as_ref.ensures.value) (makes_then one two)
 
 pub returns-else-finished-clause-makes : goal.returns-else-finished-clause-makes
-returns-else-finished-clause-makes g c clean l version s rows stands =
+returns-else-finished-clause-makes g c clean l version s rows represents =
     rw (c.in-SetBracketScore.is, c.if-finished.false, ← c.as_ref.ensures.value)
-    (c.in_ok-score_stages-in-SetBracketScore.ensures.makes clean l s rows stands)
+    (c.in_ok-score_stages-in-SetBracketScore.ensures.makes clean l s rows represents)
 
 pub returns-in_ok-set_phase-in-SetBracketScore-clause-stays : goal.returns-in_ok-set_phase-in-SetBracketScore-clause-stays
 returns-in_ok-set_phase-in-SetBracketScore-clause-stays g c =

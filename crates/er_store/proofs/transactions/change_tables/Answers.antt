@@ -4,10 +4,11 @@ use Rattle.er_store.proofs.Tallying.{one_more_player}
 use Rattle.er_store.proofs.transactions.change_tables.Goals as goal
 
 pub returns-in-AddPlayer-clause-makes : goal.returns-in-AddPlayer-clause-makes
-returns-in-AddPlayer-clause-makes g c clean l version s stands =
+returns-in-AddPlayer-clause-makes g c clean l version s represents =
     let e = c.args.event.now in
-    let one = c.in_ok-change_rows.ensures.makes (was_clean c.count_player.ensures.stays.survives clean) l version s (tally_rows e) stands in
-    let made = c.count_player.ensures.makes clean l (after e c.args.change.now) s (tally_rows e) one.stands in
+    let one = c.in_ok-change_rows.ensures.makes (was_clean c.insert_totals.ensures.stays.survives clean) l version s (tally_rows e)
+    represents in
+    let made = c.insert_totals.ensures.makes clean l (after e c.args.change.now) s (tally_rows e) one.represents in
     let fits = rw c.in-AddPlayer.is at c.requires.fits in
     let sound = c.events_are_sound.ensures in
     rw (
@@ -15,7 +16,7 @@ returns-in-AddPlayer-clause-makes g c clean l version s stands =
       ← one_more_player e c.in-AddPlayer.name sound.players.numbered
           (λ q known. c.others_keep_totals.ensures e c.in-AddPlayer.name q sound fits known),
     )
-    (on_ok_weaker c.count_player.result (λ two. makes_then (rw c.in-AddPlayer.is at one) two) (rw c.in-AddPlayer.is at made))
+    (on_ok_weaker c.insert_totals.result (λ two. makes_then (rw c.in-AddPlayer.is at one) two) (rw c.in-AddPlayer.is at made))
 
 pub returns-in_default : goal.returns-in_default
 returns-in_default g c =
@@ -25,9 +26,9 @@ returns-in_default g c =
     let first = c.in_ok-change_rows.ensures in
     record {
       same_reference = c.recount.ensures.same_reference ∙ first.same_reference;
-      makes = λ clean l version s stands.
-          let one = first.makes (was_clean c.recount.ensures.stays.survives clean) l version s (tally_rows e) stands in
+      makes = λ clean l version s represents.
+          let one = first.makes (was_clean c.recount.ensures.stays.survives clean) l version s (tally_rows e) represents in
           on_ok_weaker c.recount.result (λ two. makes_then one two) (c.recount.ensures.makes clean l next s same (moves_self one.moves)
-          (rw (← same_players (totals e) e.players next.players (sym same)) one.stands));
+          (rw (← same_players (totals e) e.players next.players (sym same)) one.represents));
       stays = stays_then first.stays c.recount.ensures.stays;
     }

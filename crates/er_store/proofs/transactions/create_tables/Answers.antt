@@ -2,6 +2,8 @@ use Rattle.er_store.proofs.Prelude.{rules, true, ◌≡◌, on_ok_weaker, IfErr-
 use Rattle.er_store.proofs.Prelude.{Database, tally_schema, made_players, ap, ◌∙◌}
 use Rattle.er_store.proofs.{LoadLemmas.all_err}
 use Rattle.er_store.proofs.{Crash.{uncommitted_keeps, dropped_keeps, was_clean, written, leaves_either, shows_leaves_in}}
+use Rattle.er_store.proofs.Beside.{written_beside, leaves_beside}
+use Rattle.er_store.specs.inside.Making.{IsReadyBeside}
 use Rattle.er_store.proofs.transactions.create_tables.Given as given
 use Rattle.er_store.proofs.transactions.create_tables.Goals as goal
 
@@ -35,6 +37,29 @@ returns-clause-crash g c none clean trees may =
     let late = rw (← same) at clean in
     leaves_either (ready g c late none).0 start start.may_leave (λ db left. left)
     (rw c.transaction-tx.ensures.begun at c.make_event.ensures.stays.survives) c.commit.ensures.survives late trees (rw (← same) at may)
+
+-- ---- whatever stood before
+
+ready_too : (g : given.Over) (c : goal.After-conn-2-1 g) → HasCleanDisk (state g.S.Store c.commit.new.self.0)
+    → IsReadyBeside c.args.version c.args.event.now (record (state g.S.Store c.args.conn.now) { in_transaction = true })
+    (state g.S.Store c.make_event.new.tx.conn.now)
+ready_too g c late =
+    rw c.transaction-tx.ensures.begun at (c.in_ok-make_event.ensures.beside (was_clean c.commit.ensures.survives late))
+
+pub returns-clause-beside : goal.returns-clause-beside
+returns-clause-beside g c clean =
+    let same : c.commit.new.self.0 ≡ c.conn-2-1.given.0 = search rules in
+    let late = rw (← same) at clean in
+    rw (← same) (on_ok_weaker c.commit.result (λ done.
+    written_beside (ready_too g c late) (λ db is_open may. g.met.S.Store.settled c.commit.new.self.0.store db is_open may) done.1)
+    (c.commit.ensures.ok late))
+
+pub returns-clause-beside_crash : goal.returns-clause-beside_crash
+returns-clause-beside_crash g c clean trees may =
+    let same : c.commit.new.self.0 ≡ c.conn-2-1.given.0 = search rules in
+    let late = rw (← same) at clean in
+    leaves_beside (ready_too g c late) (rw c.transaction-tx.ensures.begun at c.make_event.ensures.stays.survives)
+    c.commit.ensures.survives late trees (rw (← same) at may)
 
 -- a refusal leaves the tables as they were
 pub returns-in_err-make_event-clause-kept : goal.returns-in_err-make_event-clause-kept

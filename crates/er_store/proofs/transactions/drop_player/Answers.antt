@@ -8,5 +8,5 @@ returns-then-version-eq1-clause-makes g c clean l is e s rows =
     rw first (c.set_dropped.ensures.makes clean e s rows)
 
 pub returns-else-version-eq1-clause-makes : goal.returns-else-version-eq1-clause-makes
-returns-else-version-eq1-clause-makes g c clean l is e s rows stands =
-    c.set_dropped2.ensures.makes clean l (is_second l c.args.version is c.if-version-eq1.false) e s rows stands
+returns-else-version-eq1-clause-makes g c clean l is e s rows represents =
+    c.set_dropped2.ensures.makes clean l (is_second l c.args.version is c.if-version-eq1.false) e s rows represents

@@ -1,4 +1,4 @@
-use Rattle.er_store.proofs.Prelude.{◌≡◌, ℕ, List, take, HasCleanDisk, state, TallyRow, with_round, StandsWith, Stays, Layout}
+use Rattle.er_store.proofs.Prelude.{◌≡◌, ℕ, List, take, HasCleanDisk, state, TallyRow, with_round, RepresentsWith, Stays, Layout}
 use Rattle.er_store.proofs.Adding.{Adds}
 use Rattle.er_store.proofs.transactions.insert_round.Given as goal
 
@@ -7,5 +7,5 @@ invariant-loop-place g l =
     let old = state g.S.Store l.fn.tx.conn.now in
     let now = state g.S.Store l.tx.conn.now in
     (l.tx.conn.ghost_name ≡ l.fn.tx.conn.ghost_name) × Stays old now
-    × (HasCleanDisk now → (at : Layout) (s : ℕ) (rows : List TallyRow) → StandsWith at old.now l.event s rows
+    × (HasCleanDisk now → (at : Layout) (s : ℕ) (rows : List TallyRow) → RepresentsWith at old.now l.event s rows
     → Adds at (with_round l.event) l.place (take l.place l.matches) s rows old now)

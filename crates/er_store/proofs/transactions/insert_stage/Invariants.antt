@@ -1,4 +1,4 @@
-use Rattle.er_store.proofs.Prelude.{◌≡◌, ◌+◌, ℕ, List, take, length, HasCleanDisk, state, TallyRow, EventValue, with_stage, StandsWith}
+use Rattle.er_store.proofs.Prelude.{◌≡◌, ◌+◌, ℕ, List, take, length, HasCleanDisk, state, TallyRow, EventValue, with_stage, RepresentsWith}
 use Rattle.er_store.proofs.Prelude.{Stays, Layout}
 use Rattle.er_store.proofs.Adding.{Adds}
 use Rattle.er_store.proofs.transactions.insert_stage.Given as goal
@@ -8,5 +8,5 @@ invariant-loop-place g l =
     let old = state g.S.Store l.fn.tx.conn.now in
     let now = state g.S.Store l.tx.conn.now in
     (l.tx.conn.ghost_name ≡ l.fn.tx.conn.ghost_name) × Stays old now
-    × (HasCleanDisk now → (at : Layout) (e : EventValue) (s : ℕ) (rows : List TallyRow) → StandsWith at old.now e s rows
+    × (HasCleanDisk now → (at : Layout) (e : EventValue) (s : ℕ) (rows : List TallyRow) → RepresentsWith at old.now e s rows
     → l.stage ≡ length e.bracket.stages + 1 → Adds at (with_stage e) l.place (take l.place l.matches) s rows old now)

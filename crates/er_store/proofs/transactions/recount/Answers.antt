@@ -14,10 +14,10 @@ loop-player-init g c =
     let before = totals c.args.event.now in (
       refl,
       stays_self old,
-      λ clean l e s same moves stands.
+      λ clean l e s same moves represents.
           let numbered = numbered_too e.players c.args.event.now.players same c.players-players.ensures.sound.players.numbered in
           rw (← rows_agree before (set_up_to 0 now before) e.players numbered (λ q low high. none_set now before q low))
-          (record { moves = moves; stands = stands }),
+          (record { moves = moves; represents = represents }),
     )
 
 pub returns-in_err-recount_one-clause-same_reference : goal.returns-in_err-recount_one-clause-same_reference
@@ -44,15 +44,15 @@ loop-player-preserved g c =
     let no : it.no ≡ k + 1 = ap (λ (p : Player). p.no) (rw value at c.player-item.is) ∙ (number-at event sound k it below ∙ omega arith) in (
       c.recount_one.ensures.same_reference ∙ so_far.0,
       stays_then so_far.1 c.recount_one.ensures.stays,
-      λ clean l e s same moves stands.
-          let was = so_far.2 (was_clean c.recount_one.ensures.stays.survives clean) l e s same moves stands in
+      λ clean l e s same moves represents.
+          let was = so_far.2 (was_clean c.recount_one.ensures.stays.survives clean) l e s same moves represents in
           let numbered = numbered_too e.players event.players same sound.players.numbered in
           let many = length-numbers e.players event.players same in
           let known = contains_numbered e.players it.no numbered (omega (arith, no)) (omega (arith, no, many, below)) in
           let made = c.in_ok-recount_one.ensures.makes clean l e s (set_up_to k now before) numbered known
           (λ left. not_yet now before k it.no no
           ∙ (sym (others-at event now before c.recount_of-recount.result others k it below is left) ∙ sym due))
-          (moves_self was.moves) was.stands in
+          (moves_self was.moves) was.represents in
           rw (← rows_agree (set_for it.no (now it.no) (set_up_to k now before)) (set_up_to (k + 1) now before) e.players numbered
           (λ q low high. set_more now before k it.no q no))
           (makes_then was (rw due at made)),
@@ -62,7 +62,7 @@ pub returns-clause-same_reference : goal.returns-clause-same_reference
 returns-clause-same_reference g c = c.loop-player.invariant.0
 
 pub returns-clause-makes : goal.returns-clause-makes
-returns-clause-makes g c clean l e s same moves stands =
+returns-clause-makes g c clean l e s same moves represents =
     let event = c.args.event.now in
     let now = totals (after event c.args.change.now) in
     let before = totals event in
@@ -71,13 +71,13 @@ returns-clause-makes g c clean l e s same moves stands =
     let many = length-numbers e.players event.players same in
     rw (← rows_agree (set_up_to k now before) now e.players numbered
     (λ q low high. all_set now before k q (omega (arith, many, high, ap length c.players-players.ensures.value, c.loop-player-test.false))))
-    (c.loop-player.invariant.2 clean l e s same moves stands)
+    (c.loop-player.invariant.2 clean l e s same moves represents)
 
 pub returns-clause-stays : goal.returns-clause-stays
 returns-clause-stays g c = c.loop-player.invariant.1
 
 pub returns-then-is_empty-clause-makes : goal.returns-then-is_empty-clause-makes
-returns-then-is_empty-clause-makes g c clean l e s same moves stands =
+returns-then-is_empty-clause-makes g c clean l e s same moves represents =
     let event = c.args.event.now in
     let now = totals (after event c.args.change.now) in
     let before = totals event in
@@ -87,4 +87,4 @@ returns-then-is_empty-clause-makes g c clean l e s same moves stands =
     let none = c.is_empty.ensures.0 c.if-is_empty.true in
     rw (← rows_agree before now e.players numbered (λ q low high. none-set event now before c.recount_of-recount.result
     c.recount_of-recount.ensures.others none sound q low (omega (arith, many, high))))
-    (record { moves = moves; stands = stands })
+    (record { moves = moves; represents = represents })

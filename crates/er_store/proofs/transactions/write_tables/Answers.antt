@@ -23,10 +23,10 @@ ready g c late was =
     let begins = rw c.transaction-tx.ensures.begun at (c.in_ok-change_event.ensures.makes (was_clean c.commit.ensures.survives late)) in
     let old = (state g.S.Store c.args.conn.now).now in
     let new = (state g.S.Store c.change_event.new.tx.conn.now).now in
-    let at = was.stands in
-    let made = begins at.layout at.is at.stands in (
-      record { sound = made.moves.sound; stands = record { layout = at.layout; is = at.is; stands = made.stands } },
-      subst (λ v. KeepsOthers v old new) at.is (rest_kept at.layout at.stands.has.tables made.moves.keeps),
+    let at = was.represents in
+    let made = begins at.layout at.is at.represents in (
+      record { sound = made.moves.sound; represents = record { layout = at.layout; is = at.is; represents = made.represents } },
+      subst (λ v. KeepsOthers v old new) at.is (rest_kept at.layout at.represents.has.tables made.moves.keeps),
     )
 
 pub returns-clause-written : goal.returns-clause-written

@@ -1,14 +1,19 @@
 use Rattle.std.proofs.Common.{refl}
 use Rattle.sqlite_trees.specs.View.{doubt}
-use Rattle.er_desk.specs.Desk.{standing}
-use Rattle.er_cli.proofs.{GoingOn.{stands_second, stays_second}, Turns.{ran_before, stood_answers}}
+use Rattle.er_desk.specs.Desk.{desk_state}
+use Rattle.er_cli.proofs.{GoingOn.{represents_second, stays_second}, Turns.{ran_before, represented_answers}}
 use Rattle.er_cli.proofs.script.Runner.ask.Goals as goal
 
 pub returns-in-Some-clause-acts : goal.returns-in-Some-clause-acts
 unfolding doubt
 returns-in-Some-clause-acts c =
     let was = rw c.in-Some.is at c.requires in
-    rw c.in-Some.is (standing c.answer.new.desk, stood_answers _ _ _ _ _ (λ runs. (refl, was.1 runs)) c.answer.ensures.answers, refl)
+    rw c.in-Some.is (
+      desk_state c.answer.new.desk,
+      represented_answers _ _ _ _ _ (λ runs. (refl, was.1 runs))
+          c.answer.ensures.answers,
+      refl,
+    )
 
 pub returns-in-Some-clause-written : goal.returns-in-Some-clause-written
 unfolding doubt
@@ -16,5 +21,5 @@ returns-in-Some-clause-written c =
     let was = rw c.in-Some.is at c.requires in
     let asked = c.answer.ensures.asked in (
       stays_second _ _ _ _ _ asked was.0,
-      λ runs. stands_second _ _ _ _ _ asked was.0 refl (was.1 (ran_before _ _ _ _ _ c.answer.ensures.answers runs)) runs,
+      λ runs. represents_second _ _ _ _ _ asked was.0 refl (was.1 (ran_before _ _ _ _ _ c.answer.ensures.answers runs)) runs,
     )

@@ -4,16 +4,16 @@ use Rattle.sqlite_trees.specs.declared.memory.MemStore.{MemStore}
 use Rattle.sqlite.specs.Steps.{over_memory}
 use Rattle.er_event.specs.{declared.refusals.Refusal.{Refusal, TheVariants.{BadSetup, EventExists}}}
 use Rattle.er_rules.specs.Commands.{first_refusal}
-use Rattle.er_desk.specs.{declared.desk.Desk.Desk, Desk.{Standing, running_at}, History.new_point}
-use Rattle.er_cli.specs.Script.{standing_of}
+use Rattle.er_desk.specs.{declared.desk.Desk.Desk, Desk.{DeskState, running_at}, History.new_point}
+use Rattle.er_cli.specs.Script.{desk_state_of}
 use Rattle.er_cli.proofs.script.Runner.init.Goals as goal
 
-abbrev started : List ℕ → ℕ → ℕ → Standing
+abbrev started : List ℕ → ℕ → ℕ → DeskState
 started name rounds cut = running_at (new_point name rounds cut) 2
 
-stands : (desk : Option (Desk MemStore over_memory)) → is_some (standing_of desk) ≡ is_some desk
-stands None = refl
-stands (Some desk) = refl
+represents : (desk : Option (Desk MemStore over_memory)) → is_some (desk_state_of desk) ≡ is_some desk
+represents None = refl
+represents (Some desk) = refl
 
 -- an event may be set up so, and there is none
 not_yet : (setup exists : Bool) (P : Type 0) (Q : Refusal → Type 0) → setup ≡ true → exists ≡ false → P
@@ -28,7 +28,7 @@ already setup exists P Q lawful there q = rw (lawful, there) q
 pub returns-clause-acts : goal.returns-clause-acts
 returns-clause-acts c =
     let named = c.in_ok-name.ensures.ok in
-    not_yet _ _ _ _ named.1 (stands c.args.self.now.desk ∙ (sym c.is_some.ensures ∙ c.if-is_some.false)) (inl (
+    not_yet _ _ _ _ named.1 (represents c.args.self.now.desk ∙ (sym c.is_some.ensures ∙ c.if-is_some.false)) (inl (
       refl,
       ap Some
           (c.in_ok-desk.ensures.made ∙ ap (λ (name : List ℕ). started name c.args.rounds c.args.cut) named.0),
@@ -36,5 +36,5 @@ returns-clause-acts c =
 
 pub returns-then-is_some-clause-acts : goal.returns-then-is_some-clause-acts
 returns-then-is_some-clause-acts c =
-    already _ _ _ _ c.in_ok-name.ensures.ok.1 (stands c.args.self.now.desk ∙ (sym c.is_some.ensures ∙ c.if-is_some.true))
+    already _ _ _ _ c.in_ok-name.ensures.ok.1 (represents c.args.self.now.desk ∙ (sym c.is_some.ensures ∙ c.if-is_some.true))
     (inl refl, refl)

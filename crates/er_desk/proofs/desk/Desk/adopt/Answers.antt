@@ -10,9 +10,9 @@ use Rattle.er_desk.proofs.desk.Desk.adopt.Goals as goal
 -- ---- the tables are refused
 
 pub returns-in_err-store-clause-found : goal.returns-in_err-store-clause-found
-returns-in_err-store-clause-found g c point stands sound =
+returns-in_err-store-clause-found g c point represents sound =
     let p = err_from_is_err_and c.from_residual.result c.from_residual.ensures.1 in
-    rw (p.1, p.2) (c.in_err-store.ensures.found point.event point.serial stands sound.but_for_seeds)
+    rw (p.1, p.2) (c.in_err-store.ensures.found point.event point.serial represents sound.but_for_seeds)
 
 pub returns-in_err-store-clause-first : goal.returns-in_err-store-clause-first
 returns-in_err-store-clause-first g c =
@@ -24,9 +24,9 @@ returns-in_err-store-clause-first g c =
     })
 
 pub returns-in_err-store-clause-other_seeds : goal.returns-in_err-store-clause-other_seeds
-returns-in_err-store-clause-other_seeds g c point stands sound none =
+returns-in_err-store-clause-other_seeds g c point represents sound none =
     let p = err_from_is_err_and c.from_residual.result c.from_residual.ensures.1 in
-    rw (p.1, p.2) (λ clean. inl (c.in_err-store.ensures.found point.event point.serial stands sound clean))
+    rw (p.1, p.2) (λ clean. inl (c.in_err-store.ensures.found point.event point.serial represents sound clean))
 
 pub returns-in_err-store-clause-why : goal.returns-in_err-store-clause-why
 returns-in_err-store-clause-why g c =
@@ -53,8 +53,8 @@ returns-in-Ok-true-clause-ready g c = c.in_ok-store.ensures.ready
 pub returns-in-Ok-true-clause-shows : goal.returns-in-Ok-true-clause-shows
 returns-in-Ok-true-clause-shows g c = c.in_ok-store.ensures.shows
 
-pub returns-in-Ok-true-clause-stands : goal.returns-in-Ok-true-clause-stands
-returns-in-Ok-true-clause-stands g c = c.in_ok-store.ensures.stands
+pub returns-in-Ok-true-clause-represents : goal.returns-in-Ok-true-clause-represents
+returns-in-Ok-true-clause-represents g c = c.in_ok-store.ensures.represents
 
 pub returns-in-Ok-true-clause-same : goal.returns-in-Ok-true-clause-same
 returns-in-Ok-true-clause-same g c = c.in_ok-store.ensures.same
@@ -83,26 +83,26 @@ pub returns-in-Ok-true-clause-repeats : goal.returns-in-Ok-true-clause-repeats
 returns-in-Ok-true-clause-repeats g c = c.in_ok-store.ensures.sound.rounds.no_repeats
 
 pub returns-in-Ok-true-clause-found : goal.returns-in-Ok-true-clause-found
-returns-in-Ok-true-clause-found g c point stands sound clean =
-    let found = c.in_ok-store.ensures.found point.event point.serial stands sound.but_for_seeds clean in
+returns-in-Ok-true-clause-found g c point represents sound clean =
+    let found = c.in_ok-store.ensures.found point.event point.serial represents sound.but_for_seeds clean in
     record {
       found = point_is point c.in_ok-store.event c.in_ok-store.serial found.0 found.1;
       shows = shows_as (tables.version_in c.in_ok-store.store)
           (tables.state g.S.Store c.in_ok-store.store) point.event c.in_ok-store.event point.serial c.in_ok-store.serial
           found.0 found.1 found.2;
-      leaves = λ late. c.in_ok-store.ensures.leaves late point.event point.serial stands sound.but_for_seeds;
+      leaves = λ late. c.in_ok-store.ensures.leaves late point.event point.serial represents sound.but_for_seeds;
     }
 
 pub returns-in-Ok-true-clause-other_seeds : goal.returns-in-Ok-true-clause-other_seeds
-returns-in-Ok-true-clause-other_seeds g c point stands sound none clean =
-    none (subst HasSeeds (c.in_ok-store.ensures.found point.event point.serial stands sound clean).0
+returns-in-Ok-true-clause-other_seeds g c point represents sound none clean =
+    none (subst HasSeeds (c.in_ok-store.ensures.found point.event point.serial represents sound clean).0
     (c.in-Ok-true.ensures.0 c.in-Ok-true.field-0-test))
 
 -- ---- they do not
 
 pub returns-in-Ok-false-clause-found : goal.returns-in-Ok-false-clause-found
-returns-in-Ok-false-clause-found g c point stands sound clean =
-    let found = c.in_ok-store.ensures.found point.event point.serial stands sound.but_for_seeds
+returns-in-Ok-false-clause-found g c point represents sound clean =
+    let found = c.in_ok-store.ensures.found point.event point.serial represents sound.but_for_seeds
     (back_clean g.S.Store (state g.S.Store c.args.conn) c.into_connection.result c.in_ok-store.store c.into_connection.ensures.same
     clean) in
     let has : HasSeeds c.in_ok-store.event = subst HasSeeds (sym found.0) sound.seeds in
@@ -137,7 +137,7 @@ returns-in-Ok-false-clause-first g c clean =
     }
 
 pub returns-in-Ok-false-clause-other_seeds : goal.returns-in-Ok-false-clause-other_seeds
-returns-in-Ok-false-clause-other_seeds g c point stands sound none clean = inr refl
+returns-in-Ok-false-clause-other_seeds g c point represents sound none clean = inr refl
 
 pub returns-in-Ok-false-clause-left : goal.returns-in-Ok-false-clause-left
 returns-in-Ok-false-clause-left g c =
@@ -149,7 +149,7 @@ returns-in-Ok-false-clause-left g c =
 -- ---- memory is wanting
 
 pub returns-in-Err-clause-found : goal.returns-in-Err-clause-found
-returns-in-Err-clause-found g c point stands sound clean = inl refl
+returns-in-Err-clause-found g c point represents sound clean = inl refl
 
 pub returns-in-Err-clause-why : goal.returns-in-Err-clause-why
 returns-in-Err-clause-why g c = inr (inl (inl refl))
@@ -161,7 +161,7 @@ pub returns-in-Err-clause-first : goal.returns-in-Err-clause-first
 returns-in-Err-clause-first g c clean = memory_names (state g.S.Store c.args.conn).now
 
 pub returns-in-Err-clause-other_seeds : goal.returns-in-Err-clause-other_seeds
-returns-in-Err-clause-other_seeds g c point stands sound none clean = inl (inl refl)
+returns-in-Err-clause-other_seeds g c point represents sound none clean = inl (inl refl)
 
 pub returns-in-Err-clause-left : goal.returns-in-Err-clause-left
 returns-in-Err-clause-left g c =

@@ -4,9 +4,9 @@ use Rattle.sqlite.specs.{Held.state, Tree.Trees}
 use Rattle.er_event.specs.declared.refusals.Refusal.{Refusal, TheVariants.{BadSetup, EventExists}}
 use Rattle.er_event.specs.{Event.EventValue, Change.created, Sound.IsSoundButForSeeds}
 use Rattle.er_rules.specs.Sound.{IsSound, HasSeeds}
-use Rattle.er_store.specs.{Fault.IsFault, Standing.{IsStored, Shows}}
+use Rattle.er_store.specs.{Beside.{IsStoredBeside, ShowsBeside}, Fault.IsFault, Representing.{IsStored, Shows}}
 use Rattle.er_store.specs.Store as tables
-use Rattle.er_desk.proofs.{Adopting.{stored_either}, Turns.{same_keeps, standing_same}}
+use Rattle.er_desk.proofs.{Adopting.{stored_either}, Turns.{same_keeps, desk_state_same}}
 use Rattle.er_desk.proofs.desk.Desk.create.Goals as goal
 
 setup_exists : BadSetup ≡ EventExists → ⊥
@@ -41,6 +41,7 @@ returns-in-Err-clause-left g c = record {
   spares = λ reads clean trees may. may;
   crash = λ none clean trees may. inl may;
   left = λ none is_open clean trees may. inl (g.met.S.Store.settled c.args.conn.store trees is_open may);
+  beside = λ is_open clean trees may. inl (g.met.S.Store.settled c.args.conn.store trees is_open may);
 }
 
 pub returns-in_err-store-clause-left : goal.returns-in_err-store-clause-left
@@ -58,6 +59,10 @@ returns-in_err-store-clause-left g c =
       left = λ none is_open clean trees may. elim (c.in_err-store.ensures.crash none clean trees may) [
         | inl before ↦ inl (g.met.S.Store.settled c.args.conn.store trees is_open before)
         | inr made ↦ inr (stored trees (stored_either made))
+      ];
+      beside = λ is_open clean trees may. elim (c.in_err-store.ensures.beside_crash clean trees may) [
+        | inl before ↦ inl (g.met.S.Store.settled c.args.conn.store trees is_open before)
+        | inr made ↦ inr (subst (λ (e : EventValue). IsStoredBeside 2 e (state g.S.Store c.args.conn).now trees) c.in-Ok.ensures.value made)
       ];
     })
 
@@ -84,9 +89,6 @@ returns-in_err-store-clause-mode g c =
     let p = err_from_is_err_and c.from_residual.result c.from_residual.ensures.1 in
     rw (p.1, p.2) c.in_err-store.ensures.mode
 
-pub invariant_of-result-clause-told : goal.invariant_of-result-clause-told
-invariant_of-result-clause-told g c = sym c.in_ok-store.ensures.ready
-
 pub invariant_of-result-clause-sound : goal.invariant_of-result-clause-sound
 invariant_of-result-clause-sound g c = ∣ new_sound _ _ _ _ c.in-Ok.ensures.value c.in-Ok.ensures.sound ∣₁
 
@@ -94,7 +96,7 @@ pub returns-clause-sound : goal.returns-clause-sound
 returns-clause-sound g c = new_sound _ _ _ _ c.in-Ok.ensures.value c.in-Ok.ensures.sound
 
 pub returns-clause-made : goal.returns-clause-made
-returns-clause-made g c = standing_same _ _ _ _ _ _ _ c.in-Ok.ensures.value c.in_ok-store.ensures.version c.in_ok-store.ensures.ready
+returns-clause-made g c = desk_state_same _ _ _ _ _ _ _ c.in-Ok.ensures.value c.in_ok-store.ensures.version c.in_ok-store.ensures.ready
 
 pub returns-clause-within : goal.returns-clause-within
 returns-clause-within g c = c.in-Ok.ensures.within.0 refl
@@ -109,6 +111,11 @@ pub returns-clause-created : goal.returns-clause-created
 returns-clause-created g c clean none =
     subst (λ (v : ℕ). Shows v (tables.state g.S.Store c.in_ok-store.store) c.in-Ok.event 0) (sym c.in_ok-store.ensures.version)
     (c.in_ok-store.ensures.created clean none)
+
+pub returns-clause-beside : goal.returns-clause-beside
+returns-clause-beside g c clean =
+    subst (λ (e : EventValue). ShowsBeside 2 e (state g.S.Store c.args.conn).now (tables.state g.S.Store c.in_ok-store.store))
+    c.in-Ok.ensures.value (c.in_ok-store.ensures.beside clean)
 
 pub returns-clause-acknowledged : goal.returns-clause-acknowledged
 returns-clause-acknowledged g c none clean trees may =

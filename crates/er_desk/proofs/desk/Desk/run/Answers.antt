@@ -1,7 +1,7 @@
 use Rattle.std.proofs.Common.{◌≡◌, ◌++◌, ◌∷◌, [], ◌+◌, List, Result, Ok, Err, IsErrAnd, MatchResult, take, sym, ap, subst, ◌∙◌, refl, arith}
 use Rattle.std.proofs.lemmas.List.{take_all, take_more}
 use Rattle.er_event.specs.declared.commands.Command.{Command}
-use Rattle.er_desk.specs.{Reply.Reply, Desk.standing, Run.{Runs, Session, session_of}, Asking.Asks}
+use Rattle.er_desk.specs.{Reply.Reply, Desk.desk_state, Run.{Runs, Session, session_of}, Asking.Asks}
 use Rattle.er_desk.proofs.{Plain.runs_plain, Running.runs_push, Asking.{asks_joined, same_asks, session_push, empty_asks}}
 use Rattle.er_desk.proofs.desk.Desk.run.Goals as goal
 
@@ -11,11 +11,13 @@ refused (Err e) P W is q = q
 
 pub loop-command-init : goal.loop-command-init
 loop-command-init g c = record {
-  ran = subst (λ (rs : List Reply). Runs (standing c.args.self.now) [] rs (standing c.args.self.now)) (sym c.in_ok-replies.ensures.items)
+  ran = subst (λ (rs : List Reply). Runs (desk_state c.args.self.now) [] rs (desk_state c.args.self.now))
+      (sym c.in_ok-replies.ensures.items)
       refl;
   count = c.in_ok-replies.ensures.len;
   room = omega (arith, c.in_ok-replies.ensures.capacity, c.len.ensures, c.deref-command-items.ensures.len);
-  asked = subst (λ (rs : List Reply). Asks g.S.Store c.args.self.now (session_of [] rs (standing c.args.self.now).stopped) c.args.self.now)
+  asked = subst (λ (rs : List Reply). Asks g.S.Store c.args.self.now (session_of [] rs (desk_state c.args.self.now).stopped)
+      c.args.self.now)
       (sym c.in_ok-replies.ensures.items) (empty_asks g.S.Store c.args.self.now (c.shown_is_stored.ensures _ _ _));
 }
 
@@ -35,11 +37,12 @@ loop-command-preserved g c =
     (λ (x : Command). take at items ++ x ∷ []) (sym c.command-item.is) in
     let pushed : c.push.new.self.items ≡ rs ++ reply ∷ [] = c.in-Ok.ensures.items in
     record {
-      ran = rw (more, pushed) (runs_push (standing first) (standing old) (standing new) (take at items) rs cmd reply inv.ran took.turn);
+      ran = rw (more, pushed) (runs_push (desk_state first) (desk_state old) (desk_state new) (take at items) rs cmd reply inv.ran
+          took.turn);
       count = omega (arith, inv.count, c.in-Ok.ensures.len);
       room = omega (arith, inv.room, c.in-Ok.ensures.capacity);
       asked = rw (more, pushed) (subst (λ (s : Session). Asks g.S.Store first s new)
-          (session_push (standing first) (standing old) (standing new) (take at items) rs cmd reply inv.ran took.turn)
+          (session_push (desk_state first) (desk_state old) (desk_state new) (take at items) rs cmd reply inv.ran took.turn)
           (asks_joined g.S.Store first old new _ _ inv.asked took.asked));
     }
 
@@ -56,10 +59,10 @@ returns g c =
     let all : take c.loop-command.command-index c.deref-command-items.result.now ≡ c.args.commands.items =
     take_all c.loop-command.command-index c.deref-command-items.result.now c.loop-command-test.false
     ∙ c.deref-command-items.ensures.value in
-    let ran = subst (λ (cs : List Command). Runs (standing first) cs rs (standing now)) all inv.ran in
+    let ran = subst (λ (cs : List Command). Runs (desk_state first) cs rs (desk_state now)) all inv.ran in
     record {
       ran = ran;
-      lawful = runs_plain (standing first) (standing now) c.args.commands.items rs ran;
+      lawful = runs_plain (desk_state first) (desk_state now) c.args.commands.items rs ran;
       untouched = tt;
-      asked = subst (λ (cs : List Command). Asks g.S.Store first (session_of cs rs (standing now).stopped) now) all inv.asked;
+      asked = subst (λ (cs : List Command). Asks g.S.Store first (session_of cs rs (desk_state now).stopped) now) all inv.asked;
     }

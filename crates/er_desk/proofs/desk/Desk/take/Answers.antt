@@ -1,13 +1,13 @@
 use Rattle.std.proofs.Common.{◌≡◌, ◌<◌, ◌∙◌, inl, inr, IfErr, IsFalse, refl, sym, ap, arith, true≢false}
-use Rattle.er_desk.specs.{Desk.{ShowsOwn, Turn, point_of, standing, state}, Headline.{LeavesJust, LeavesEither}}
+use Rattle.er_desk.specs.{Desk.{ShowsOwn, Turn, point_of, desk_state, state}, Headline.{LeavesJust, LeavesEither}}
 use Rattle.er_desk.proofs.{Asking.{command_asks, refused_submits}, Turns.{declined, full, too_late, written, turn_fault, turn_asks}}
-use Rattle.er_desk.proofs.Turns.{waits_of, stops_of, stopped_of, same_unless, stands_after, leaves_refused}
+use Rattle.er_desk.proofs.Turns.{waits_of, stops_of, stopped_of, same_unless, represents_after, leaves_refused}
 use Rattle.er_desk.proofs.desk.Desk.take.Goals as goal
 
 -- the desk was stopped
-pub returns-then-self : goal.returns-then-self
-returns-then-self g c = refused_submits g.S.Store c.args.self.now c.args.command.now _
-    (inr (inr (inr (record { was_stopped = sym c.args.self.now.told ∙ c.if-self.true; same = refl; answered = refl }))))
+pub returns-then-needs_reopen : goal.returns-then-needs_reopen
+returns-then-needs_reopen g c = refused_submits g.S.Store c.args.self.now c.args.command.now _
+    (inr (inr (inr (record { was_stopped = sym c.needs_reopen.ensures ∙ c.if-needs_reopen.true; same = refl; answered = refl }))))
     (c.shown_is_stored.ensures _ _ _)
 
 -- the step refuses the command
@@ -15,7 +15,8 @@ pub returns-in_err-change : goal.returns-in_err-change
 returns-in_err-change g c =
     let desk = c.args.self.now in
     refused_submits g.S.Store desk c.args.command.now c.from_residual.result
-    (declined (standing desk) (sym desk.told ∙ c.if-self.false) c.args.command.now c.from_residual.result _ c.from_residual.ensures.1
+    (declined (desk_state desk) (sym c.needs_reopen.ensures ∙ c.if-needs_reopen.false) c.args.command.now c.from_residual.result _
+    c.from_residual.ensures.1
     c.in_err-change.ensures.refused c.in_err-change.ensures.named) (c.shown_is_stored.ensures _ _ _)
 
 -- all serials are given
@@ -23,7 +24,7 @@ pub returns-then-self-eq-MAX_SERIAL : goal.returns-then-self-eq-MAX_SERIAL
 returns-then-self-eq-MAX_SERIAL g c =
     let desk = c.args.self.now in
     refused_submits g.S.Store desk c.args.command.now _
-    (full (standing desk) (sym desk.told ∙ c.if-self.false) c.args.command.now _ c.in_ok-change.ensures.taken.1
+    (full (desk_state desk) (sym c.needs_reopen.ensures ∙ c.if-needs_reopen.false) c.args.command.now _ c.in_ok-change.ensures.taken.1
     (omega (arith, c.if-self-eq-MAX_SERIAL.true))) (c.shown_is_stored.ensures _ _ _)
 
 -- the tables have no place for who comes late
@@ -32,13 +33,14 @@ returns-then-is_late g c =
     let desk = c.args.self.now in
     let room : desk.serial < 999999 = omega (arith, desk.low, c.if-self-eq-MAX_SERIAL.false) in
     refused_submits g.S.Store desk c.args.command.now _
-    (too_late (standing desk) (sym desk.told ∙ c.if-self.false) c.args.command.now _ c.in_ok-change.ensures.taken.1 room
+    (too_late (desk_state desk) (sym c.needs_reopen.ensures ∙ c.if-needs_reopen.false) c.args.command.now _
+    c.in_ok-change.ensures.taken.1 room
     (rw c.version.ensures.value at (sym c.is_late.ensures ∙ c.if-is_late.true))) (c.shown_is_stored.ensures _ _ _)
 
 -- ---- the change is written, or not
 
 pub write-requires-clause-runs : goal.write-requires-clause-runs
-write-requires-clause-runs g c = sym c.args.self.now.told ∙ c.if-self.false
+write-requires-clause-runs g c = sym c.needs_reopen.ensures ∙ c.if-needs_reopen.false
 
 pub write-requires-clause-takes : goal.write-requires-clause-takes
 write-requires-clause-takes g c = c.steps_are_taken.ensures _ c.args.self.now.event c.args.command.now c.in_ok-change.change
@@ -50,18 +52,18 @@ returns g c =
     let new = c.write.new.self in
     let command = c.args.command.now in
     let wrote = c.write.ensures in
-    let runs = sym desk.told ∙ c.if-self.false in
+    let runs = sym c.needs_reopen.ensures ∙ c.if-needs_reopen.false in
     let room : desk.serial < 999999 = omega (arith, desk.low, c.if-self-eq-MAX_SERIAL.false) in
     let taken = c.in_ok-change.ensures.taken.1 in
-    let left : ShowsOwn g.S.Store desk → LeavesJust (state g.S.Store desk) (point_of (standing desk)) = c.shown_is_stored.ensures _ _ _ in
-    let turn : Turn (standing desk) command c.write.result (standing new) =
-    written (standing desk) runs command (standing new) c.write.result _ (new ≡ desk) (λ same. ap standing same) taken
+    let left : ShowsOwn g.S.Store desk → LeavesJust (state g.S.Store desk) (point_of (desk_state desk)) = c.shown_is_stored.ensures _ _ _ in
+    let turn : Turn (desk_state desk) command c.write.result (desk_state new) =
+    written (desk_state desk) runs command (desk_state new) c.write.result _ (new ≡ desk) (λ same. ap desk_state same) taken
     room (rw c.version.ensures.value at (sym c.is_late.ensures ∙ c.if-is_late.false)) wrote.taken wrote.refused in
-    let undecided : IsFalse (standing desk).stopped → ShowsOwn g.S.Store desk
-    → LeavesEither (state g.S.Store new) (point_of (standing desk)) command =
+    let undecided : IsFalse (desk_state desk).stopped → ShowsOwn g.S.Store desk
+    → LeavesEither (state g.S.Store new) (point_of (desk_state desk)) command =
     λ runs shows clean trees may. elim (wrote.crash shows clean trees may) [ inl old ↦ inl old | inr new ↦ inr (_, taken, new) ] in
     let refused : ShowsOwn g.S.Store desk
-    → IfErr c.write.result (λ _. IsFalse (standing new).stopped → LeavesJust (state g.S.Store new) (point_of (standing desk))) =
+    → IfErr c.write.result (λ _. IsFalse (desk_state new).stopped → LeavesJust (state g.S.Store new) (point_of (desk_state desk))) =
     λ shows. leaves_refused g.S.Store desk new c.write.result (left shows) wrote.refused in
     record {
       turn = turn;
@@ -70,7 +72,7 @@ returns g c =
       asks = (turn_asks _ _ _ _ turn, waits_of _ _ _ _ turn);
       asked = command_asks g.S.Store desk new command c.write.result turn
           (λ stopped. absurd (true≢false (sym stopped ∙ runs))) wrote.clean
-          (λ clean shows. stands_after g.S.Store desk new c.write.result shows (wrote.written clean shows) wrote.refused)
+          (λ clean shows. represents_after g.S.Store desk new c.write.result shows (wrote.written clean shows) wrote.refused)
           wrote.others wrote.kept wrote.version left wrote.acknowledged undecided refused;
       same = same_unless g.S.Store desk new c.write.result wrote.refused;
       kept = wrote.kept;

@@ -1,9 +1,9 @@
 use Rattle.std.proofs.{Common.{◌+◌, inl, inr, refl, sym, subst, ◌∙◌}, Math.Logic.∥∥₁_map}
 use Rattle.er_event.specs.Event.{EventValue}
 use Rattle.er_rules.specs.Sound.{IsSound}
-use Rattle.er_store.specs.Standing.{IsStored}
+use Rattle.er_store.specs.Representing.{IsStored}
 use Rattle.er_desk.specs.Desk.{state}
-use Rattle.er_desk.proofs.Turns.{keeps_self, standing_same}
+use Rattle.er_desk.proofs.Turns.{keeps_self, desk_state_same}
 use Rattle.er_desk.proofs.desk.Desk.write.Goals as goal
 
 pub returns-in_err-next-clause-crash : goal.returns-in_err-next-clause-crash
@@ -15,13 +15,6 @@ returns-in_err-next-clause-others g c clean shows is_open = keeps_self _ (state 
 pub invariant_of-self-clause-sound : goal.invariant_of-self-clause-sound
 invariant_of-self-clause-sound g c = subst (λ (e : EventValue). ∥ IsSound e ∥₁) (sym c.in_ok-next.ensures.ok)
     (∥∥₁_map c.args.self.now.sound c.requires.sound)
-
-pub invariant_of-self-clause-told : goal.invariant_of-self-clause-told
-invariant_of-self-clause-told g c =
-    (c.args.self.now.told ∙ c.requires.runs) ∙ sym (c.in-Ok.ensures.stops c.requires.runs)
-
-pub invariant_of-self-in-Err-clause-told : goal.invariant_of-self-in-Err-clause-told
-invariant_of-self-in-Err-clause-told g c = sym (c.in-Err.ensures.stops c.requires.runs).1
 
 -- ---- what the store says. The goal on what is written has no answer, so that a body that doesn't write is refused there.
 
@@ -45,7 +38,7 @@ returns-in_err-next-clause-clean g c clean = clean
 
 pub returns-in-Ok-clause-taken : goal.returns-in-Ok-clause-taken
 returns-in-Ok-clause-taken g c = (
-  standing_same _ _ _ _ _ _ _ c.in_ok-next.ensures.ok c.write.ensures.version
+  desk_state_same _ _ _ _ _ _ _ c.in_ok-next.ensures.ok c.write.ensures.version
       (c.in-Ok.ensures.stops c.requires.runs ∙ sym c.requires.runs),
   refl,
 )
@@ -64,4 +57,4 @@ returns-in-Err-clause-crash g c = c.write.ensures.crash c.requires.runs
 pub returns-in-Err-clause-refused : goal.returns-in-Err-clause-refused
 returns-in-Err-clause-refused g c =
     let stopped = c.in-Err.ensures.stops c.requires.runs in
-    inr (standing_same _ _ _ _ _ _ _ refl c.write.ensures.version stopped.1, stopped.0)
+    inr (desk_state_same _ _ _ _ _ _ _ refl c.write.ensures.version stopped.1, stopped.0)

@@ -1,4 +1,5 @@
-use Rattle.er_event.proofs.Prelude.{AddRound, Fits, IsRound, Round, lines_from, numbers, totals_of, SetScore, arith, subst, common_steps}
+use Rattle.er_event.proofs.Prelude.{AddRound, Fits, IsRound, Round, appearances_from, numbers, totals_of, SetScore, arith, subst}
+use Rattle.er_event.proofs.Prelude.{common_steps}
 use Rattle.er_event.proofs.{Pairs.All-last, RescoredLemmas.{as-scored, has-table, seated-after}}
 use Rattle.er_event.proofs.events.Event.played_after.Goals as goal
 
@@ -21,4 +22,4 @@ pub totals_with-requires-clause-seated : goal.totals_with-requires-clause-seated
 totals_with-requires-clause-seated c = grind (arith, common_steps, seated-after)
 
 pub returns-in-SetScore : goal.returns-in-SetScore
-returns-in-SetScore c = grind (arith, common_steps, as-scored, lines_from, totals_of)
+returns-in-SetScore c = grind (arith, common_steps, as-scored, appearances_from, totals_of)

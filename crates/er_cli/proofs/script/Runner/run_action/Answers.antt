@@ -1,0 +1,5 @@
+use Rattle.std.proofs.Common.{sym}
+use Rattle.er_cli.proofs.script.Runner.run_action.Goals as goal
+
+pub returns-in-Init-clause-acts : goal.returns-in-Init-clause-acts
+returns-in-Init-clause-acts c = rw (c.in-Init.is, c.reply_answer.ensures, sym c.as_slice.ensures) c.init.ensures.acts

@@ -1,0 +1,59 @@
+-- What creation leaves beside tables of others: theirs as they were, and behind them the five.
+use Rattle.std.specs.Prelude.{◌≡◌, ℕ, List, [], ◌∷◌, ◌++◌, IsTrue}
+use Rattle.sqlite_catalog.specs.Change.{KeepsRows}
+use Rattle.sqlite_catalog.specs.Listing.{IsSound}
+use Rattle.sqlite_rules.specs.Lists.{Has}
+use Rattle.sqlite_schema.specs.declared.schema.Index.{Index}
+use Rattle.sqlite.specs.Order.{Row}
+use Rattle.sqlite.specs.Table.{Table}
+use Rattle.sqlite.specs.Tree.{Trees}
+use Rattle.sqlite.specs.Schema.{Schema}
+use Rattle.sqlite.specs.Effect.{Database, IsDatabase}
+use Rattle.sqlite.specs.State.{State}
+use Rattle.er_event.specs.Event.{EventValue}
+use Rattle.er_store.specs.Tables.{event, players_of, pairing, bracket, tally}
+use Rattle.er_store.specs.Rows.{stored_event}
+use Rattle.er_store.specs.Representing.{CanRead}
+
+-- What stood in the file stands first in it, as it was, each table with its rows.
+pub record KeepsFirst (old new : Database) : Type 0 where
+  pub more : List Table
+  pub tables : new.schema.tables ≡ old.schema.tables ++ more
+  pub keys : List Index
+  pub indexes : new.schema.indexes ≡ old.schema.indexes ++ keys
+  pub views : new.schema.views ≡ old.schema.views
+  pub rows : KeepsRows old.schema.tables old.trees new.trees
+
+-- the table is there, with these rows
+pub record HasTable (db : Database) (table : Table) (rows : List Row) : Type 0 where
+  pub listed : Has db.schema.tables table
+  pub holds : db.trees table.tree ≡ rows
+
+-- wherever its tree is
+abbrev pub IsMade : (ℕ → Table) → List Row → Database → Type 0
+IsMade table rows db = (tree : ℕ) × HasTable db (table tree) rows
+
+-- What stood stays, and the five tables of this version are there: `event` can be read and has the event's row, and the
+-- others have none.
+pub record MakesBeside (version : ℕ) (e : EventValue) (old new : Database) : Type 0 where
+  pub keeps : KeepsFirst old new
+  pub readable : CanRead new.schema
+  pub event : IsMade event (stored_event version e 0 ∷ []) new
+  pub players : IsMade (players_of version) [] new
+  pub pairing : IsMade pairing [] new
+  pub bracket : IsMade bracket [] new
+  pub tally : IsMade tally [] new
+
+-- what a crash leaves has them so
+pub record IsStoredBeside (version : ℕ) (e : EventValue) (old : Database) (trees : Trees) : Type 0 where
+  pub schema : Schema
+  pub sound : IsSound schema trees
+  pub makes : MakesBeside version e old (record { schema = schema; trees = trees })
+
+-- The connection sees them so beside what stood, with nothing pending, and a crash leaves them so.
+pub record ShowsBeside (version : ℕ) (e : EventValue) (old : Database) (s : State) : Type 0 where
+  pub is_open : IsTrue s.is_open
+  pub sound : IsDatabase s.now
+  pub settled : s.now ≡ s.committed
+  pub makes : MakesBeside version e old s.now
+  pub leaves : (trees : Trees) → s.may_leave trees → IsStoredBeside version e old trees

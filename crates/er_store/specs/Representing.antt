@@ -1,0 +1,160 @@
+-- When the tables of a database represent an event and its serial, in version 1 or in version 2.
+use Rattle.std.specs.Prelude.{◌≡◌, ◌≢◌, ◌≤◌, ◌⊎◌, ℕ, true, List, [], ◌∷◌, map, Some, IsTrue, IsOk, IsPermutation}
+use Rattle.sqlite.specs.Order.{Row}
+use Rattle.std.specs.List.{AllByRecursion}
+use Rattle.sqlite_schema.specs.Rules.{ParentKey, parent_key}
+use Rattle.sqlite_schema.specs.declared.schema.Reference.{Reference}
+use Rattle.sqlite_catalog.specs.Listing.{IsSound}
+use Rattle.sqlite.specs.Tree.{Trees}
+use Rattle.sqlite.specs.Table.{Table}
+use Rattle.sqlite.specs.Schema.{Schema}
+use Rattle.sqlite.specs.Effect.{Database, IsDatabase}
+use Rattle.sqlite.specs.State.{State, HasCleanDisk}
+use Rattle.sqlite.specs.Listing.{understood}
+use Rattle.sqlite_trees.specs.Tree.{IsTable}
+use Rattle.sqlite_rules.specs.Edit.{have_rowids}
+use Rattle.er_event.specs.declared.commands.TheConstants.{MAX_SERIAL}
+use Rattle.er_event.specs.Event.{EventValue}
+use Rattle.er_event.specs.declared.refusals.Place.{Place}
+use Rattle.er_event.specs.declared.refusals.Place.TheVariants.{EventTable, PlayerTable, PairingTable, BracketTable, TallyTable}
+use Rattle.er_event.specs.declared.rows.tally.TallyRow.{TallyRow}
+use Rattle.er_event.specs.Rows.{event_row, player_rows, pairing_rows, bracket_rows, tally_rows}
+use Rattle.er_event.specs.Version.{Keeps}
+use Rattle.er_store.specs.Tables.{event_tree, pairing_tree, bracket_tree, tally_tree, find_event, read_event}
+use Rattle.er_store.specs.Layout.{Layout, version_of, players_tree, with_ours}
+use Rattle.er_store.specs.Rows.{event_columns, player_columns, pairing_columns, bracket_columns, tally_columns}
+use Rattle.er_store.specs.Shape.{event_table, player_table, pairing_table, bracket_table, tally_table}
+
+-- the tree is of none of the event's five tables
+abbrev pub IsOther : Layout → ℕ → Type 0
+IsOther layout tree =
+    (tree ≢ event_tree) × (tree ≢ players_tree layout) × (tree ≢ pairing_tree) × (tree ≢ bracket_tree) × (tree ≢ tally_tree)
+
+-- a foreign key of another table that does not lead to one of the five
+abbrev pub LeadsElsewhere : Layout → List Table → Reference → Type 0
+LeadsElsewhere layout tables ref = (key : ParentKey) → parent_key tables ref ≡ Some key → IsOther layout key.0
+
+-- the tables of this layout stand first, and no other table refers to the event's
+pub record HasTablesAt (layout : Layout) (schema : Schema) : Type 0 where
+  pub others : List Table
+  pub are : schema.tables ≡ with_ours layout others
+  pub apart : AllByRecursion (λ t. AllByRecursion (LeadsElsewhere layout (with_ours layout others)) t.references) others
+
+-- the tables of an event are there, in one of the ways in which they lie in this version; a schema may have them in both
+abbrev pub HasTables : ℕ → Schema → Type 0
+HasTables version schema = (layout : Layout) × (version_of layout ≡ version) × HasTablesAt layout schema
+
+-- each row has a rowid of its own, and they rise
+pub record IsKeyed (rows : List Row) : Type 0 where
+  pub rise : IsTable rows
+  pub numbers : have_rowids rows ≡ true
+
+-- the rowids that no column shows
+pub record AreKeyed (db : Database) : Type 0 where
+  pub pairings : IsKeyed (db.trees pairing_tree)
+  pub bracket : IsKeyed (db.trees bracket_tree)
+
+-- where a table is stored
+abbrev pub tree_of : Layout → Place → ℕ
+tree_of layout EventTable = event_table.tree layout
+tree_of layout PlayerTable = player_table.tree layout
+tree_of layout PairingTable = pairing_table.tree layout
+tree_of layout BracketTable = bracket_table.tree layout
+tree_of layout TallyTable = tally_table.tree layout
+
+-- what is read of a row of it
+abbrev pub shown_of : Layout → Place → Row → Row
+shown_of layout EventTable = event_table.shown layout
+shown_of layout PlayerTable = player_table.shown layout
+shown_of layout PairingTable = pairing_table.shown layout
+shown_of layout BracketTable = bracket_table.shown layout
+shown_of layout TallyTable = tally_table.shown layout
+
+-- the rows of a table, as SQL shows them
+abbrev pub rows_in : Layout → Database → Place → List Row
+rows_in layout db table = map (shown_of layout table) (db.trees (tree_of layout table))
+
+-- the rows of an event in tables of this version, with these of totals
+abbrev pub rows_with : ℕ → EventValue → ℕ → List TallyRow → Place → List Row
+rows_with version e serial totals EventTable = event_columns (event_row version e serial) ∷ []
+rows_with version e serial totals PlayerTable = map player_columns (player_rows e)
+rows_with version e serial totals PairingTable = map pairing_columns (pairing_rows e)
+rows_with version e serial totals BracketTable = map bracket_columns (bracket_rows e)
+rows_with version e serial totals TallyTable = map tally_columns totals
+
+-- the tables have the schema and show these rows, in any order
+pub record HasRows (layout : Layout) (db : Database) (wanted : Place → List Row) : Type 0 where
+  pub tables : HasTablesAt layout db.schema
+  pub rows : (table : Place) → IsPermutation (rows_in layout db table) (wanted table)
+  -- the rowids of these two are shown by no column
+  pub keyed : AreKeyed db
+
+-- the rows are those of an event that tables of this version can keep, with these rows of totals
+pub record RepresentsWith (layout : Layout) (db : Database) (e : EventValue) (serial : ℕ) (totals : List TallyRow) : Type 0 where
+  pub low : serial ≤ MAX_SERIAL
+  pub keeps : Keeps (version_of layout) e
+  pub has : HasRows layout db (rows_with (version_of layout) e serial totals)
+
+-- and the rows of totals are the event's too
+abbrev pub RepresentsAt : Layout → Database → EventValue → ℕ → Type 0
+RepresentsAt layout db e serial = RepresentsWith layout db e serial (tally_rows e)
+
+-- in tables of this version, however they lie
+pub record RepresentsIn (version : ℕ) (db : Database) (e : EventValue) (serial : ℕ) : Type 0 where
+  pub layout : Layout
+  pub is : version_of layout ≡ version
+  pub represents : RepresentsAt layout db e serial
+
+-- in either version, as the event's row says
+abbrev pub Represents : Database → EventValue → ℕ → Type 0
+Represents db e serial = (layout : Layout) × RepresentsAt layout db e serial
+
+-- nobody is enrolled, and nothing is paired
+pub record IsNew (e : EventValue) : Type 0 where
+  pub players : e.players ≡ []
+  pub stored : e.stored ≡ []
+  pub bracket : e.bracket.stages ≡ []
+
+-- a table or view `event` can be read
+abbrev pub CanRead : Schema → Type 0
+CanRead schema = IsOk (understood schema find_event)
+
+-- the statement that reads the event can be run
+abbrev pub ReadsEvent : Schema → Type 0
+ReadsEvent schema = IsOk (understood schema read_event)
+
+-- what a crash leaves represents the event, in this version
+pub record IsStoredIn (version : ℕ) (e : EventValue) (serial : ℕ) (trees : Trees) : Type 0 where
+  pub schema : Schema
+  pub sound : IsSound schema trees
+  pub represents : RepresentsIn version (record { schema = schema; trees = trees }) e serial
+
+-- in either version
+pub record IsStored (e : EventValue) (serial : ℕ) (trees : Trees) : Type 0 where
+  pub schema : Schema
+  pub sound : IsSound schema trees
+  pub represents : Represents (record { schema = schema; trees = trees }) e serial
+
+-- the connection sees the event in this version, with nothing pending
+pub record Shows (version : ℕ) (s : State) (e : EventValue) (serial : ℕ) : Type 0 where
+  pub is_open : IsTrue s.is_open
+  pub sound : IsDatabase s.now
+  pub settled : s.now ≡ s.committed
+  pub represents : RepresentsIn version s.now e serial
+
+-- each thing that a crash may leave
+abbrev pub Leaves : State → (Trees → Type 0) → Type 0
+Leaves s P = HasCleanDisk s → (trees : Trees) → s.may_leave trees → P trees
+
+abbrev pub Either : (Trees → Type 0) → (Trees → Type 0) → Trees → Type 0
+Either P Q trees = P trees ⊎ Q trees
+
+-- the schema stays, and the rows of the tables that are none of the event's
+pub record KeepsRest (layout : Layout) (old new : Database) : Type 0 where
+  pub schema : new.schema ≡ old.schema
+  pub rows : AllByRecursion (λ t. IsOther layout t.tree → new.trees t.tree ≡ old.trees t.tree) old.schema.tables
+
+-- in tables of this version, however they lie; of `player` too, where a migration has left it
+pub record KeepsOthers (version : ℕ) (old new : Database) : Type 0 where
+  pub schema : new.schema ≡ old.schema
+  pub rest : (layout : Layout) → version_of layout ≡ version → HasTablesAt layout old.schema → KeepsRest layout old new
