@@ -3,7 +3,8 @@ use Rattle.std.proofs.{Common.{◌≡◌, ◌⊎◌, inl, inr, ℕ, List, length
 use Rattle.std.proofs.KnownBytes.{Appends-kept, Keeps-refl, Keeps-trans}
 use Rattle.std.specs.Io.KnownBytes.{Keeps}
 use Rattle.er_cli.specs.{declared.TheConstants.{DONE, USAGE, DEVICE, MEMORY}, Script.{RunsLines, Prints, PrintsPart}}
-use Rattle.er_cli.specs.Status.{Breaks, Ends, EndsUnread, IsTooLong, Serves, UnreadPart}
+use Rattle.er_cli.specs.Status.{Breaks, Ends, IsTooLong, Serves}
+use Rattle.er_cli.specs.inside.Unread.{EndsUnread, UnreadPart}
 use Rattle.er_cli.specs.{declared.input.InputFault.InputFault, declared.input.InputFault.TheVariants.{TooLong, Read}}
 use Rattle.er_cli.specs.declared.input.InputFault.TheVariants as fault
 use Rattle.er_cli.proofs.Sending.{whole_part, part_kept}

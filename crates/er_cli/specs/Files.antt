@@ -4,7 +4,10 @@ use Rattle.sqlite_disk.specs.declared.Disk as disk
 use Rattle.sqlite_trees.specs.declared.store.Store.{Ghosts}
 use Rattle.sqlite_store.specs.declared.store.FileStore.{FileStore}
 use Rattle.sqlite.specs.State.{HasCleanDisk}
-use Rattle.sqlite.specs.Files.{file_state, over_files}
+use Rattle.sqlite.specs.declared.error.Error.{Error}
+use Rattle.sqlite.specs.declared.file.Leftover.{Leftover}
+use Rattle.sqlite.specs.Tree.{Trees}
+use Rattle.sqlite.specs.Files.{HoldsDatabase, file_state, over_files}
 use Rattle.sqlite_wal.specs.Recovery.{Image}
 use Rattle.er_event.specs.declared.refusals.Refusal.{Refusal}
 use Rattle.er_event.specs.declared.refusals.Refusal.TheVariants.{Memory, NoEvent, EventExists}
@@ -19,7 +22,7 @@ use Rattle.er_desk.specs.Asking.{AsksSome}
 use Rattle.er_desk.specs.Desk.{Point, DeskState, ShowsOwn, running_at, desk_state, state, version_in}
 use Rattle.er_desk.specs.Headline.{LeavesJust}
 use Rattle.er_desk.specs.declared.opening.OpenFault.{OpenFault}
-use Rattle.er_desk.specs.Opening.{HoldsNothing, ListsNothing, OnRefused, why_of}
+use Rattle.er_desk.specs.Opening.{HoldsNothing, LeavesOver, ListsNothing, MakesOver, OnRefused, OnUnopened, why_of}
 use Rattle.er_desk.specs.History.{new_point}
 use Rattle.er_desk.specs.Reply.{receipt}
 use Rattle.er_desk.specs.Run.{Session, no_session}
@@ -44,26 +47,33 @@ abbrev pub IsNotOpened : Answer → Type 0
 IsNotOpened answer = (why : Refusal) × ((why ≡ NoEvent) ⊎ IsLoadFault why) × (answer ≡ Refused why)
 
 -- The desk of an event that was just made. In a file that held nothing its tables represent that event, and a crash leaves
--- just that.
+-- just that. In any other the event's tables are there beside what it held.
 pub record IsMade {D : Type 0} {g : disk.Ghosts D} (image : Image) (new : Point) (desk : Desk (FileStore D g) over_files) : Type 0 where
   pub is_new : desk_state desk ≡ running_at new 2
   pub represents : HoldsNothing image → HasCleanDisk (state over_files desk) → ShowsOwn over_files desk
   pub leaves : HoldsNothing image → LeavesJust (state over_files desk) new
+  pub beside : (db : Trees) → HoldsDatabase image db → HasCleanDisk (state over_files desk) → MakesOver new db (state over_files desk)
 
 -- No event was made: the file has one, or memory or the store fails. In a file that held nothing a crash leaves nothing
--- then, or that event whole.
-pub record IsNotMade {D : Type 0} (g : disk.Ghosts D) (image : Image) (new : Point) (why : Refusal) : Type 0 where
+-- then, or that event whole; in any other what it held, alone or with the event's tables beside it.
+pub record IsNotMade {D : Type 0} (g : disk.Ghosts D) (Spares : Error → Option (Leftover D g) → Type 0) (image : Image) (new : Point)
+    (why : Refusal) : Type 0 where
   pub cause : (why ≡ EventExists) ⊎ IsFault why
   pub fault : OpenFault D g
   pub is : why ≡ why_of fault
   pub leaves : HoldsNothing image
       → OnRefused fault (λ conn. Leaves (file_state conn) (Either ListsNothing (IsStored new.event new.serial)))
+  pub beside : (db : Trees) → HoldsDatabase image db
+      → OnRefused fault (λ conn. HasCleanDisk (file_state conn) → LeavesOver new db (file_state conn))
+  -- what is left of a file that was not opened, as the storage crate has it
+  pub spared : OnUnopened fault Spares
 
 -- What is checked of an event that is to be made comes before any file is touched.
-abbrev pub InitReplies : {D : Type 0} (g : disk.Ghosts D) → Image → List ℕ → ℕ → ℕ → Result (Desk (FileStore D g) over_files) Refusal → Type 0
-InitReplies g image name rounds cut made =
+abbrev pub InitReplies : {D : Type 0} (g : disk.Ghosts D) → (Error → Option (Leftover D g) → Type 0) → Image → List ℕ → ℕ → ℕ
+    → Result (Desk (FileStore D g) over_files) Refusal → Type 0
+InitReplies g Spares image name rounds cut made =
     MatchOption (first_refusal (init_checks false name rounds cut))
-    (IsSetUp name rounds cut × MatchResult made (IsMade image (new_point name rounds cut)) (IsNotMade g image (new_point name rounds cut)))
+    (IsSetUp name rounds cut × MatchResult made (IsMade image (new_point name rounds cut)) (IsNotMade g Spares image (new_point name rounds cut)))
     (λ why. made ≡ Err why)
 
 module _ (out out_then err err_then : Option (List ℕ)) (status : ℕ) where
@@ -104,13 +114,14 @@ module _ {D : Type 0} (g : disk.Ghosts D) (out out_then err err_then : Option (L
     pub does : Does over_files desk task last out out_then err err_then status
     pub put_away : IsPutAway g last
 
-module _ {D : Type 0} (g : disk.Ghosts D) (image : Image) (out out_then err err_then : Option (List ℕ)) (status : ℕ) where
+module _ {D : Type 0} (g : disk.Ghosts D) (Spares : Error → Option (Leftover D g) → Type 0) (image : Image)
+    (out out_then err err_then : Option (List ℕ)) (status : ℕ) where
   -- An event was made, and its file put away; or why it was not. In a file that held nothing this begins the empty history,
   -- with which the next command line goes on.
   abbrev pub Makes : List ℕ → ℕ → ℕ → Type 0
   Makes name rounds cut =
       (made : Result (Desk (FileStore D g) over_files) Refusal)
-      × InitReplies g image name rounds cut made
+      × InitReplies g Spares image name rounds cut made
       × MatchResult made
       (λ desk. IsPutAway g desk × (HoldsNothing image → GoesTo g (new_point name rounds cut) [] no_session desk)
       × Tells (Accepted (receipt 0)) out out_then err err_then status)

@@ -6,6 +6,8 @@
 -- listener. Texts says what a writer holds after an answer, Setup what an event is set up with, and Complaints what a
 -- person is told of words that are no line. GoingOn is a command line over the file that a history
 -- left, and Next what it leaves there.
+--
+-- What private functions alone cite lies in `inside`.
 pub mod Setup
 pub mod Texts
 pub mod Input
@@ -21,3 +23,4 @@ pub mod Serving
 pub mod Importing
 pub mod Words
 pub mod GoingOn
+pub mod inside

@@ -1,16 +1,11 @@
 -- What the lines of a script are answered.
-use Rattle.std.specs.Prelude.{◌≡◌, ◌⊎◌, ⊤, ℕ, IsFalse, IfSome, List, [], ◌∷◌, take, flat_map, Option, Some, None, MatchOption}
-use Rattle.std.specs.Prelude.{option_map, is_some}
+use Rattle.std.specs.Prelude.{◌≡◌, ◌⊎◌, ⊤, ℕ, List, [], ◌∷◌, take, flat_map, Option, Some, None, MatchOption, is_some}
 use Rattle.std.specs.Io.KnownBytes.{Appends}
-use Rattle.sqlite_trees.specs.declared.store.Store.{Ghosts}
-use Rattle.sqlite_trees.specs.declared.memory.MemStore.{MemStore}
-use Rattle.sqlite.specs.Steps.{over_memory}
 use Rattle.er_event.specs.declared.refusals.Refusal.{Refusal}
 use Rattle.er_event.specs.declared.refusals.Refusal.TheVariants.{Memory, NoEvent}
 use Rattle.er_rules.specs.Commands.{first_refusal}
 use Rattle.er_store.specs.Fault.{IsFault}
-use Rattle.er_desk.specs.declared.desk.Desk.{Desk}
-use Rattle.er_desk.specs.Desk.{DeskState, ShowsOwn, running_at, desk_state, version_in}
+use Rattle.er_desk.specs.Desk.{DeskState, running_at}
 use Rattle.er_desk.specs.History.{new_point}
 use Rattle.er_words.specs.declared.action.Action.{Action}
 use Rattle.er_words.specs.declared.action.Action.TheVariants.{Init, Open}
@@ -21,10 +16,6 @@ use Rattle.er_cli.specs.Setup.{init_checks}
 use Rattle.er_words.specs.Fields.{script_action}
 use Rattle.er_cli.specs.Answers.{DeskAnswers}
 use Rattle.er_cli.specs.Texts.{answer_text, AppendsPart}
-
--- the state of a script's desk, once it has one
-abbrev pub desk_state_of : {S : Type 0} {g : Ghosts S} → Option (Desk S g) → Option DeskState
-desk_state_of desk = option_map desk_state desk
 
 -- an event is made, or memory or the store fails, and all stays as it is
 abbrev pub CreatesEvent : Option DeskState → List ℕ → ℕ → ℕ → Answer → Option DeskState → Type 0
@@ -71,7 +62,3 @@ pub record PrintsPart (lines : List (List ℕ)) (before after : Option (List ℕ
   pub last : Option DeskState
   pub runs : RunsLines None (take count lines) answers last
   pub printed : AppendsPart before after (flat_map answer_text answers)
-
--- the tables in memory are of version 2, and represent the event, where no fault of the store is behind
-abbrev pub HasOwnTables : Option (Desk MemStore over_memory) → Type 0
-HasOwnTables desk = IfSome desk (λ d. (version_in d ≡ 2) × (IsFalse (desk_state d).stopped → ShowsOwn over_memory d))

@@ -3,9 +3,6 @@ use Rattle.std.specs.Prelude.{◌≡◌, ◌⊎◌, ℕ, ◌<◌, ◌≤◌, Lis
 use Rattle.std.specs.Io.KnownBytes.{Appends, Keeps}
 use Rattle.er_event.specs.declared.refusals.Refusal.TheVariants.{Memory}
 use Rattle.er_cli.specs.declared.TheConstants.{DONE, USAGE, DEVICE, MEMORY}
-use Rattle.er_cli.specs.declared.input.InputFault.{InputFault}
-use Rattle.er_cli.specs.declared.input.InputFault.TheVariants as fault
-use Rattle.er_cli.specs.declared.input.InputFault.TheVariants.{TooLong, Read}
 use Rattle.er_cli.specs.declared.input.TheConstants.{MAX_SCRIPT_BYTES}
 use Rattle.er_cli.specs.declared.texts.Answer.TheVariants.{Refused, Usage}
 use Rattle.er_cli.specs.Texts.{answer_text, AppendsPart}
@@ -25,18 +22,6 @@ pub record ServesPart (input before after : Option (List ℕ)) : Type 0 where
   pub whole : IfSome input (λ all. script ≡ all)
   pub small : length script ≤ MAX_SCRIPT_BYTES
   pub prints : PrintsPart (lines_of script) before after
-
--- the status of a script that is not run, and what is printed of it
-abbrev pub EndsUnread : InputFault → Option (List ℕ) → Option (List ℕ) → ℕ → Type 0
-EndsUnread TooLong before after status = (status ≡ USAGE) × Appends before after (answer_text Usage)
-EndsUnread Read before after status = (status ≡ DEVICE) × (after ≡ before)
-EndsUnread fault.Memory before after status = (status ≡ MEMORY) × Appends before after (answer_text (Refused Memory))
-
--- what is printed of it where a write failed
-abbrev pub UnreadPart : InputFault → Option (List ℕ) → Option (List ℕ) → Type 0
-UnreadPart TooLong before after = AppendsPart before after (answer_text Usage)
-UnreadPart Read before after = Keeps before after
-UnreadPart fault.Memory before after = AppendsPart before after (answer_text (Refused Memory))
 
 -- the input is longer than a script may be
 abbrev pub IsTooLong : Option (List ℕ) → Type 0

@@ -62,7 +62,7 @@ fn create<S: Start>(
 ) -> Result<Desk<FileStore<FileFrom<S>>>, Refusal>
     requires limits { AreLimits rounds cut }
     ensures { MatchResult result (IsMade (image_at S.Start) (new_point name rounds cut))
-        (IsNotMade ⟦<FileFrom<S> as Disk>⟧ (image_at S.Start) (new_point name rounds cut)) }
+        (IsNotMade ⟦<FileFrom<S> as Disk>⟧ IsSpared (image_at S.Start) (new_point name rounds cut)) }
 {
     let log = log_to_make(rt, path);
     match er_desk::create_in(rt, path, start, name, rounds, cut) {
@@ -80,7 +80,7 @@ fn init<S: Start>(
     cut: u8,
     start: S,
 ) -> Result<Desk<FileStore<FileFrom<S>>>, Refusal>
-    ensures { InitReplies ⟦<FileFrom<S> as Disk>⟧ (image_at S.Start) name.now rounds cut result }
+    ensures { InitReplies ⟦<FileFrom<S> as Disk>⟧ IsSpared (image_at S.Start) name.now rounds cut result }
 {
     let name = set_up(rt.alloc(), name, rounds, cut)?;
     create(rt, path, name, rounds, cut, start)
@@ -115,7 +115,7 @@ fn make<S: Start, O: Write, E: Write>(
     out: &mut O,
     err: &mut E,
 ) -> u8
-    ensures { Makes ⟦<FileFrom<S> as Disk>⟧ (image_at S.Start) (O.contents out.old) (O.contents out.new)
+    ensures { Makes ⟦<FileFrom<S> as Disk>⟧ IsSpared (image_at S.Start) (O.contents out.old) (O.contents out.new)
         (E.contents err.old) (E.contents err.new) result name.now rounds cut }
 {
     // What is begun here is the history that the next command line goes on with: this tells the proof.
@@ -204,7 +204,7 @@ fn open<S: Start, O: Write, E: Write>(
     out: &mut O,
     err: &mut E,
 ) -> u8
-    ensures ends { EndsLine ⟦<FileFrom<S> as Disk>⟧ (image_at S.Start) (O.contents out.old) (O.contents out.new)
+    ensures ends { EndsLine ⟦<FileFrom<S> as Disk>⟧ IsSpared (image_at S.Start) (O.contents out.old) (O.contents out.new)
         (E.contents err.old) (E.contents err.new) result (Open task) }
     // Of a file that a history left, the history goes on with what the desk is asked.
     ensures goes_on { (new first : Point) (ends : List Ended)
@@ -230,7 +230,7 @@ pub fn run_line<S: Start, O: Write, E: Write>(
     out: &mut O,
     err: &mut E,
 ) -> u8
-    ensures ends { EndsLine ⟦<FileFrom<S> as Disk>⟧ (image_at S.Start) (O.contents out.old) (O.contents out.new)
+    ensures ends { EndsLine ⟦<FileFrom<S> as Disk>⟧ IsSpared (image_at S.Start) (O.contents out.old) (O.contents out.new)
         (E.contents err.old) (E.contents err.new) result (action_of line) }
     // Of a file that a history left, the history goes on with what the desk is asked, or the system says that it isn't there.
     ensures goes_on { (new first : Point) (ends : List Ended)

@@ -1,6 +1,7 @@
 ghost use Rattle.std.specs.Prelude.{◌≡◌, ◌+◌, ◌<◌, ◌≤◌, ◌^◌, slice_range, Err, IfOk, IfSome, length, map, take, vec_len};
 ghost use Rattle.std.specs.Io.KnownBytes.{Consumes, IsAtEnd};
-ghost use Rattle.er_cli.specs.Input.{Fills, lines_of};
+ghost use Rattle.er_cli.specs.Input.{lines_of};
+ghost use Rattle.er_cli.specs.inside.Input.{Fills};
 
 use std::alloc::{AllocError, Global};
 use std::io::{self, Read};

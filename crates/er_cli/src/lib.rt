@@ -17,7 +17,8 @@ ghost use Rattle.er_cli.specs.declared.help.TheConstants.{AWAITING};
 ghost use Rattle.er_cli.specs.Help.{Puts, Tells, refusal_status, text_for};
 ghost use Rattle.er_words.specs.Line.{line_of};
 ghost use Rattle.er_words.specs.Usage.{fault_of};
-ghost use Rattle.er_cli.specs.Status.{Ends, EndsUnread, UnreadPart, Breaks};
+ghost use Rattle.er_cli.specs.Status.{Ends, Breaks};
+ghost use Rattle.er_cli.specs.inside.Unread.{EndsUnread, UnreadPart};
 
 mod answers;
 mod client;
@@ -181,7 +182,7 @@ fn print_usage<O: Write, E: Write>(
 /// Does what the words of a command line ask, and gives the status to end with. The event's file is opened, asked and, once the answer is written,
 /// closed again, so that it holds the event without its log too.
 pub fn run<O: Write, E: Write>(rt: &HostRuntime, words: &[String], out: &mut O, err: &mut E) -> u8
-    ensures { EndsWords ⟦<FileFrom<Wary> as Disk>⟧ (image_at ⟦<Wary as Start>⟧)
+    ensures { EndsWords ⟦<FileFrom<Wary> as Disk>⟧ IsSpared (image_at ⟦<Wary as Start>⟧)
         (map string_bytes words.now) (O.contents out.old) (O.contents out.new) (E.contents err.old)
         (E.contents err.new) result }
 {
@@ -196,7 +197,7 @@ pub fn run_from<S: Start, O: Write, E: Write>(
     out: &mut O,
     err: &mut E,
 ) -> u8
-    ensures ends { EndsWords ⟦<FileFrom<S> as Disk>⟧ (image_at S.Start)
+    ensures ends { EndsWords ⟦<FileFrom<S> as Disk>⟧ IsSpared (image_at S.Start)
         (map string_bytes words.now) (O.contents out.old) (O.contents out.new) (E.contents err.old)
         (E.contents err.new) result }
     // Of a file that a history of a new event left, the history goes on with what is asked of the desk: the one command, the names of a list, the

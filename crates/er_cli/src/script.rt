@@ -9,7 +9,8 @@ ghost use Rattle.er_words.specs.Fields.{script_action};
 ghost use Rattle.er_words.specs.declared.action.Action.TheVariants.{Init, Open};
 ghost use Rattle.er_words.specs.declared.action.Task.TheVariants.{Ask};
 ghost use Rattle.er_cli.specs.Answers.{reply_answer};
-ghost use Rattle.er_cli.specs.Script.{Acts, LineAnswers, HasOwnTables, Prints, PrintsPart, desk_state_of};
+ghost use Rattle.er_cli.specs.Script.{Acts, LineAnswers, Prints, PrintsPart};
+ghost use Rattle.er_cli.specs.inside.Desk.{HasOwnTables, desk_state_of};
 
 use crate::answers::{answer, reply_answer};
 use crate::setup::set_up;

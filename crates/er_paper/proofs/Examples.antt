@@ -2,7 +2,7 @@
 use Rattle.std.specs.{Prelude.{◌≡◌, ℕ, Bool, true, false, List, [], ◌∷◌, map, Option, Some, None, Ok, Err, codes, refl}, Str.is_utf8}
 use Rattle.std.specs.{Str.chars, Char.encode_utf8, Fmt.digits}
 use Rattle.csv.specs.{Machine.next_record, Reading.{Reached, strip_bom}, Writing.{escaped, fields_text, is_blank}}
-use Rattle.csv.proofs.RoundTrip.{rows_text}
+use Rattle.er_paper.specs.Csv.{csv_text}
 use Rattle.er_event.specs.{declared.players.Player.Player, declared.matches.Match.Match, declared.rounds.Round.Round}
 use Rattle.er_event.specs.declared.scores.Games.{Games}
 use Rattle.er_paper.specs.{declared.imports.CsvFault.TheVariants.{BadHeading, BadRow}, declared.imports.PlayerLine.PlayerLine}
@@ -19,10 +19,10 @@ abbrev player : ℕ → List ℕ → Bool → Player
 player number name dropped = record { no = number; name = name; dropped = dropped; joined = 0 }
 
 -- a comma in a name calls for quotes
-pub table_of_players : rows_text (players_heading ∷ map player_fields
+pub table_of_players : csv_text (players_heading ∷ map player_fields
     (player 1 (codes "Ana") false ∷ player 2 (codes "Bo") true ∷ player 3 (codes "Lee, Jo") false ∷ []))
     ≡ codes "no,name,dropped\n1,Ana,0\n2,Bo,1\n3,\"Lee, Jo\",0\n"
-unfolding rows_text fields_text escaped is_blank digits
+unfolding csv_text fields_text escaped is_blank digits
 table_of_players = refl
 
 abbrev played : ℕ → ℕ → Option Games → Match
@@ -32,10 +32,10 @@ abbrev round_of : List Match → Round
 round_of matches = record { matches = matches }
 
 -- an open match has empty fields, and a bye has table 0 and no opponent
-pub table_of_results : rows_text (results_heading ∷ rounds_table 1
+pub table_of_results : csv_text (results_heading ∷ rounds_table 1
     (round_of (played 4 2 (Some (games 2 0 0)) ∷ played 3 0 (Some (games 2 0 0)) ∷ []) ∷ round_of (played 1 4 None ∷ []) ∷ []))
     ≡ codes "round,table,a,b,x,y,d\n1,1,4,2,2,0,0\n1,0,3,0,2,0,0\n2,1,1,4,,,\n"
-unfolding rows_text fields_text escaped is_blank digits
+unfolding csv_text fields_text escaped is_blank digits
 table_of_results = refl
 
 -- ---- tables that are read: the records of a text, and then what they are

@@ -7,7 +7,7 @@ use Rattle.std.proofs.{lemmas.List.FromFn.{get_or-range_with_len, length-range_w
 use Rattle.std.proofs.lemmas.Map.Steps.{length-le_from_distinct_below}
 use Rattle.std.specs.{List.{AllByRecursion, list_any, range_with_len}, Fmt.decimal}
 use Rattle.csv.specs.{Reading.{AreRecords, default_config, strip_bom}, Writing.{escaped, fields_text, is_blank, read_back}}
-use Rattle.csv.proofs.RoundTrip.{rows_text}
+use Rattle.er_paper.specs.Csv.{csv_text}
 use Rattle.er_share.specs.declared.TheConstants.{MAX_ROUNDS}
 use Rattle.er_event.specs.{declared.players.Player.Player, declared.matches.Match.Match, declared.rounds.Round.Round}
 use Rattle.er_event.specs.{declared.scores.Games.Games, Name.is_lawful_name, Round.{is_bye, numbered_from, seats}, Score.is_swiss_score}
@@ -23,23 +23,23 @@ use Rattle.csv.specs.declared.parser.State.TheVariants as st
 
 -- ---- the records of what was written
 
-records_at : (rows : List (List (List ℕ))) → strip_bom (rows_text rows) ≡ rows_text rows → map read_back rows ≡ rows
-    → HasRecords (rows_text rows) rows
+records_at : (rows : List (List (List ℕ))) → strip_bom (csv_text rows) ≡ csv_text rows → map read_back rows ≡ rows
+    → HasRecords (csv_text rows) rows
 records_at rows plain same =
     subst (λ (bytes : List ℕ). AreRecords default_config st.StartRecord bytes rows) (sym plain)
-    (subst (λ (rs : List (List (List ℕ))). AreRecords default_config st.StartRecord (rows_text rows) rs) same (back rows))
+    (subst (λ (rs : List (List (List ℕ))). AreRecords default_config st.StartRecord (csv_text rows) rs) same (back rows))
 
-records_once : (rows found : List (List (List ℕ))) → strip_bom (rows_text rows) ≡ rows_text rows → map read_back rows ≡ rows
-    → HasRecords (rows_text rows) found → found ≡ rows
+records_once : (rows found : List (List (List ℕ))) → strip_bom (csv_text rows) ≡ csv_text rows → map read_back rows ≡ rows
+    → HasRecords (csv_text rows) found → found ≡ rows
 records_once rows found plain same has =
-    one_list default_config st.StartRecord (rows_text rows) found rows
+    one_list default_config st.StartRecord (csv_text rows) found rows
     (subst (λ (bytes : List ℕ). AreRecords default_config st.StartRecord bytes found) plain has)
-    (subst (λ (rs : List (List (List ℕ))). AreRecords default_config st.StartRecord (rows_text rows) rs) same (back rows))
+    (subst (λ (rs : List (List (List ℕ))). AreRecords default_config st.StartRecord (csv_text rows) rs) same (back rows))
 
 -- ---- players
 
-no_mark : (rows : List (List (List ℕ))) → strip_bom (rows_text (players_heading ∷ rows)) ≡ rows_text (players_heading ∷ rows)
-unfolding strip_bom rows_text fields_text escaped is_blank
+no_mark : (rows : List (List (List ℕ))) → strip_bom (csv_text (players_heading ∷ rows)) ≡ csv_text (players_heading ∷ rows)
+unfolding strip_bom csv_text fields_text escaped is_blank
 no_mark rows = refl
 
 players_same : (ps : List Player) → map read_back (map player_fields ps) ≡ map player_fields ps
@@ -78,8 +78,8 @@ players_read_back event sound =
 
 -- ---- results
 
-no_mark_either : (rows : List (List (List ℕ))) → strip_bom (rows_text (results_heading ∷ rows)) ≡ rows_text (results_heading ∷ rows)
-unfolding strip_bom rows_text fields_text escaped is_blank
+no_mark_either : (rows : List (List (List ℕ))) → strip_bom (csv_text (results_heading ∷ rows)) ≡ csv_text (results_heading ∷ rows)
+unfolding strip_bom csv_text fields_text escaped is_blank
 no_mark_either rows = refl
 
 matches_same : (round : ℕ) (numbered : List (ℕ × Match))

@@ -13,8 +13,6 @@ use Rattle.er_event.specs.Score.{is_swiss_score}
 use Rattle.er_paper.specs.declared.imports.CsvFault.{CsvFault}
 use Rattle.er_paper.specs.declared.imports.CsvFault.TheVariants.{BadHeading, BadRow}
 use Rattle.er_paper.specs.declared.imports.PlayerLine.{PlayerLine}
-use Rattle.er_paper.specs.declared.imports.Heading.{Heading}
-use Rattle.er_paper.specs.declared.imports.Heading.TheVariants.{Full, Names}
 use Rattle.er_paper.specs.declared.imports.ResultLine.{ResultLine}
 use Rattle.er_paper.specs.Csv.{HasRecords}
 use Rattle.er_json.specs.Slip.{games_with}
@@ -71,11 +69,6 @@ full_line place _ = None
 abbrev pub name_line : ℕ → List (List ℕ) → Option PlayerLine
 name_line place (name ∷ []) = player_line place name (Some 0)
 name_line place _ = None
-
--- under its heading
-abbrev pub chosen_line : Heading → ℕ → List (List ℕ) → Option PlayerLine
-chosen_line Full = full_line
-chosen_line Names = name_line
 
 -- the heading, and then the lines in turn
 abbrev pub players_of : List (List (List ℕ)) → Result (List PlayerLine) CsvFault

@@ -1,7 +1,7 @@
 ghost use Rattle.std.specs.Prelude.{◌≡◌, ◌+◌, ◌^◌, ◌<◌, ◌++◌, ◌∷◌, ℕ, [], IfOk, OnOk, map};
-ghost use Rattle.csv.proofs.RoundTrip.{rows_text};
+ghost use Rattle.er_paper.specs.Csv.{csv_text};
 ghost use Rattle.csv.specs.Writing.{default_writer, row_text};
-ghost use Rattle.er_paper.specs.Csv.{IsPlainWriter, written};
+ghost use Rattle.er_paper.specs.inside.Writer.{IsPlainWriter, written};
 ghost use Rattle.er_paper.specs.Tables.{player_fields, players_csv, result_fields, round_table, rounds_table, results_csv};
 
 use crate::pairings::table_at;
@@ -123,7 +123,7 @@ fn push_round(
     requires { IsPlainWriter table.old }
     ensures plain { OnOk result (IsPlainWriter table.new) }
     ensures text { OnOk result (written table.new ≡ written table.old
-        ++ rows_text (round_table round matches.now)) }
+        ++ csv_text (round_table round matches.now)) }
 {
     for (place, m) in matches.iter().enumerate() {
         push_result(table, alloc, round, place, m)?;
@@ -139,7 +139,7 @@ fn push_rounds(
     requires { IsPlainWriter table.old }
     ensures plain { OnOk result (IsPlainWriter table.new) }
     ensures text { OnOk result (written table.new ≡ written table.old
-        ++ rows_text (rounds_table 1 rounds.now)) }
+        ++ csv_text (rounds_table 1 rounds.now)) }
 {
     for (place, round) in rounds.iter().enumerate() {
         push_round(table, alloc, place + 1, round.matches.as_slice())?;

@@ -21,7 +21,7 @@ use Rattle.er_slips.specs.declared.request.wanted.NoRequest.TheVariants as no_re
 use Rattle.er_slips.specs.{declared.request.Next.Next, declared.request.Next.TheVariants.{Get, Body}}
 use Rattle.er_slips.specs.declared.request.wanted.Fault.TheVariants.{BadRequest}
 use Rattle.er_slips.specs.{declared.serve.Served.Served, declared.serve.Served.TheVariants.{Answered, ReadFault, WriteFault}, Request.{Asks, headed, headless, HasBody, IsWhole, next_of, asked_with, reported}}
-use Rattle.er_slips.specs.{Request.TellsRequest, Answer.{AnswerValue, answer_value, fault_answer, refusal_answer, slip_answer, text_answer}}
+use Rattle.er_slips.specs.{inside.Telling.TellsRequest, Answer.{AnswerValue, answer_value, fault_answer, refusal_answer, slip_answer, text_answer}}
 use Rattle.er_slips.specs.{Answer.status_of, Whole.{reply_answer, row_answer, IsAnswered, submitted, IsAnswerUnless503}}
 use Rattle.er_slips.specs.Serving.{IsRowsAnswer, IsSlipAnswer, AnswersRequest, IsServed, IsUnserved, Writes, EndsServing, IsWritten}
 use Rattle.er_event.specs.declared.commands.Command.TheVariants.{Result as Hand}

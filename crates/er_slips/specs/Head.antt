@@ -1,14 +1,7 @@
 -- The head of a request, by the grammar of RFC 9112 as `httparse` takes it with its default settings.
-use Rattle.std.specs.Prelude.{◌≤◌, ◌<◌, ℕ, List, length, ◌++◌}
-use Rattle.httparse.specs.Grammar.{HasNoRequest, ReadsRequest, RequestHead, print_request}
-use Rattle.httparse.specs.Spans.{IsRequestAt, IsRequestWithin}
-use Rattle.httparse.specs.declared.spans.HeaderSpan.{HeaderSpan}
-use Rattle.httparse.specs.declared.spans.RequestSpans.{RequestSpans}
+use Rattle.std.specs.Prelude.{◌≤◌, ℕ, List, length}
+use Rattle.httparse.specs.Grammar.{ReadsRequest, RequestHead, print_request}
 use Rattle.er_slips.specs.declared.request.head.TheConstants.{MAX_HEAD, MAX_FIELDS}
-use Rattle.er_slips.specs.declared.request.head.Head.{Head}
-use Rattle.er_slips.specs.declared.request.head.Head.TheVariants.{Found, Refused, Faulty}
-use Rattle.er_slips.specs.declared.request.head.Scan.{Scan}
-use Rattle.er_slips.specs.declared.request.head.Scan.TheVariants.{Whole, Never, NotYet}
 
 -- the input begins with this head, of at most 8192 bytes and 32 fields, and goes on with the rest
 abbrev pub IsHead : List ℕ → RequestHead → List ℕ → Type 0
@@ -16,26 +9,3 @@ IsHead input head rest = ReadsRequest input head rest × (length (print_request 
 
 abbrev pub HasNoHead : List ℕ → Type 0
 HasNoHead input = (head : RequestHead) (rest : List ℕ) → ¬ (IsHead input head rest)
-
--- ---- while it is read
-
--- the spans are those of a head at the front of the bytes
-pub record ShowsHead (bytes : List ℕ) (headers : List HeaderSpan) (spans : RequestSpans) : Type 0 where
-  pub within : IsRequestWithin bytes headers spans
-  pub head : RequestHead
-  pub at : IsRequestAt bytes headers spans head
-  pub few : length head.fields ≤ MAX_FIELDS
-
--- what is known of each input that begins with these bytes
-abbrev pub TellsScan : List ℕ → List HeaderSpan → Scan → Type 0
-TellsScan bytes headers (Whole spans) = ShowsHead bytes headers spans
-TellsScan bytes headers Never =
-    (more : List ℕ) (head : RequestHead) (rest : List ℕ) → ReadsRequest (bytes ++ more) head rest
-    → MAX_FIELDS < length head.fields
-TellsScan bytes headers NotYet = HasNoRequest bytes
-
--- P of the spans, if a head was found
-abbrev pub IfFound : Head → (RequestSpans → Type 0) → Type 0
-IfFound (Found spans) P = P spans
-IfFound Refused P = Unit {0}
-IfFound Faulty P = Unit {0}

@@ -2,7 +2,8 @@ ghost use Rattle.std.specs.Prelude.{◌≡◌, ℕ, List, All, map, length, IfOk
 ghost use Rattle.httparse.specs.Grammar.{RequestHead};
 ghost use Rattle.httparse.specs.Spans.{header_bytes, IsHeaderWithin, IsRequestAt, IsRequestWithin};
 ghost use Rattle.er_json.specs.Slip.{slip_games};
-ghost use Rattle.er_slips.specs.Request.{serves, next_of, reported, IsShort, IsDueUnlessMemory, TellsRequest};
+ghost use Rattle.er_slips.specs.Request.{serves, next_of, reported};
+ghost use Rattle.er_slips.specs.inside.Telling.{IsShort, IsDueUnlessMemory, TellsRequest};
 
 mod fields;
 mod head;

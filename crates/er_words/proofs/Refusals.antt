@@ -9,7 +9,7 @@ use Rattle.clap.specs.{Kinds.{Kinds, or_else}, Faults.{fault_of, walk_fault, tur
 use Rattle.clap.specs.Faults.{entered_fault, defaults_fault, settle_fault, values_fault, check_fault}
 use Rattle.clap.proofs.FaultLemmas.{stopped_fault}
 use Rattle.er_words.specs.{declared.subcommand.Subcommand.Subcommand, Line.{is_option, split_of, subcommand_of as named}}
-use Rattle.er_words.specs.Words.{bare, program, words_in}
+use Rattle.er_words.specs.inside.Words.{bare, program, words_in}
 use Rattle.er_words.proofs.Walks.{AllPlain, plain_met, leaf_rule, leaf_rules, leaf_built, labels}
 use Rattle.er_words.proofs.Walks.{reading_words, first_word, next_word, leaf_walk, same_name, name_walked, whole_walk, entered_is}
 use Rattle.er_words.proofs.Walks.{subcommand_is, leaf_words}

@@ -6,7 +6,7 @@ use Rattle.clap.specs.{Words.{Rule, Shape, Text, built}, Simple.{filled, with_in
 use Rattle.clap.specs.{Simple.{subcommand_of, entered}, Walk.{Held, Names, Step, Waiting, Walk, idle, positional, value}}
 use Rattle.clap.specs.Walk.{subcommand, walked, walk_from, nothing_held, word_met, subcommand_met, plain_word, after_step, finished}
 use Rattle.clap.specs.{Walk.{rows_after, subcommand_or_other}, Faults.is_simple_and_free}
-use Rattle.er_words.specs.{Line.is_option, Words.{leaf, program, words_rule, words_in}}
+use Rattle.er_words.specs.{Line.is_option, inside.Words.{leaf, program, words_rule, words_in}}
 
 -- ---- a word with no hyphen in front
 

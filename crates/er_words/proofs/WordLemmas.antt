@@ -5,7 +5,7 @@ use Rattle.std.proofs.lemmas.{List.length-map, Bool.false_from_ne_true, Str.{is_
 use Rattle.std.specs.{List.{list_any, position, position_or_len}, Str.{IsUtf8, is_utf8}}
 use Rattle.er_words.specs.{declared.line.Line.Line, declared.line.LineFault.LineFault}
 use Rattle.er_words.specs.{declared.subcommand.Subcommand.Subcommand, Line.{is_option, line_of, split_of}}
-use Rattle.er_words.specs.Usage.{ReadsBy, ReadsWords, fault_of, fault_at}
+use Rattle.er_words.specs.{Usage.{ReadsWords, fault_of, fault_at}, inside.Usage.ReadsBy}
 use Rattle.er_values.specs.declared.usage.UsageFault.TheVariants.{LeadingDash, UnknownSubcommand}
 use Rattle.er_words.specs.Fields.{fields_of, with_file, script_words}
 

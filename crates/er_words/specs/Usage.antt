@@ -9,7 +9,7 @@ use Rattle.er_words.specs.declared.line.LineFault.{LineFault}
 use Rattle.er_words.specs.declared.line.LineFault.TheVariants.{Usage, Memory}
 use Rattle.er_words.specs.declared.subcommand.Subcommand.{Subcommand}
 use Rattle.er_words.specs.declared.subcommand.Subcommand.TheVariants as sub
-use Rattle.er_words.specs.Line.{is_option, line_by, line_of, split_of}
+use Rattle.er_words.specs.Line.{is_option, line_of, split_of}
 
 -- what the words after a subcommand's name have to be
 abbrev pub kinds_of : Subcommand → List Kind
@@ -54,7 +54,3 @@ Reads found fault (Err Memory) = Unit {0}
 -- words are read as the line that they are
 abbrev pub ReadsWords : List (List ℕ) → Result Line LineFault → Type 0
 ReadsWords words = Reads (line_of words) (fault_of words)
-
--- the words after the subcommand's name are read as its line
-abbrev pub ReadsBy : Subcommand → List (List ℕ) → Result Line LineFault → Type 0
-ReadsBy subcommand words = Reads (line_by subcommand words) (values_fault (kinds_of subcommand) 1 words)

@@ -2,7 +2,8 @@ ghost use Rattle.std.specs.Prelude.{[], ◌∷◌, map, string_bytes};
 ghost use Rattle.er_words.specs.declared.subcommand.Subcommand.TheVariants as sub;
 ghost use Rattle.er_words.specs.Line.{lone_file};
 ghost use Rattle.er_values.specs.Usage.{Kind, values_fault};
-ghost use Rattle.er_words.specs.Usage.{Reads, ReadsBy, ReadsWords};
+ghost use Rattle.er_words.specs.Usage.{Reads, ReadsWords};
+ghost use Rattle.er_words.specs.inside.Usage.{ReadsBy};
 
 use crate::action::{Action, Request, Task};
 use crate::paths::FilePath;

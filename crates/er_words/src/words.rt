@@ -2,7 +2,7 @@ ghost use Rattle.std.specs.Prelude.{◌≡◌, ◌≢◌, IfOk, IsOk, None, map,
 ghost use Rattle.std.specs.List.{position};
 ghost use Rattle.clap.specs.Words.{app_of, found_of, kind_of, rows_of};
 ghost use Rattle.er_words.specs.Line.{is_option, split_of};
-ghost use Rattle.er_words.specs.Words.{program, words_in};
+ghost use Rattle.er_words.specs.inside.Words.{program, words_in};
 
 use crate::subcommand::Subcommand;
 use clap::error::ErrorKind;

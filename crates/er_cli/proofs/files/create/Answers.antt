@@ -6,4 +6,6 @@ returns g c = record {
   fault = c.in-Err.fault;
   is = c.clear_fault.ensures;
   leaves = c.in-Err.ensures.crash;
+  beside = c.in-Err.ensures.beside_crash;
+  spared = c.in-Err.ensures.spared;
 }

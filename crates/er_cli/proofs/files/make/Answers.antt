@@ -4,7 +4,7 @@ use Rattle.er_cli.proofs.files.make.Goals as goal
 pub returns-in-Ok : goal.returns-in-Ok
 returns-in-Ok g c =
     let told = c.print_made.ensures in
-    let it = made_so _ _ _ _ _ c.init.result c.in-Ok.desk c.in-Ok.is c.init.ensures in (
+    let it = made_so _ _ _ _ _ _ c.init.result c.in-Ok.desk c.in-Ok.is c.init.ensures in (
       c.init.result,
       c.init.ensures,
       rw c.in-Ok.is (

@@ -1,5 +1,5 @@
 use Rattle.std.proofs.{Common.{map, List, [], ◌∷◌, ◌++◌, ℕ, ◌+◌, Bor}, KnownBytes.Appends-trans, lemmas.List.{take_all, take-map}}
-use Rattle.er_cli.specs.Script.{PrintsPart, desk_state_of}
+use Rattle.er_cli.specs.{Script.PrintsPart, inside.Desk.desk_state_of}
 use Rattle.er_cli.proofs.{Sending.{part_after, err_is}, Runs.{Runs-push, printed-push, lines-push}}
 use Rattle.er_cli.proofs.script.run_lines.Goals as goal
 

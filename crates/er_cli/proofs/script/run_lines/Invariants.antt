@@ -1,6 +1,6 @@
 use Rattle.std.proofs.Common.{List, Bor, ℕ, None, map, take}
 use Rattle.std.specs.{Io.KnownBytes.Appends, List.flat_map}
-use Rattle.er_cli.specs.{declared.texts.Answer.Answer, Script.{HasOwnTables, RunsLines, desk_state_of}, Texts.answer_text}
+use Rattle.er_cli.specs.{declared.texts.Answer.Answer, Script.RunsLines, inside.Desk.{HasOwnTables, desk_state_of}, Texts.answer_text}
 use Rattle.er_cli.proofs.script.run_lines.Given as goal
 
 abbrev pub invariant-loop-line : goal.invariant-loop-line

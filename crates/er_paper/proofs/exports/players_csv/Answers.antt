@@ -1,7 +1,7 @@
 use Rattle.std.proofs.Common.{◌≡◌, List, [], ◌++◌, ap, ap₂, ◌∙◌, Vec, Global, ℕ}
 use Rattle.csv.specs.Writing.{default_writer, row_text}
 use Rattle.er_event.specs.declared.players.Player.{Player}
-use Rattle.er_paper.specs.{Csv.written, Tables.{players_heading, player_fields}}
+use Rattle.er_paper.specs.{inside.Writer.written, Tables.{players_heading, player_fields}}
 use Rattle.er_paper.proofs.Rows.{rows-first, lines_more}
 use Rattle.er_paper.proofs.exports.players_csv.Goals as goal
 

@@ -2,7 +2,7 @@ use Rattle.std.proofs.{lemmas.Grind.common_steps, Common.{◌++◌, flat_map, ta
 use Rattle.std.proofs.lemmas.List.{take_all}
 use Rattle.er_event.specs.Round.{numbered_from}
 use Rattle.er_paper.proofs.{PairingLemmas.lines-more, Rows.{result_row, rows-of-round}}
-use Rattle.er_paper.specs.Csv.{written}
+use Rattle.er_paper.specs.inside.Writer.{written}
 use Rattle.er_paper.proofs.exports.push_round.Goals as goal
 
 pub loop-place-preserved : goal.loop-place-preserved

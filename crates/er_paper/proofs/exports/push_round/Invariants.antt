@@ -1,6 +1,6 @@
 use Rattle.std.proofs.Common.{◌≡◌, ◌++◌, flat_map, take}
 use Rattle.er_event.specs.Round.{numbered_from}
-use Rattle.er_paper.specs.Csv.{IsPlainWriter, written}
+use Rattle.er_paper.specs.inside.Writer.{IsPlainWriter, written}
 use Rattle.er_paper.proofs.Rows.{result_row}
 use Rattle.er_paper.proofs.exports.push_round.Given as goal
 

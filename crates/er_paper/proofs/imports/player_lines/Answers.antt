@@ -1,6 +1,6 @@
 use Rattle.std.proofs.{Common.{◌≡◌, ◌+◌, ℕ, Some, List, [], ◌∷◌, ◌++◌, refl, sym, ◌∙◌, ap, subst, arith}, lemmas.Grind.common_steps}
 use Rattle.csv.specs.Records.{fields_of}
-use Rattle.er_paper.specs.{Reading.chosen_line, declared.imports.PlayerLine.PlayerLine}
+use Rattle.er_paper.specs.{inside.Lines.chosen_line, declared.imports.PlayerLine.PlayerLine}
 use Rattle.er_paper.proofs.Lines.{Reached, reached-more}
 use Rattle.er_paper.proofs.imports.player_lines.Goals as goal
 

@@ -1,4 +1,4 @@
-use Rattle.er_paper.specs.Reading.{chosen_line}
+use Rattle.er_paper.specs.inside.Lines.{chosen_line}
 use Rattle.er_paper.proofs.Lines.{Reached}
 use Rattle.er_paper.proofs.imports.player_lines.Given as goal
 

@@ -1,5 +1,5 @@
 use Rattle.std.proofs.Common.{◌≤◌, Ok, take, ap, sym, ◌∙◌, refl, arith}
-use Rattle.er_slips.specs.Head.{ShowsHead}
+use Rattle.er_slips.specs.inside.Scan.{ShowsHead}
 use Rattle.er_slips.proofs.Asking.{asks-get, asks-fault, asks-body, asks-short, few-bytes, shows-of, head-fits}
 use Rattle.er_slips.proofs.request.read_request.Goals as goal
 

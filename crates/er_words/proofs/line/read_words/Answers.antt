@@ -1,6 +1,6 @@
 use Rattle.std.proofs.Common.{map, sym, subst}
 use Rattle.std.specs.{String.string_bytes, Global.Global}
-use Rattle.er_words.specs.Usage.{ReadsBy}
+use Rattle.er_words.specs.inside.Usage.{ReadsBy}
 use Rattle.er_words.proofs.WordLemmas.{Reads-option, Reads-split}
 use Rattle.er_words.proofs.line.read_words.Goals as goal
 

@@ -2,7 +2,7 @@ use Rattle.std.proofs.{Common.{rules, ◌≡◌, ap, ap₂, ◌∙◌, Option, S
 use Rattle.std.specs.Option.{IsSomeAnd}
 use Rattle.clap.specs.{Words.{App, Rule, app_of, new_app, rule_of, with_rule, with_subcommand}, Lexer.usize_max}
 use Rattle.clap.specs.declared.builder.ValueRange.{ValueRange}
-use Rattle.er_words.specs.Words.{bare, words_rule}
+use Rattle.er_words.specs.inside.Words.{bare, words_rule}
 use Rattle.er_words.proofs.words.command.Goals as goal
 
 some_is : {X : Type 0} (o : Option X) (x : X) → IsSomeAnd o (λ y. y ≡ x) → o ≡ Some x

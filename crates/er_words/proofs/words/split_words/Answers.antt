@@ -2,7 +2,7 @@ use Rattle.std.proofs.Common.{◌≡◌, ◌<◌, ◌^◌, List, ◌∷◌, leng
 use Rattle.std.proofs.lemmas.List.{length-map}
 use Rattle.std.specs.{String.string_bytes, Global.Global}
 use Rattle.clap.specs.{Words.{Text, app_of, found_of, is_simple, rows_of, subcommand_of}, Faults.{is_simple_and_free}}
-use Rattle.er_words.specs.{Line.is_option, Words.program}
+use Rattle.er_words.specs.{Line.is_option, inside.Words.program}
 use Rattle.er_words.proofs.{Walks.{AllPlain-none, simple_and_free}, Refusals.{begins, split_is, none_refused, found_words, one_found}}
 use Rattle.er_words.proofs.{Refusals.{only_memory, both_halves, no_half}, WordLemmas.none_from_place}
 use Rattle.er_words.proofs.words.split_words.Goals as goal

@@ -5,7 +5,7 @@ use Rattle.sqlite.specs.Steps.{over_memory}
 use Rattle.er_event.specs.{declared.refusals.Refusal.{Refusal, TheVariants.{BadSetup, EventExists}}}
 use Rattle.er_rules.specs.Commands.{first_refusal}
 use Rattle.er_desk.specs.{declared.desk.Desk.Desk, Desk.{DeskState, running_at}, History.new_point}
-use Rattle.er_cli.specs.Script.{desk_state_of}
+use Rattle.er_cli.specs.inside.Desk.{desk_state_of}
 use Rattle.er_cli.proofs.script.Runner.init.Goals as goal
 
 abbrev started : List ℕ → ℕ → ℕ → DeskState

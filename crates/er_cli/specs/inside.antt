@@ -1,0 +1,4 @@
+-- What private functions alone cite.
+pub mod Input
+pub mod Unread
+pub mod Desk

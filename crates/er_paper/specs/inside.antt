@@ -1,0 +1,3 @@
+-- What private functions alone cite.
+pub mod Writer
+pub mod Lines

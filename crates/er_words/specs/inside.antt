@@ -1,0 +1,3 @@
+-- What private functions alone cite.
+pub mod Words
+pub mod Usage
