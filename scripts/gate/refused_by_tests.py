@@ -14,20 +14,22 @@ import tempfile
 
 from scripts import TOP
 
+# the crates of tests
+TESTS, SLIPS_TESTS, CLI_TESTS = "er_tests", "er_slips_tests", "er_cli_tests"
 WHOLE_EVENT, PAIRING = "stops::a_whole_event_survives_each_stop", "stops::a_pairing_survives_each_stop"
-DESK = "desks::a_desk_answers_and_is_adopted"
-CLIENTS = "sockets::clients_are_served"
+ADOPTED = "desks::a_desk_answers_and_is_adopted"
+SERVED = "sockets::clients_are_served"
 SCORE, SHORT = "requests::a_score_is_taken_once", "requests::requests_that_change_nothing_are_answered"
-# where a wrong body stands, and the tests each of which sees it
+# where a wrong body stands, and the tests of one crate each of which sees it
 BODIES = {
-    "er_store/must-fail/two_transactions": [WHOLE_EVENT],
-    "er_store/must-fail/early_acknowledgement": [WHOLE_EVENT],
-    "er_store/must-fail/repairs_on_open": [WHOLE_EVENT],
-    "er_desk/must-fail/memory_alone": [WHOLE_EVENT],
-    "er_desk/must-fail/goes_on_after_fault": [PAIRING],
-    "er_desk/refused-by-tests/refuses_without_cause": [DESK],
-    "er_slips/refused-by-tests/never_answers": [SCORE, SHORT],
-    "er_cli/refused-by-tests/waits_for_ever": [CLIENTS],
+    "er_store/must-fail/two_transactions": (SLIPS_TESTS, [WHOLE_EVENT]),
+    "er_store/must-fail/early_acknowledgement": (SLIPS_TESTS, [WHOLE_EVENT]),
+    "er_store/must-fail/repairs_on_open": (SLIPS_TESTS, [WHOLE_EVENT]),
+    "er_desk/must-fail/memory_alone": (SLIPS_TESTS, [WHOLE_EVENT]),
+    "er_desk/must-fail/goes_on_after_fault": (SLIPS_TESTS, [PAIRING]),
+    "er_desk/refused-by-tests/refuses_without_cause": (TESTS, [ADOPTED]),
+    "er_slips/refused-by-tests/never_answers": (SLIPS_TESTS, [SCORE, SHORT]),
+    "er_cli/refused-by-tests/waits_for_ever": (CLI_TESTS, [SERVED]),
 }
 # with this one the test does not end, so that the limit of so many seconds is its refusal, as it is of no other
 ENDLESS, ENDLESS_SECONDS = "er_cli/refused-by-tests/waits_for_ever", 60
@@ -94,11 +96,11 @@ def apply(folder, edit):
             write(file, text.replace(old, re.sub("^new: ?", "", line)))
 
 
-def outcomes(room, tests, seconds=SECONDS):
-    """What each test came to, by its name. Where one failed, the line that says why is printed: a limit is no refusal."""
-    keep_tests(f"{room}/crates/er_tests", tests)
+def outcomes(folder, tests, seconds=SECONDS):
+    """What each test of a crate came to, by its name. Where one failed, the line that says why is printed: a limit is no refusal."""
+    keep_tests(folder, tests)
     words = ["rt", "try", "--test", "--seconds", str(seconds), "--steps", "1"]
-    ran = subprocess.run(words, cwd=f"{room}/crates/er_tests", stdin=subprocess.DEVNULL, stdout=subprocess.PIPE, stderr=subprocess.STDOUT, text=True, errors="replace")
+    ran = subprocess.run(words, cwd=folder, stdin=subprocess.DEVNULL, stdout=subprocess.PIPE, stderr=subprocess.STDOUT, text=True, errors="replace")
     found = {name: re.search(rf"^test {name} \.\.\. (?:.*\n)*?.*?\b(ok|FAILED)\b", ran.stdout, re.M) for name in tests}
     if not all(found.values()):
         print(ran.stdout, file=sys.stderr)
@@ -108,11 +110,11 @@ def outcomes(room, tests, seconds=SECONDS):
 
 def tried(body):
     """The lines that say what the tests came to with this wrong body, and how many of them are wrong."""
-    crate = body.split("/")[0]
+    crate, (tests_crate, tests) = body.split("/")[0], BODIES[body]
     with tempfile.TemporaryDirectory() as room:
         copy_crates(room)
         apply(f"{room}/crates/{crate}", f"{TOP}/crates/{body}.edit")
-        found = outcomes(room, BODIES[body], ENDLESS_SECONDS if body == ENDLESS else SECONDS)
+        found = outcomes(f"{room}/crates/{tests_crate}", tests, ENDLESS_SECONDS if body == ENDLESS else SECONDS)
     return [f"{body}: {test} {outcome}" for test, outcome in found.items()], sum(it != "FAILED" for it in found.values())
 
 

@@ -1,6 +1,6 @@
-use crate::helpers::{commands, desk_after, submit};
 use er_desk::{Desk, Reply};
 use er_event::{Receipt, Refusal};
+use er_testing::desks::{commands, desk_after, submit};
 use sqlite::MemStore;
 use std::alloc::Global;
 use std::test::Fail;

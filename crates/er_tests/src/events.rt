@@ -1,5 +1,5 @@
-use crate::helpers::{name, new_event, with_player};
 use er_event::{Event, Games, Items, Name, NameFault, PlayerNo, Refusal, Score};
+use er_testing::events::{name, new_event, with_player};
 use std::alloc::Global;
 use std::test::Fail;
 

@@ -1,5 +1,5 @@
-//! Tests of the other crates, for what no clause of theirs says and no script shows. They stand here, since a crate with tests of its own is
-//! proved twice.
+//! Tests of a desk and of the crates below it, for what no clause of theirs says and no script shows. They stand here, since a crate with tests
+//! of its own is proved twice.
 #![tactic(auto)]
 
 #[cfg(test)]
@@ -9,32 +9,20 @@ mod desks;
 #[cfg(test)]
 mod events;
 #[cfg(test)]
-mod helpers;
-#[cfg(test)]
 mod migrations;
 #[cfg(test)]
 mod pairings;
 #[cfg(test)]
-mod requests;
-#[cfg(test)]
 mod rules;
-#[cfg(test)]
-mod scripts;
 #[cfg(test)]
 mod shares;
 #[cfg(test)]
 mod slips;
 #[cfg(test)]
-mod sockets;
-#[cfg(test)]
 mod standings;
-#[cfg(test)]
-mod stops;
 #[cfg(test)]
 mod stores;
 #[cfg(test)]
 mod tables;
 #[cfg(test)]
 mod totals;
-#[cfg(test)]
-mod wires;

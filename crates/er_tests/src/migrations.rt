@@ -1,37 +1,15 @@
 //! Tables of version 1, and what a migration makes of them.
 ghost use Rattle.std.specs.Prelude.{◌≡◌, ◌≤◌, false};
 
-use crate::helpers::{name, submit, takes};
-use crate::stores::{are_same, holds, refused, tables_after};
+use crate::stores::{holds, refused, tables_after};
 use er_desk::Desk;
 use er_event::{Cause, Event, Place, Refusal};
 use er_store::Store;
+use er_testing::desks::{old_desk, submit, takes};
+use er_testing::events::{are_same, name};
 use sqlite::{Alter, Connection, MemStore};
 use std::alloc::Global;
 use std::test::Fail;
-
-/// A desk over new tables of version 1, of an event named Friday, or why there is none.
-pub fn old_desk<S: Alter + Drop>(
-    alloc: Global,
-    conn: Connection<S>,
-    rounds: u8,
-    cut: u8,
-) -> Result<Desk<S>, Refusal>
-    requires mode { conn.in_transaction ≡ false }
-    requires few { rounds ≤ 9 }
-{
-    let Some(friday) = name("Friday") else {
-        return Err(Refusal::BadName);
-    };
-    let event = Event::create(alloc, friday, rounds, cut)?;
-    match Store::create_old(conn, &event) {
-        Ok(store) => match Desk::adopt(alloc, store.into_connection()) {
-            Ok(desk) => Ok(desk),
-            Err((_conn, why)) => Err(why),
-        },
-        Err((_conn, why)) => Err(why),
-    }
-}
 
 /// A desk in memory over an event of three rounds in tables of version 1, that took these commands, a line each.
 fn old_desk_after(alloc: Global, lines: &str) -> Option<Desk<MemStore>> {

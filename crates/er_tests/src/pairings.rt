@@ -1,8 +1,8 @@
 ghost use Rattle.std.specs.Prelude.{◌≡◌, not, count_by};
 
-use crate::helpers::{changed, drop, started};
 use er_event::{Event, MAX_PLAYERS};
 use er_pair::{MAX_STEPS, Met, PairFault, first_pairing, keys, order};
+use er_testing::events::{changed, drop, started};
 use std::alloc::{AllocError, Global};
 use std::process::Abort;
 use std::test::Fail;

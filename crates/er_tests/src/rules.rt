@@ -1,6 +1,7 @@
-use crate::helpers::{changed, command, new_event};
 use er_event::{Change, Event, Games, Refusal, Score};
 use er_rules::decide;
+use er_testing::desks::command;
+use er_testing::events::{changed, new_event};
 use std::alloc::Global;
 use std::test::Fail;
 

@@ -1,8 +1,8 @@
 mod seeds;
 
-use crate::helpers::{changed, drop, new_event, started};
 use er_event::{Change, Event, Games, Items, Match, Score};
 use er_rank::{standings, top};
+use er_testing::events::{changed, drop, new_event, started};
 use std::alloc::Global;
 use std::test::Fail;
 

@@ -2,11 +2,12 @@
 //! expectation a text of statements with what they show.
 ghost use Rattle.std.specs.Prelude.{◌≡◌, false, IfSome};
 
-use crate::helpers::{FOUR, desk_after};
 use er_desk::Desk;
 use er_event::{Event, Meeting, Place, PlayerNo, Refusal, Tally, Totals};
 use er_paper::rows_text;
 use er_store::Store;
+use er_testing::desks::{FOUR, THREE, desk_after};
+use er_testing::events::are_same;
 use sqlite::{Connection, MemStore};
 use std::alloc::Global;
 use std::test::Fail;
@@ -21,17 +22,6 @@ start
 pair 1
 result 1 1 2 0 0
 result 1 2 2 1 0
-pair 2
-";
-
-/// Ana, Bo and Cy: the first round is (2,1) and a bye for 3, the second (2,3) and a bye for 1.
-pub const THREE: &str = "\
-enrol Ana
-enrol Bo
-enrol Cy
-start
-pair 1
-result 1 1 2 0 0
 pair 2
 ";
 
@@ -198,44 +188,6 @@ fn stages_are_written(rt: HostRuntime) -> Result<(), Fail> {
     assert!(rt; holds(playoff(alloc, SEMIFINALS), BEFORE_FINAL));
     assert!(rt; holds(playoff(alloc, ALL_OF_IT), FINISHED));
     Ok(())
-}
-
-/// Whether two events have the same players.
-fn have_same_players(one: &Event, other: &Event) -> bool {
-    let mut pairs = one.players().iter().zip(other.players());
-    one.players().len() == other.players().len()
-        && pairs.all(|(one, other)| {
-            one.no == other.no
-                && one.name.as_str() == other.name.as_str()
-                && one.dropped == other.dropped
-                && one.joined == other.joined
-        })
-}
-
-/// Whether two events have the same rounds.
-fn have_same_rounds(one: &Event, other: &Event) -> bool {
-    let mut pairs = one.stored().iter().zip(other.stored());
-    one.stored().len() == other.stored().len()
-        && pairs.all(|(one, other)| one.matches.as_slice() == other.matches.as_slice())
-}
-
-/// Whether two events have the same stages of the playoff.
-fn have_same_stages(one: &Event, other: &Event) -> bool {
-    let (one, other) = (
-        one.bracket().stages.as_slice(),
-        other.bracket().stages.as_slice(),
-    );
-    let mut pairs = one.iter().zip(other);
-    one.len() == other.len() && pairs.all(|(one, other)| one.as_slice() == other.as_slice())
-}
-
-/// Whether two events are the same.
-pub fn are_same(one: &Event, other: &Event) -> bool {
-    one.name().as_str() == other.name().as_str()
-        && (one.rounds(), one.cut(), one.phase()) == (other.rounds(), other.cut(), other.phase())
-        && have_same_players(one, other)
-        && have_same_rounds(one, other)
-        && have_same_stages(one, other)
 }
 
 type Adopted = Result<(Store<MemStore>, Event, u32), (Connection<MemStore>, Refusal)>;

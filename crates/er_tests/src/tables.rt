@@ -1,6 +1,6 @@
-use crate::helpers::{FOUR, desk_after};
 use er_event::{Games, Score};
 use er_paper::{ResultLine, players_csv, read_players_csv, read_results_csv, results_csv};
+use er_testing::desks::{FOUR, desk_after};
 use std::alloc::Global;
 use std::test::Fail;
 

@@ -1,6 +1,6 @@
 //! What players' rounds come to, as in worked examples 39 and 49, before a change and after it, and whose totals a change sets.
-use crate::helpers::{changed, player, started, with_player};
 use er_event::{Change, Event, Games, Items, Match, PlayerNo, Score, Totals};
+use er_testing::events::{changed, player, started, with_player};
 use std::alloc::Global;
 use std::test::Fail;
 

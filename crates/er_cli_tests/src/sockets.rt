@@ -1,15 +1,29 @@
 //! Clients over real sockets. They send their requests before anybody serves them, so that nothing runs at the same time.
 
-use crate::helpers::{FOUR, desk_after};
-use crate::requests::{POST, TAKEN};
 use er_cli::serve_on;
 use er_slips::Routes;
+use er_testing::desks::{FOUR, desk_after};
 use std::alloc::Global;
 use std::io::{Read, Write};
 use std::net::{Ipv4Addr, Shutdown, SocketAddr, TcpListener, TcpStream};
 use std::test::Fail;
 
+/// The score of a match, handed in.
+const POST: &str = "\
+POST /rounds/1/tables/1 HTTP/1.1\r
+Content-Length: 19\r
+\r
+{\"a\":2,\"b\":1,\"d\":0}";
+
 const GET: &str = "GET /rounds/1/tables/1 HTTP/1.1\r\n\r\n";
+
+const TAKEN: &str = "\
+HTTP/1.1 200 OK\r
+Content-Type: application/json\r
+Content-Length: 12\r
+Connection: close\r
+\r
+{\"serial\":7}";
 
 const SCORED: &str = "\
 HTTP/1.1 200 OK\r

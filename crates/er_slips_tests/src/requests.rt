@@ -1,11 +1,10 @@
 //! Requests over HTTP that a desk answers, whole and byte by byte, and connections that break. A text of requests has one on each line, in
 //! which `|` stands for CR LF.
 
-use crate::helpers::{FOUR, desk_after};
-use crate::stores::THREE;
-use crate::wires::{Break, Endless, Sink, Source};
 use er_desk::Desk;
 use er_slips::{Routes, Served, serve_one};
+use er_testing::desks::{FOUR, THREE, desk_after};
+use er_testing::wires::{Break, Endless, Sink, Source};
 use sqlite::{Alter, MemStore};
 use std::alloc::Global;
 use std::io::{Read, Write};
@@ -15,13 +14,13 @@ use std::test::Fail;
 const MOST_CALLS: usize = 12_289;
 
 /// The score of a match, handed in.
-pub const POST: &str = "\
+const POST: &str = "\
 POST /rounds/1/tables/1 HTTP/1.1\r
 Content-Length: 19\r
 \r
 {\"a\":2,\"b\":1,\"d\":0}";
 
-pub const TAKEN: &str = "\
+const TAKEN: &str = "\
 HTTP/1.1 200 OK\r
 Content-Type: application/json\r
 Content-Length: 12\r

@@ -4,13 +4,12 @@ ghost use Rattle.std.specs.Prelude.{◌≡◌, false, IsTrue, IfSome};
 ghost use Rattle.sqlite_disk.specs.Memory.{memory_is_usable};
 ghost use Rattle.sqlite_disk.specs.Fuse.{inner_of, IsFresh};
 
-use crate::helpers::{command, name, new_desk};
-use crate::migrations::old_desk;
 use crate::requests::are_unavailable;
-use crate::stores::are_same;
 use er_desk::{Desk, Reply};
 use er_event::{Cause, Command, Event, Refusal};
 use er_paper::{bracket_text, standings_text};
+use er_testing::desks::{command, new_desk, old_desk};
+use er_testing::events::{are_same, name};
 use sqlite::{Alter, Connection, Files, MemStore, Options};
 use sqlite_disk::{Crash, Disk, Fuse, Memory};
 use std::alloc::Global;

@@ -1,8 +1,10 @@
-//! What several tests need. These have no clause and answer an `Option`, so that the proof of a test carries little.
-ghost use Rattle.std.specs.Prelude.{◌≡◌, false};
+//! Desks over commands, a line each, whose words are separated by spaces.
+ghost use Rattle.std.specs.Prelude.{◌≡◌, ◌≤◌, false};
 
+use crate::events::name;
 use er_desk::{Desk, Reply};
-use er_event::{Change, Command, Event, Games, Items, Name, Phase, PlayerNo};
+use er_event::{Command, Event, Games, Items, Refusal};
+use er_store::Store;
 use sqlite::{Alter, Connection, MemStore};
 use std::alloc::Global;
 
@@ -16,64 +18,16 @@ start
 pair 1
 ";
 
-pub fn name(text: &str) -> Option<Name> {
-    Name::try_from_bytes(text.as_bytes()).ok()
-}
-
-/// The change that enrols a player.
-pub fn player(text: &str) -> Option<Change> {
-    let name = name(text)?;
-    Some(Change::AddPlayer { name })
-}
-
-/// The event after a change, if it fits.
-pub fn changed(alloc: Global, event: Event, change: &Change) -> Option<Event> {
-    if event.fits(change) {
-        event.apply(alloc, change).ok()
-    } else {
-        None
-    }
-}
-
-/// The change that starts an event.
-pub fn start() -> Change {
-    let phase = Phase::Swiss;
-    Change::SetPhase { phase }
-}
-
-/// The change that drops a player.
-pub fn drop(number: u16) -> Option<Change> {
-    let player = PlayerNo::try_new(number)?;
-    Some(Change::SetDropped { player })
-}
-
-/// The event after the enrolment of a player, if it fits.
-pub fn with_player(alloc: Global, event: Event, text: &str) -> Option<Event> {
-    changed(alloc, event, &player(text)?)
-}
-
-/// The event with a player P1, P2, .. of this number.
-fn with_number(alloc: Global, event: Event, number: u16) -> Option<Event> {
-    match format!(in alloc; "P{number}") {
-        Ok(text) => with_player(alloc, event, text.as_str()),
-        Err(_) => None,
-    }
-}
-
-/// An event named Friday that nobody has entered.
-pub fn new_event(alloc: Global, rounds: u8, cut: u8) -> Option<Event> {
-    let friday = name("Friday")?;
-    Event::create(alloc, friday, rounds, cut).ok()
-}
-
-/// An event named Friday, with as many players P1, P2, .., that has started.
-pub fn started(alloc: Global, rounds: u8, cut: u8, players: u16) -> Option<Event> {
-    let mut event = new_event(alloc, rounds, cut)?;
-    for number in 1..=players {
-        event = with_number(alloc, event, number)?;
-    }
-    changed(alloc, event, &start())
-}
+/// Ana, Bo and Cy: the first round is (2,1) and a bye for 3, the second (2,3) and a bye for 1.
+pub const THREE: &str = "\
+enrol Ana
+enrol Bo
+enrol Cy
+start
+pair 1
+result 1 1 2 0 0
+pair 2
+";
 
 fn enrol(alloc: Global, name: &str) -> Option<Command> {
     let name = Items::from(Vec::from_slice(alloc, name.as_bytes()).ok()?);
@@ -206,5 +160,28 @@ pub fn desk_after(alloc: Global, rounds: u8, cut: u8, lines: &str) -> Option<Des
         Some(desk)
     } else {
         None
+    }
+}
+
+/// A desk over new tables of version 1, of an event named Friday, or why there is none.
+pub fn old_desk<S: Alter + Drop>(
+    alloc: Global,
+    conn: Connection<S>,
+    rounds: u8,
+    cut: u8,
+) -> Result<Desk<S>, Refusal>
+    requires mode { conn.in_transaction ≡ false }
+    requires few { rounds ≤ 9 }
+{
+    let Some(friday) = name("Friday") else {
+        return Err(Refusal::BadName);
+    };
+    let event = Event::create(alloc, friday, rounds, cut)?;
+    match Store::create_old(conn, &event) {
+        Ok(store) => match Desk::adopt(alloc, store.into_connection()) {
+            Ok(desk) => Ok(desk),
+            Err((_conn, why)) => Err(why),
+        },
+        Err((_conn, why)) => Err(why),
     }
 }

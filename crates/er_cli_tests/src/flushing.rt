@@ -1,4 +1,6 @@
-use crate::wires::{Break, Sink};
+//! Writers that hold bytes back, and those that can't pass them on.
+
+use er_testing::wires::{Break, Sink};
 use std::io::BufWriter;
 use std::test::Fail;
 
