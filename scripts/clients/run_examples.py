@@ -34,7 +34,7 @@ def run_transcripts():
 
 
 def run_scripts():
-    """The scripts of the README, of which the answers stand beside them."""
+    """The scripts that have their answers beside them."""
     for file in sorted(glob.glob(f"{folder}/../*.answers")):
         script, answers = open(file.replace(".answers", ".txt"), "rb").read(), open(file, "rb").read()
         check(os.path.basename(file), run(script), (0, answers, b""))

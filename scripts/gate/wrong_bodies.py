@@ -7,10 +7,10 @@ function are put into one copy of the crate, and one check says of each function
 judge, as a function that calls another one that is refused, is tried again without these beside it, and at last alone.
 
 Beside the gate, which leaves processors idle while crates wait for those below them, a crate's wrong bodies are tried as soon as the gate
-has proved it, over copies of the libraries that it made. There those with a line `tried: always` are tried each time, and of each other public
-function one. The rest comes in turns; so do those of constants, since the facts that refuse them are proved by the gate each time. The turns go
-on every three hours, by the time of the commit, so that the commits of a day do not all try the same ones. With no turn given, all are tried.
-Where time is short, on a machine that others use, what is left is named, and not tried.
+has proved it, over copies of the libraries that it made. There those with a line `tried: always` are tried each time, and one of each other public
+function every second time. The rest comes in more turns; so do those of constants, since the facts that refuse them are proved by the gate each
+time. The turns go on every three hours, by the time of the commit, so that the commits of a day do not all try the same ones. With no turn given,
+all are tried. Where time is short, on a machine that others use, what is left is named, and not tried.
 """
 import argparse
 import concurrent.futures
@@ -30,10 +30,10 @@ from scripts.gate import toolchain
 
 rt = toolchain.load()
 printing = threading.Lock()
-# a crate with more wrong bodies than this is tried in two parts, side by side
-MANY = 60
 # the free memory, in bytes, below which no check is begun beside others
 ROOM = 8_000_000_000
+# one of each public function is tried in so many turns
+PUBLIC_TURNS = 2
 # those of private functions and of constants are tried in so many turns
 TURNS = 5
 # What was not begun before the time was over.
@@ -171,9 +171,9 @@ def is_public(crate, function):
 
 
 def of_turn(crate, bodies, turn):
-    """The wrong bodies that are tried in this turn: those that are tried each time, one of each public function that none of these changes, and
-    a part of the others. Those of constants take a check of their own, and so do those beside one that is tried each time, in its function: they
-    come together, in one turn."""
+    """The wrong bodies that are tried in this turn: those that are tried each time, one of each second public function that none of these changes,
+    and a part of the others. Those of constants take a check of their own, and so do those beside one that is tried each time, in its function:
+    they come together, in one turn."""
     always = [it for it in bodies if it.is_always]
     changed = {function for body in always for function in body.functions}
     constants, beside, private, public = [], [], [], {}
@@ -189,7 +189,8 @@ def of_turn(crate, bodies, turn):
             private.append(body)
     private.sort(key=lambda it: min(it.functions))
     part = [*([it] for it in private), constants, beside][turn % TURNS :: TURNS]
-    return always + [its[turn % len(its)] for its in public.values()] + [it for its in part for it in its]
+    of_public = [*public.values()][turn % PUBLIC_TURNS :: PUBLIC_TURNS]
+    return always + [its[turn // PUBLIC_TURNS % len(its)] for its in of_public] + [it for its in part for it in its]
 
 
 OPEN_GOAL = re.compile(r"^note: (?:\./)?(src/\S+?\.rt):(\d+):\d+: it is not proved that .*? \(`([^`]+)`\)", re.M)
@@ -326,15 +327,6 @@ def tried(crate, bodies, kept, has_holes=True):
     return said, output
 
 
-def parts_of(bodies):
-    """Halves of many wrong bodies: the crate that takes longest would else be tried on one processor while the others have no work. Those
-    that change the same function stay together, as they go into checks of their own anyway."""
-    if len(bodies) <= MANY:
-        return [bodies]
-    functions = sorted({min(it.functions) for it in bodies})
-    return [[it for it in bodies if min(it.functions) in functions[half::2]] for half in (0, 1)]
-
-
 # when no check is begun any more, by the clock of `time.monotonic`
 deadline = float("inf")
 
@@ -428,7 +420,7 @@ def linked(one, other):
 
 
 def try_beside(gate, work, shows):
-    """Tries each part once the gate has proved its crate: with half of the processors until the gate has ended, and then with all."""
+    """Tries those of a crate once the gate has proved it: with half of the processors until the gate has ended, and then with all."""
     os.nice(10)
     found, left, running = [], [*work], set()
     with concurrent.futures.ThreadPoolExecutor(rt.processors()) as pool:
@@ -453,7 +445,7 @@ def try_beside(gate, work, shows):
 
 
 def try_now(work, shows):
-    """Tries all parts with all processors, over the libraries below as the session builds them."""
+    """Tries all with all processors, over the libraries below as the session builds them."""
     if any(it.build_rlib(["--jobs", "1"], anew=False) for crate, bodies in work if bodies for it in crate.below()):
         sys.exit("a library below could not be built")
     with concurrent.futures.ThreadPoolExecutor(rt.processors()) as pool:
@@ -482,7 +474,6 @@ def main():
             bodies = [it for it in bodies if not given.only or it.name in given.only]
             work.append((crate, bodies if given.turn is None else of_turn(crate, bodies, given.turn)))
     work.sort(key=lambda it: -it[0].count(rb"\n"))
-    work = [(crate, part) for crate, bodies in work for part in parts_of(bodies)]
     if given.beside_gate:
         with tempfile.TemporaryDirectory(prefix="gate-libraries-") as room:
             found = try_beside(Gate(given.beside_gate, room), work, given.show)
