@@ -83,7 +83,7 @@ def evening(dice, players, way, rounds=3, cut=0, has_hostile=False):
     late = names[players:]
     last = dice.randint(1, rounds) if way in (OPEN, COMPLETE) else 0 if way == STARTED else rounds
     for number in range(1, last + 1):
-        if not event.pair(number, dice.randbytes(32))[0].startswith("ok "):
+        if not event.pair(number, dice.getrandbits(256).to_bytes(32, "little"))[0].startswith("ok "):
             break
         is_open = way == OPEN and number == last
         if late and number < rounds and dice.random() < 0.5:

@@ -2,10 +2,12 @@
 reading of the rules; each refusal once; lists as people have them; copies, and how it goes back to one; answers that are lost, Ctrl-C in the middle of a
 command, and kills at random instants, after which the next start says what is stored; and scores over HTTP.
 
-It says how many keys a round of eleven tables takes by command lines and by the prompt.
+It says how many keys a round of seventeen tables takes by command lines and by the prompt.
 """
 import contextlib
+import fcntl
 import http.server
+import importlib
 import importlib.util
 import os
 import pty
@@ -13,6 +15,7 @@ import random
 import re
 import select
 import shutil
+import signal
 import sqlite3
 import stat
 import subprocess
@@ -21,10 +24,11 @@ import tempfile
 import threading
 import time
 
+from scripts import TOP
 from scripts.clients.event_files import make_old, rows_alone, rows_of, run
-from scripts.clients.random_evenings import HOSTILE, STARTED, evening, laid
+from scripts.clients.random_evenings import ENDED, HOSTILE, IN_PLAYOFF, STARTED, evening, laid
 from scripts.clients.serving import Serving, free_port, hear_interrupts
-from scripts.clients.tally import check, end
+from scripts.clients.tally import check, dice_of, end, left_out
 from scripts.models.plain_event import ENROLLING, FINISHED, PLAYOFF, SWISS, Event
 from scripts.models.plain_file import read
 
@@ -37,8 +41,8 @@ LETTERS = {**os.environ, "LC_ALL": "C.UTF-8", "TERM": "dumb", "INPUTRC": "/dev/n
 NAMES = ["Ana Lima", "Bo", "Ana - Bo", "Zoë <b>", "محمد", "007", "-x", 'O\'Neil "Z"', "大会"]
 
 
-def words_for(file, *words, by=None):
-    return [*PYTHON, desk, file, "--program", by or program, *words]
+def words_for(file, *words, by=None, python=PYTHON):
+    return [*python, desk, file, "--program", by or program, *words]
 
 
 def typed(file, *lines, words=(), by=None, **how):
@@ -66,11 +70,13 @@ def check_said(name, text, *pieces):
 
 
 def keys_of(file):
-    """The rounds and keys of FILE.keys, in their order."""
+    """The rounds and keys of FILE.keys, in their order, without those that are marked as unused."""
     with open(f"{file}.keys", encoding="utf-8") as it:
         lines = it.read().splitlines()
-    check(f"{file}.keys", [it for it in lines if not re.fullmatch("round [0-9]+ [0-9a-f]{64}", it)], [])
-    return [(int(it.split()[1]), bytes.fromhex(it.split()[2])) for it in lines]
+    check(f"{file}.keys", [it for it in lines if not re.fullmatch("round [0-9]+ [0-9a-f]{64}( unused)?", it)], [])
+    check(f"{file}.keys, for its owner alone", stat.S_IMODE(os.stat(f"{file}.keys").st_mode), 0o600)
+    unused = {it[: -len(" unused")] for it in lines if it.endswith(" unused")}
+    return [(int(it.split()[1]), bytes.fromhex(it.split()[2])) for it in lines if not it.endswith(" unused") and it not in unused]
 
 
 # ---- the plain reading of what is said
@@ -208,16 +214,24 @@ class Evening:
             self.fix(number, 1, (0, 2, 0))
             if number == 1:
                 answer = event.enrol("Late Lou")
-                self.taken("enrol Late Lou", answer, "Late Lou (10) is enrolled.")
+                self.taken("enrol Late Lou", answer, "Late Lou (10) is enrolled.", "Round 1 is lost, without an opponent.")
                 self.drop("Lou", 10)
             if number == 2:
                 self.drop("2", 2)
             self.show()
-        self.taken("cut", event.end_rounds(), *event.bracket())
+        self.cut()
         while event.phase == PLAYOFF:
             self.score_slot()
         self.expect("bracket", *event.bracket())
         self.expect("where", where_due("Friday Night", self.file, event))
+
+    def cut(self):
+        """It shows who is in, and asks back."""
+        self.expect("cut", "The playoff would begin so:")
+        self.expect("n", "The playoff was not begun.")
+        answer = self.event.end_rounds()
+        self.expect("cut", "The playoff would begin so:")
+        self.taken("y", answer, *self.event.bracket())
 
     def score_slot(self):
         event = self.event
@@ -259,10 +273,10 @@ class Piped:
     def send(self, line):
         """What a line is answered. A question is said once its answer came."""
         lines = [line] if self.asks else [line, "foo bar"]
-        if line.startswith("drop "):
+        if line.startswith(("drop ", "cut")):
             # the answer comes with the next line
             self.pending, self.asks = line, True
-            return f"Drop {self.shown(line)}?"
+            return "The playoff would begin so:" if line == "cut" else f"Drop {self.shown(line)}?"
         if self.asks:
             lines, self.asks = [self.pending, line, "foo bar"], False
         self.process.stdin.write("".join(f"{it}\n" for it in lines).encode())
@@ -280,11 +294,19 @@ class Piped:
 class Terminal:
     """The prompt in a terminal of its own."""
 
-    def __init__(self, file, by=None, env=LETTERS):
+    def __init__(self, file, by=None, env=LETTERS, python=PYTHON, begins=None):
         self.child, self.master = pty.fork()
         if self.child == 0:
-            os.execvpe(PYTHON[0], words_for(file, by=by), env)
-        self.began = self.read()
+            os.execvpe(python[0], words_for(file, by=by, python=python), env)
+        self.began = self.read_for(begins) if begins else self.read()
+
+    def read_for(self, piece):
+        """What comes until this piece of it is there, among all that moves the cursor."""
+        said, until = b"", time.monotonic() + PATIENCE
+        while piece not in said and time.monotonic() < until:
+            if select.select([self.master], [], [], 0.2)[0]:
+                said += os.read(self.master, 65536)
+        return said.decode("utf-8", "replace")
 
     def read(self, ends=(PROMPT, QUESTION)):
         said = b""
@@ -319,9 +341,34 @@ class Terminal:
         """The status, and what is said at the end."""
         self.keys(keys)
         said = self.read(ends=(b"\0",))
-        status = os.waitstatus_to_exitcode(os.waitpid(self.child, 0)[1])
+        return self.ended(), said
+
+    def ended(self, keys=""):
+        """The status once it has ended. The keys are pressed each second until then, since those that come just before it waits for one are dropped; a
+        prompt that goes on all the same is killed.
+        """
+        for _ in range(PATIENCE):
+            with contextlib.suppress(OSError):
+                self.keys(keys)
+            until = time.monotonic() + 1
+            while time.monotonic() < until:
+                child, ended = os.waitpid(self.child, os.WNOHANG)
+                if child:
+                    os.close(self.master)
+                    return os.WEXITSTATUS(ended) if os.WIFEXITED(ended) else -os.WTERMSIG(ended)
+                self.pass_over()
+        os.kill(self.child, signal.SIGKILL)
+        os.waitpid(self.child, 0)
         os.close(self.master)
-        return status, said
+        return -signal.SIGKILL
+
+    def pass_over(self):
+        """Reads what is written to the terminal now, if anything is."""
+        try:
+            if select.select([self.master], [], [], 0.05)[0]:
+                os.read(self.master, 65536)
+        except OSError:
+            time.sleep(0.05)
 
 
 def run_pipe(room):
@@ -367,6 +414,26 @@ def run_without_readline(room):
     prompt = Terminal(file, env={**LETTERS, "PYTHONPATH": room})
     check_said("without readline, a command", prompt.send("standings"), *event.standings())
     check("without readline, the end", prompt.end()[0], 0)
+
+
+def run_menus(room):
+    """By prompt_toolkit, where it is installed: a part of a name brings a menu, from which TAB takes the player; and lines that are pasted behind a
+    question are no answer to it.
+    """
+    if importlib.util.find_spec("prompt_toolkit") is None:
+        left_out("menus at a terminal", "python3-prompt-toolkit is not installed")
+        return
+    event, file = started(room, ["Ana Lima", "Bo Sato", "Cy Young", "Di Ito"])
+    said(file, "pair")
+    prompt = Terminal(file, env={**LETTERS, "TERM": "xterm"}, python=(sys.executable, "-B"), begins=b"desk>")
+    prompt.keys("who sat")
+    check("menus, what is offered", "Bo Sato (2)" in prompt.read_for(b"Bo Sato (2)"), True)
+    prompt.keys("\t\r")
+    check("menus, TAB takes it", " Bo Sato  table " in prompt.read_for(b" Bo Sato  table "), True)
+    prompt.keys("\x1b[200~drop Ana\n1 2 0\n2 2 1\x1b[201~\r")
+    check("menus, pasted lines are no answer", "all its scores" in prompt.read_for(b"all its scores"), True)
+    check("menus, the end", prompt.ended("\x04"), 0)
+    check("menus, the file", (read(file).dropped, [score for _, _, score in read(file).stored[0]]), (set(), [(2, 0, 0), (2, 1, 0)]))
 
 
 # ---- each refusal
@@ -442,7 +509,13 @@ def answering(status, body):
         def log_message(self, *_):
             pass
 
-    server = http.server.HTTPServer(("127.0.0.1", 0), Handler)
+    with serving_by(Handler) as port:
+        yield port
+
+
+@contextlib.contextmanager
+def serving_by(handler):
+    server = http.server.HTTPServer(("127.0.0.1", 0), handler)
     thread = threading.Thread(target=server.serve_forever, daemon=True)
     thread.start()
     try:
@@ -473,11 +546,11 @@ def run_refusals_of_players(room):
     refused_by(file, 2, "NameTaken", ["enrol Ana"], "enrol Bo (Owls)")
     refused_by(file, 4, "NotEnrolling", ["start"], "See: where")
     refused_by(other, 5, "TooFewPlayers", ["init One 3 0", "enrol Ana", "start"], "enrol Ana Lima")
-    refused_by(other, 6, "NotSwiss", ["1 2 0"], "Before the rounds: start")
+    refused_by(other, 6, "NotSwiss", ["1 2 0"], "The Swiss rounds have not begun", "start")
     refused_by(file, 17, "NoSuchPlayer", ["drop 99"], "See: players")
     event.drop(1)
     by_sql(file, "UPDATE player2 SET dropped = 1 WHERE no = 1")
-    refused_by(file, 18, "AlreadyDropped", ["drop Ana", "y"], "has dropped already")
+    refused_by(file, 18, "AlreadyDropped", ["drop Ana"], "has dropped already")
     full = Event(3, 0)
     full.names = [f"P{it}" for it in range(1, 513)]
     refused_by(laid(program, f"{room}/full.event", full, "E"), 3, "PlayersFull", ["enrol Ana"], "no room for more")
@@ -487,6 +560,7 @@ def run_refusals_of_players(room):
     old.start()
     make_old(f"{room}/old.event", old)
     refused_by(f"{room}/old.event", 30, "BadSetup", ["enrol Cy"], "Migrate it")
+    check_said("refusal 30, of init alone", said(f"{room}/none.event", "init Friday 13 0"), "a cut of 0, 2, 4\nor 8: init Friday Night 3 0\n")
     text = said(f"{room}/old.event", "migrate", "enrol Cy")
     check_said("after a migration", text, f"ok {old.serial}", f"ok {old.serial + 1}", "Cy (3) is enrolled.")
 
@@ -494,6 +568,7 @@ def run_refusals_of_players(room):
 def run_refusals_of_rounds(room):
     event, file = started(room, ["Ana", "Bo", "Cy"], 3, 8)
     refused_by(file, 19, "RoundsNotDone", ["cut"], "has no score")
+    check("refusal 19, nothing is shown before it", "would begin" in said(file, "cut"), False)
     refused_by(file, 22, "NotPlayoff", ["play 1 1 2 0"], "Next: cut, or bracket")
     said(file, "pair")
     refused_by(file, 8, "RoundOpen", ["pair"], "then: pair", "Round 1, 1 table open: 1")
@@ -505,6 +580,7 @@ def run_refusals_of_rounds(room):
     refused_by(file, 14, "AlreadyReported", ["1 0 2"], "Stored is 0-2-0, the very same. All is well.")
     refused_by(file, 14, "AlreadyReported", ["1 2 1"], "Stored is 0-2-0. If that is wrong: fix 1 1 2 1 0")
     said(file, "pair", "1 2 0", "pair", "1 2 0")
+    run_refusals_of_phases(f"{room}/other")
     refused_by(file, 9, "AllRoundsPaired", ["pair"], "standings, or cut")
     refused_by(file, 21, "TooFewForCut", ["cut"], "The standings stand")
     _, two = started(f"{room}/two", ["Ana", "Bo"])
@@ -515,6 +591,16 @@ def run_refusals_of_rounds(room):
     _, paired = started(f"{room}/paired", ["Ana", "Bo", "Cy", "Di"])
     refused_by(paired, 7, "WrongRound", ["pair"], "See: where", by=hurried)
     refused_by(without_end(f"{room}/long"), 11, "Budget", ["pair"], "pair new")
+
+
+def run_refusals_of_phases(room):
+    """Refusals 6 and 13 speak of the case at hand."""
+    event, file = started(room, ["Ana", "Bo", "Cy", "Di"], 1, 2)
+    said(file, "pair", "1 2 0", "2 2 0", "cut", "y")
+    refused_by(file, 6, "NotSwiss", ["1 2 0"], "the playoff has begun. Its scores: play 1 1 2 0")
+    refused_by(file, 13, "BadScore", ["play 1 1 2 2"], "No match of the playoff ends so", "play 1 2 2 1")
+    said(file, "play 1 1 2 1")
+    refused_by(file, 6, "NotSwiss", ["fix 1 1 2 0"], "The event is over")
 
 
 def run_refusals_of_the_file(room):
@@ -623,6 +709,33 @@ def run_lists(room):
     check("lists that are turned down", read(file).names, ["Bo", "Ana"])
 
 
+def run_names(room):
+    """Names that look alike are asked for, letters that are guessed are said to be, and a wrong name is put right."""
+    file, path = f"{room}/e.event", f"{room}/list.csv"
+    said(file, "init E 3 0", "enrol Zo\u00eb", "enrol Petr Mayer", "enrol Cy", "enrol Di")
+    text = said(file, "enrol Zoe\u0308", "n", "enrol cy", "y", "enrol Di")
+    pieces = ["Zo\u00eb (1) differs in capitals or accents alone.", "Nobody was enrolled.", "Cy (3) differs", "cy (5) is enrolled.", "refused 2 NameTaken"]
+    check_said("names that look alike", text, *pieces)
+    with open(path, "wb") as it:
+        it.write("Name\nDI\nAb\n\u0141uk\nab\n".encode("cp1250"))
+    text = said(file, f"import {path}", "n", f"import {path} cp1250", "y", "n")
+    pieces = [": cp1250", "Its letters are a guess.", " cp1252\n", "It would enrol:\n  \u0141uk\n  Ab\n", "row 2: DI, beside Di", "row 5: ab, beside Ab"]
+    check_said("a guess", text, *pieces)
+    check_said("an encoding that is named", text, ": cp1250", "It would enrol:\n  Ab\n  \u0141uk\n", "Enrol 2 players?", "Enrol also 2 players who may be there")
+    check_said("a list of names that are there", said(file, f"import {path} cp1250", "n"), "It would enrol nobody.", "Nobody was enrolled.")
+    check("a list, who is enrolled", read(file).names, ["Zo\u00eb", "Petr Mayer", "Cy", "Di", "cy", "Ab", "\u0141uk"])
+    text = said(file, "rename 2 Peter Meyer", "players", "rename 9 X", "rename 3 di", "rename 4", "where")
+    check_said("a name before the start", text, "Peter Meyer (2) is enrolled.", f"{file}.away-", "   2   Peter Meyer", "No player has this number", "has this name")
+    check_said("a name before the start, the plan", text, "as: rename 4 Peter Meyer", "7 players so far", "3 rounds, no cut")
+    check("a name before the start, the file", read(file).names, ["Zo\u00eb", "Peter Meyer", "Cy", "Di", "cy", "Ab", "\u0141uk"])
+    away = [it for it in os.listdir(room) if ".away-" in it]
+    check("a name before the start, the old file", [read(f"{room}/{it}").names[1] for it in away if not it.endswith("-wal")], ["Petr Mayer"])
+    text = said(file, "start", "pair", "rename 3 Cyril", "players", "standings", "round 1", "who cyr", "drop 3", "n")
+    check_said("a name after the start", text, "Cyril (3) is shown so", "   3   Cyril\n", " Cyril\n", "Cyril", "   3   Cyril", "Drop Cyril (3)?")
+    check("a name after the start, the file", read(file).names[2], "Cy")
+    check_said("the enrolled name again", said(file, "rename 3 Cy", "players"), "Cy (3) is shown so", "   3   Cy\n")
+
+
 # ---- copies
 
 
@@ -670,6 +783,56 @@ def run_copies(room):
     check_said("back to what was put away", text, "put away by back", "round 2, 3 tables open: 2-4", "   7  20", "put away by back")
     check("back to what was put away, the file", rows_alone(file), before)
     run_left_over(room, file)
+    run_back_over_the_cut(f"{room}/two")
+
+
+# the prompt, stopped right after one of the moves of `back`
+STOPPED = """
+import os, sys
+sys.path.insert(0, {extras!r})
+import companions.copies
+move, moves = companions.copies.move, []
+def stopping(source, target):
+    move(source, target)
+    moves.append(target)
+    if len(moves) == {stop}:
+        os._exit(9)
+companions.copies.move = stopping
+from companions.prompt.main import main
+main()
+"""
+
+
+def run_back_stopped(room):
+    """Stopped after each of the moves of `back`: nothing is lost, `init` is declined where the file is gone, and a second `back` ends it."""
+    stopped = []
+    for stop in (1, 2, 3):
+        os.mkdir(f"{room}/{stop}")
+        event, file = started(f"{room}/{stop}", ["Ana", "Bo", "Cy", "Di"])
+        said(file, "pair", "1 2 0")
+        before = rows_alone(file)
+        code = STOPPED.format(extras=os.path.dirname(desk), stop=stop)
+        words = [sys.executable, "-S", "-B", "-c", code, file, "--program", program]
+        ran = subprocess.run(words, input=b"back 1\ny\n", capture_output=True, timeout=60, env=LETTERS)
+        stopped.append(ran.returncode)
+        if not os.path.exists(file):
+            text = said(file, "init Other 3 0")
+            check_said(f"back stopped after {stop}", text, "The event's file is missing", "Go on from a copy: back", "copies of it are there")
+        said(file, "back 1", "y")
+        check(f"back stopped after {stop}, the second one", (read(file).stored, read(file).names), ([], event.names))
+        away = [rows_alone(f"{room}/{stop}/{it}") for it in os.listdir(f"{room}/{stop}") if re.fullmatch(r"e\.event\.away-\d+-\d+-\d+", it)]
+        check(f"back stopped after {stop}, the event in use is not lost", before in away, True)
+    check("back, stopped", stopped, [9, 9, 9])
+
+
+def run_back_over_the_cut(room):
+    """What came since names the cut and the scores of the playoff; `undo` names the copy."""
+    event, file = started(room, ["Ana", "Bo", "Cy", "Di"], 1, 2)
+    said(file, "pair", "1 2 0", "2 2 0", "drop 4", "y")
+    check_said("undo after a drop", said(file, "undo"), "There is no undo", "The last one: back 2, made before the drop of Di (4)\n")
+    text = said(file, "cut", "y", "undo", "play 1 1 2 1", "undo")
+    check_said("undo in the playoff", text, "back 3, made before the cut\n", "back 4, made before the score of stage 1, slot 1\n")
+    check_said("back over the cut", said(file, "back 3", "y"), "The playoff was begun since. To begin it again: cut", "  play 1 1 2 1 0\n")
 
 
 def played(rows):
@@ -716,23 +879,129 @@ def run_copy_of_a_log(room):
 
 
 def run_init_again(room):
-    """What lay beside an earlier event of the same name is put away with the first `init`."""
+    """What lay beside an earlier event of the same name is put away with the first `init`. Where its copies are there and it is gone, `back` comes first:
+    it may have been stopped between its two moves.
+    """
     event, file = started(room, ["Ana", "Bo"])
-    said(file, "pair")
+    said(file, "pair", "1 2 0", "doubt 1")
     os.unlink(file)
-    os.unlink(f"{file}-wal")
-    text = said(file, "init Sunday 2 0", "keys", "back")
+    with contextlib.suppress(FileNotFoundError):
+        os.unlink(f"{file}-wal")
+    text = said(file, "init Sunday 2 0")
+    check_said("init beside copies", text, "refused 27 NoEvent", "Go on from a copy: back", "is missing, and copies of it are there. Go on from one: back")
+    check("init beside copies, no file", os.path.exists(file), False)
+    check_said("back where the file is gone", said(file, "back 1", "y"), "no round is paired yet. Next: pair")
+    os.unlink(file)
+    shutil.rmtree(f"{file}.copies")
+    text = said(file, "init Sunday 2 0", "keys", "back", "doubt")
     check_said(
         "init beside old keys",
         text,
         "ok 0",
         "e.event.keys was there before",
-        "e.event.copies was there before",
+        "e.event.doubts was there before",
         "Sunday",
         "There is no key yet",
         "There is no copy yet",
+        "No score is in doubt",
     )
     check("init beside old keys, they stay", len([it for it in os.listdir(room) if ".old-" in it]), 2)
+
+
+def run_faults(room):
+    """Files that can't be read, and faults of the prompt itself: each is said, and the prompt goes on."""
+    event, file = started(room, ["Ana", "Bo"])
+    os.mkdir(f"{file}.keys")
+    text = said(file, "pair", "standings")
+    check_said("keys that can't be read", text, ".keys: Is a directory", ".keys: Is a directory. See: where", *event.standings())
+    check("keys that can't be read, nothing is paired", (len(read(file).stored), os.listdir(f"{file}.copies")), (0, []))
+    os.rmdir(f"{file}.keys")
+    check_said("a NUL in a name", said(file, "import a\0b.csv", "enrol a\0b", "where"), "is no name of a file", "a NUL is no command", "no round is paired yet")
+    broken = stand_in(room, '[ "$1 $3" = "export players" ] && { printf "no,name,dropped\\n1,An"; exit 0; }\nexec "$REAL" "$@"')
+    status, text = typed(file, "who ana", "standings", by=broken)
+    check_said("a list that ends in the middle", text, "or its answer was cut off: it ends in the middle of a line", *event.standings())
+    check("a list that ends in the middle, the status", status, 1)
+    # the prompt is started with a module in which a word fails
+    broken = "import companions.prompt.rounds as it; it.Rounds.show_round = lambda *_: {}[1]; from companions.prompt.main import main; main()"
+    words = [sys.executable, "-B", "-c", f"import sys; sys.path.insert(0, {os.path.dirname(desk)!r}); {broken}", file, "--program", program]
+    ran = subprocess.run(words, input=b"round\nstandings\n", capture_output=True, timeout=60, env=LETTERS)
+    check_said("a fault of the prompt itself", ran.stdout.decode(), "The prompt itself is at fault: KeyError: 1", "See: where", *event.standings())
+    check("a fault of the prompt itself, no traceback", ran.stderr, b"")
+
+
+def run_another_server(room):
+    """`--port` of another web server, which answers everything."""
+    event, file = started(room, ["Ana", "Bo"])
+
+    class Handler(http.server.BaseHTTPRequestHandler):
+        def do_GET(self):
+            if "Content-Length" in self.headers:
+                self.rfile.read(int(self.headers["Content-Length"]))
+            self.send_response(200)
+            self.end_headers()
+            self.wfile.write(b"<html>\xff It works!</html>\n")
+
+        do_POST = do_GET
+        log_message = lambda *_: None
+
+    with serving_by(Handler) as port:
+        text = said(file, "1 2 0", "standings", "where", words=("--port", str(port)))
+    check_said("another web server", text, *[f"What answers at port {port} is not event_reporter"] * 2, "It works!", "is not event_reporter")
+
+
+def run_doubts(room):
+    """A score at a wrong table is kept in mind until it is replaced."""
+    event, file = started(room, ["Ana", "Bo", "Cy", "Di"])
+    said(file, "pair", "1 2 0", "2 2 1")
+    event.pair(1, keys_of(file)[0][1])
+    event.report(1, 1, (2, 0, 0), True)
+    event.report(1, 2, (2, 1, 0), True)
+    shown = f"In doubt: round 1, table 1: {match_shown(event, event.stored[0][0], (2, 0, 0))}"
+    check_said("doubt", said(file, "doubt 1"), shown, "fix 1 1 X Y")
+    text = said(file, "open", "doubt", "where", "pair", "n")
+    check_said("a doubt is listed", unfilled(text), "round 1 has all its scores. Next: pair. In doubt by round and table: 1 1", shown, shown, "In doubt by")
+    check_said("pair asks back", text, "In doubt: table 1 of round 1 (2-0-0).", "Pair all the same? (y or n) n", "Nothing was paired.")
+    check_said("the same score again ends it", said(file, "fix 1 1 2 0", "doubt"), "ok ", "No score is in doubt.")
+    check_said("another score ends it", said(file, "doubt 1 1", "fix 1 1 0 2", "doubt", "pair"), "In doubt", "ok ", "No score is in doubt.", "Show it")
+    said(file, "doubt 1 2")
+    check_said("an older round", unfilled(said(file, "where")), "In doubt by round and table: 1 2")
+    for line, words in (("doubt 9", "no table 9"), ("doubt 1", "has no score"), ("doubt x", "as: doubt 9"), ("doubt 1 9", "no table 9")):
+        check_said(line, said(file, line), words)
+    check_said("cut asks back", said(file, "1 2 0", "2 2 0", "cut", "n"), "table 2 of round 1 (2-1-0)", "Cut all the same? (y or n) n", "not begun")
+
+
+def checked(file, *changed):
+    """What `scripts/check` says of the lists of the event."""
+    paths = [f"{file}.{kind}.csv" for kind in ("players", "results")]
+    for kind, path in zip(("players", "results"), paths):
+        with open(path, "wb") as it:
+            it.write(run(program, ["export", file, kind])[1])
+    ran = subprocess.run(["bash", f"{TOP}/scripts/check", *paths, *(changed or [f"{file}.keys"])], capture_output=True, timeout=60, cwd="/")
+    return ran.returncode, ran.stdout.decode() + ran.stderr.decode()
+
+
+def run_check(room):
+    """Whoever wants to check a round can: at the prompt by the copy, and by a second reading without the program."""
+    event, file = started(room, [f"P{it}" for it in range(1, 10)], 3, 0)
+    lines = ["1 2 0", "2 2 1", "3 0 2", "4 1 1 1"]
+    text = said(file, "pair", *lines, "drop 9", "y", "enrol Late", "pair", *lines, "pair", "check 1", "check 2", "check", "check 4", "check x")
+    check_said("check", text, *(f"Round {it} is what its key gives" for it in (1, 2, 3)), "Round 4 is not paired", "as: check 3")
+    is_so = "as the rules pair it by its key"
+    check("scripts/check", checked(file), (0, "".join(f"round {it}: {is_so}\n" for it in (1, 2, 3))))
+    said(file, "fix 1 1 0 2")
+    status, text = checked(file)
+    check_said("scripts/check after a correction", text, f"round 1: {is_so}", "was corrected since, this can't be told")
+    check("scripts/check after a correction, the status", status, 1)
+    check_said("check after a correction", said(file, "check 2"), "Round 2 is what its key gives")
+    keys = [f"round {number} {key.hex()}\n" for number, key in keys_of(file)]
+    with open(f"{file}.keys", "w") as it:
+        it.write(keys[0].replace(keys[0].split()[2], "ab" * 32) + keys[2])
+    check_said("check by another key", said(file, "check 1", "check 2"), "Round 1 is not what the copy", "differ", ".keys has no key of it")
+    status, text = checked(file)
+    check_said("scripts/check by another key", text, "round 1: not as the rules pair it from the scores", "round 2: its key is not in the list")
+    for paths in ([], ["/none"], [f"{file}.players.csv", f"{file}.keys", f"{file}.keys"]):
+        ran = subprocess.run(["bash", f"{TOP}/scripts/check", *paths], capture_output=True, timeout=60)
+        check(f"scripts/check {len(paths)}", (ran.returncode, b"Traceback" in ran.stderr, ran.stdout), (1, False, b""))
 
 
 def run_key_first(room):
@@ -743,14 +1012,98 @@ def run_key_first(room):
     with open(f"{file}.seen") as it:
         seen = it.read().split()
     check("the key and the copy come first", (seen[0], [it[-19:] for it in seen[1:]]), ("1", ["before-pair-1.event"]))
-    said(file, "pair", "pair", "1 2 0", "2 2 0", "pair")
-    check("a key that wasn't used is the next one's", [number for number, _ in keys_of(file)], [1, 2])
+    said(file, "pair")
+    with open(f"{file}.keys") as it:
+        left = it.read().split()[-1]
+    check("a key whose pairing was refused is marked", left, "unused")
+    said(file, "1 2 0", "2 2 0", "pair")
+    check("and is never used again", ([number for number, _ in keys_of(file)], len(set(open(f"{file}.keys").read().split()) - {"round", "unused", "1", "2"})), ([1, 2], 3))
     with open(f"{file}.keys", "a") as it:
         it.write("round 3 abc")
     said(file, "1 2 0", "2 2 0", "pair")
     with open(f"{file}.keys") as it:
         lines = it.read().splitlines()
     check("a line that was broken off stays alone", (lines[-2], lines[-1][:8], len(lines[-1])), ("round 3 abc", "round 3 ", 72))
+
+
+def run_other_key(room):
+    """Another one pairs by another key just when this prompt does, and this prompt is refused 25: it finds a round, and doesn't show its own key."""
+    event, file = started(room, [f"P{it}" for it in range(1, 17)])
+    other = f'[ "$1 $2" = "pair {file}" ] && {{ "$REAL" pair "$2" "$3" {"0" * 64} > "$2.other"; echo "refused 25 Store" >&2; exit 3; }}\nexec "$REAL" "$@"'
+    status, text = typed(file, "pair", by=stand_in(room, other))
+    check_said("another key", text, "It is stored.", "Round 1 was paired by another key", "marked as unused")
+    check("another key, the status, and no key is shown", (status, "Show it to the players" in text), (1, False))
+    check("another key, the list of keys", keys_of(file), [])
+
+
+def run_two(room):
+    """Two prompts at one file: who says `pair` at once leaves one key, by which the round was paired."""
+    check("two at once, the turn", *two_at_once(room, 0))
+    for at in range(1, 6):
+        two_at_once(room, at)
+
+
+def two_at_once(room, at):
+    file = f"{room}/{at}.event"
+    names = [f"P{it}" for it in range(1, 17)]
+    event = Event(3, 0)
+    for name in names:
+        event.enrol(name)
+    event.start()
+    laid(program, file, event, "E")
+    prompts = [
+        subprocess.Popen(words_for(file), stdin=subprocess.PIPE, stdout=subprocess.PIPE, stderr=subprocess.STDOUT, env=LETTERS) for _ in range(2)
+    ]
+    for it in prompts:
+        it.stdin.write(b"pair\n")
+        it.stdin.flush()
+    text = "".join(it.communicate(timeout=60)[0].decode() for it in prompts)
+    check(f"two at once {at}, who is answered", (text.count("Show it to the players"), text.count("refused 8 RoundOpen")), (1, 1))
+    keys = keys_of(file)
+    check(f"two at once {at}, one key", [number for number, _ in keys], [1])
+    event.pair(1, keys[0][1])
+    check(f"two at once {at}, the round is of the key", read(file).stored, event.stored)
+    return stat.S_IMODE(os.stat(f"{file}.turn").st_mode), 0o600
+
+
+def run_turns(room):
+    """While somebody holds the turn, the prompt waits; results come in beside two sheets that read without a pause."""
+    event, file = started(room, [f"P{it}" for it in range(1, 33)])
+    said(file, "pair")
+    with open(f"{file}.turn", "rb") as it:
+        fcntl.flock(it, fcntl.LOCK_EX)
+        prompt = subprocess.Popen(words_for(file), stdin=subprocess.PIPE, stdout=subprocess.PIPE, env=LETTERS)
+        prompt.stdin.write(b"1 2 0\n")
+        prompt.stdin.flush()
+        waits = not select.select([prompt.stdout], [], [], 0.7)[0]
+    check_said("a turn", prompt.communicate(timeout=60)[0].decode(), "ok ")
+    check("a turn is waited for", waits, True)
+    stop = f"{room}/stop"
+    line = 'while [ ! -e "$1" ]; do flock "$2.turn" "$3" standings "$2" > /dev/null || exit 1; done'
+    others = [subprocess.Popen(["sh", "-c", line, "sh", stop, file, program]) for _ in range(2)] if shutil.which("flock") else []
+    status, text = typed(file, *(f"{it} 2 1" for it in range(2, 17)))
+    mark(stop)
+    check("results beside two who take turns", (status, text.count("\nok ")), (0, 15))
+    check("and these are never refused", [it.wait(60) for it in others], [0] * len(others))
+
+
+def run_calls(room):
+    """A result takes two command lines: what was said of an event is kept while no command comes."""
+    event, file = started(room, [f"P{it}" for it in range(1, 9)])
+    counting = stand_in(room, f'echo "$1" >> {room}/calls\nexec "$REAL" "$@"')
+
+    def calls():
+        with open(f"{room}/calls") as it:
+            lines = it.read().split()
+        os.unlink(f"{room}/calls")
+        return lines
+
+    said(file, "pair", "1 2 0", "2 2 0", "3 2 0", by=counting)
+    check("calls for three results", calls()[-5:], ["slips", "result", "slips", "result", "slips"])
+    said(file, "standings", "standings", "round 1", "round 1", by=counting)
+    check("nothing is asked twice", len([it for it in calls() if it in ("standings", "slips")]), 2)
+    run(program, ["result", file, "1", "4", "2", "0", "0"])
+    check_said("what came from elsewhere is seen", said(file, "where", by=counting), "round 1 has all its scores")
 
 
 # ---- answers that are lost
@@ -770,13 +1123,13 @@ exec "$REAL" "$@"
 def run_lost(room):
     """The program is killed before a command or behind it: the prompt says what is stored."""
     lossy = stand_in(room, LOSSY)
-    lines = [["start"], ["pair"], ["1 2 1"], ["fix 1 1 0 2"], ["drop 4", "y"], ["cut"], ["play 1 1 2 0"], ["enrol Zed"]]
+    lines = [["start"], ["pair"], ["1 2 1"], ["fix 1 1 0 2"], ["drop 4", "y"], ["cut", "y"], ["play 1 1 2 0"], ["enrol Zed"]]
     event = Event(1, 2)
     for name in ("Ana", "Bo", "Cy", "Di"):
         event.enrol(name)
     file = laid(program, f"{room}/e.event", event, "E")
     for line in lines:
-        if line == ["cut"]:
+        if line[0] == "cut":
             said(file, "2 2 0")
         if line == ["enrol Zed"]:
             file = laid(program, f"{room}/other.event", event, "E")
@@ -844,6 +1197,7 @@ KILLED = [f"enrol P{it}" for it in range(1, 6)] + [
     "1 0 2",
     "2 2 1",
     "cut",
+    "y",
     "play 1 1 2 0",
 ]
 
@@ -968,7 +1322,7 @@ def run_over_http(room):
             "refused 14 AlreadyReported",
             "All is well.",
             "refused 14 AlreadyReported",
-            "Stored is 2-1-0. If that is wrong: fix 1 1 0 2 0",
+            "Stored is 2-1-0. If that is wrong, end `serve` and this, and type without --port:\nfix 1 1 0 2 0",
             "refused 13 BadScore",
             "no count of games goes above 255",
         ]
@@ -1044,20 +1398,93 @@ def run_words(room):
     check("no program", (ran.returncode, ran.stdout, b"--program PATH" in ran.stderr), (3, b"", True))
 
 
+def run_typed(room):
+    """Results as people type them, and the words of the command line."""
+    event, file = started(room, [f"P{it}" for it in range(1, 13)])
+    said(file, "pair")
+    event.pair(1, keys_of(file)[0][1])
+    first = event.stored[0][5][0]
+    scores = [(2, 1, 0), (0, 2, 0), (1, 1, 1), (2, 0, 0), (0, 0, 3), (2, 1, 0)]
+    lines = ["1 2-1", "2 0:2", "3,1,1,1", "4\t2\t0", "result 1 5 0 0 3", f"6 2 1 drop {first}", "y"]
+    text = said(file, *lines)
+    for table, score in enumerate(scores, 1):
+        answer = event.report(1, table, score, True)
+        check_said(f"typed: {lines[table - 1]}", unfilled(text), f"{match_shown(event, event.stored[0][table - 1], score)} {answer[0]}")
+    event.drop(first)
+    check_said("a drop by the same slip", text, f"Drop {player_shown(event, first)}?", "is dropped.")
+    check("typed, the file", rows_alone(file), rows_of(event, "E"))
+    check_said("slips", said(file, "slips 1"), "\n".join(event.slips(1)))
+    check_said("correct", said(file, "correct 1 1 0 2 0"), "0-2-0", "in place of 2-1-0", "ok ")
+    for line in ("1 draw", "1 1-1 draw", "17 id"):
+        check_said(line, said(file, line), "17 1 1 1 with a drawn game", "17 0 0 3")
+    check_said("a drop behind a refused result", said(file, f"1 2 1 drop {first}"), "refused 14 AlreadyReported", "fix 1 1 2 1 0")
+    check_said("help all", said(file, "help all"), "17 2 1", "init NAME ROUNDS CUT", "result 3 17 2 1 0")
+
+
+def run_listing(room):
+    """CSV, the final ranking, and all matches of a player."""
+    event = evening(random.Random(2), 9, ENDED, 2, 4, False)
+    file = laid(program, f"{room}/e.event", event, "E")
+    text = said(file, "export standings", "export playoff", "export players", "export results", "export nope")
+    rows = ["rank,no,points,omw,gwp,ogw,dropped,name", "stage,slot,a,b,x,y,d", "no,name,dropped", "round,table,a,b,x,y,d", "There are players"]
+    check_said("lists", text, *(f"{it}\n" for it in rows[:-1]), rows[-1])
+    check_said("a list in a file", said(file, f"export standings {room}/s.csv", f"export standings {room}/s.csv"), "Written: ", "is there already")
+    with open(f"{room}/s.csv", encoding="utf-8") as it:
+        check("a list in a file, its lines", len(it.read().split("\n")), len(event.names) + 2)
+    champion = int(event.bracket()[-1].split()[1])
+    check_said("the final ranking", said(file, "final"), f"   1  {player_shown(event, champion)}\n", "   2  ", "   3  ", "   3  ", "   5  ")
+    due = [
+        f"round {number}, table {table}: {match_shown(event, match, match[2])}"
+        for number, matches in enumerate(event.stored, 1)
+        for table, match in enumerate(matches, 1)
+        if champion in match[:2] and match[1]
+    ]
+    due += [
+        f"stage {stage}, slot {slot}: {match_shown(event, match, match[2])}"
+        for stage, matches in enumerate(event.stages, 1)
+        for slot, match in enumerate(matches, 1)
+        if champion in match[:2]
+    ]
+    check_said("all matches of a player", said(file, f"who {champion}"), *due)
+    check_said("no champion yet", said(started(f"{room}/two", ["Ana", "Bo"])[1], "final"), "There is no champion yet")
+
+
+def run_clock(room):
+    event, file = started(room, ["Ana", "Bo"])
+    text = said(file, "clock", "clock 50", "clock", "clock off", "clock 0", "clock x")
+    check_said("the clock", text, "No clock runs.", "50 min, until ", "50 min, until ", "No clock runs.", "1 to 600 minutes", "as: clock 50")
+    said(file, "clock 30")
+    with open(f"{file}.clock") as it:
+        found = re.fullmatch("until ([0-9]+) of 30\n", it.read())
+    check("the clock, when it ends", abs(int(found[1]) - time.time() - 1800) < 60, True)
+
+
+def run_plan(room):
+    """Rounds and cut are said: by `init`, and by `where`."""
+    file = f"{room}/e.event"
+    text = said(file, "init Friday Night 6 8", "enrol Ana", "enrol Bo", "start", "pair", "where")
+    check_said("the plan", text, "6 rounds, cut to 8\n", "can't be changed later", "no round is paired yet", "6 rounds, cut to 8\n", "Round 1 of 6, cut to 8\n")
+    check_said("the plan, without a cut", said(f"{room}/other.event", "init Friday 1 0", "where"), "1 round, no cut\n", "1 round, no cut\n")
+    event = evening(random.Random(1), 9, IN_PLAYOFF, 2, 4, False)
+    check_said("the plan, in the playoff", said(laid(program, f"{room}/playoff.event", event, "E")), "2 rounds, cut to 4\n")
+    with open(file, "rb") as it:
+        before = it.read()
+    said(file, "where")
+    check("the plan is read from a copy", (open(file, "rb").read() == before, os.path.exists(f"{file}-shm")), (True, False))
+
+
 def run_texts(_room):
     """Each refusal has its words, and all that stands fixed fits a terminal."""
-    described = importlib.util.spec_from_file_location("desk", desk)
-    module = importlib.util.module_from_spec(described)
-    sys.modules["desk"] = module
-    described.loader.exec_module(module)
+    sys.path.insert(0, os.path.dirname(desk))
+    module = importlib.import_module("companions.prompt.texts")
     check("refusals with words", sorted(module.REFUSALS), list(range(1, 31)))
-    texts = [*module.REFUSALS.values(), module.COMMANDS_HELP]
+    texts = [*module.REFUSALS.values(), module.ALL_COMMANDS, module.UNDO, module.MISSING]
     check("words fit 80 columns", [it for text in texts for it in text.split("\n") if len(it) > 80], [])
 
 
 def count_keys():
-    """How many keys a round of eleven tables takes, from the copy before it to the question which tables are open."""
-    scores = ["2 0", "2 1", "0 2", "2 0", "1 2", "2 1", "2 0", "0 2", "2 1", "1 1 1", "2 0"]
+    """How many keys a round of seventeen tables takes, from the copy before it to the question which tables are open."""
+    scores = ["2 0", "2 1", "0 2", "2 0", "1 2", "2 1", "2 0", "0 2", "2 1", "1 1 1", "2 0", "2 1", "0 2", "2 0", "1 2", "2 0", "2 1"]
     lines = [
         "cp friday.event before-pair-1.event",
         'k=$(openssl rand -hex 32); echo "round 1 $k" >> friday.keys',
@@ -1068,21 +1495,24 @@ def count_keys():
     lines += ["./event_reporter slips friday.event 1 | awk '$4 == \"-\"'"]
     prompt = ["pair", *(f"{table} {score}" for table, score in enumerate(scores, 1)), "open"]
     before, after = (sum(len(it) + 1 for it in some) for some in (lines, prompt))
-    print(f"a round of eleven tables: {before} keys by command lines, {after} at the prompt")
+    print(f"a round of seventeen tables: {before} keys by command lines, {after} at the prompt")
 
 
 PARTS = [
     run_pipe,
     run_terminal,
     run_without_readline,
+    run_menus,
     run_refusals_of_players,
     run_refusals_of_rounds,
     run_refusals_of_the_file,
     run_lists,
+    run_names,
     run_copies,
+    run_back_stopped,
     run_copy_by_hand,
 ]
-PARTS += [run_init_again, run_key_first, run_lost, run_busy, run_interrupted, run_over_http, run_words, run_texts]
+PARTS += [run_check, run_init_again, run_faults, run_another_server, run_doubts, run_key_first, run_other_key, run_two, run_turns, run_calls, run_lost, run_busy, run_interrupted, run_over_http, run_words, run_typed, run_listing, run_clock, run_plan, run_texts]
 
 
 def main(kills, seed):
@@ -1099,7 +1529,7 @@ def main(kills, seed):
             if only:
                 print(part.__name__, round(time.time() - begun, 1))
     with tempfile.TemporaryDirectory() as room:
-        run_killed(room, random.Random(seed), kills)
+        run_killed(room, dice_of(seed), kills)
     count_keys()
     end("the scorekeeper's prompt")
 

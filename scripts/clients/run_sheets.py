@@ -5,8 +5,10 @@ in each list. Then what it says where an event can't be read, the board and how 
 Where a browser and `pdftotext` are installed, pages are laid out on A4 and on Letter and read back: each part on pages of its own, the heading on each
 page of a list, each name whole on one page and within the margins. Where one of the two isn't there, that is left out, and a line says so.
 """
+import html
+import importlib.util
+import json
 import os
-import random
 import re
 import shutil
 import signal
@@ -15,10 +17,10 @@ import sys
 import tempfile
 import time
 
-from scripts.clients.event_files import run
+from scripts.clients.event_files import due, run
 from scripts.clients.random_evenings import COMPLETE, ENDED, ENROLLING, HOSTILE, IN_PLAYOFF, OPEN, STARTED, WAYS, evening, laid
 from scripts.clients.serving import Serving, free_port, hear_interrupts
-from scripts.clients.tally import check, end, left_out
+from scripts.clients.tally import check, dice_of, end, left_out
 from scripts.models.plain_event import Event
 from scripts.models.plain_page import (
     Page,
@@ -27,6 +29,7 @@ from scripts.models.plain_page import (
     name_rows,
     parts_due,
     rounds_counted,
+    seat_rows,
     shown_bracket,
     shown_rows,
     shown_slips,
@@ -39,14 +42,15 @@ from scripts.models.plain_page import (
 program, sheets = os.path.abspath(sys.argv[1]), os.path.abspath(sys.argv[2])
 BROWSERS = "chromium", "chromium-browser", "google-chrome"
 PATIENCE = 20
-# without any package beside: the standard library is all that they need
-PYTHON = sys.executable, "-S", "-B"
+PYTHON = sys.executable, "-B"
+# without any package beside
+BARE = sys.executable, "-S", "-B"
 
 
-def printed(file, *words, **how):
+def printed(file, *words, python=PYTHON, **how):
     """The status, the page or what else is printed, and the errors."""
     ran = subprocess.run(
-        [*PYTHON, sheets, file, "--program", program, *words], stdin=subprocess.DEVNULL, capture_output=True, timeout=60, **how
+        [*python, sheets, file, "--program", program, *words], stdin=subprocess.DEVNULL, capture_output=True, timeout=60, **how
     )
     return ran.returncode, ran.stdout.decode(), ran.stderr.decode()
 
@@ -159,6 +163,42 @@ def run_parts(room, dice):
     event = evening(dice, 11, OPEN, 3, 0)
     file = laid(program, f"{room}/e.event", event, "E")
     check("parts that are named", list(page_of("parts", file, "--parts", "standings,tables").parts()), ["standings", "tables"])
+    seats = page_of("seats", file, "--parts", "seats", "--title", "E").parts()["seats"]
+    check("seats", (heading(seats), shown_rows(seats)), (("E", f"Seats for the players' meeting: {len(event.names)}"), seat_rows(event)))
+    counting, calls = f"{room}/counting", f"{room}/calls"
+    with open(counting, "w") as it:
+        it.write(f'#!/bin/sh\necho "$1 $3" >> {calls}\nexec {program} "$@"\n')
+    os.chmod(counting, 0o700)
+    page_of("calls", file, "--parts", "slips", "--program", counting)
+    check("what is asked for slips", sorted(open(calls).read().splitlines()), ["bracket ", "export players", "export results"])
+
+
+def run_doubts(room, dice):
+    """A score in doubt stands as none, and has a slip."""
+    event = evening(dice, 11, COMPLETE, 3, 0)
+    number = len(event.stored)
+    file = laid(program, f"{room}/e.event", event, "E")
+    first = event.stored[-1][0]
+    with open(f"{file}.doubts", "w") as it:
+        it.write(f"round {number} table 1 score {'-'.join(map(str, first[2]))}\nround {number} table 2 score 9-9-9\n")
+    standings = event.standings()
+    first[2] = None
+    parts = page_of("a doubt", file, "--title", "E").parts()
+    check("a doubt, the table", shown_rows(parts["tables"]), [*table_rows(event, number)])
+    check("a doubt, the slip", shown_slips(parts["slips"]), slips_due(event, number, "E"))
+    check("a doubt, the standings are the program's", len(shown_standings(parts["standings"])[0]), len(standings) - 1)
+
+
+def run_names(room, dice):
+    """A name that is shown in place of the enrolled one stands in each part."""
+    event = evening(dice, 9, ENDED, 3, 4)
+    file = laid(program, f"{room}/e.event", event, "E")
+    number = event.stages[-1][0][0]
+    with open(f"{file}.names", "w", encoding="utf-8") as it:
+        it.write(f"{number}\t{event.names[number - 1]}\tShown <b> Name\n1\tNobody of this name\tX\n")
+    event.names[number - 1] = "Shown <b> Name"
+    check_page("a shown name", page_of("a shown name", file, "--title", "E"), event, len(event.stored), "E")
+    check_page("a shown name, board", page_of("a shown name, board", file, "--board", "--title", "E"), event, len(event.stored), "E", is_board=True)
 
 
 def run_refused(room, dice):
@@ -232,6 +272,16 @@ def wait_for(name, is_so):
     check(name, True, True)
 
 
+def run_beside(words):
+    """The status of a command line while a board is kept. The board may have the file just then, so it is sent again."""
+    until = time.monotonic() + PATIENCE
+    got = run(program, words)
+    while got == due(["refused 25 Store"]) and time.monotonic() < until:
+        time.sleep(0.05)
+        got = run(program, words)
+    return got[0]
+
+
 def run_watch(room, dice):
     """A page that is kept up to date: never half of it is there, and a command shows in it."""
     event = evening(dice, 64, STARTED, 3, 0)
@@ -253,7 +303,7 @@ def run_watch(room, dice):
 
     wait_for("watch, the page comes", lambda: shows(""))
     for table, score in ((1, (2, 1, 0)), (2, (0, 2, 1))):
-        check(f"watch, a result at table {table}", run(program, ["result", file, "1", str(table), *map(str, score)])[0], 0)
+        check(f"watch, a result at table {table}", run_beside(["result", file, "1", str(table), *map(str, score)]), 0)
         event.report(1, table, score, True)
         wait_for(f"watch, it shows at table {table}", lambda: shows("-".join(map(str, score))))
     check_page("watch", Page(open(page, encoding="utf-8").read()), event, 1, "E", is_board=True)
@@ -261,12 +311,31 @@ def run_watch(room, dice):
     os.rename(file, f"{file}.gone")
     time.sleep(1.5)
     os.rename(f"{file}.gone", file)
-    run(program, ["result", file, "1", "3", "2", "0", "0"])
+    run_beside(["result", file, "1", "3", "2", "0", "0"])
     wait_for("watch, it goes on where the file was away", lambda: shows("2-0-0"))
     process.send_signal(signal.SIGINT)
     out, errors = process.communicate(timeout=PATIENCE)
     check("watch, ended by Ctrl-C", (process.returncode, out, b"Traceback" in errors), (0, b"", False))
     check("watch, nothing is left beside", sorted(it for it in os.listdir(room) if it.startswith(".")), [])
+
+
+def run_watch_without_room(room, dice):
+    """Where the page can't be written for a moment, as on a full disk, that is said, and the board goes on."""
+    event = evening(dice, 8, STARTED, 3, 0)
+    file, page = laid(program, f"{room}/e.event", event, "E"), f"{room}/screen/board.html"
+    os.mkdir(f"{room}/screen")
+    run(program, ["pair", file, "1", "0" * 64])
+    words = [*PYTHON, sheets, file, "--program", program, "--board", "--watch", page]
+    process = subprocess.Popen(words, stdin=subprocess.DEVNULL, stdout=subprocess.PIPE, stderr=subprocess.PIPE)
+    wait_for("no room, the page comes", lambda: os.path.exists(page))
+    os.rename(f"{room}/screen", f"{room}/away")
+    run_beside(["result", file, "1", "1", "2", "1", "0"])
+    time.sleep(2.5)
+    os.rename(f"{room}/away", f"{room}/screen")
+    wait_for("no room, it goes on", lambda: 'class="score">2-1-0<' in open(page, encoding="utf-8").read())
+    process.send_signal(signal.SIGINT)
+    out, errors = process.communicate(timeout=PATIENCE)
+    check("no room, what is said", (process.returncode, out, errors.count(b"board.html was not written"), b"Traceback" in errors), (0, b"", 1, False))
 
 
 # ---- paper
@@ -362,6 +431,11 @@ def check_paper(name, paper, event, size):
         missing = [it for it in slips if not any(all(joined(word) in text for word in it) for text in of["slips"])]
         check(f"{name}, slips, each whole on one sheet", missing, [])
         check(f"{name}, slips, several a sheet", sum(it.count("signature") for it in of["slips"]), 2 * len(slips))
+        count = -(-len(slips) // 5)
+        order = [[slips[at][0] for at in range(sheet, len(slips), count)] for sheet in range(count)]
+        texts = [text for text, kind in zip(paper.sheets, kinds) if kind == "slips"]
+        found = [[f"Round{number}Table{table}" for table in re.findall(r"\bTable (\d+)\b", text)] for text in texts]
+        check(f"{name}, slips, in cutting order", found, order)
         check(f"{name}, slips, few sheets", len(of["slips"]) <= len(slips) // 4 + 1, True)
     if "bracket" in of:
         seats = bracket_due(event)[1]
@@ -369,17 +443,142 @@ def check_paper(name, paper, event, size):
     print(f"{name}: {', '.join(f'{kinds.count(it)} of {it}' for it in dict.fromkeys(kinds))}")
 
 
+def run_without_jinja(room):
+    """Jinja2 makes the pages: where it isn't installed, the package is named."""
+    status, text, errors = printed(f"{room}/e.event", python=BARE)
+    check("without Jinja2", (status, text, "python3-jinja2" in errors, "Traceback" in errors), (3, "", True, False))
+    status, text, errors = printed(f"{room}/e.event", "--help", python=BARE)
+    check("without Jinja2, the help", (status, text[:7], errors), (0, "usage: ", ""))
+
+
+# ---- the screen
+
+# what a browser says of the layout of a board, with all of its parts and with each alone: of each name the lines that it takes, how far down it goes, and
+# where the champion's box ends
+MEASURE = """
+<script>
+const lines = node => {
+  const range = document.createRange();
+  range.selectNodeContents(node);
+  const tops = [];
+  for (const it of range.getClientRects())
+    if (it.width && !tops.some(top => Math.abs(top - it.top) < it.height / 2)) tops.push(it.top);
+  return tops.length;
+};
+const bottoms = what => [...document.querySelectorAll(what)].map(it => it.getBoundingClientRect().bottom);
+const measured = () => ({
+  names: [...document.querySelectorAll("td bdi, .seat bdi")].filter(it => it.getClientRects().length).map(it => [it.textContent, lines(it)]),
+  bottom: Math.max(0, ...bottoms(".tree, .champion, .in-turn .now, .clock")),
+  champion: bottoms(".seat.champion"),
+  wide: document.documentElement.scrollWidth,
+  slips: [...document.querySelectorAll(".slip")].map(it => Math.round(10 * it.getBoundingClientRect().height)),
+  inside: [...document.querySelectorAll(".slip")].filter(it => it.scrollHeight > it.clientHeight + 1).map(it => it.textContent),
+  slip_names: [...document.querySelectorAll(".slip .name bdi")].map(it => [it.textContent, lines(it)]),
+});
+window.onload = () => {
+  const found = { all: measured() };
+  document.body.classList.add("in-turn");
+  for (const part of document.querySelectorAll(".part")) {
+    part.classList.add("now");
+    found[part.classList[1]] = measured();
+    part.classList.remove("now");
+  }
+  const pre = document.createElement("pre");
+  pre.id = "found";
+  pre.textContent = JSON.stringify(found);
+  document.body.append(pre);
+};
+</script>
+"""
+SCREEN = 1920, 1080
+FIRST, LAST = "Maximiliane", "Oberhausener"
+
+
+def laid_out(browser, room, text):
+    """What a browser finds of the page on the screen."""
+    path = f"{room}/screen.html"
+    with open(path, "w", encoding="utf-8") as it:
+        it.write(re.sub('<meta http-equiv="refresh"[^>]*>', "", text).replace("</head>", f"{MEASURE}</head>"))
+    words = [
+        browser,
+        "--headless",
+        "--no-sandbox",
+        "--disable-gpu",
+        f"--user-data-dir={room}/browser",
+        f"--window-size={SCREEN[0]},{SCREEN[1]}",
+        "--virtual-time-budget=2000",
+        "--dump-dom",
+        f"file://{path}",
+    ]
+    ran = subprocess.run(words, stdin=subprocess.DEVNULL, stdout=subprocess.PIPE, stderr=subprocess.DEVNULL, timeout=120, check=True)
+    found = re.search('<pre id="found">(.*?)</pre>', ran.stdout.decode(), re.S)
+    return json.loads(html.unescape(found[1]))
+
+
+def named_long(event):
+    """The same players with names as long as people have them."""
+    event.names = [f"{FIRST} {'Anna ' * (at % 3)}{LAST} {at}" if at % 2 else f"Bo Sato {at}" for at in range(1, len(event.names) + 1)]
+
+
+def run_screen(room, dice, browser):
+    """On a screen of 1920 by 1080: no name takes more lines than it has words, and each part that a board shows in its turn is seen whole."""
+    for players, way, cut in ((8, OPEN, 4), (37, OPEN, 8), (37, ENDED, 8), (64, OPEN, 0), (128, COMPLETE, 0)):
+        event = evening(dice, players, way, 3, cut)
+        named_long(event)
+        file = laid(program, f"{room}/{players}-{way}.event", event, "E")
+        with open(f"{file}.clock", "w") as it:
+            it.write("until 1764362700 of 50\n")
+        _, text, _ = printed(file, "--board", "--title", "Friday Night")
+        found = laid_out(browser, room, text)
+        check(f"on the screen, {players} players, {way}, parts", list(found), ["all", *parts_due(event, len(event.stored), is_board=True)])
+        for part, layout in found.items():
+            check_layout(f"on the screen, {players} players, {way}, {part}", part, layout)
+
+
+def run_slips(room, dice, browser):
+    """Slips are of one height, whatever the names are, and no name takes more than two lines."""
+    event = evening(dice, 46, STARTED, 3, 0)
+    event.names[: len(HOSTILE)] = HOSTILE
+    event.pair(1, bytes(32))
+    file = laid(program, f"{room}/slips.event", event, "E")
+    _, text, _ = printed(file, "--parts", "slips", "--title", "W" * 60)
+    found = laid_out(browser, room, text.replace('class="sheets"', 'class="sheets" style="width:186mm;max-width:none;padding:0"'))["all"]
+    check("slips, of one height", (len(found["slips"]), len(set(found["slips"]))), (23, 1))
+    check("slips, names in two lines at most", [it for it in found["slip_names"] if it[1] > 2], [])
+    check("slips, nothing is cut off", found["inside"], [])
+
+
+def check_layout(name, part, layout):
+    check(f"{name}, names", [it for it in layout["names"] if it[1] > len(it[0].split())], [])
+    check(f"{name}, nothing beside the screen", layout["wide"] <= SCREEN[0], True)
+    if part in ("all", "bracket"):
+        check(f"{name}, the champion is seen", [it for it in layout["champion"] if it > SCREEN[1]], [])
+    if part != "all":
+        check(f"{name}, above the fold", layout["bottom"] <= SCREEN[1], True)
+
+
 def main(count, seed):
     hear_interrupts()
-    dice = random.Random(seed)
+    with tempfile.TemporaryDirectory() as room:
+        run_without_jinja(room)
+    if importlib.util.find_spec("jinja2") is None:
+        left_out("sheets and boards", "python3-jinja2 is not installed")
+        end("sheets without what makes them")
+    dice = dice_of(seed)
     with tempfile.TemporaryDirectory() as room:
         run_random(room, dice, count)
-    for part in (run_large, run_parts, run_refused, run_over_http, run_watch, run_watch_over_http):
+    for part in (run_large, run_parts, run_doubts, run_names, run_refused, run_over_http, run_watch, run_watch_without_room, run_watch_over_http):
         with tempfile.TemporaryDirectory() as room:
             part(room, dice)
     with tempfile.TemporaryDirectory() as room:
         run_titles(room)
     browser = next(filter(None, map(shutil.which, BROWSERS)), None)
+    if browser:
+        with tempfile.TemporaryDirectory() as room:
+            run_screen(room, dice, browser)
+            run_slips(room, dice, browser)
+    else:
+        left_out("the board on a screen", "chromium is not installed")
     if browser and shutil.which("pdftotext"):
         with tempfile.TemporaryDirectory() as room:
             run_paper(room, dice, browser)

@@ -136,13 +136,26 @@ def name_rows(event, number):
     return sorted(found, key=lambda it: (folded(it[0]), it[0]))
 
 
+def in_stack(slips, a_sheet=5):
+    """The slips as they stand on paper, five a sheet: where the sheets are cut as one stack, the first pile has the first slips, and so on."""
+    sheets = -(-len(slips) // a_sheet)
+    piles = [slips[at : at + sheets] for at in range(0, len(slips), sheets)] if slips else []
+    return [pile[sheet] for sheet in range(sheets) for pile in piles if sheet < len(pile)]
+
+
 def slips_due(event, number, title):
     """A slip for each match that has no score: games won twice, drawn once, two drops, two signatures."""
     matches = [(f"Round {number}", f"Table {place}", match) for place, match in enumerate(event.stored[number - 1] if number else [], 1)]
     for stage, slots in enumerate(event.stages, 1):
         matches += [(f"Playoff, stage {stage}", f"Slot {slot}", match) for slot, match in enumerate(slots, 1)]
     players = lambda it: [(str(number), event.names[number - 1]) for number in it[:2]]
-    return [(title, where, table, *players(match), [5, 3, 1, 2, 2]) for where, table, match in matches if not match[2]]
+    return in_stack([(title, where, table, *players(match), [5, 3, 1, 2, 2]) for where, table, match in matches if not match[2]])
+
+
+def seat_rows(event):
+    """Two at a table, by name."""
+    names = sorted(enumerate(event.names, 1), key=lambda it: (folded(it[1]), it[1]))
+    return [(name, str(number), str(place // 2 + 1)) for place, (number, name) in enumerate(names)]
 
 
 def standings_due(event):

@@ -1,0 +1,8 @@
+"""What helps at the table of an event that event_reporter keeps: a prompt for the scorekeeper, and sheets for
+the wall.
+
+Each companion calls the program for what is done or shown, works out no rule of its own, and touches the
+event's file through the program alone, copies apart.
+"""
+
+VERSION = "0.1.0"

@@ -1,0 +1,131 @@
+"""FILE.copies: copies of the event, and the events that were put away beside FILE."""
+from __future__ import annotations
+
+import filecmp
+import glob
+import os
+import re
+import time
+from dataclasses import dataclass
+from typing import Optional
+
+from companions.files import copy_synced, has_log, move, remove_with_log, time_stamp
+from companions.lists import Players
+from companions.names import visible
+from companions.program import MOST_TRIES, SECONDS_BETWEEN_TRIES, Declined
+from companions.turn import Turn
+
+
+@dataclass(frozen=True)
+class Copy:
+    """Which one it is, when it was made, what came after it, and where it lies."""
+
+    number: int
+    when: str
+    what: str
+    path: str
+
+    def shown(self, players: Players) -> str:
+        words = self.what.split("-")
+        if words[:2] == ["before", "drop"] and int(words[2]) in players:
+            words.append(visible(players[int(words[2])].name))
+        told = {"copy": "copy, made by hand", "away": "put away by back or rename"}.get(
+            self.what, " ".join(words)
+        )
+        day, hour = self.when.split("-")
+        return f"{self.number:4}  {day[:4]}-{day[4:6]}-{day[6:]} {hour[:2]}:{hour[2:4]}:{hour[4:]}  {told}"
+
+
+    def made_before(self, players: Players) -> str:
+        """What came after it, in a sentence: the drop of Ana Lima (12)."""
+        kind, *numbers = self.what.split("-")[1:] or [self.what]
+        if kind == "drop" and int(numbers[0]) in players:
+            return f"the drop of {visible(players[int(numbers[0])].name)} ({numbers[0]})"
+        if kind == "pair":
+            return f"the pairing of round {numbers[0]}"
+        if kind == "play":
+            return f"the score of stage {numbers[0]}, slot {numbers[1]}"
+        return {"cut": "the cut", "migrate": "the migration"}.get(kind, " ".join([kind, *numbers]))
+
+
+class Copies:
+    def __init__(self, file: str, turn: Turn):
+        self.file, self.folder, self.turn = file, f"{file}.copies", turn
+
+    def all(self) -> list[Copy]:
+        names = sorted(os.listdir(self.folder)) if os.path.isdir(self.folder) else []
+        found = [self.in_folder(name) for name in names]
+        found += [self.put_away(path) for path in glob.glob(f"{glob.escape(self.file)}.away-*")]
+        return sorted((copy for copy in found if copy), key=lambda copy: copy.number)
+
+    def in_folder(self, name: str) -> Optional[Copy]:
+        found = re.fullmatch(r"(\d{4,})-(\d{8}-\d{6})-(before-[a-z]+[-\d]*|copy)(\.event)?", name)
+        if not found:
+            return None
+        path = os.path.join(self.folder, name)
+        return Copy(
+            int(found[1]),
+            found[2],
+            found[3],
+            path if found[4] else os.path.join(path, os.path.basename(self.file)),
+        )
+
+    def put_away(self, path: str) -> Optional[Copy]:
+        found = re.fullmatch(r".*\.away-(\d{4,})-(\d{8}-\d{6})", path, re.S)
+        return Copy(int(found[1]), found[2], "away", path) if found else None
+
+    def next_name(self) -> str:
+        return f"{max((copy.number for copy in self.all()), default=0) + 1:04}-{time_stamp()}"
+
+    def make(self, what: str) -> Copy:
+        """Copies the file as it lies at rest, and sees that the copy is what the file still is."""
+        os.makedirs(self.folder, exist_ok=True)
+        number, when = self.next_name().split("-", 1)
+        path = os.path.join(self.folder, f"{number}-{when}-before-{what}.event")
+        return self.made(Copy(int(number), when, f"before-{what}", path))
+
+    def make_by_hand(self) -> Copy:
+        """The same into a folder of its own, under the file's own name."""
+        number, when = self.next_name().split("-", 1)
+        folder = os.path.join(self.folder, f"{number}-{when}-copy")
+        os.makedirs(folder)
+        return self.made(Copy(int(number), when, "copy", os.path.join(folder, os.path.basename(self.file))))
+
+    def made(self, copy: Copy) -> Copy:
+        for _ in range(MOST_TRIES):
+            remove_with_log(copy.path)
+            with self.turn.taken():
+                if has_log(self.file):
+                    copy_synced(f"{self.file}-wal", f"{copy.path}-wal")
+                copy_synced(self.file, copy.path)
+                if filecmp.cmp(self.file, copy.path, shallow=False):
+                    return copy
+            time.sleep(SECONDS_BETWEEN_TRIES)
+        raise Declined("The file could not be copied: another program goes on writing to it.")
+
+    def remove(self, copy: Copy) -> None:
+        """Of a command that was refused, after which nothing came."""
+        remove_with_log(copy.path)
+
+    def put_in_place(self, copy: Copy) -> Optional[str]:
+        """Puts the event in use away, and the copy into its place. Where the event lies then, if there was
+        one.
+
+        The file goes before its log, so that it never lies there without; the copy's log comes before the
+        copy.
+        """
+        beside, away = f"{self.file}.back", f"{self.file}.away-{self.next_name()}"
+        # what an earlier run left here, that was stopped, belongs to another copy
+        remove_with_log(beside)
+        if has_log(copy.path):
+            copy_synced(f"{copy.path}-wal", f"{beside}-wal")
+        copy_synced(copy.path, beside)
+        with self.turn.taken():
+            was_there = os.path.lexists(self.file)
+            for log in ("", "-wal", "-shm"):
+                if os.path.lexists(self.file + log):
+                    move(self.file + log, away + log)
+            for log in ("-wal", ""):
+                if os.path.exists(beside + log):
+                    move(beside + log, self.file + log)
+        return away if was_there else None

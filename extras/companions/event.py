@@ -1,0 +1,143 @@
+"""What the program says of an event at one time."""
+from __future__ import annotations
+
+import enum
+from dataclasses import replace
+from functools import cached_property
+from typing import Optional
+
+from companions.doubts import Doubts, with_doubts
+from companions.lists import Bracket, Match, Matches, Player, Players, Rounds, Standing, players_in
+from companions.names import visible
+from companions.program import FAULTS, Source
+from companions.shown_names import ShownNames
+
+
+class Phase(enum.Enum):
+    ENROLLING = "enrolling"
+    SWISS = "Swiss rounds"
+    PLAYOFF = "playoff"
+    FINISHED = "finished"
+
+
+def shown_player(player: Player) -> str:
+    return f"{visible(player.name)} ({player.number})"
+
+
+class Event:
+    """Each part is asked once, when it is needed. What lies beside FILE is asked where a file is given."""
+
+    def __init__(self, source: Source, file: str = ""):
+        self.source, self.file = source, file
+
+    @cached_property
+    def enrolled(self) -> Players:
+        """The players under the names that the program has. Over HTTP they stand in the standings alone."""
+        return players_in(self.listed) if self.source.is_served else self.source.players()
+
+    @cached_property
+    def players(self) -> Players:
+        """The same under the names by which they are shown."""
+        return ShownNames(self.file).shown(self.enrolled) if self.file else self.enrolled
+
+    @cached_property
+    def rounds(self) -> Rounds:
+        return self.source.rounds()
+
+    @cached_property
+    def shown_rounds(self) -> Rounds:
+        """The rounds for the wall, where a score in doubt is none."""
+        return with_doubts(self.rounds, Doubts(self.file).all()) if self.file else self.rounds
+
+    @cached_property
+    def bracket(self) -> Bracket:
+        return self.source.bracket()
+
+    @cached_property
+    def listed(self) -> list[Standing]:
+        """The standings as the program lists them."""
+        return self.source.standings()
+
+    @cached_property
+    def standings(self) -> list[Standing]:
+        players = self.players
+        return [replace(standing, player=players[standing.player.number]) for standing in self.listed]
+
+    @property
+    def stages(self) -> Rounds:
+        return self.bracket.stages
+
+    @property
+    def champion(self) -> Optional[Player]:
+        number = self.bracket.champion
+        return None if number is None else self.players[number]
+
+    @cached_property
+    def phase(self) -> Phase:
+        # nobody goes on to the playoff while a table is open
+        if self.open_tables():
+            return Phase.SWISS
+        if self.champion:
+            return Phase.FINISHED
+        if self.stages:
+            return Phase.PLAYOFF
+        # a round without a bracket is of the Swiss rounds; over HTTP no bracket is handed out
+        if (self.rounds and not self.source.is_served) or self.source.is_swiss():
+            return Phase.SWISS
+        return Phase.PLAYOFF if self.rounds else Phase.ENROLLING
+
+    @cached_property
+    def is_all_paired(self) -> bool:
+        return self.source.is_all_paired()
+
+    def read(self) -> tuple[Players, Rounds, Bracket]:
+        """All that the event shows, asked now."""
+        return self.players, self.rounds, self.bracket
+
+    def newest(self) -> Matches:
+        return self.rounds[-1] if self.rounds else []
+
+    def open_tables(self) -> Matches:
+        return [match for match in self.newest() if match.is_open]
+
+    def complete_rounds(self) -> int:
+        return sum(not any(match.is_open for match in matches) for matches in self.rounds)
+
+    def match(self, number: int, table: str) -> Optional[Match]:
+        return found_in(self.rounds, number, table)
+
+    def slot(self, stage: int, slot: str) -> Optional[Match]:
+        return found_in(self.stages, stage, slot)
+
+    def score_at(self, number: int, table: str) -> str:
+        found = self.match(number, table)
+        return found.score if found else ""
+
+    def score_in(self, stage: int, slot: str) -> str:
+        found = self.slot(stage, slot)
+        return found.score if found else ""
+
+    def named(self, name: str) -> Optional[Player]:
+        """The player who was enrolled so."""
+        return next((player for player in self.enrolled.values() if player.name == name), None)
+
+    def shown(self, match: Match, score: str = "") -> str:
+        """Both names, and the score between them, or a hyphen."""
+        second = "bye" if match.is_bye else shown_player(self.players[match.second])
+        return f"{shown_player(self.players[match.first])} {score or match.score or '-'} {second}"
+
+
+def found_in(lists: Rounds, number: int, place: str) -> Optional[Match]:
+    if not 1 <= number <= len(lists):
+        return None
+    return next((match for match in lists[number - 1] if match.place == int(place)), None)
+
+
+def read_or_none(source: Source) -> Optional[Event]:
+    """The event with all that is asked of it later, or None where it can't be read."""
+    event = Event(source)
+    try:
+        event.read()
+    except FAULTS:
+        return None
+    return event

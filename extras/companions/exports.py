@@ -1,0 +1,83 @@
+"""Lists that the program does not export: the standings and the playoff as CSV, and the final ranking."""
+from __future__ import annotations
+
+import csv
+import io
+from dataclasses import dataclass
+from typing import Iterable, Sequence
+
+from companions.event import Event
+from companions.lists import Match, Player
+
+
+def csv_of(heading: Sequence[str], rows: Iterable[Sequence[object]]) -> str:
+    written = io.StringIO()
+    csv.writer(written, lineterminator="\n").writerows([heading, *rows])
+    return written.getvalue()
+
+
+def standings_csv(event: Event) -> str:
+    """The columns of the program's text, with its percentages."""
+    rows = [
+        (
+            standing.rank,
+            standing.player.number,
+            standing.points,
+            standing.opponents_match_wins,
+            standing.game_wins,
+            standing.opponents_game_wins,
+            int(standing.player.has_dropped),
+            standing.player.name,
+        )
+        for standing in event.standings
+    ]
+    return csv_of(("rank", "no", "points", "omw", "gwp", "ogw", "dropped", "name"), rows)
+
+
+def playoff_csv(event: Event) -> str:
+    """The columns of the results that the program exports, by stage and slot."""
+    rows = []
+    for stage, matches in enumerate(event.stages, 1):
+        for match in matches:
+            rows.append(
+                (
+                    stage,
+                    match.place,
+                    match.first,
+                    match.second,
+                    *(match.score.split("-") if match.score else ("", "", "")),
+                )
+            )
+    return csv_of(("stage", "slot", "a", "b", "x", "y", "d"), rows)
+
+
+@dataclass(frozen=True)
+class Ranked:
+    rank: int
+    player: Player
+
+
+def loser_of(match: Match) -> int:
+    first, second, _ = (int(games) for games in match.score.split("-"))
+    return match.second if first > second else match.first
+
+
+def final_ranking(event: Event) -> list[Ranked]:
+    """The champion, then the players who lost in the final, in the stage before it, and so on, and then all
+    others. Players of one stage share a rank; among them, and among those who were not in the playoff, the
+    standings decide.
+    """
+    champion = event.bracket.champion
+    if champion is None:
+        return []
+    groups = [[champion], *([loser_of(match) for match in matches] for matches in reversed(event.stages))]
+    in_order = [standing.player.number for standing in event.standings]
+    ranked: list[Ranked] = []
+    for group in groups:
+        rank = len(ranked) + 1
+        ranked += [Ranked(rank, event.players[number]) for number in sorted(group, key=in_order.index)]
+    placed = {placing.player.number for placing in ranked}
+    others = [number for number in in_order if number not in placed]
+    return ranked + [
+        Ranked(rank, event.players[number]) for rank, number in enumerate(others, len(ranked) + 1)
+    ]

@@ -1,0 +1,503 @@
+"""Calls of the program: by command lines over the event's file, or over HTTP while `serve` holds it."""
+from __future__ import annotations
+
+import abc
+import enum
+import json
+import os
+import re
+import shutil
+import subprocess
+import time
+from typing import Callable, Optional, Tuple, TypeVar, Union
+
+from companions.lists import (
+    Bracket,
+    Matches,
+    Players,
+    Rounds,
+    Standing,
+    Unreadable,
+    bracket_of,
+    pairings_of,
+    players_in,
+    players_of,
+    rounds_of,
+    standings_of,
+)
+from companions.names import visible
+from companions.turn import Turn
+
+# another program may have the file for a moment, a board that reads it above all
+MOST_TRIES = 6
+SECONDS_BETWEEN_TRIES = 0.2
+SECONDS_FOR_AN_ANSWER = 40
+# no event has more; what goes on answering is another server
+MOST_ROUNDS = 12
+LONGEST_ANSWER = 1_000_000
+
+Score = Tuple[str, str, str]
+Kind = TypeVar("Kind")
+# what changes with each command, or None where nothing tells of one
+Stamp = Optional[Tuple[int, ...]]
+PLAYERS, RESULTS = ("export", "players"), ("export", "results")
+# the place of the file's time in a stamp
+TIME_OF_STAMP = 2
+
+
+class Refusal(enum.IntEnum):
+    """Why a command is not taken, by the number of the answer."""
+
+    BAD_NAME = 1
+    NAME_TAKEN = 2
+    PLAYERS_FULL = 3
+    NOT_ENROLLING = 4
+    TOO_FEW_PLAYERS = 5
+    NOT_SWISS = 6
+    WRONG_ROUND = 7
+    ROUND_OPEN = 8
+    ALL_ROUNDS_PAIRED = 9
+    NO_PAIRING = 10
+    BUDGET = 11
+    NO_SUCH_MATCH = 12
+    BAD_SCORE = 13
+    ALREADY_REPORTED = 14
+    NOT_REPORTED = 15
+    IS_BYE = 16
+    NO_SUCH_PLAYER = 17
+    ALREADY_DROPPED = 18
+    ROUNDS_NOT_DONE = 19
+    NO_CUT = 20
+    TOO_FEW_FOR_CUT = 21
+    NOT_PLAYOFF = 22
+    SERIAL_FULL = 23
+    MEMORY = 24
+    STORE = 25
+    NEEDS_REOPEN = 26
+    NO_EVENT = 27
+    EVENT_EXISTS = 28
+    DAMAGED = 29
+    BAD_SETUP = 30
+
+
+# after one of these the command is in the event whole or not at all
+UNSURE = (Refusal.MEMORY, Refusal.STORE, Refusal.NEEDS_REOPEN)
+
+
+class Refused(Exception):
+    """The program refused it: its number and its name, and what it printed of what was done before."""
+
+    def __init__(self, number: int, name: str, printed: str = ""):
+        super().__init__(f"refused {number} {name}")
+        self.number, self.printed = number, printed
+        # what the companion adds, since it knows the case
+        self.more = ""
+
+    def with_more(self, more: str) -> Refused:
+        self.more = more
+        return self
+
+    @property
+    def is_unsure(self) -> bool:
+        return self.number in UNSURE
+
+
+class Declined(Exception):
+    """It wasn't done, and this is what is said."""
+
+
+class Unreached(Declined):
+    """Nothing answers at the port."""
+
+
+class NoAnswer(Exception):
+    """The program ended, or the connection did, without an answer."""
+
+
+# what an asking may end with
+Fault = Union[Refused, Declined, NoAnswer]
+FAULTS = (Refused, Declined, NoAnswer)
+
+
+def serial_in(answer: str) -> int:
+    """The serial of an answer `ok 45`; of another answer none."""
+    found = re.fullmatch(r"ok (\d+)\n", answer)
+    return int(found[1]) if found else -1
+
+
+def checkout() -> str:
+    return os.path.dirname(os.path.dirname(os.path.dirname(os.path.abspath(__file__))))
+
+
+def program_beside() -> str:
+    """The program of this checkout, or the one on the path."""
+    beside = os.path.join(checkout(), "event_reporter")
+    return os.environ.get("EVENT_REPORTER") or (beside if os.path.isfile(beside) else "event_reporter")
+
+
+def ready(program: str) -> str:
+    """What is to be called. The script of a checkout may build the program first, and says so; from then on
+    the built one is called, since the script looks through all sources each time.
+    """
+    built = os.path.join(checkout(), "crates", "event_reporter", "out", "event_reporter")
+    if os.path.abspath(program) == os.path.join(checkout(), "event_reporter"):
+        version = [program, "--version"]
+        if subprocess.run(version, stdin=subprocess.DEVNULL, stdout=subprocess.DEVNULL).returncode == 0:
+            return built if os.path.isfile(built) else program
+    elif shutil.which(program):
+        return program
+    raise Declined(f"{program} does not run. Name the program by --program PATH.")
+
+
+class Source(abc.ABC):
+    """Where an event is asked: the program, over its file or as it serves."""
+
+    is_served: bool
+    # whether its stamp changes with each command
+    tells_of_commands: bool
+    # what answers, as people are told
+    named: str
+    turn: Turn
+
+    def understood(self, reader: Callable[[str], Kind], text: str) -> Kind:
+        """What a text or a list says."""
+        try:
+            return reader(text)
+        except Unreadable as fault:
+            raise Declined(
+                f"{self.named} is not event_reporter, or its answer was cut off: {fault}."
+            ) from None
+
+    @abc.abstractmethod
+    def ask(self, name: str, *words: str) -> str:
+        """What the program prints to a command line."""
+
+    def send(self, name: str, *words: str) -> str:
+        """The answer to a command."""
+        return self.ask(name, *words)
+
+    @abc.abstractmethod
+    def text(self, name: str, *words: str) -> str:
+        """A text that is shown as it is."""
+
+    @abc.abstractmethod
+    def report(self, number: int, table: str, score: Score) -> str:
+        """Hands in a result."""
+
+    @abc.abstractmethod
+    def players(self) -> Players: ...
+
+    @abc.abstractmethod
+    def rounds(self) -> Rounds: ...
+
+    @abc.abstractmethod
+    def bracket(self) -> Bracket: ...
+
+    @abc.abstractmethod
+    def standings(self) -> list[Standing]: ...
+
+    @abc.abstractmethod
+    def is_swiss(self) -> bool: ...
+
+    @abc.abstractmethod
+    def is_all_paired(self) -> bool: ...
+
+    @abc.abstractmethod
+    def stamp(self) -> Stamp:
+        """What changes with each command, or None where nothing tells of one."""
+
+
+class Kept:
+    """What the program said, for as long as the file's stamp stays: no command came since."""
+
+    def __init__(self) -> None:
+        self.texts: dict[tuple[str, ...], tuple[Stamp, str]] = {}
+        # all rounds but the newest
+        self.older: tuple[Stamp, Rounds] = (None, [])
+        self.serial = -1
+
+    def text(self, words: tuple[str, ...], stamp: Stamp) -> Optional[str]:
+        kept_at, text = self.texts.get(words, (None, ""))
+        return text if is_exact(stamp) and kept_at == stamp else None
+
+    def older_rounds(self, stamp: Stamp) -> Optional[Rounds]:
+        kept_at, older = self.older
+        return older if is_exact(stamp) and kept_at == stamp else None
+
+    def keep(self, words: tuple[str, ...], stamp: Stamp, text: str) -> None:
+        self.texts[words] = stamp, text
+
+    def forget(self, serial: int = -1) -> None:
+        """A command was sent, whatever came of it."""
+        self.texts.clear()
+        self.older, self.serial = (None, []), serial
+
+    def carry(self, serial: int, before: Stamp, after: Stamp) -> None:
+        """A result was taken. It changes no player and no older round, and where it is the next command after
+        the one before, nobody else changed them.
+        """
+        is_next = serial == self.serial + 1
+        players, older = self.text(PLAYERS, before), self.older_rounds(before)
+        self.forget(serial)
+        if is_next and players is not None:
+            self.texts[PLAYERS] = after, players
+        if is_next and older is not None:
+            self.older = after, older
+
+
+def is_exact(stamp: Stamp) -> bool:
+    """Whether a stamp tells of each command. Some file systems have times in whole seconds, in which two may
+    come.
+    """
+    return stamp is not None and stamp[TIME_OF_STAMP] % 1_000_000_000 != 0
+
+
+class OverFile(Source):
+    """Asks the program by command lines."""
+
+    is_served = False
+    tells_of_commands = True
+
+    def __init__(self, program: str, file: str, turn: Optional[Turn] = None, most_tries: int = MOST_TRIES):
+        self.program, self.file, self.most_tries = program, os.path.abspath(file), most_tries
+        self.named, self.turn = program, turn or Turn()
+        self.kept = Kept()
+
+    def ask(self, name: str, *words: str) -> str:
+        """What the program prints. It runs in a session of its own, so that no Ctrl-C reaches it."""
+        line = [word.encode("utf-8", "surrogateescape") for word in (self.program, name, self.file, *words)]
+        try:
+            with self.turn.taken() as held:
+                ran = subprocess.run(
+                    line,
+                    stdin=subprocess.DEVNULL,
+                    stdout=subprocess.PIPE,
+                    stderr=subprocess.PIPE,
+                    start_new_session=True,
+                    pass_fds=held,
+                )
+        except OSError as fault:
+            raise Declined(
+                f"{self.program} was not run: {fault.strerror}. Name it by --program PATH."
+            ) from None
+        except ValueError:
+            raise Declined("A line with a NUL is no command.") from None
+        printed, said = ran.stdout.decode("utf-8", "replace"), ran.stderr.decode("utf-8", "replace")
+        if ran.returncode == 0 and printed:
+            return printed
+        found = re.fullmatch(r"refused (\d+) (\w+)\n", said)
+        if found:
+            raise Refused(int(found[1]), found[2], printed)
+        if ran.returncode in (1, 2, 3) and said:
+            raise Declined(visible(said.split("\n")[0]))
+        raise NoAnswer
+
+    def send(self, name: str, *words: str) -> str:
+        """The answer to a command, whose serial is remembered."""
+        try:
+            answer = self.ask(name, *words)
+        finally:
+            self.kept.forget()
+        self.kept.serial = serial_in(answer)
+        return answer
+
+    def read(self, *words: str) -> str:
+        """What changes nothing: as it was said before, where no command came since."""
+        stamp = self.stamp()
+        kept = self.kept.text(words, stamp)
+        if kept is not None:
+            return kept
+        text = self.read_now(*words)
+        self.kept.keep(words, stamp, text)
+        return text
+
+    def read_now(self, *words: str) -> str:
+        """The same, asked once more where another program has the file for a moment."""
+        for _ in range(self.most_tries - 1):
+            try:
+                return self.ask(*words)
+            except Refused as refused:
+                if refused.number != Refusal.STORE:
+                    raise
+            time.sleep(SECONDS_BETWEEN_TRIES)
+        return self.ask(*words)
+
+    def refusal(self, *words: str) -> int:
+        """The number by which this is refused, which the rules refuse in each phase."""
+        try:
+            self.read_now(*words)
+        except Refused as refused:
+            if refused.number < Refusal.MEMORY:
+                return refused.number
+            raise
+        raise Declined("The program took what no rule takes. Is it event_reporter?")
+
+    def text(self, name: str, *words: str) -> str:
+        return self.read(name, *words)
+
+    def report(self, number: int, table: str, score: Score) -> str:
+        before = self.stamp()
+        try:
+            answer = self.ask("result", str(number), table, *score)
+        except FAULTS:
+            self.kept.forget()
+            raise
+        self.kept.carry(serial_in(answer), before, self.stamp())
+        return answer
+
+    def players(self) -> Players:
+        return self.understood(players_of, self.read(*PLAYERS))
+
+    def rounds(self) -> Rounds:
+        """All rounds. Where results of the newest one are all that came, it alone is asked."""
+        stamp = self.stamp()
+        older = self.kept.older_rounds(stamp)
+        if older is not None and self.kept.text(RESULTS, stamp) is None:
+            return [*older, self.understood(pairings_of, self.read("slips", str(len(older) + 1)))]
+        rounds = self.understood(rounds_of, self.read(*RESULTS))
+        self.kept.older = (stamp, rounds[:-1]) if rounds else (None, [])
+        return rounds
+
+    def bracket(self) -> Bracket:
+        return self.understood(bracket_of, self.read("bracket"))
+
+    def standings(self) -> list[Standing]:
+        return self.understood(standings_of, self.read("standings"))
+
+    def is_swiss(self) -> bool:
+        """Nobody has number 0: it is refused 17 in the Swiss rounds, and 6 before and after them."""
+        return self.refusal("drop", "0") == Refusal.NO_SUCH_PLAYER
+
+    def is_all_paired(self) -> bool:
+        """Nobody has an empty name, which is refused 1, but 9 once all rounds are paired."""
+        return self.refusal("enrol", "") == Refusal.ALL_ROUNDS_PAIRED
+
+    def stamp(self) -> Stamp:
+        """What changes with each command: one ends by writing the file, and while `serve` holds it the log
+        grows.
+        """
+        try:
+            status = os.stat(self.file)
+        except OSError:
+            return None
+        return status.st_ino, status.st_size, status.st_mtime_ns, self.log_size()
+
+    def log_size(self) -> int:
+        try:
+            return os.path.getsize(f"{self.file}-wal")
+        except OSError:
+            return 0
+
+
+class OverPort(Source):
+    """Asks the program as it serves, over HTTP on this machine."""
+
+    is_served = True
+    tells_of_commands = False
+    PATHS = {"standings": "/standings", "slips": "/rounds/"}
+
+    def __init__(self, port: int):
+        self.port, self.named, self.turn = port, f"What answers at port {port}", Turn()
+        self.known: Rounds = []
+
+    def exchanged(self, method: str, target: str, body: Optional[str] = None) -> tuple[int, str]:
+        # here, since it takes a third of the start, and --port alone needs it
+        import http.client
+
+        connection = http.client.HTTPConnection("127.0.0.1", self.port, timeout=SECONDS_FOR_AN_ANSWER)
+        try:
+            connection.request(method, target, body)
+            answer = connection.getresponse()
+            return answer.status, answer.read(LONGEST_ANSWER).decode("utf-8", "replace")
+        except (OSError, http.client.HTTPException):
+            raise NoAnswer from None
+        finally:
+            connection.close()
+
+    def got(self, target: str) -> str:
+        try:
+            status, text = self.exchanged("GET", target)
+        except NoAnswer:
+            raise Unreached(f"No answer at port {self.port}. Is `serve` running, and at this port?") from None
+        if status != 200:
+            raise self.fault(status, text)
+        return text
+
+    def newest(self, number: int) -> Matches:
+        """The round of this number as it is now."""
+        return self.understood(pairings_of, self.got(f"/rounds/{number}"))
+
+    def fault(self, status: int, text: str) -> Union[Refused, Declined]:
+        try:
+            told = json.loads(text)
+            return Refused(int(told["refused"]), str(told["name"]))
+        except (ValueError, KeyError, TypeError):
+            return self.foreign(f"{status} {' '.join(visible(text).split())[:60]}")
+
+    def foreign(self, why: str) -> Declined:
+        return Declined(f"{self.named} is not event_reporter: {why}\nGive the port that `serve` said.")
+
+    def ask(self, name: str, *_words: str) -> str:
+        raise Declined(
+            f"`serve` holds the file, and takes no {name}. End it by Ctrl-C in its window, end\n"
+            "this by Ctrl-D, and run desk.py FILE without --port."
+        )
+
+    def text(self, name: str, *words: str) -> str:
+        if name not in self.PATHS:
+            return self.ask(name)
+        return self.got(self.PATHS[name] + "".join(words))
+
+    def report(self, number: int, table: str, score: Score) -> str:
+        x, y, d = (int(games) for games in score)
+        status, text = self.exchanged(
+            "POST", f"/rounds/{number}/tables/{table}", json.dumps({"a": x, "b": y, "d": d})
+        )
+        if status == 200:
+            return f"ok {self.serial_in(text)}\n"
+        if status == 400:
+            raise Declined("Not taken: no count of games goes above 255.")
+        if status == 404 and "refused" not in text:
+            raise Declined("There is no such table. See: round")
+        raise self.fault(status, text)
+
+    def serial_in(self, text: str) -> int:
+        try:
+            return int(json.loads(text)["serial"])
+        except (ValueError, KeyError, TypeError):
+            raise self.foreign(text[:60]) from None
+
+    def players(self) -> Players:
+        return players_in(self.standings())
+
+    def rounds(self) -> Rounds:
+        """All rounds. Those before the newest one don't change while it serves, and aren't asked again."""
+        self.known = self.known[:-1]
+        while len(self.known) <= MOST_ROUNDS:
+            try:
+                text = self.got(f"/rounds/{len(self.known) + 1}")
+            except Refused as refused:
+                if refused.is_unsure:
+                    raise
+                return self.known
+            self.known.append(self.understood(pairings_of, text))
+        raise self.foreign(f"it has more than {MOST_ROUNDS} rounds")
+
+    def bracket(self) -> Bracket:
+        """No bracket is handed out over HTTP."""
+        return Bracket()
+
+    def standings(self) -> list[Standing]:
+        return self.understood(standings_of, self.got("/standings"))
+
+    def is_swiss(self) -> bool:
+        """No table has number 999: it is refused 12 in the Swiss rounds, and 6 before and after them."""
+        status, text = self.exchanged("POST", "/rounds/1/tables/999", '{"a":0,"b":0,"d":0}')
+        fault = self.fault(status, text)
+        return isinstance(fault, Refused) and fault.number == Refusal.NO_SUCH_MATCH
+
+    def is_all_paired(self) -> bool:
+        return False
+
+    def stamp(self) -> Stamp:
+        return None

@@ -1,0 +1,1 @@
+"""The prompt for the scorekeeper."""

@@ -1,0 +1,277 @@
+"""The prompt: its words, and its lines one after the other."""
+from __future__ import annotations
+
+import cmd
+import difflib
+import os
+import re
+import traceback
+from typing import Optional
+
+from companions.names import visible
+from companions.program import FAULTS, Declined, NoAnswer, Refusal, Refused, Source
+from companions.prompt.evening import Evening
+from companions.prompt.lines import Input, OutOfStep
+from companions.prompt.listing import Listing
+from companions.prompt.offers import OF_PLAYERS, Offer, offers_of_files, offers_of_players, offers_of_words
+from companions.prompt.players import Players
+from companions.prompt.results import Results
+from companions.prompt.rounds import Rounds
+from companions.prompt.session import Session
+from companions.prompt.texts import ALL_COMMANDS, COMMANDS
+
+PROMPT = "desk> "
+# the command line's words for what is shorter here; they are taken, and not offered
+ALIASES = ("result", "correct", "slips", "playoff", "exit")
+
+
+def of_file(fault: OSError) -> str:
+    return f"{visible(str(fault.filename or 'A file'))}: {fault.strerror or fault}"
+
+
+def own_fault(fault: Exception) -> str:
+    """A fault of the prompt itself, with the place to name when it is reported."""
+    at = traceback.extract_tb(fault.__traceback__)[-1]
+    where = f"{os.path.basename(at.filename)}, line {at.lineno}"
+    return (
+        f"The prompt itself is at fault: {type(fault).__name__}: {visible(str(fault))[:200]}\n"
+        f"({where}). What was answered ok is in the file. See: where"
+    )
+
+
+class Desk(cmd.Cmd):
+    """Each word is a method: `fix` is `do_fix`. `cmd` finds it; whether to end is what it gives back."""
+
+    prompt = PROMPT
+
+    def __init__(self, source: Source, file: str):
+        super().__init__()
+        self.lines = Input(self.offers, self.is_command)
+        self.session = Session(source, file, self.lines)
+        self.results, self.rounds = Results(self.session), Rounds(self.session)
+        self.players, self.evening = Players(self.session), Evening(self.session)
+        self.listing = Listing(self.session)
+        names = self.get_names()
+        self.words = sorted(name[3:] for name in names if name.startswith("do_"))
+
+    # ---- results
+
+    def default(self, line: str) -> None:
+        """A line that begins with no word: a result, or a mistake."""
+        name = line.split()[0]
+        if re.match("[0-9]", name):
+            self.enter(line)
+            return
+        near = difflib.get_close_matches(name, self.words, 1)
+        raise Declined(f"{visible(name)} is no command. {f'Is it {near[0]}? ' if near else ''}See: help")
+
+    def enter(self, line: str) -> None:
+        """A result, and who drops by the same slip: 17 2 1 drop 12."""
+        score, *dropping = re.split(r"\s+drop\s+", line)
+        self.results.enter(score)
+        for player in dropping:
+            self.players.drop(player)
+
+    def do_result(self, rest: str) -> None:
+        self.results.enter_as_words(rest)
+
+    def do_fix(self, rest: str) -> None:
+        self.results.fix(rest)
+
+    do_correct = do_fix
+
+    def do_doubt(self, rest: str) -> None:
+        self.results.doubt(rest)
+
+    def do_open(self, rest: str) -> None:
+        self.results.list_open(rest)
+
+    # ---- rounds and the playoff
+
+    def do_pair(self, rest: str) -> None:
+        self.rounds.pair(rest)
+
+    def do_round(self, rest: str) -> None:
+        self.rounds.show_round(rest)
+
+    do_slips = do_round
+
+    def do_check(self, rest: str) -> None:
+        self.rounds.check(rest)
+
+    def do_keys(self, rest: str) -> None:
+        self.rounds.show_keys(rest)
+
+    def do_standings(self, _rest: str) -> None:
+        self.session.show("standings")
+
+    def do_players(self, _rest: str) -> None:
+        self.session.show("players")
+
+    def do_bracket(self, _rest: str) -> None:
+        self.session.show("bracket")
+
+    def do_export(self, rest: str) -> None:
+        self.listing.export(rest)
+
+    def do_final(self, rest: str) -> None:
+        self.listing.final(rest)
+
+    def do_cut(self, rest: str) -> None:
+        self.rounds.cut(rest)
+
+    def do_play(self, rest: str) -> None:
+        self.rounds.play(rest)
+
+    do_playoff = do_play
+
+    # ---- players
+
+    def do_who(self, rest: str) -> None:
+        self.players.who(rest)
+
+    def do_drop(self, rest: str) -> None:
+        self.players.drop(rest)
+
+    def do_enrol(self, rest: str) -> None:
+        self.players.enrol(rest)
+
+    def do_rename(self, rest: str) -> None:
+        self.players.rename(rest)
+
+    def do_import(self, rest: str) -> None:
+        self.players.import_list(rest)
+
+    # ---- the event as a whole
+
+    def do_init(self, rest: str) -> None:
+        self.evening.init(rest)
+
+    def do_start(self, rest: str) -> None:
+        self.evening.start(rest)
+
+    def do_title(self, rest: str) -> None:
+        self.evening.title(rest)
+
+    def do_clock(self, rest: str) -> None:
+        self.evening.clock(rest)
+
+    def do_migrate(self, rest: str) -> None:
+        self.evening.migrate(rest)
+
+    def do_undo(self, rest: str) -> None:
+        self.evening.undo(rest)
+
+    def do_copy(self, rest: str) -> None:
+        self.evening.copy(rest)
+
+    def do_back(self, rest: str) -> None:
+        self.evening.back(rest)
+
+    def do_where(self, _rest: str) -> None:
+        self.session.say_where()
+
+    def do_help(self, rest: str) -> None:
+        self.session.say_as_it_is(ALL_COMMANDS if rest == "all" else COMMANDS)
+
+    def do_quit(self, _rest: str) -> bool:
+        return True
+
+    do_exit = do_quit
+
+    # ---- lines
+
+    def parseline(self, line: str) -> tuple[Optional[str], Optional[str], str]:
+        """The word and the rest at the first space, since a name may begin with any character."""
+        line = line.strip()
+        name, *rest = re.split(r"[ \t]+", line, maxsplit=1)
+        name = "help" if name == "?" else name
+        return (name, "".join(rest), line) if line else (None, None, line)
+
+    def emptyline(self) -> bool:
+        return False
+
+    def done(self, line: str) -> bool:
+        """Does what a line says. Whether to end."""
+        session = self.session
+        session.look_again()
+        try:
+            return bool(self.onecmd(line))
+        except Refused as refused:
+            session.explain(refused, line.split()[0])
+        except Declined as fault:
+            session.say_failed(str(fault))
+        except NoAnswer:
+            session.say_failed("No answer came from the program. See: where")
+        except OSError as fault:
+            session.say_failed(f"{of_file(fault)}. See: where")
+        except OutOfStep:
+            raise
+        except Exception as fault:
+            session.say_failed(own_fault(fault))
+        return False
+
+    def go(self) -> int:
+        """Reads lines until they end. The status to end with."""
+        self.begin()
+        is_terminal = self.lines.is_terminal
+        while True:
+            try:
+                if self.done(self.lines.line(self.prompt)):
+                    break
+            except KeyboardInterrupt:
+                self.lines.ahead.clear()
+                print("\nCtrl-D ends." if is_terminal else "")
+                if not is_terminal:
+                    return 130
+            except EOFError:
+                print(end="\n" if is_terminal else "")
+                break
+            except OutOfStep as fault:
+                self.session.say(str(fault))
+                return 2
+        return 1 if self.session.has_failed and not is_terminal else 0
+
+    def begin(self) -> None:
+        session = self.session
+        try:
+            session.say_where()
+            self.say_unused_key()
+        except Refused as refused:
+            session.explain(refused)
+            # a pipe may begin by making the event
+            session.has_failed = refused.number != Refusal.NO_EVENT
+        except (Declined, NoAnswer) as fault:
+            session.say_failed(str(fault) or "No answer came from the program.")
+        except OSError as fault:
+            session.say_failed(f"{of_file(fault)}. Until it can be read, no round can be paired.")
+        except Exception as fault:
+            session.say_failed(own_fault(fault))
+        if self.lines.is_terminal:
+            session.say("Type help for the commands.")
+
+    def say_unused_key(self) -> None:
+        """Of a key that was written down before the prompt was ended, or killed."""
+        newest = self.session.keys.all()[-1:]
+        if newest and newest[0][0] > len(self.session.event.rounds):
+            self.session.say(
+                f"{self.session.file}.keys has a key for round {newest[0][0]}, which is not paired.",
+                "pair makes a new one. After back, pair again takes the one that is there.",
+            )
+
+    def is_command(self, line: str) -> bool:
+        """Whether a line is for the prompt, and no answer to a question."""
+        name = line.strip().partition(" ")[0]
+        return name in self.words or name[:1].isdecimal()
+
+    def offers(self, text: str) -> list[Offer]:
+        """How a line that begins so may go on."""
+        name, space, part = text.partition(" ")
+        if not space:
+            return offers_of_words(text, (word for word in self.words if word not in ALIASES))
+        if name == "import":
+            return offers_of_files(part)
+        try:
+            return offers_of_players(part, self.session.event.players.values()) if name in OF_PLAYERS else []
+        except (*FAULTS, OSError):
+            return []

@@ -1,0 +1,153 @@
+"""Lines that are typed: where they come from, and the numbers in them."""
+from __future__ import annotations
+
+import contextlib
+import os
+import re
+import signal
+import sys
+from typing import Callable, Iterator, Optional, Protocol
+
+from companions.names import visible
+from companions.program import Declined, Score
+from companions.prompt.offers import Offers
+
+try:
+    import readline
+except ImportError:
+    readline = None  # type: ignore[assignment]
+
+
+@contextlib.contextmanager
+def unbroken() -> Iterator[None]:
+    """Ctrl-C waits until what is begun is done."""
+    before = signal.signal(signal.SIGINT, lambda *_: None)
+    try:
+        yield
+    finally:
+        signal.signal(signal.SIGINT, before)
+
+
+class OutOfStep(Exception):
+    """A pipe answers a question with what is no answer."""
+
+
+class Typing(Protocol):
+    """A terminal at which lines are typed."""
+
+    def line(self, prompt: str) -> str: ...
+
+    def answer(self, question: str) -> str: ...
+
+
+class Readline:
+    """By the standard library: the TAB key completes where there is readline."""
+
+    def __init__(self, offers: Offers):
+        self.offers = offers
+        self.offered: list[str] = []
+        if readline:
+            readline.set_completer(self.completed)
+            readline.set_completer_delims("")
+            readline.parse_and_bind(
+                "bind ^I rl_complete" if "libedit" in (readline.__doc__ or "") else "tab: complete"
+            )
+
+    def completed(self, text: str, state: int) -> Optional[str]:
+        """The whole line, since readline replaces all that is typed, by what begins so."""
+        if state == 0:
+            offers = [offer for offer in self.offers(text) if offer.begins_so]
+            self.offered = [text[: len(text) - len(offer.typed)] + offer.text for offer in offers]
+        return self.offered[state] if state < len(self.offered) else None
+
+    def line(self, prompt: str) -> str:
+        return input(prompt)
+
+    def answer(self, question: str) -> str:
+        return input(question)
+
+
+def typing_at_terminal(offers: Offers) -> Typing:
+    """By prompt_toolkit, where it is installed and the terminal can show menus."""
+    if os.environ.get("TERM", "dumb") not in ("dumb", "unknown", ""):
+        with contextlib.suppress(ImportError):
+            from companions.prompt.menus import Menus
+
+            return Menus(offers)
+    return Readline(offers)
+
+
+class Input:
+    """Lines from a terminal, with a prompt, or from a pipe, without."""
+
+    def __init__(self, offers: Offers, is_command: Callable[[str], bool]):
+        self.is_command = is_command
+        self.typing = typing_at_terminal(offers) if sys.stdin.isatty() else None
+        # lines that came with one that was asked for, as they do when several are pasted
+        self.ahead: list[str] = []
+
+    @property
+    def is_terminal(self) -> bool:
+        return self.typing is not None
+
+    def line(self, prompt: str) -> str:
+        if self.typing:
+            return self.first_of(self.typing.line, prompt)
+        line = sys.stdin.readline()
+        if not line:
+            raise EOFError
+        return line.rstrip("\r\n")
+
+    def first_of(self, typed: Callable[[str], str], prompt: str) -> str:
+        """The next line: one that came before, or else what is typed now."""
+        if self.ahead:
+            print(f"{prompt}{visible(self.ahead[0])}")
+        else:
+            self.ahead = typed(prompt).split("\n")
+        return self.ahead.pop(0)
+
+    def says_yes(self, question: str) -> bool:
+        """Whether the answer is yes. The end of the input, Ctrl-C, and a command in place of an answer are a
+        no.
+        """
+        question = f"{question} (y or n) "
+        while True:
+            try:
+                line = self.first_of(self.typing.answer, question) if self.typing else self.line(question)
+            except (EOFError, KeyboardInterrupt):
+                print("" if self.is_terminal else question[: -len(" (y or n) ")])
+                return False
+            if not self.is_terminal:
+                print(question + visible(line.strip().lower()))
+            answer = line.strip().lower()
+            if answer in ("y", "yes", "n", "no"):
+                return answer.startswith("y")
+            if not self.is_terminal:
+                raise OutOfStep("The line after a question has to be y or n. Nothing more is done.")
+            if self.is_command(line):
+                # it was typed for the prompt, as when lines are pasted, and is done next
+                self.ahead.insert(0, line)
+                return False
+
+
+def spread(text: str) -> str:
+    """The same with spaces between numbers, however they were parted: 7 2-1, 7 2:1, 7,2,1, or TABs of a
+    spreadsheet.
+    """
+    text = re.sub(r"(?<=\d)\s*[,;:]\s*(?=\d)", " ", text)
+    # a hyphen before a number alone would be a minus
+    return re.sub(r"(?<=\d)(?:[-\u2013]|\s+[-\u2013]\s+)(?=\d)", " ", text)
+
+
+def numbers_in(text: str, least: int, most: int, example: str) -> list[str]:
+    """The numbers of a line."""
+    words = spread(text).split()
+    if not least <= len(words) <= most or not all(re.fullmatch("[0-9]{1,9}", word) for word in words):
+        raise Declined(f"Numbers are wanted, as: {example}")
+    return [str(int(word)) for word in words]
+
+
+def score_in(words: list[str]) -> Score:
+    """The three counts, with 0 for a count of drawn games that isn't there."""
+    x, y, *rest = words
+    return x, y, (rest[0] if rest else "0")

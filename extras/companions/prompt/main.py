@@ -1,0 +1,81 @@
+"""The command line of the prompt."""
+from __future__ import annotations
+
+import argparse
+import io
+import os
+import sys
+from typing import Optional
+
+from companions import VERSION
+from companions.arguments import port_word
+from companions.program import Declined, OverFile, OverPort, Source, program_beside, ready
+from companions.prompt.desk import Desk
+from companions.prompt.texts import ALL_COMMANDS
+from companions.turn import Turn
+
+DESCRIPTION = """\
+A prompt for the scorekeeper: an evening from the first player to the champion,
+with a few keys for each result. FILE is the event's file; where there is none
+yet, `init` at the prompt makes it. Ctrl-D ends. Fed from a pipe it does line by
+line what the pipe says; a question is answered there by a line y or n.
+"""
+
+EXAMPLE = """\
+example:
+  python3 extras/desk.py friday.event
+  desk> init Friday Night 3 0
+  desk> import names.csv
+  desk> start
+  desk> pair
+  desk> 1 2 0
+  desk> standings
+
+Beside FILE it keeps FILE.keys, the key of each round, FILE.copies, the copies
+that it makes before what can't be taken back, and FILE.title, the event's name.
+"""
+
+
+def parsed(arguments: Optional[list[str]]) -> argparse.Namespace:
+    below = f"at the prompt:\n{ALL_COMMANDS}\n{EXAMPLE}"
+    as_it_is = argparse.RawDescriptionHelpFormatter
+    parser = argparse.ArgumentParser(
+        prog="desk.py", description=DESCRIPTION, epilog=below, formatter_class=as_it_is
+    )
+    add = parser.add_argument
+    add("file", metavar="FILE", help="the event's file")
+    over_http = "hand in over HTTP, to `event_reporter serve FILE N COUNT`"
+    add("--port", type=port_word, metavar="N", help=over_http)
+    add("--program", metavar="PATH", default=program_beside(), help="the event_reporter to call")
+    add("--version", action="version", version=f"desk.py {VERSION}")
+    return parser.parse_args(arguments)
+
+
+def prepare_streams() -> None:
+    """Names come in and go out as UTF-8, also where the machine says nothing of letters."""
+    for stream, errors in ((sys.stdin, "surrogateescape"), (sys.stdout, "backslashreplace")):
+        assert isinstance(stream, io.TextIOWrapper)
+        stream.reconfigure(encoding=None if stream.isatty() else "utf-8", errors=errors)
+        if stream is sys.stdout:
+            stream.reconfigure(line_buffering=True)
+
+
+def source_for(words: argparse.Namespace) -> Source:
+    if words.port:
+        return OverPort(words.port)
+    return OverFile(ready(words.program), words.file, Turn(words.file, makes_file=True))
+
+
+def main(arguments: Optional[list[str]] = None) -> int:
+    words = parsed(arguments)
+    prepare_streams()
+    try:
+        return Desk(source_for(words), words.file).go()
+    except Declined as fault:
+        print(f"desk.py: {fault}", file=sys.stderr)
+        return 3
+    except KeyboardInterrupt:
+        return 130
+    except BrokenPipeError:
+        os.dup2(os.open(os.devnull, os.O_WRONLY), 1)
+        return 3

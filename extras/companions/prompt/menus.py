@@ -1,0 +1,33 @@
+"""Lines from a terminal by prompt_toolkit: a menu shows how a word or a name may go on."""
+from __future__ import annotations
+
+from typing import Iterable
+
+from prompt_toolkit import PromptSession
+from prompt_toolkit.completion import CompleteEvent, Completer, Completion
+from prompt_toolkit.document import Document
+
+from companions.prompt.offers import Offers
+
+
+class Menu(Completer):
+    def __init__(self, offers: Offers):
+        self.offers = offers
+
+    def get_completions(self, document: Document, complete_event: CompleteEvent) -> Iterable[Completion]:
+        """What may stand in place of the part that is typed."""
+        for offer in self.offers(document.text_before_cursor):
+            yield Completion(offer.text, start_position=-len(offer.typed), display=offer.shown)
+
+
+class Menus:
+    def __init__(self, offers: Offers):
+        self.lines: PromptSession[str] = PromptSession(completer=Menu(offers), reserve_space_for_menu=6)
+        # a question has an answer of its own, and no menu
+        self.answers: PromptSession[str] = PromptSession()
+
+    def line(self, prompt: str) -> str:
+        return str(self.lines.prompt(prompt))
+
+    def answer(self, question: str) -> str:
+        return str(self.answers.prompt(question))

@@ -1,0 +1,243 @@
+"""Players: who is found, enrolled, and dropped."""
+from __future__ import annotations
+
+import contextlib
+import os
+import re
+import tempfile
+from typing import Optional
+
+from companions.copies import Copy
+from companions.event import Event, Phase, shown_player
+from companions.lists import Player
+from companions.names import compared, plain, visible
+from companions.plan import plan_of
+from companions.program import Declined, OverFile
+from companions.prompt.lines import unbroken
+from companions.prompt.session import Command, Session, counted
+from companions.rosters import Roster, path_and_codec, read_list, roster_of, tidy, why_not, written_list
+from companions.shown_names import ShownName
+
+
+class Players:
+    def __init__(self, session: Session):
+        self.session = session
+
+    def found(self, rest: str) -> Player:
+        """The player of a number, of a name, or of a part that no other name has."""
+        players = self.session.event.players
+        if re.fullmatch("[0-9]{1,9}", rest):
+            return players.get(int(rest)) or Player(int(rest), "", False)
+        found = [player for player in players.values() if player.name == rest] or self.having(rest)
+        if len(found) == 1:
+            return found[0]
+        if not found:
+            raise Declined(f"Nobody has {visible(rest)} in the name. See: players")
+        listed = [f"{player.number:4}  {visible(player.name)}" for player in found]
+        raise Declined("\n".join(["Who of these? Take the number, as: drop 23", *listed]))
+
+    def having(self, part: str) -> list[Player]:
+        return [player for player in self.session.event.players.values() if plain(part) in plain(player.name)]
+
+    def who(self, rest: str) -> None:
+        found = self.having(rest) if rest else []
+        players = self.session.event.players
+        if rest.isdecimal() and int(rest) in players:
+            found = [players[int(rest)]]
+        if not found:
+            nobody = "Nobody has that in the name. See: players"
+            raise Declined(nobody if rest else "Type a part of a name, as: who an")
+        for player in found:
+            dropped = "D" if player.has_dropped else " "
+            self.session.say(f"{player.number:4} {dropped} {visible(player.name)}{self.seat_of(player)}")
+        if len(found) == 1 and rest.isdecimal():
+            self.session.say(*self.matches_of(found[0]))
+
+    def matches_of(self, player: Player) -> list[str]:
+        """All matches of a player, of the rounds and of the playoff."""
+        event = self.session.event
+        lines = []
+        for number, matches in enumerate(event.rounds, 1):
+            found = next((match for match in matches if match.has(player.number)), None)
+            if not found:
+                lines.append(f"  round {number}: not in it")
+            elif found.is_bye:
+                lines.append(f"  round {number}, bye: {found.score}")
+            else:
+                lines.append(f"  round {number}, table {found.place}: {event.shown(found)}")
+        for stage, matches in enumerate(event.stages, 1):
+            theirs = [match for match in matches if match.has(player.number)]
+            lines += [f"  stage {stage}, slot {match.place}: {event.shown(match)}" for match in theirs]
+        return lines
+
+    def seat_of(self, player: Player) -> str:
+        event = self.session.event
+        for match in event.newest():
+            if match.has(player.number):
+                return "  bye" if match.is_bye else f"  table {match.place}: {event.shown(match)}"
+        return ""
+
+    def drop(self, rest: str) -> None:
+        session = self.session
+        session.must_be_ours("drop")
+        if not rest:
+            raise Declined("Type a number or a name, as: drop 23, or drop Ana")
+        player = self.found(rest)
+        question = f"Drop {shown_player(player)}? Nobody who has dropped comes back."
+        # one who has dropped is refused without a question
+        if player.name and not player.has_dropped and not session.lines.says_yes(question):
+            raise Declined("Nobody was dropped.")
+        command = Command(("drop", str(player.number)), lambda event: has_dropped(event, player.number))
+        session.send_copied(command, f"drop-{player.number}")
+        session.say(f"{shown_player(player)} is dropped.")
+        for match in session.event.open_tables():
+            if match.has(player.number):
+                session.say(f"Table {match.place} must still get its score: {session.event.shown(match)}")
+
+    def enrol(self, rest: str) -> None:
+        session = self.session
+        session.must_be_ours("enrol")
+        alike = self.alike(rest)
+        if alike and not session.lines.says_yes(
+            f"{shown_player(alike)} differs in capitals or accents alone. Enrol another one?"
+        ):
+            raise Declined("Nobody was enrolled.")
+        with unbroken(), contextlib.ExitStack() as stack:
+            words = ("enrol", rest)
+            if rest.startswith("-"):
+                # as a word the program takes it for an option, and in a list for a name
+                words = ("import", stack.enter_context(written_list([rest])))
+            session.send(Command(words, lambda event: event.named(rest) is not None))
+        player = session.event.named(rest)
+        if player:
+            session.say(f"{shown_player(player)} is enrolled.", *self.rounds_lost())
+
+    def alike(self, name: str) -> Optional[Player]:
+        """A player whose name looks the same and is written by other bytes."""
+        enrolled = self.session.event.enrolled.values()
+        found = [
+            player for player in enrolled if player.name != name and compared(player.name) == compared(name)
+        ]
+        return found[0] if found and name not in {player.name for player in enrolled} else None
+
+    def rounds_lost(self) -> list[str]:
+        """What a player who comes now has missed."""
+        number = len(self.session.event.rounds)
+        if not number:
+            return []
+        lost = "Round 1 is lost" if number == 1 else f"Rounds 1 to {number} are lost"
+        return [f"{lost}, without an opponent."]
+
+    def import_list(self, rest: str) -> None:
+        session = self.session
+        session.must_be_ours("import")
+        if not rest:
+            raise Declined("Type the name of a list, as: import names.csv")
+        path, codec = path_and_codec(rest)
+        data = read_list(path)
+        roster = roster_of(data, {player.name for player in session.event.enrolled.values()}, codec)
+        self.say_roster(path, roster)
+        names = self.names_to_enrol(roster)
+        if not names:
+            return
+        with unbroken(), written_list(names) as written:
+            try:
+                session.send(Command(("import", written), lambda event: all(map(event.named, names))))
+                session.say(*self.rounds_lost())
+            except Declined as fault:
+                if not str(fault).startswith("bad csv"):
+                    raise
+                raise Declined(f"{fault}\nNobody was enrolled. A list has at most 512 names.") from None
+
+    def names_to_enrol(self, roster: Roster) -> list[str]:
+        """The names for which the answers are yes."""
+        says_yes = self.session.lines.says_yes
+        if roster.names and not says_yes(f"Enrol {counted(len(roster.names), 'player')}?"):
+            raise Declined("Nobody was enrolled.")
+        names = list(roster.names)
+        if roster.alike and says_yes(
+            f"Enrol also {counted(len(roster.alike), 'player')} who may be there already?"
+        ):
+            names += [alike.name for alike in roster.alike]
+        if roster.alike and not names:
+            raise Declined("Nobody was enrolled.")
+        return names
+
+    def say_roster(self, path: str, roster: Roster) -> None:
+        say = self.session.say
+        say(f"{visible(path)}: {roster.how}")
+        if roster.is_guess:
+            other = "cp1252" if "cp1250" in roster.how else "cp1250"
+            say("Its letters are a guess. If names are wrong, name the encoding, as:")
+            say(f"  import {visible(path)} {other}")
+        # names with other letters come first, where the letters are a guess
+        names = sorted(roster.names, key=str.isascii) if roster.is_guess else roster.names
+        say(
+            "It would enrol:" if names else "It would enrol nobody.",
+            *(f"  {visible(name)}" for name in names),
+        )
+        if roster.already:
+            say(f"{len(roster.already)} enrolled already.")
+        if roster.alike:
+            say("Perhaps there already, in other capitals or accents:")
+            for alike in roster.alike:
+                say(f"  row {alike.place}: {visible(alike.name)}, beside {visible(alike.other)}")
+        if roster.left_out:
+            say("Left out:", *(f"  {line}" for line in roster.left_out))
+
+    # ---- names that are wrong
+
+    def rename(self, rest: str) -> None:
+        """Before the start the event is made again with the right name; after it the player is shown by it.
+        """
+        session = self.session
+        session.must_be_ours("rename")
+        found = re.fullmatch(r"([0-9]{1,9})\s+(.+)", rest)
+        if not found:
+            raise Declined("Type a number and the right name, as: rename 4 Peter Meyer")
+        number, name = int(found[1]), tidy(found[2])
+        player = session.event.enrolled.get(number)
+        if not player:
+            raise Declined("No player has this number. See: players")
+        others = [other for other in session.event.players.values() if other.number != number]
+        same = next((other for other in others if compared(other.name) == compared(name)), None)
+        if name == player.name:
+            same = None
+        fault = why_not(name) or (
+            f"{shown_player(same)} has this name. Add what tells the two apart." if same else ""
+        )
+        if fault:
+            raise Declined(fault)
+        if session.event.phase is Phase.ENROLLING:
+            self.make_again(number, name)
+        else:
+            session.names.keep(ShownName(number, player.name, name))
+            session.look_again()
+            session.say(f"{shown_player(session.event.players[number])} is shown so from now on.")
+            session.say("The program's own lists keep the name that was enrolled.")
+
+    def make_again(self, number: int, name: str) -> None:
+        """A new file with the same name, rounds, cut and players, but for the one name. The old one is put
+        away.
+        """
+        session = self.session
+        plan = plan_of(session.file, session.source.turn)
+        if not plan or not isinstance(session.source, OverFile):
+            raise Declined("Rounds and cut could not be read, so the event can't be made again. See: undo")
+        players = session.event.enrolled.values()
+        names = [name if player.number == number else player.name for player in players]
+        with unbroken(), session.source.turn.taken(), tempfile.TemporaryDirectory() as room:
+            made = OverFile(session.source.program, os.path.join(room, "new.event"))
+            made.ask("init", plan.name, str(plan.rounds), str(plan.cut))
+            with written_list(names) as written:
+                made.ask("import", written)
+            if [player.name for player in made.players().values()] != names:
+                raise Declined("The event could not be made again with this name. It stays as it is.")
+            away = session.copies.put_in_place(Copy(0, "", "", made.file))
+        session.look_again()
+        session.say(f"{shown_player(session.event.enrolled[number])} is enrolled.")
+        session.say(f"The event with the wrong name is {away} now.")
+
+
+def has_dropped(event: Event, number: int) -> bool:
+    return number in event.players and event.players[number].has_dropped

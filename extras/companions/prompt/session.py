@@ -1,0 +1,266 @@
+"""What the words of the prompt share: the event, what is said of it, and how commands are sent."""
+from __future__ import annotations
+
+import os
+import textwrap
+import time
+from dataclasses import dataclass
+from typing import Callable, Optional
+
+from companions.copies import Copies, Copy
+from companions.doubts import Doubt, Doubts
+from companions.event import Event, Phase, shown_player
+from companions.keys import Keys
+from companions.lists import Matches, Unreadable
+from companions.names import visible
+from companions.plan import plan_of
+from companions.program import (
+    FAULTS,
+    MOST_TRIES,
+    SECONDS_BETWEEN_TRIES,
+    Declined,
+    NoAnswer,
+    Refusal,
+    Refused,
+    Source,
+)
+from companions.prompt.lines import Input, unbroken
+from companions.prompt.texts import (
+    BAD_SCORE_OF_PLAYOFF,
+    BAD_SETUP,
+    LATE_IN_VERSION_1,
+    MISSING,
+    NOT_SWISS,
+    REFUSALS,
+)
+from companions.shown_names import ShownNames, with_shown_names
+from companions.title import kept_title
+
+WIDTH = 79
+
+
+@dataclass(frozen=True)
+class Command:
+    """The words that are sent, and how to see in an event that they were taken."""
+
+    words: tuple[str, ...]
+    is_stored: Callable[[Event], bool]
+
+
+class Session:
+    def __init__(self, source: Source, file: str, lines: Input):
+        self.source, self.file, self.lines = source, file, lines
+        self.keys, self.copies, self.doubts = Keys(file), Copies(file, source.turn), Doubts(file)
+        self.names = ShownNames(file)
+        self.event = Event(source, file)
+        self.has_failed = False
+
+    def look_again(self) -> None:
+        """What is asked from here on is asked of the program as it is now."""
+        self.event = Event(self.source, self.file)
+
+    # ---- what is said
+
+    def say(self, *lines: str) -> None:
+        for line in lines:
+            print(line)
+
+    def say_filled(self, text: str) -> None:
+        """A line that may be longer than the terminal is wide, as where many tables are open."""
+        print(textwrap.fill(text, WIDTH, break_long_words=False, break_on_hyphens=False))
+
+    def say_as_it_is(self, text: str) -> None:
+        print(visible(text), end="")
+
+    def show(self, name: str, *words: str) -> None:
+        """A text of the program, with the names by which players are shown."""
+        self.say_as_it_is(self.with_names(self.source.text(name, *words)))
+
+    def with_names(self, text: str) -> str:
+        if not self.names.all():
+            return text
+        try:
+            return with_shown_names(text, self.event.enrolled, self.event.players)
+        except Unreadable as fault:
+            raise Declined(f"{self.source.named} is not event_reporter: {fault}.") from None
+
+    def say_failed(self, text: str) -> None:
+        self.has_failed = True
+        self.say(text)
+
+    def explain(self, refused: Refused, word: str = "") -> None:
+        """A refusal in words: those of the case at hand, where it has several."""
+        self.has_failed = True
+        if refused.printed:
+            self.say(refused.printed.rstrip("\n"))
+        self.say(str(refused), self.case_of(refused, word) or REFUSALS.get(refused.number, "See: help"))
+        if refused.more:
+            self.say(refused.more)
+
+    def case_of(self, refused: Refused, word: str) -> str:
+        if refused.number == Refusal.NO_EVENT and self.is_missing():
+            return MISSING
+        if refused.number == Refusal.NOT_SWISS:
+            return NOT_SWISS.get(self.phase_or_none(), "")
+        if refused.number == Refusal.BAD_SCORE:
+            return BAD_SCORE_OF_PLAYOFF if word in ("play", "playoff") else ""
+        if refused.number == Refusal.BAD_SETUP:
+            return BAD_SETUP if word == "init" else LATE_IN_VERSION_1 if word in ("enrol", "import") else ""
+        return ""
+
+    def phase_or_none(self) -> Optional[Phase]:
+        self.look_again()
+        try:
+            return self.event.phase
+        except FAULTS:
+            return None
+
+    def is_missing(self) -> bool:
+        """Whether the event is gone and its copies are there, as when `back` was stopped between its moves.
+        """
+        return not os.path.exists(self.file) and bool(self.copies.all())
+
+    def title(self) -> str:
+        kept = visible(kept_title(self.file))
+        return f"{kept} ({self.file})" if kept else self.file
+
+    def say_where(self) -> None:
+        self.look_again()
+        self.say_filled(f"{self.title()}, {self.event.phase.value}: {self.next_step()}")
+        plan = None if self.source.is_served else plan_of(self.file, self.source.turn)
+        if plan:
+            self.say(plan.shown(len(self.event.rounds) if self.event.phase is Phase.SWISS else 0))
+
+    def standing_doubts(self) -> list[Doubt]:
+        return self.doubts.standing(self.event.rounds)
+
+    def next_step(self) -> str:
+        """What comes next, and the scores that are in doubt."""
+        doubts = [f"{doubt.number} {doubt.table}" for doubt in self.standing_doubts()]
+        doubted = f". In doubt by round and table: {', '.join(doubts)}. See: doubt" if doubts else ""
+        return next_step(self.event) + doubted
+
+    def goes_on_in_doubt(self, what: str) -> bool:
+        """Whether to pair or to cut while a score is in doubt."""
+        doubts = self.standing_doubts()
+        if not doubts:
+            return True
+        tables = ", ".join(f"table {doubt.table} of round {doubt.number} ({doubt.score})" for doubt in doubts)
+        self.say_filled(f"In doubt: {tables}.")
+        return self.lines.says_yes(f"{what} all the same?")
+
+    # ---- sending
+
+    def told(self, command: Command, ask: Callable[[], str]) -> str:
+        """The answer. Where none came, or where the file failed, what the program says is stored."""
+        for _ in range(MOST_TRIES - 1):
+            try:
+                return ask()
+            except NoAnswer:
+                return self.looked_up(command)
+            except Refused as refused:
+                if refused.number != Refusal.STORE:
+                    raise
+            time.sleep(SECONDS_BETWEEN_TRIES)
+            if self.is_stored(command):
+                return "It is stored."
+        # a command that was taken is not taken twice, so it was safe to send it again
+        return ask()
+
+    def is_stored(self, command: Command) -> bool:
+        """Whether it can be seen in the event now."""
+        self.look_again()
+        try:
+            return command.is_stored(self.event)
+        except FAULTS:
+            return False
+
+    def looked_up(self, command: Command) -> str:
+        self.say("No answer came. The program is asked what is stored.")
+        self.look_again()
+        try:
+            is_stored = command.is_stored(self.event)
+        except FAULTS as fault:
+            self.has_failed = True
+            raise Declined(f"It can't be read now ({fault or 'no answer'}). See: where") from None
+        if not is_stored:
+            raise Declined("It is not stored. Type the line again.")
+        return "It is stored."
+
+    def send(self, command: Command, copy: Optional[Copy] = None) -> None:
+        """Sends a command line, and says what came back. A copy that was made before it goes if it is
+        refused.
+        """
+        try:
+            answer = self.told(command, lambda: self.source.send(*command.words))
+        except Refused as refused:
+            if copy and not refused.is_unsure:
+                self.copies.remove(copy)
+            raise
+        self.look_again()
+        self.say(answer.rstrip("\n"))
+
+    def send_copied(self, command: Command, what: str) -> None:
+        """The same of what nothing takes back: the event is copied first, and nobody comes in between."""
+        with unbroken(), self.source.turn.taken():
+            self.send(command, self.copies.make(what))
+
+    def must_be_ours(self, name: str) -> None:
+        """What asks back or copies is turned down first where `serve` holds the file."""
+        if self.source.is_served:
+            self.source.ask(name)
+
+
+# ---- what comes next
+
+
+def next_step(event: Event) -> str:
+    """The round, its open tables, and what comes next, in a line."""
+    number, still_open = len(event.rounds), event.open_tables()
+    if event.phase is Phase.ENROLLING:
+        so_far = counted(len(event.players), "player")
+        return f"{so_far} so far. Next: enrol Ana Lima, import names.csv, or start"
+    if event.phase is Phase.FINISHED and event.champion:
+        return f"the champion is {shown_player(event.champion)}"
+    if event.phase is Phase.PLAYOFF:
+        return next_in_playoff(event)
+    if not number:
+        return "no round is paired yet. Next: pair"
+    if still_open:
+        return f"round {number}, {tables_named(still_open)}"
+    after = "All rounds are paired. Next: standings, or cut" if event.is_all_paired else "Next: pair"
+    return f"round {number} has all its scores. {after}"
+
+
+def next_in_playoff(event: Event) -> str:
+    still_open = [
+        (stage, match.place)
+        for stage, matches in enumerate(event.stages, 1)
+        for match in matches
+        if match.is_open
+    ]
+    if not still_open:
+        return "`serve` hands out no bracket"
+    told = ", ".join(f"{stage} {slot}" for stage, slot in still_open)
+    stage, slot = still_open[0]
+    return f"open by stage and slot: {told}. Next: play {stage} {slot} 2 0"
+
+
+def tables_named(matches: Matches) -> str:
+    """The tables that are open, as: 5 tables open: 4, 7-10."""
+    return f"{counted(len(matches), 'table')} open: {ranges([match.place for match in matches])}"
+
+
+def ranges(numbers: list[int]) -> str:
+    """Rising numbers, those that follow on each other as the first and the last."""
+    runs: list[list[int]] = []
+    for number in numbers:
+        if runs and number == runs[-1][-1] + 1:
+            runs[-1].append(number)
+        else:
+            runs.append([number])
+    return ", ".join(f"{run[0]}-{run[-1]}" if len(run) > 2 else ", ".join(map(str, run)) for run in runs)
+
+
+def counted(count: int, what: str) -> str:
+    return f"{count} {what}{'' if count == 1 else 's'}"

@@ -1,0 +1,128 @@
+"""What stands fixed of all that the prompt says."""
+from __future__ import annotations
+
+from typing import Dict, Optional
+
+from companions.event import Phase
+
+COMMANDS = """\
+  17 2 1             the result of table 17: games won by the player who is
+                     named first, and by the second; 17 2-1 and 17,2,1 will do
+  17 2 1 1           with a drawn game. An intended draw: 17 0 0 3
+  17 2 1 drop 12     and player 12 drops, by the same slip; it asks back
+  open, where        the tables that have no score yet; where the event is
+  fix 1 17 0 2       replaces the score of table 17 of round 1
+  doubt 9            keeps in mind that the score of table 9 is wrong, until fix
+  pair               copies the event, and pairs the next round by a new key
+  drop 23, drop Ana  drops a player; it asks back
+  who an, who 12     finds players by a part of the name, or by the number
+  players, standings, round, round 3
+                     lists the players by number or by rank, or a round's tables
+  cut, bracket       seeds the playoff by the standings; shows it
+  play 1 2 2 1       a score of the playoff: stage 1, slot 2, won by 2 to 1
+  enrol Ana Lima     enrols a player, also as a latecomer after the start
+  back, undo         the copies, to go on from one; what there is for an undo
+  help all, quit     all that there is, for the beginning of an evening too
+"""
+
+MORE_COMMANDS = """\
+
+  init NAME ROUNDS CUT makes the event, as: init Friday Night 3 0
+  import names.csv     enrols the players of a list; it shows them and asks back
+  rename 4 Ana Lima    gives player 4 the right name; after the start, for what
+                       this prompt, sheets and board show
+  start                begins the rounds
+  pair again           pairs by the key that FILE.keys has for it; see back
+  copy                 copies the event now, and checks the copy
+  back 3               goes on from copy 3; it asks back
+  keys, check 3        the keys; whether round 3 is the one that its key gives
+  export standings     players, results, standings or playoff as CSV
+  export playoff p.csv the same into a new file
+  final                the final ranking, once there is a champion
+  title Friday Night   what the sheets are headed with
+  clock 50, clock off  starts the clock on the board for 50 minutes; stops it
+  migrate              moves the file of an older program to newer tables
+
+The command line's words are taken too, without FILE: result 3 17 2 1 0,
+correct, slips 3, playoff. Numbers may stand with spaces, commas, colons,
+hyphens or TABs between them.
+"""
+
+ALL_COMMANDS = COMMANDS + MORE_COMMANDS
+
+UNDO = """\
+There is no undo: what was answered ok is in the file, and stays.
+  A result:    fix ROUND TABLE X Y, as: fix 1 17 0 2
+  A result that belongs to another table:
+               doubt 9, until the right one is there: fix 1 9 2 1
+  A drop, a pairing, the cut, a score of the playoff:
+               go on from the copy that was made before it: back
+  A player who doesn't play: is dropped after the start
+  A name that is wrong: rename 4 Ana Lima
+"""
+
+# in place of the words of refusal 27
+MISSING = """\
+The event's file is missing, and copies of it are there: back was stopped, or
+the file was moved. Go on from a copy: back"""
+
+# in place of the words of refusal 6, by the phase
+NOT_SWISS: Dict[Optional[Phase], str] = {
+    Phase.ENROLLING: "The Swiss rounds have not begun. Once all players are enrolled: start",
+    Phase.PLAYOFF: "The Swiss rounds are over, and the playoff has begun. Its scores: play 1 1 2 0",
+    Phase.FINISHED: "The event is over: the playoff has its champion. See: bracket",
+}
+# in place of the words of refusal 13, of a match of the playoff
+BAD_SCORE_OF_PLAYOFF = """\
+No match of the playoff ends so. One player wins more games than the other, and
+3 at most; at most 3 are drawn: play 1 2 2 1"""
+# in place of the words of refusal 30
+BAD_SETUP = """\
+A new event has a name of 1 to 60 bytes, 1 to 12 rounds, and a cut of 0, 2, 4
+or 8: init Friday Night 3 0"""
+LATE_IN_VERSION_1 = """\
+A player who comes after the start has no place in a file of version 1, which an
+older program made. Migrate it, and then enrol: migrate"""
+
+REFUSALS = {
+    1: "A name has 1 to 60 bytes, no control character, and no space at either end.\n"
+    "Type another one: enrol Ana Lima",
+    2: "A player has this name. Add what tells the two apart: enrol Bo (Owls)",
+    3: "512 players are enrolled. There is no room for more.",
+    4: "The event has started; for enrol, the playoff has begun. See: where",
+    5: "It takes two players who have not dropped. Enrol them: enrol Ana Lima",
+    6: "The Swiss rounds have not begun, or the playoff has.\n"
+    "Before the rounds: start. In the playoff: play 1 1 2 0",
+    7: "Another round is next. See: where",
+    8: "A table of the newest round has no score. Enter it, and then: pair",
+    9: "All rounds are paired, and nobody enrols any more.\n"
+    "Enter what is missing, and then: standings, or cut",
+    10: "The players who are left have met, so no further round can be paired.\n"
+    "The standings stand: standings",
+    11: "No pairing was found in a million steps. Take another key: pair new",
+    12: "No such match is stored. See: round, or bracket",
+    13: "No match ends so. Each player wins 2 games at most, and not both 2; at most 3\n"
+    "are drawn: 17 2 1. An intended draw: 17 0 0 3",
+    14: "The match has a score.",
+    15: "The match has no score to replace. Enter it: 17 2 1",
+    16: "Table 0 is the bye, whose score stays 2-0-0.",
+    17: "No player has this number. See: players",
+    18: "The player has dropped already. See: players",
+    19: "A round is not paired yet, or a table has no score. See: where",
+    20: "The event was made with no cut. The standings stand: standings",
+    21: "Fewer players are left than the cut takes. The standings stand: standings",
+    22: "The playoff has not begun, or has its champion. Next: cut, or bracket",
+    23: "The event has taken 999,999 commands, and takes no more.",
+    24: "The machine had no memory left. Close something, see: where, and type the line\n"
+    "again if it is not there.",
+    25: "The file was not read or written. Most often another program has it open: end\n"
+    "it, see: where, and type the line again if it is not there. Where `serve` holds\n"
+    "the file: end this with Ctrl-D, and run desk.py FILE --port 8080, with its port.",
+    26: "A write failed before. End `serve` by Ctrl-C in its window, serve again, and\ntype the line again.",
+    27: "There is no event in the file. Look at the path, or make one:\ninit Friday Night 3 0",
+    28: "The file has an event already. Take another FILE: end this with Ctrl-D.",
+    29: "The file holds what no event can be. Go on from a copy: back",
+    30: "A new event has a name of 1 to 60 bytes, 1 to 12 rounds, and a cut of 0, 2, 4\n"
+    "or 8: init Friday Night 3 0. A player who comes after the start has no place in\n"
+    "a file of version 1. Migrate it, and then enrol: migrate",
+}

@@ -1,0 +1,1 @@
+"""Sheets for the wall, and a board for the screen."""

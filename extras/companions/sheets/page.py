@@ -1,0 +1,74 @@
+"""The page: parts in a template, which escapes each text that it is given."""
+from __future__ import annotations
+
+import os
+from dataclasses import dataclass
+from functools import lru_cache
+from typing import Iterable, List, Optional
+
+from jinja2 import Environment, FileSystemLoader, StrictUndefined
+
+from companions.event import Event
+from companions.sheets.board import layout_of
+from companions.sheets.bracket import BOX_WIDTH
+from companions.sheets.parts import SECONDS_TO_RELOAD, SLIP_LETTERS, Part, letters_of_slip, part_of
+
+# the letters of the clock and of the bracket's heading, in hundredths of the screen's width
+BOARD_LETTERS = 1.5
+
+
+@lru_cache(maxsize=None)
+def templates() -> Environment:
+    folder = os.path.join(os.path.dirname(os.path.abspath(__file__)), "templates")
+    environment = Environment(
+        loader=FileSystemLoader(folder),
+        autoescape=True,
+        undefined=StrictUndefined,
+        trim_blocks=True,
+        lstrip_blocks=True,
+        keep_trailing_newline=True,
+    )
+    environment.globals["letters_of_slip"] = letters_of_slip
+    environment.globals["layout_of"] = layout_of
+    return environment
+
+
+def parts_of_board(event: Event) -> tuple[str, ...]:
+    """What people look for first comes first; slips are for paper."""
+    if event.stages:
+        return "bracket", "standings", "names", "tables"
+    return "players", "names", "tables", "standings", "bracket"
+
+
+@dataclass(frozen=True)
+class Board:
+    """How a page is shown on a screen: which part is shown now, one after the other, or all of them; and the
+    clock.
+    """
+
+    turn: Optional[int] = None
+    clock: str = ""
+
+
+def turn_now(now: float) -> int:
+    """The number of the reload: each one shows the next part."""
+    return int(now // SECONDS_TO_RELOAD)
+
+
+def page_of(
+    event: Event, title: str, number: int, kinds: Iterable[str], board: Optional[Board] = None
+) -> str:
+    parts: List[Part] = [part for part in (part_of(kind, event, number) for kind in kinds) if part]
+    template = templates().get_template("page.html")
+    text: str = template.render(
+        title=title,
+        round=number,
+        parts=parts,
+        board=board,
+        letters=BOARD_LETTERS,
+        shown_part=parts[board.turn % len(parts)].kind if board and board.turn is not None and parts else "",
+        seconds=SECONDS_TO_RELOAD,
+        box_width=BOX_WIDTH,
+        slip_letters=SLIP_LETTERS,
+    )
+    return text

@@ -1,0 +1,170 @@
+"""What each part of a page shows, as templates take it."""
+from __future__ import annotations
+
+from dataclasses import dataclass
+from typing import Dict, List, Optional, Tuple
+
+from companions.event import Event
+from companions.lists import Match, Matches, Player, Standing
+from companions.names import sort_key
+from companions.sheets.bracket import Drawing, Tree
+from companions.sheets.widths import size_for
+
+DEFAULT_PARTS = ("players", "tables", "names", "slips", "standings", "bracket")
+PARTS = (*DEFAULT_PARTS, "seats")
+SLIPS_A_SHEET = 5
+# the name on a slip: its size in points, and its room in millimetres
+SLIP_LETTERS, SLIP_ROOM, SLIP_LINES = 11.5, 66, 2
+# a board loads itself again so often, and shows its next part
+SECONDS_TO_RELOAD = 20
+
+
+@dataclass(frozen=True)
+class TableRow:
+    table: str
+    first: Player
+    second: Optional[Player]
+    score: str
+
+
+@dataclass(frozen=True)
+class NameRow:
+    player: Player
+    table: str
+    opponent: Optional[Player]
+
+
+@dataclass(frozen=True)
+class Slip:
+    where: str
+    table: str
+    first: Player
+    second: Player
+
+
+@dataclass
+class Part:
+    """A part of a page: its template, its heading, and what stands in it."""
+
+    kind: str
+    what: str = ""
+    players: Tuple[Player, ...] = ()
+    tables: Tuple[TableRow, ...] = ()
+    names: Tuple[NameRow, ...] = ()
+    stacks: Tuple[Tuple[Slip, ...], ...] = ()
+    standings: Tuple[Standing, ...] = ()
+    drawing: Optional[Drawing] = None
+    note: str = ""
+
+
+def by_name(event: Event) -> List[Player]:
+    return sorted(event.players.values(), key=lambda player: sort_key(player.name))
+
+
+def players_part(event: Event) -> Part:
+    return Part("players", f"Players: {len(event.players)}", players=tuple(by_name(event)))
+
+
+def table_row(event: Event, match: Match) -> TableRow:
+    second = None if match.is_bye else event.players[match.second]
+    return TableRow(
+        "bye" if match.is_bye else str(match.place), event.players[match.first], second, match.score
+    )
+
+
+def tables_part(event: Event, number: int) -> Part:
+    rows = tuple(table_row(event, match) for match in event.shown_rounds[number - 1])
+    return Part("tables", f"Round {number}, by table", tables=rows)
+
+
+def seats_of(matches: Matches) -> Dict[int, Tuple[int, int]]:
+    """The table and the opponent of each player who sits in the round."""
+    seats = {}
+    for match in matches:
+        seats[match.first] = match.place, match.second
+        if not match.is_bye:
+            seats[match.second] = match.place, match.first
+    return seats
+
+
+def names_part(event: Event, number: int) -> Part:
+    seats = seats_of(event.rounds[number - 1])
+    rows = []
+    for player in by_name(event):
+        if player.number in seats:
+            table, opponent = seats[player.number]
+            rows.append(
+                NameRow(
+                    player, str(table) if opponent else "bye", event.players[opponent] if opponent else None
+                )
+            )
+    return Part("names", f"Round {number}, by name", names=tuple(rows))
+
+
+def slips_of(event: Event, number: int) -> List[Slip]:
+    """A slip for each match that has no score: of the round, and of the playoff."""
+    players = event.players
+    matches = event.shown_rounds[number - 1] if number else []
+    slips = [
+        Slip(f"Round {number}", f"Table {match.place}", players[match.first], players[match.second])
+        for match in matches
+        if match.is_open
+    ]
+    for stage, matches in enumerate(event.stages, 1):
+        slips += [
+            Slip(
+                f"Playoff, stage {stage}", f"Slot {match.place}", players[match.first], players[match.second]
+            )
+            for match in matches
+            if match.is_open
+        ]
+    return slips
+
+
+def stacks_of(slips: List[Slip]) -> Tuple[Tuple[Slip, ...], ...]:
+    """The slips by sheets of paper, so that the sheets are cut as one stack, and its piles lie in order one
+    upon the other.
+    """
+    sheets = -(-len(slips) // SLIPS_A_SHEET)
+    return tuple(tuple(slips[sheet::sheets]) for sheet in range(sheets))
+
+
+def letters_of_slip(name: str) -> float:
+    """The size at which the name takes two lines at most."""
+    return size_for(name, SLIP_LETTERS, SLIP_ROOM, SLIP_LINES)
+
+
+def seats_part(event: Event) -> Part:
+    """Where each player sits at the players' meeting: two at a table, by name."""
+    rows = tuple(NameRow(player, str(at // 2 + 1), None) for at, player in enumerate(by_name(event)))
+    return Part("seats", f"Seats for the players' meeting: {len(rows)}", names=rows)
+
+
+def standings_part(event: Event) -> Part:
+    return Part(
+        "standings", f"Standings after round {event.complete_rounds()}", standings=tuple(event.standings)
+    )
+
+
+def bracket_part(event: Event) -> Optional[Part]:
+    if event.source.is_served:
+        return Part("bracket", note="The bracket is not handed out while `serve` holds the file.")
+    return Part("bracket", "Playoff", drawing=Tree(event).drawn()) if event.stages else None
+
+
+def part_of(kind: str, event: Event, number: int) -> Optional[Part]:
+    """A part of the event and of the round of this number, or nothing where there is nothing for it."""
+    if kind == "players":
+        return None if event.rounds else players_part(event)
+    if kind == "tables":
+        return tables_part(event, number) if number else None
+    if kind == "names":
+        return names_part(event, number) if number else None
+    if kind == "slips":
+        slips = slips_of(event, number)
+        return Part("slips", "Result slips", stacks=stacks_of(slips)) if slips else None
+    if kind == "seats":
+        return seats_part(event)
+    if kind == "standings":
+        return standings_part(event) if event.rounds else None
+    return bracket_part(event)

@@ -1,0 +1,30 @@
+"""How much room a name takes, before a browser lays it out."""
+from __future__ import annotations
+
+import unicodedata
+from functools import lru_cache
+
+MILLIMETRES_A_POINT = 0.3528
+# words aren't filled up to the edge
+FILLED = 0.85
+
+
+def room_of(letter: str) -> float:
+    """About how wide a letter is, beside its height; rather too much than too little."""
+    if unicodedata.combining(letter):
+        return 0.0
+    if unicodedata.east_asian_width(letter) in "WF" or ord(letter) > 0xFFFF:
+        return 1.25
+    return 1.0 if letter.isupper() or letter in "mwMW@%" else 0.65
+
+
+@lru_cache(maxsize=4096)
+def width_of(name: str) -> float:
+    """In heights of a letter."""
+    return sum(map(room_of, name))
+
+
+def size_for(name: str, size: float, room: float, lines: int) -> float:
+    """The size in points at which the name takes so many lines at most, in a room of so many millimetres."""
+    width = width_of(name) * MILLIMETRES_A_POINT
+    return size if not width else min(size, round(lines * room * FILLED / width, 1))

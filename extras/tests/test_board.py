@@ -1,0 +1,35 @@
+"""How large the letters of a board are."""
+from companions.lists import Player
+from companions.sheets.board import HEIGHT, SIZES, WIDTH, layout_of, lines_in
+from companions.sheets.parts import NameRow, Part
+from companions.sheets.widths import width_of
+
+
+def by_name(names):
+    players = [Player(at, name, False) for at, name in enumerate(names, 1)]
+    return Part("names", names=tuple(NameRow(it, "1", players[0]) for it in players))
+
+
+def test_more_players_have_smaller_letters():
+    sizes = [
+        layout_of(by_name([f"Ana Lima {at}" for at in range(count)])).size for count in (8, 37, 64, 128, 256)
+    ]
+    assert sizes[0] == SIZES[0] and sizes == sorted(sizes, reverse=True) and sizes[-1] == SIZES[-1]
+
+
+def test_all_rows_have_room():
+    for count in (8, 37, 64, 128):
+        layout = layout_of(by_name([f"Ana Lima {at}" for at in range(count)]))
+        rows = -(-count // layout.columns)
+        assert rows * layout.size <= HEIGHT and layout.columns * layout.size < WIDTH
+
+
+def test_a_name_is_broken_between_words():
+    assert lines_in("Ana Lima", 100) == (1, False)
+    assert lines_in("Ana Lima", width_of("Lima")) == (2, False)
+    assert lines_in("Maximiliane", width_of("Maxi"))[1]
+    assert lines_in("", 1) == (1, False)
+
+
+def test_a_name_without_a_place_to_break_is_shown_all_the_same():
+    assert layout_of(by_name(["W" * 60] * 400)).size == SIZES[-1]

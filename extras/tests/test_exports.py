@@ -1,0 +1,60 @@
+"""CSV and the final ranking, beside the plain reading."""
+import csv
+import io
+
+import pytest
+from companions.event import Event
+from companions.exports import final_ranking, playoff_csv, standings_csv
+from from_model import FromModel
+from scripts.clients.random_evenings import ENDED, IN_PLAYOFF, evening
+from scripts.models.plain_event import winner
+from scripts.models.plain_page import standings_due
+
+
+def rows(text):
+    return list(csv.reader(io.StringIO(text, newline="")))
+
+
+def test_standings(dice):
+    event = evening(dice, 24, ENDED, 3, 8, True)
+    heading, *found = rows(standings_csv(Event(FromModel(event))))
+    assert heading == ["rank", "no", "points", "omw", "gwp", "ogw", "dropped", "name"]
+    assert found == [
+        [
+            rank, number, points, *shares, str(int(dropped == "D")), name
+        ] for rank, number, name, dropped, points, *shares in standings_due(event)
+    ]
+
+
+def test_playoff(dice):
+    event = evening(dice, 24, IN_PLAYOFF, 3, 8, True)
+    heading, *found = rows(playoff_csv(Event(FromModel(event))))
+    assert heading == ["stage", "slot", "a", "b", "x", "y", "d"]
+    assert found == [
+        [str(it) for it in (stage, slot, a, b, *(score or ("", "", "")))]
+        for stage, matches in enumerate(event.stages, 1)
+        for slot, (a, b, score) in enumerate(matches, 1)
+    ]
+
+
+@pytest.mark.parametrize("cut, ranks", [(2, [1, 2]), (4, [1, 2, 3, 3]), (8, [1, 2, 3, 3, 5, 5, 5, 5])])
+def test_final_ranking(dice, cut, ranks):
+    event = evening(dice, 13, ENDED, 3, cut)
+    found = final_ranking(Event(FromModel(event)))
+    assert [it.rank for it in found] == ranks + list(range(cut + 1, len(event.names) + 1))
+    numbers = [it.player.number for it in found]
+    assert sorted(numbers) == list(event.numbers())
+    assert numbers[0] == winner(event.stages[-1][0])
+    order = list(event.merits())
+    # who is out in a stage comes after all who are out in a later one, and before all who are out earlier
+    at = 1
+    for matches in reversed(event.stages):
+        out = [a if winner(match) == b else b for match in matches for a, b in [match[:2]]]
+        assert numbers[at : at + len(out)] == sorted(out, key=order.index)
+        at += len(out)
+    assert numbers[at:] == [it for it in order if it not in numbers[:at]]
+
+
+def test_no_ranking_without_a_champion(dice):
+    event = evening(dice, 13, ENDED, 3, 0)
+    assert final_ranking(Event(FromModel(event))) == []

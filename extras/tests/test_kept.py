@@ -1,0 +1,51 @@
+"""What the program said is kept while no command came."""
+from companions.lists import Match
+from companions.program import PLAYERS, RESULTS, Kept
+
+ONE, TWO, THREE = ((7, 4096, 1_000_000_001 + at, 41) for at in range(3))
+WHOLE = (7, 4096, 5_000_000_000, 41)
+ROUNDS = [[Match(1, 4, 2, "2-0-0")]]
+
+
+def kept_at(stamp, serial=6):
+    kept = Kept()
+    kept.forget(serial)
+    kept.keep(PLAYERS, stamp, "players")
+    kept.keep(RESULTS, stamp, "results")
+    kept.older = stamp, ROUNDS
+    return kept
+
+
+def test_a_text_is_kept_while_the_stamp_stays():
+    kept = kept_at(ONE)
+    assert kept.text(PLAYERS, ONE) == "players" and kept.older_rounds(ONE) == ROUNDS
+    assert kept.text(PLAYERS, TWO) is None and kept.older_rounds(TWO) is None
+    assert kept.text(("bracket",), ONE) is None
+    assert kept.text(PLAYERS, None) is None
+
+
+def test_a_stamp_of_whole_seconds_keeps_nothing():
+    kept = kept_at(WHOLE)
+    assert kept.text(PLAYERS, WHOLE) is None and kept.older_rounds(WHOLE) is None
+
+
+def test_the_next_result_keeps_players_and_older_rounds():
+    kept = kept_at(ONE)
+    kept.carry(7, ONE, TWO)
+    assert kept.text(PLAYERS, TWO) == "players" and kept.older_rounds(TWO) == ROUNDS
+    assert kept.text(RESULTS, TWO) is None and kept.text(RESULTS, ONE) is None
+    kept.carry(8, TWO, THREE)
+    assert kept.text(PLAYERS, THREE) == "players"
+
+
+def test_where_somebody_came_in_between_nothing_is_kept():
+    for serial, before in ((8, ONE), (7, TWO), (-1, ONE)):
+        kept = kept_at(ONE)
+        kept.carry(serial, before, THREE)
+        assert kept.text(PLAYERS, THREE) is None and kept.older_rounds(THREE) is None
+
+
+def test_a_command_forgets_all():
+    kept = kept_at(ONE)
+    kept.forget()
+    assert kept.text(PLAYERS, ONE) is None and kept.older_rounds(ONE) is None

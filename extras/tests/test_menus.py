@@ -1,0 +1,64 @@
+"""The menus of prompt_toolkit, fed with keys."""
+import threading
+import time
+
+import pytest
+from companions.lists import Player
+from companions.prompt.offers import offers_of_players, offers_of_words
+
+toolkit = pytest.importorskip("prompt_toolkit")
+
+PLAYERS = [
+    Player(1, "Ana Lima", False),
+    Player(7, "Bo Sato", False),
+    Player(9, "Sara Bo", False),
+    Player(10, "x\u202ey", False),
+]
+
+
+def offers(text):
+    name, space, part = text.partition(" ")
+    return offers_of_players(part, PLAYERS) if space else offers_of_words(
+        name, ["drop", "standings", "start", "who"]
+    )
+
+
+def test_a_part_of_a_name_offers_the_players_who_have_it():
+    assert [(it.text, it.shown) for it in offers("who sa")] == [
+        ("Sara Bo", "Sara Bo (9)"), ("Bo Sato", "Bo Sato (7)")
+    ]
+    assert [it.text for it in offers("who ")] == ["Ana Lima", "Bo Sato", "Sara Bo"]
+
+
+def within_seconds(is_so):
+    until = time.monotonic() + 5
+    while not is_so() and time.monotonic() < until:
+        time.sleep(0.01)
+
+
+@pytest.mark.parametrize("typed, line", [
+    ("who sat", "who Bo Sato"),
+    ("who lim", "who Ana Lima"),
+    ("stan", "standings"),
+])
+def test_the_tab_key_takes_what_the_menu_offers(typed, line):
+    from companions.prompt.menus import Menus
+    from prompt_toolkit.application import create_app_session
+    from prompt_toolkit.input import create_pipe_input
+    from prompt_toolkit.output import DummyOutput
+
+    with create_pipe_input() as keys, create_app_session(input=keys, output=DummyOutput()):
+        menus = Menus(offers)
+        buffer = menus.lines.default_buffer
+
+        def press():
+            keys.send_text(typed)
+            within_seconds(lambda: buffer.complete_state)
+            keys.send_text("\t")
+            within_seconds(lambda: buffer.text == line)
+            keys.send_text("\r")
+
+        thread = threading.Thread(target=press)
+        thread.start()
+        assert menus.line("desk> ") == line
+        thread.join()

@@ -1,0 +1,97 @@
+import csv
+
+import pytest
+from companions.program import Declined
+from companions.rosters import path_and_codec, read_list, roster_of, written_list
+from scripts.clients.random_evenings import HOSTILE
+
+# as GUIDE shows them
+CLUB = b"Club;First name;Last name\nOwls;Gus;Lima\n;Hal;Sato\n;Gus;Lima\n"
+
+
+def test_the_list_of_the_guide():
+    roster = roster_of(CLUB, set())
+    assert roster.how == "UTF-8, semicolons, the columns First name and Last name"
+    assert roster.names == ["Gus Lima", "Hal Sato"]
+    assert roster.left_out == [
+        "row 4: Gus Lima, as in row 2. If these are two, tell them apart,\n         as: Gus Lima (Owls)"
+    ]
+
+
+@pytest.mark.parametrize("data, names", [
+    (b"name\nAna\nBo\n", ["Ana", "Bo"]),
+    (b"no,name,dropped\n1,Ana,0\n", ["Ana"]),
+    ("\ufeffName\r\nZoë\r\nLima, Ed\r\n".encode(), ["Zoë", "Lima, Ed"]),
+    ("First\tLast\nZoë\t大会\n".encode("utf-16"), ["Zoë 大会"]),
+    ("Name,x\nZoë,1\n".encode("utf-16-le"), ["Zoë"]),
+    (b'sep=;\nName;Club\n"Lima; Ed";Owls\n', ["Lima; Ed"]),
+    (b"\n\nPlayer Name,Club\n  Ana   Lima ,Owls\n,\n", ["Ana Lima"]),
+    (b"LAST_NAME,FIRST-NAME\nLima,Ana\n", ["Ana Lima"]),
+])
+def test_lists_as_people_have_them(data, names):
+    assert roster_of(data, set()).names == names
+
+
+@pytest.mark.parametrize("data, said", [
+    (b"PK\3\4....", "Save it there as CSV"),
+    (b"Ana\nBo\n", "no column Name"),
+    (b"", "no column Name"),
+    (b"Club,Age\nOwls,7\n", "no column Name"),
+    (b'Name\n"Ana\nBo\n', "in the middle of a name in quotes"),
+    (b'Name;Club\nAna;Owls\n"Bo;', "in the middle of a name in quotes"),
+])
+def test_what_is_no_list_of_players(data, said):
+    with pytest.raises(Declined, match=said):
+        roster_of(data, set())
+
+
+def test_names_that_look_like_others_are_asked_for():
+    roster = roster_of("Name\nZoe\u0308\nana\nAna\nBo\n".encode(), {"Zo\u00eb"})
+    assert [(it.place, it.name, it.other) for it in roster.alike] == [
+        (2, "Zoe\u0308", "Zo\u00eb"), (4, "Ana", "ana")
+    ]
+    assert roster.names == ["ana", "Bo"]
+
+
+def test_letters_that_are_guessed():
+    data = "Name\n\u0141ukasz Wi\u015bniewski\n".encode("cp1250")
+    assert roster_of(data, set()).is_guess
+    roster = roster_of(data, set(), "cp1250")
+    assert (roster.names, roster.is_guess) == (["\u0141ukasz Wi\u015bniewski"], False)
+    assert not roster_of("Name\nZo\u00eb\n".encode(), set()).is_guess
+
+
+@pytest.mark.parametrize("names, codec", [
+    (["Zo\u00eb M\u00fcller", "Jos\u00e9 N\u00fa\u00f1ez", "O\u2019Neil"], "cp1252"),
+    (["\u0141ukasz Wi\u015bniewski", "Bo\u0159ivoj Nov\u00e1kov\u00e1"], "cp1250"),
+    (["\u0141ukasz"], "cp1250"),
+])
+def test_guesses_that_need_no_package(names, codec):
+    assert roster_of("\n".join(["Name", *names, ""]).encode(codec), set()).names == names
+
+
+def test_an_encoding_after_the_path(tmp_path):
+    with open(f"{tmp_path}/my list.csv", "w") as written:
+        written.write("name\n")
+    path = f"{tmp_path}/my list.csv"
+    assert path_and_codec(path) == (path, "")
+    assert path_and_codec(f"{path} cp1250") == (path, "cp1250")
+    assert path_and_codec(f"{path} nonesuch") == (f"{path} nonesuch", "")
+
+
+def test_a_path_that_is_none():
+    for path, said in (("a\0b", "no name of a file"), ("/none/there.csv", "was not read: No such file")):
+        with pytest.raises(Declined, match=said):
+            read_list(path)
+
+
+def test_rows_that_are_left_out_are_counted_as_a_spreadsheet_does():
+    roster = roster_of(b"Name,Club\nAna,x\n,x\nBo,x\nAna,x\n" + b"x" * 61 + b",x\nbad\x01one,x\n,\n", {"Bo"})
+    assert (roster.names, roster.already) == (["Ana"], ["Bo"])
+    assert [line.split(":")[0] for line in roster.left_out] == ["row 3", "row 5", "row 6", "row 7"]
+
+
+def test_the_program_gets_a_list_that_csv_reads_back():
+    names = [" ".join(name.split()) for name in HOSTILE]
+    with written_list(names) as path, open(path, encoding="utf-8", newline="") as written:
+        assert list(csv.reader(written)) == [["name"], *([name] for name in names)]

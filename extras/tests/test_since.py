@@ -1,0 +1,70 @@
+"""What came since a copy. An event is read from the texts of the plain reading."""
+from companions.event import Event
+from companions.prompt.evening import came_since
+from from_model import FromModel
+from scripts.models.plain_event import Event as PlainEvent
+
+
+class OfRounds:
+    def __init__(self, keys):
+        self.keys = keys
+
+    def last(self, number):
+        return self.keys.get(number)
+
+
+def played(*, results=(), dropped=(), late=(), rounds=1):
+    event = PlainEvent(3, 0)
+    for name in ("P1", "P2", "P3", "P4"):
+        event.enrol(name)
+    event.start()
+    event.pair(1, bytes(32))
+    for table, score in results:
+        event.report(1, table, score, True)
+    for number in dropped:
+        event.drop(number)
+    for name in late:
+        event.enrol(name)
+    if rounds == 2:
+        event.pair(2, bytes(32))
+    return Event(FromModel(event))
+
+
+def test_nothing_came():
+    assert came_since(played(), played(), OfRounds({})) == []
+
+
+def test_results_drops_and_players_come_as_lines_to_type():
+    before = played(results=((1, (2, 1, 0)), (2, (0, 2, 0))), dropped=(3,), late=("Late Lou",))
+    lines = came_since(before, played(results=((1, (2, 0, 0)),)), OfRounds({}))
+    assert lines[1:] == ["  fix 1 1 2 1 0", "  2 0 2 0", "  drop 3", "  enrol Late Lou"]
+
+
+def test_a_round_that_was_paired_since_comes_with_its_key():
+    both = ((1, (2, 0, 0)), (2, (2, 0, 0)))
+    lines = came_since(played(results=both, rounds=2), played(results=both), OfRounds({2: "ab" * 32}))
+    assert lines == ["Round 2 was paired since. Its key, for: pair again\n  " + "ab" * 32]
+
+
+def cut_of_four(scores):
+    event = PlainEvent(1, 2)
+    for name in ("P1", "P2", "P3", "P4"):
+        event.enrol(name)
+    event.start()
+    event.pair(1, bytes(32))
+    event.report(1, 1, (2, 0, 0), True)
+    event.report(1, 2, (2, 0, 0), True)
+    if scores is not None:
+        event.end_rounds()
+        for stage, slot, score in scores:
+            event.play(stage, slot, score)
+    return Event(FromModel(event))
+
+
+def test_the_cut_and_scores_of_the_playoff_come_as_lines_to_type():
+    lines = came_since(cut_of_four([(1, 1, (2, 1, 0))]), cut_of_four(None), OfRounds({}))
+    assert [line for line in lines if "cut" in line or "play " in line] == [
+        "The playoff was begun since. To begin it again: cut", "  play 1 1 2 1 0"
+    ]
+    lines = came_since(cut_of_four([(1, 1, (2, 1, 0))]), cut_of_four([]), OfRounds({}))
+    assert [line for line in lines if line.startswith("  ")] == ["  play 1 1 2 1 0"]
