@@ -48,7 +48,7 @@ def main(program, count, seed, most):
     dice, playing = random.Random(seed), Playing(os.path.abspath(program), random.Random(seed))
     for number in range(count):
         with tempfile.TemporaryDirectory() as folder:
-            playing.begin(f"event {number}", folder)
+            playing.begin(f"seed {seed}, event {number}", folder)
             random_event(playing.play, dice, number, most, version_of(number))
     for plays in (play_playoff, play_migration):
         with tempfile.TemporaryDirectory() as folder:

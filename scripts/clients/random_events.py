@@ -11,8 +11,8 @@ from scripts.models.plain_event import FINISHED
 from scripts.models.random_play import random_event
 
 
-def main(program, count):
-    dice, wrong, rounds, late, champions = random.Random(20261122), 0, 0, 0, 0
+def main(program, count, seed):
+    dice, wrong, rounds, late, champions = random.Random(seed), 0, 0, 0, 0
     for number in range(count):
         lines, answers = [], []
 
@@ -30,10 +30,10 @@ def main(program, count):
             wrong += 1
             got = ran.stdout.decode().splitlines()
             at = next((i for i, (a, b) in enumerate(zip(got, answers)) if a != b), min(len(got), len(answers)))
-            print(f"event {number}, line {at + 1} of the answers: {got[at:at + 1]}, and not {answers[at:at + 1]}", file=sys.stderr)
+            print(f"seed {seed}, event {number}, line {at + 1} of the answers: {got[at:at + 1]}, and not {answers[at:at + 1]}", file=sys.stderr)
     print(f"random events: {rounds} pairings asked for, {late} players who came late, {champions} champions")
     print(f"{count - wrong} passed, {wrong} failed")
     return 1 if wrong else 0
 
 
-sys.exit(main(sys.argv[1], int(sys.argv[2])))
+sys.exit(main(sys.argv[1], int(sys.argv[2]), int(sys.argv[3])))

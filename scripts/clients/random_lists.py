@@ -11,7 +11,7 @@ import sys
 import tempfile
 
 from scripts.clients.event_files import rows_alone, rows_of, run
-from scripts.clients.tally import check, end
+from scripts.clients.tally import check, dice_of, end
 from scripts.models.plain_csv import imported, players_rows, records, results_rows, written
 from scripts.models.plain_event import Event
 from scripts.models.random_play import random_event
@@ -117,7 +117,7 @@ def damage(program, dice, count):
 
 
 def main(program, lists, damages, seed):
-    dice = random.Random(seed)
+    dice = dice_of(seed)
     for number in range(lists):
         through(program, dice)
         play(program, dice, number)

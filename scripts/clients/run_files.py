@@ -152,12 +152,24 @@ def check_litter(what, answers, words, room):
 
 
 INIT = ("init", "Friday", "3", "0")
+# the command lines that open FILE
+OPENING = [("players",), ("standings",), ("enrol", "Cy"), ("export", "players"), ("serve", "0", "1"), ("import", "/dev/null"), ("migrate",)]
+
+
+def run_untold(room):
+    """Where the system can't tell whether FILE is there, it is no missing one: a name or a path that is too long, and a path through a file."""
+    file = made(f"{room}/e.event")
+    before = bytes_in(room)
+    for what, path in (("a name of 5,000 letters", "x" * 5_000), ("a path of 5,000 letters", "x/" * 2_500), ("a path through a file", "e.event/x")):
+        for name, *rest in (*OPENING, INIT):
+            check(f"{what}, {name}", run(name, f"{room}/{path}", *rest), refused(25, "Store"))
+    check("where it can't be told, nothing is changed", bytes_in(room), before)
+    check("where it can't be told, as ever", run("players", file), SERVED)
 
 
 def run_litter(room):
     """A file that is refused has no log beside it that wasn't there."""
     store, no_event, damaged, exists = (refused(*it) for it in ((25, "Store"), (27, "NoEvent"), (29, "Damaged"), (28, "EventExists")))
-    reading = [("players",), ("standings",), ("enrol", "Cy"), ("export", "players"), ("serve", "0", "1"), ("import", "/dev/null"), ("migrate",)]
     text, short = laid(room, "README.md", b"# A text\n" * 900), laid(room, "names.csv", b"name\nAna\n")
     other = by_sqlite(f"{room}/other", "CREATE TABLE note(body TEXT)")
     logged = by_sqlite(f"{room}/logged", "PRAGMA journal_mode = WAL", "CREATE TABLE note(body TEXT)")
@@ -165,14 +177,14 @@ def run_litter(room):
     wrong = without_log(shutil.copy(there, f"{room}/wrong"), "UPDATE player2 SET no = 7 WHERE no = 2")
     cut, torn = laid(room, "cut", bytes_of(there)[:100]), laid(room, "torn", bytes_of(there)[:6000])
     for what, file, answers, commands in (
-        ("a text", text, [store], [*reading, INIT]),
-        ("a short text", short, [store], [*reading, INIT]),
-        ("another program's file", other, [no_event], reading),
-        ("another program's file, which had a log", logged, [no_event], reading),
-        ("a damaged event", wrong, [damaged], reading),
+        ("a text", text, [store], [*OPENING, INIT]),
+        ("a short text", short, [store], [*OPENING, INIT]),
+        ("another program's file", other, [no_event], OPENING),
+        ("another program's file, which had a log", logged, [no_event], OPENING),
+        ("a damaged event", wrong, [damaged], OPENING),
         ("an event that is there", there, [exists], [INIT]),
-        ("an event cut at 100 bytes", cut, [store, no_event, damaged], reading),
-        ("an event cut in its second page", torn, [store, no_event, damaged], reading),
+        ("an event cut at 100 bytes", cut, [store, no_event, damaged], OPENING),
+        ("an event cut in its second page", torn, [store, no_event, damaged], OPENING),
     ):
         for name, *rest in commands:
             with tempfile.TemporaryDirectory() as folder:
@@ -368,7 +380,7 @@ def run_terminal(_room):
 
 
 def run_rights(room):
-    """A file that this user may not read, or not write."""
+    """A file that this user may not read, or not write; and one in a folder that this user may not go through, whether it is there or not."""
     if os.geteuid():
         left_out("a file that another user owns", "this user can't become another one")
         return
@@ -386,6 +398,14 @@ def run_rights(room):
         check(f"mode {mode:o}", by_nobody("enrol", file, "Cy"), refused(25, "Store"))
         check(f"mode {mode:o}, and it stays", bytes_of(file), before)
     check("as its owner", run("players", file), SERVED)
+    shut = f"{room}/shut"
+    os.mkdir(shut, 0o700)
+    made(f"{shut}/e.event")
+    before = bytes_in(shut)
+    for what, path in (("a file", f"{shut}/e.event"), ("no file", f"{shut}/none")):
+        for name, *rest in (*OPENING, INIT):
+            check(f"{what} in a folder that is shut, {name}", by_nobody(name, path, *rest), refused(25, "Store"))
+    check("in a folder that is shut, nothing is changed", bytes_in(shut), before)
 
 
 def run_alone(room):
@@ -684,7 +704,7 @@ def run_late_in_version_1(room):
         shows(f"{name}, with one who came late", file, event)
 
 
-PARTS = [run_paths, run_contents, run_litter, run_empty, run_logs, run_links, run_alone, run_copies, run_restoring]
+PARTS = [run_paths, run_untold, run_contents, run_litter, run_empty, run_logs, run_links, run_alone, run_copies, run_restoring]
 PARTS += [run_after_sqlite, run_totals, run_locked, run_full_disk, run_rights, run_terminal]
 PARTS += [run_migration, run_versions, run_taken, run_among_others, run_no_migration, run_late, run_late_in_version_1]
 

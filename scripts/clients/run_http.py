@@ -361,15 +361,18 @@ def run_no_connection(room):
 
 
 def run_line(room):
-    """A hundred clients wait while the first one sends nothing, and are then answered in their order."""
+    """A hundred clients wait while the first one has not sent all, and are then answered in their order. It sends a byte before each of them, since it is
+    let go where none comes for a second."""
     file = made(f"{room}/e.event")
+    sent = get("/rounds/1").replace(b"\r\n\r\n", b"\r\nX: " + b"a" * 100 + b"\r\n\r\n")
     with Serving(program, file, 101) as serving:
-        first = serving.client()
-        others = [serving.client() for _ in range(100)]
-        for number, client in enumerate(others):
-            sent_whole(client, POST if number == 50 else get("/rounds/1/tables/1"))
-        check("while the first one sends nothing", select.select(others, [], [], 0.3)[0], [])
-        sent_whole(first, get("/rounds/1"))
+        first, others = serving.client(), []
+        for number in range(100):
+            sent_whole(first, sent[number : number + 1])
+            others.append(serving.client())
+            sent_whole(others[-1], POST if number == 50 else get("/rounds/1/tables/1"))
+        check("while the first one has not sent all", select.select(others, [], [], 0.3)[0], [])
+        sent_whole(first, sent[100:])
         check("the first one", received(first), PAIRINGS)
         answers = [received(client) for client in others]
         check("a hundred that wait", answers, [SLIP] * 50 + [ACCEPTED] + [REPORTED_SLIP] * 49)

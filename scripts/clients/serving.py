@@ -10,16 +10,23 @@ PATIENCE = 20
 SILENCE = b" .. and then nothing came"
 
 
+# at another address of this machine, so that no other script takes the same ports
+claims = []
+
+
 def free_port():
-    """A port that nobody holds, below those that the kernel gives to clients, so that it is still free when it is taken again."""
+    """A port that nobody holds, below those that the kernel gives to clients, so that it is still free when it is taken again. It is claimed until the
+    script ends."""
     while True:
-        port = random.randrange(20_000, 32_000)
-        with socket.socket() as it:
-            try:
+        port, claim = random.randrange(20_000, 32_000), socket.socket()
+        try:
+            claim.bind(("127.0.0.2", port))
+            with socket.socket() as it:
                 it.bind(("127.0.0.1", port))
-                return port
-            except OSError:
-                pass
+            claims.append(claim)
+            return port
+        except OSError:
+            claim.close()
 
 
 def sent_whole(client, sent):

@@ -1,7 +1,17 @@
 """Counts what was as it had to be, and says what was not."""
+import random
 import sys
 
 wrong = right = 0
+# what a failure is played again by, where something is random
+seed = ""
+
+
+def dice_of(number):
+    """The dice that a seed begins, which each failure names from then on."""
+    global seed
+    seed = f" (seed {number})"
+    return random.Random(number)
 
 
 def check(name, got, want):
@@ -10,7 +20,7 @@ def check(name, got, want):
         right += 1
     else:
         wrong += 1
-        print(f"{name}: {got!r}, and not {want!r}", file=sys.stderr)
+        print(f"{name}: {got!r}, and not {want!r}{seed}", file=sys.stderr)
 
 
 def left_out(what, why):

@@ -19,7 +19,7 @@ import sys
 import tempfile
 
 from scripts.clients.event_files import copied, due, make_old, rows_alone, rows_of, rows_of_copy, run, words_of
-from scripts.clients.tally import check, end
+from scripts.clients.tally import check, dice_of, end
 from scripts.faults import damaged_bytes
 from scripts.faults import damaged_rows
 from scripts.faults.stopping import run_unclosed
@@ -247,7 +247,7 @@ class Damages:
                 faults.append("C SQLite reads something else of the file alone afterwards")
             if not faults and name_of(answers) == "an event" and kind.startswith("SQL: ") and kind != f"SQL: {damaged_rows.UNREAD_KIND}":
                 faults += filter(None, [self.migration_fault(file)])
-            return Outcome(kind, name_of(due_answers), name_of(answers), change, [f"damage {number}, {kind}: {it}" for it in faults])
+            return Outcome(kind, name_of(due_answers), name_of(answers), change, [f"seed {self.seed}, damage {number}, {kind}: {it}" for it in faults])
 
 
 def told(outcomes):
@@ -260,7 +260,7 @@ def told(outcomes):
 
 def main(program, library, count, seed, jobs, templates, longest):
     with tempfile.TemporaryDirectory() as folder:
-        dice, outcomes = random.Random(seed), []
+        dice, outcomes = dice_of(seed), []
         chosen_ones = chosen(dice, templates, longest)
         for number, template in enumerate(chosen_ones):
             template.make(program, library, f"{folder}/{number}")

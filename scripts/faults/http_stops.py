@@ -18,14 +18,14 @@ SCORES = [(2, 0, 0), (2, 1, 0), (1, 2, 0), (0, 2, 0), (1, 1, 1), (0, 0, 3)]
 
 
 class Stops:
-    def __init__(self, program, count, dice):
-        self.program, self.count, self.dice = program, count, dice
+    def __init__(self, program, count, seed):
+        self.program, self.count, self.seed, self.dice = program, count, seed, random.Random(seed)
         self.stops = self.events = self.whole = self.stored = self.acknowledged = self.again = self.wrong = 0
         self.length = 0.01
 
     def complain(self, what, got, want):
         self.wrong += 1
-        print(f"event {self.events}, stop {self.stops}, {what}: {got!r}, and not {want!r}", file=sys.stderr)
+        print(f"seed {self.seed}, event {self.events}, stop {self.stops}, {what}: {got!r}, and not {want!r}", file=sys.stderr)
 
     def line(self, line, answer):
         got = run(self.program, words_of(line, self.file))
@@ -139,7 +139,7 @@ class Stops:
 
 
 def main(program, count, seed):
-    stops = Stops(program, count, random.Random(seed))
+    stops = Stops(program, count, seed)
     while stops.stops < count:
         with tempfile.TemporaryDirectory() as folder:
             stops.begin(f"{folder}/e.event")

@@ -158,7 +158,7 @@ def main(program, library, count, seed):
                 play()
             if count:
                 print(f"{number} events, {calls.told()}", file=sys.stderr, flush=True)
-    print("\n".join(calls.wrong), file=sys.stderr, end="\n" if calls.wrong else "")
+    print("".join(f"seed {seed}, {it}\n" for it in calls.wrong), file=sys.stderr, end="")
     print(f"stops at each call: {len(plays)} events, {calls.told()}")
     return 1 if calls.wrong else 0
 

@@ -19,8 +19,8 @@ class Stopped(Exception):
 
 
 class Stops:
-    def __init__(self, program, count, dice):
-        self.program, self.count, self.dice = program, count, dice
+    def __init__(self, program, count, seed):
+        self.program, self.count, self.seed, self.dice = program, count, seed, random.Random(seed)
         self.stops = self.taken = self.acknowledged = self.wrong = 0
         self.length = 0.01
 
@@ -29,7 +29,7 @@ class Stops:
 
     def complain(self, line, what):
         self.wrong += 1
-        print(f"{line!r}: {what}", file=sys.stderr)
+        print(f"seed {self.seed}, {line!r}: {what}", file=sys.stderr)
 
     def stop(self, words):
         """Runs the words for a random while, and gives the status and what was printed."""
@@ -89,7 +89,7 @@ class Stops:
 
 def main(program, count, seed):
     dice = random.Random(seed)
-    stops = Stops(program, count, random.Random(seed))
+    stops = Stops(program, count, seed)
     number = 0
     try:
         while True:

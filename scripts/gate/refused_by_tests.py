@@ -1,7 +1,7 @@
 """Puts each of a few wrong bodies into a copy of the crates, builds tests there with no proof, and asks that the test which sees such a body
 fails. With no wrong body the same tests pass in the gate. There a wrong body can't be built in, since only what is proved is built.
 
-Those of must-fail are refused by the proof too, and here by the tests on stopped disks. Those of refused-by-tests meet every contract: a call may
+Those of wrong-bodies are refused by the proof too, and here by the tests on stopped disks. Those of refused-by-tests meet every contract: a call may
 always answer that memory is wanting, and a writer may always break, so that tests alone refuse them.
 """
 import concurrent.futures
@@ -18,18 +18,19 @@ from scripts import TOP
 TESTS, SLIPS_TESTS, CLI_TESTS = "er_tests", "er_slips_tests", "er_cli_tests"
 WHOLE_EVENT, PAIRING = "stops::a_whole_event_survives_each_stop", "stops::a_pairing_survives_each_stop"
 ADOPTED = "desks::a_desk_answers_and_is_adopted"
-SERVED = "sockets::clients_are_served"
+SERVED, GOES_ON = "sockets::clients_are_served", "sessions::sessions_go_on"
 SCORE, SHORT = "requests::a_score_is_taken_once", "requests::requests_that_change_nothing_are_answered"
 # where a wrong body stands, and the tests of one crate each of which sees it
 BODIES = {
-    "er_store/must-fail/two_transactions": (SLIPS_TESTS, [WHOLE_EVENT]),
-    "er_store/must-fail/early_acknowledgement": (SLIPS_TESTS, [WHOLE_EVENT]),
-    "er_store/must-fail/repairs_on_open": (SLIPS_TESTS, [WHOLE_EVENT]),
-    "er_desk/must-fail/memory_alone": (SLIPS_TESTS, [WHOLE_EVENT]),
-    "er_desk/must-fail/goes_on_after_fault": (SLIPS_TESTS, [PAIRING]),
+    "er_store/wrong-bodies/two_transactions": (SLIPS_TESTS, [WHOLE_EVENT]),
+    "er_store/wrong-bodies/early_acknowledgement": (SLIPS_TESTS, [WHOLE_EVENT]),
+    "er_store/wrong-bodies/repairs_on_open": (SLIPS_TESTS, [WHOLE_EVENT]),
+    "er_desk/wrong-bodies/memory_alone": (SLIPS_TESTS, [WHOLE_EVENT]),
+    "er_desk/wrong-bodies/goes_on_after_fault": (SLIPS_TESTS, [PAIRING]),
     "er_desk/refused-by-tests/refuses_without_cause": (TESTS, [ADOPTED]),
     "er_slips/refused-by-tests/never_answers": (SLIPS_TESTS, [SCORE, SHORT]),
     "er_cli/refused-by-tests/waits_for_ever": (CLI_TESTS, [SERVED]),
+    "er_cli/refused-by-tests/never_copies_the_log": (CLI_TESTS, [GOES_ON]),
 }
 # with this one the test does not end, so that the limit of so many seconds is its refusal, as it is of no other
 ENDLESS, ENDLESS_SECONDS = "er_cli/refused-by-tests/waits_for_ever", 60

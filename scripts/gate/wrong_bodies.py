@@ -6,15 +6,20 @@ A wrong body is an edit in the form of must-fail edits: a line `file: src/NAME.r
 function are put into one copy of the crate, and one check says of each function whether it is still proved. What that check could not
 judge, as a function that calls another one that is refused, is tried again without these beside it, and at last alone.
 
+An answer of the function may merely no longer fit the changed body, and no goal of the contract stay open beside it. Such a wrong body is tried once
+more without the function's answers, and that verdict counts. Its invariants stay, since no loop is proved without them.
+
 Beside the gate, which leaves processors idle while crates wait for those below them, a crate's wrong bodies are tried as soon as the gate
-has proved it, over copies of the libraries that it made. There those with a line `tried: always` are tried each time, and one of each other public
-function every second time. The rest comes in more turns; so do those of constants, since the facts that refuse them are proved by the gate each
-time. The turns go on every three hours, by the time of the commit, so that the commits of a day do not all try the same ones. With no turn given,
-all are tried. Where time is short, on a machine that others use, what is left is named, and not tried.
+has proved it, over copies of the libraries that it made. There those with a line `tried: always` are tried each time, before the others, and one of
+each public function every second time. The rest comes in more turns; so do those of constants, since the facts that refuse them are proved by the
+gate each time. The turns go on every three hours, by the time of the commit, so that the commits of a day do not all try the same ones. With no turn
+given, all are tried. Where time is short, on a machine that others use, what is left of the others is named, and not tried. Of those that are tried
+each time it is kept that they were refused, as `rt ci` keeps it of its own edits, until something changes that their check reads.
 """
 import argparse
 import concurrent.futures
 import dataclasses
+import glob
 import os
 import re
 import shutil
@@ -40,9 +45,7 @@ TURNS = 5
 NOT_TRIED = "not tried"
 # What a proof file says of a name that it lost, and not of the contract.
 LOST_NAME = re.compile(r"has no field|is not in scope|has no `|was not admitted|was rejected|was not checked|were not checked|which is not proved")
-# What a proof file says of its own text, where that no longer fits the names or the shape of what it is about.
-OWN_TEXT = re.compile(r"stands by its signature alone|\(nearest: ")
-# What was refused by such a text alone, and by no goal.
+# What was refused by a proof's own text alone, which no longer fits what it is about, and by no goal.
 BY_TEXT = "refused by a proof's text alone"
 REFUSED = ("refused", BY_TEXT)
 # What says that the text was not read, so that nothing was tried.
@@ -171,25 +174,21 @@ def is_public(crate, function):
 
 
 def of_turn(crate, bodies, turn):
-    """The wrong bodies that are tried in this turn: those that are tried each time, one of each second public function that none of these changes,
-    and a part of the others. Those of constants take a check of their own, and so do those beside one that is tried each time, in its function:
-    they come together, in one turn."""
-    always = [it for it in bodies if it.is_always]
-    changed = {function for body in always for function in body.functions}
-    constants, beside, private, public = [], [], [], {}
+    """The wrong bodies that are tried in this turn: those that are tried each time, one of each second public function, and a part of the others.
+    Those of constants take a check of their own, so that they come together, in one turn."""
+    constants, private, public = [], [], {}
     for body in (it for it in bodies if not it.is_always):
         called = sorted(function for function in body.functions if is_public(crate, function))
         if EXAMPLES in body.functions:
             constants.append(body)
-        elif body.functions & changed:
-            beside.append(body)
         elif called:
             public.setdefault(called[0], []).append(body)
         else:
             private.append(body)
     private.sort(key=lambda it: min(it.functions))
-    part = [*([it] for it in private), constants, beside][turn % TURNS :: TURNS]
+    part = [*([it] for it in private), constants][turn % TURNS :: TURNS]
     of_public = [*public.values()][turn % PUBLIC_TURNS :: PUBLIC_TURNS]
+    always = [it for it in bodies if it.is_always]
     return always + [its[turn // PUBLIC_TURNS % len(its)] for its in of_public] + [it for its in part for it in its]
 
 
@@ -201,20 +200,28 @@ def clause_of(goal):
     return goal.rpartition("-clause-")[2] if "-clause-" in goal else ""
 
 
+def answers_of(folder, function):
+    """The files of the function's answers: one or none, and more where a method's pattern is of several."""
+    *modules, name = function.split("::")
+    path = re.compile("/".join([re.escape(folder), "proofs", *modules, rf"\+?{name}", "Answers.antt"]))
+    return [it for it in glob.glob(f"{folder}/proofs/**/Answers.antt", recursive=True) if path.fullmatch(it)]
+
+
 def answered_in(crate, function):
     """The clauses of a function that its own answers are about."""
-    file = f"{proof_of(crate.folder, function)}/Answers.antt"
-    text = open(file, encoding="utf-8").read() if os.path.isfile(file) else ""
-    return {clause_of(it) for it in re.findall(r"goal\.(returns[\w-]*)", text)}
+    texts = [open(it, encoding="utf-8").read() for it in answers_of(crate.folder, function)]
+    return {clause_of(it) for text in texts for it in re.findall(r"goal\.(returns[\w-]*)", text)}
 
 
-def left_open(crate, texts, output):
-    """The functions of which a goal stayed open that no answer of theirs is about. With it a clause is refused, whatever names their answers lost."""
+def left_open(crate, texts, output, bare):
+    """The functions of which a goal stayed open that no answer of theirs is about. With it a clause is refused, whatever names their answers lost.
+    Those of `bare` have no answers."""
     found = set()
     for file, line, goal in OPEN_GOAL.findall(output):
         text = texts.get(file) or open(f"{crate.folder}/{file}", encoding="utf-8").read()
         function = function_at(crate, text, sum(len(it) for it in text.splitlines(True)[: int(line)]), file)
-        if function and goal.startswith("returns") and not answered_in(crate, function) & {"", clause_of(goal)}:
+        answered = set() if function in bare else answered_in(crate, function or "")
+        if function and goal.startswith("returns") and not answered & {"", clause_of(goal)}:
             found.add(function)
     return found
 
@@ -236,9 +243,7 @@ def said_of(crate, function, output, constants, open_in):
     *folders, name = function.split("::")
     folder = "/".join(["proofs", *folders, rf"\+?{name}"])
     told = [it for it in re.findall(rf"^(?:\./)?{folder}/\S+?:\d+:\d+: error: (.*)$", output, re.M) if not LOST_NAME.search(it)]
-    if not told:
-        return "unclear"
-    return BY_TEXT if all(OWN_TEXT.search(it) for it in told) else "refused"
+    return BY_TEXT if told else "unclear"
 
 
 def verdict(crate, body, output, constants, open_in):
@@ -289,8 +294,8 @@ def fact_of(crate):
     return found[1] if found else None
 
 
-def checked(crate, texts, holes, flags, kept):
-    """What a check says of a copy of the crate with these texts, and a hole for each of these functions."""
+def checked(crate, texts, holes, bare, flags, kept):
+    """What a check says of a copy of the crate with these texts, a hole for each of these functions, and no answers of those of `bare`."""
     with tempfile.TemporaryDirectory(prefix="rt-edit-") as room:
         for part in ("src", "specs", "proofs"):
             if os.path.isdir(f"{crate.folder}/{part}"):
@@ -300,6 +305,8 @@ def checked(crate, texts, holes, flags, kept):
                 it.write(text)
         for function in holes:
             leave_hole(crate, room, function, fact_of(crate) if function == min(holes) else None)
+        for file in (it for function in bare for it in answers_of(room, function)):
+            os.remove(file)
         flags = ["--jobs", "1", *flags, *(["--allow-holes"] if holes else [])]
         words = [rt.rtlib.RATTLE, "check", *crate.words(flags, keeps=False), "--incremental", kept]
         how = {"cwd": room, "stdin": subprocess.DEVNULL, "stdout": subprocess.PIPE, "stderr": subprocess.STDOUT, "errors": "replace"}
@@ -310,61 +317,105 @@ def checked(crate, texts, holes, flags, kept):
         return ran.stdout
 
 
-def tried(crate, bodies, kept, has_holes=True):
+def tried(crate, bodies, kept, has_holes=True, has_answers=True):
     """Tries these in one check, and returns what it said of each."""
     taken, texts = together(crate, bodies)
     touched = {it for body in taken for it in body.functions}
     holes = functions_of(crate) - touched if has_holes else set()
-    output = checked(crate, texts, holes, only(taken, holes), kept)
+    bare = set() if has_answers else touched
+    output = checked(crate, texts, holes, bare, only(taken, holes), kept)
     if re.search(UNREAD, output) or not re.search(r"^(logic|only|holes)=", output, re.M):
         said = {it.name: "unclear" for it in taken}
         if len(taken) == 1 and not has_holes:
             said = {taken[0].name: "unread"}
     else:
         constants = sum(EXAMPLES in it.functions for it in taken)
-        open_in = left_open(crate, texts, output)
+        open_in = left_open(crate, texts, output, bare)
         said = {it.name: verdict(crate, it, output, constants, open_in) for it in taken}
     return said, output
 
 
-# when no check is begun any more, by the clock of `time.monotonic`
+# when no check is begun any more but of those that are tried each time, by the clock of `time.monotonic`
 deadline = float("inf")
 
 
-def has_time():
-    return time.monotonic() < deadline
+def in_time(bodies):
+    """Those of these for which a check is still begun."""
+    return bodies if time.monotonic() < deadline else [it for it in bodies if it.is_always]
 
 
-def try_all(crate, bodies, shows):
-    """What was found of each of these wrong bodies of a crate, by name."""
+def judged(crate, bodies, kept, shows, has_answers=True):
+    """What was found of each of these wrong bodies of a crate, by name, but of those for which there was no time."""
     found, alone = {}, []
-    with tempfile.TemporaryDirectory(prefix="wrong-bodies-") as kept:
-        left, again = bodies, []
-        while left and has_time():
-            said, output = tried(crate, left, kept)
+    left, again = in_time(bodies), []
+    while left:
+        said, output = tried(crate, left, kept, has_answers=has_answers)
+        if shows:
+            print(output)
+        refused = {name: what for name, what in said.items() if what in REFUSED}
+        unclear = [it for it in left if it.name in said and it.name not in refused]
+        found.update(refused)
+        left = in_time([it for it in left if it.name not in said])
+        # those may have waited for others that were refused
+        again += unclear if refused else []
+        alone += [] if refused else unclear
+        if not left:
+            left, again = in_time(again), []
+    # what was not refused so is tried alone, over the proofs of the whole crate
+    for body in alone:
+        if in_time([body]):
+            said, output = tried(crate, [body], kept, has_holes=False, has_answers=has_answers)
             if shows:
                 print(output)
-            refused = {name: what for name, what in said.items() if what in REFUSED}
-            unclear = [it for it in left if it.name in said and it.name not in refused]
-            found.update(refused)
-            left = [it for it in left if it.name not in said]
-            # those may have waited for others that were refused
-            again += unclear if refused else []
-            alone += [] if refused else unclear
-            if not left:
-                left, again = again, []
-        # what was not refused so is tried alone, over the proofs of the whole crate
-        for body in alone:
-            if has_time():
-                said, output = tried(crate, [body], kept, has_holes=False)
-                if shows:
-                    print(output)
-                found.update(said)
+            found.update(said)
+    return found
+
+
+def is_answered(crate, body):
+    """Whether a function that the wrong body changes has answers."""
+    return any(answers_of(crate.folder, it) for it in body.functions)
+
+
+class Refused:
+    """The wrong bodies with a line `tried: always` that a run of the gate on this machine saw refused at a goal. They are kept where `rt ci` keeps what its
+    own edits came to, by the sum of all that their check reads, and of this script."""
+
+    def __init__(self, crates):
+        self.kept = rt.Kept(crates)
+        with open(__file__, "rb") as it:
+            self.judge = it.read()
+
+    def name_of(self, crate, body):
+        return self.kept.of_edit(f"{crate.folder}/wrong-bodies/{body.name}.edit", (rt.stamp_of(crate, {}), self.judge))
+
+    def has(self, crate, body):
+        return body.is_always and self.kept.tried(self.name_of(crate, body)) is not None
+
+    def add(self, crate, bodies):
+        """Keeps these, unless a file that their check read was touched meanwhile."""
+        if all(self.kept.is_untouched(it) for it in [*crate.below(), crate]):
+            for body in bodies:
+                self.kept.keep_tried(self.name_of(crate, body), rt.REFUSED, "")
+
+
+def try_all(crate, bodies, shows, earlier=None):
+    """What was found of each of these wrong bodies of a crate, by name. Those that were refused earlier are not tried."""
+    found = {it.name: "refused" for it in bodies if earlier and earlier.has(crate, it)}
+    known, new = len(found), [it for it in bodies if it.name not in found]
+    with tempfile.TemporaryDirectory(prefix="wrong-bodies-") as kept:
+        found.update(judged(crate, new, kept, shows))
+        by_text = [it for it in new if found.get(it.name) == BY_TEXT and is_answered(crate, it)]
+        without = judged(crate, by_text, kept, shows, has_answers=False)
+        found.update({name: what for name, what in without.items() if what != "unclear"})
+    if earlier:
+        earlier.add(crate, [it for it in new if it.is_always and found.get(it.name) == "refused"])
     found.update({it.name: NOT_TRIED for it in bodies if it.name not in found})
     with printing:
         for name, what in sorted(found.items()):
             if what != "refused":
                 print(f"{crate.name}/{name}: {what.upper()}", flush=True)
+        if known:
+            print(f"{crate.name}: {known} were refused in an earlier run on this machine, and nothing that they stand on has changed")
         print(f"{crate.name}: {told([found])}", flush=True)
     return found
 
@@ -419,7 +470,7 @@ def linked(one, other):
         shutil.copy2(one, other)
 
 
-def try_beside(gate, work, shows):
+def try_beside(gate, work, shows, earlier):
     """Tries those of a crate once the gate has proved it: with half of the processors until the gate has ended, and then with all."""
     os.nice(10)
     found, left, running = [], [*work], set()
@@ -436,7 +487,7 @@ def try_beside(gate, work, shows):
                 places = 0 if running else 1
             for it in ready[:places]:
                 left.remove(it)
-                running.add(pool.submit(try_all, *it, shows))
+                running.add(pool.submit(try_all, *it, shows, earlier))
             ended, running = concurrent.futures.wait(running, timeout=5, return_when=concurrent.futures.FIRST_COMPLETED)
             found += [it.result() for it in ended]
             if not running and not ready:
@@ -457,7 +508,7 @@ def main():
     words.add_argument("names", nargs="*", metavar="NAME")
     words.add_argument("--beside-gate", metavar="LOG", help="begin with each crate once rt ci, whose output goes to LOG, has proved it")
     words.add_argument("--turn", metavar="NUMBER", type=int, help="try what is tried each time, and of the others those whose turn this is")
-    words.add_argument("--minutes", metavar="NUMBER", type=int, help="begin no check after so many; what is left is named, and is no fault")
+    words.add_argument("--minutes", metavar="NUMBER", type=int, help="begin no check after so many but of those tried each time; what is left is named, and is no fault")
     words.add_argument("--only", metavar="EDIT", action="append", help="try this one, and no other that is not named so too")
     words.add_argument("--show", action="store_true", help="print what each check said")
     given = words.parse_args()
@@ -466,8 +517,8 @@ def main():
         deadline = time.monotonic() + 60 * given.minutes
     os.environ.pop(rt.rtlib.ALLOW_C, None)
     rt.rtlib.guarded()
-    work = []
-    for crate in rt.rtlib.crates_below(os.getcwd()):
+    work, crates = [], rt.rtlib.crates_below(os.getcwd())
+    for crate in crates:
         folder = f"{crate.folder}/wrong-bodies"
         if os.path.isdir(folder) and (not given.names or crate.name in given.names):
             bodies = [read(f"{folder}/{it}", crate) for it in sorted(os.listdir(folder)) if it.endswith(".edit")]
@@ -476,7 +527,7 @@ def main():
     work.sort(key=lambda it: -it[0].count(rb"\n"))
     if given.beside_gate:
         with tempfile.TemporaryDirectory(prefix="gate-libraries-") as room:
-            found = try_beside(Gate(given.beside_gate, room), work, given.show)
+            found = try_beside(Gate(given.beside_gate, room), work, given.show, Refused(crates))
     else:
         found = try_now(work, given.show)
     print(f"wrong bodies: {told(found)}")
