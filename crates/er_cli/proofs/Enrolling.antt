@@ -27,9 +27,9 @@ fault_stops why (inr is) = ap (λ (w : Refusal). is_stop (Err w)) is
 
 -- a desk that goes on with an import runs
 pub runs_on : (old new : DeskState) (command : Command) (reply : Reply) → Turn old command reply new → is_stop reply ≡ false
-    → IsFalse new.stopped
+    → IsFalse new.needs_reopen
 runs_on old new command reply (inl it) on = it.runs
-runs_on old new command reply (inr (inl it)) on = subst (λ (s : DeskState). IsFalse s.stopped) (sym it.same) it.was_running
+runs_on old new command reply (inr (inl it)) on = subst (λ (s : DeskState). IsFalse s.needs_reopen) (sym it.same) it.was_running
 runs_on old new command reply (inr (inr (inl it))) on =
     absurd (true≢false (sym (fault_stops it.why it.fault) ∙ sym (ap is_stop it.answered) ∙ on))
 runs_on old new command reply (inr (inr (inr it))) on = absurd (true≢false (sym (ap is_stop it.answered) ∙ on))
@@ -53,7 +53,7 @@ one_longer replies reply = length-append replies (reply ∷ [])
 
 -- the session with this command behind it
 abbrev pub with_name : Session → List ℕ → Reply → DeskState → Session
-with_name session name reply new = joined session (session_of (Enrol name ∷ []) (reply ∷ []) new.stopped)
+with_name session name reply new = joined session (session_of (Enrol name ∷ []) (reply ∷ []) new.needs_reopen)
 
 module _ (grow : ListsGrow) (names : List (List ℕ)) (old mid new : DeskState) (additions : Additions) (session : Session)
     (so_far : Enrols names old additions None session mid) (name : List ℕ)
@@ -69,10 +69,11 @@ module _ (grow : ListsGrow) (names : List (List ℕ)) (old mid new : DeskState) 
       subst (λ (ns : List (List ℕ)). Runs old (map Enrol ns) so_far.replies mid) whole
       (subst (λ (rs : List Reply). Runs old (map Enrol (take (length rs) names)) rs mid) (append-nil so_far.replies) so_far.ran)
 
-  all_asked : session ≡ session_of (map Enrol names) so_far.replies mid.stopped
+  all_asked : session ≡ session_of (map Enrol names) so_far.replies mid.needs_reopen
   all_asked =
-      subst (λ (ns : List (List ℕ)). session ≡ session_of (map Enrol ns) so_far.replies mid.stopped) whole
-      (subst (λ (rs : List Reply). session ≡ session_of (map Enrol (take (length rs) names)) rs mid.stopped) (append-nil so_far.replies)
+      subst (λ (ns : List (List ℕ)). session ≡ session_of (map Enrol ns) so_far.replies mid.needs_reopen) whole
+      (subst (λ (rs : List Reply). session ≡ session_of (map Enrol (take (length rs) names)) rs mid.needs_reopen)
+      (append-nil so_far.replies)
       so_far.asked)
 
   ran_more : Runs old (map Enrol (names ++ name ∷ [])) (so_far.replies ++ reply ∷ []) new
@@ -80,11 +81,11 @@ module _ (grow : ListsGrow) (names : List (List ℕ)) (old mid new : DeskState) 
       (runs_more (map Enrol names) so_far.replies old mid new (Enrol name) reply all_ran turn)
 
   asked_more : with_name session name reply new
-      ≡ session_of (map Enrol (names ++ name ∷ [])) (so_far.replies ++ reply ∷ []) new.stopped
+      ≡ session_of (map Enrol (names ++ name ∷ [])) (so_far.replies ++ reply ∷ []) new.needs_reopen
   asked_more =
       ap (λ (s : Session). with_name s name reply new) all_asked
       ∙ grow old mid new (map Enrol names) so_far.replies (Enrol name) reply all_ran turn
-      ∙ ap (λ (cs : List Command). session_of cs (so_far.replies ++ reply ∷ []) new.stopped) (sym (map-append Enrol names (name ∷ [])))
+      ∙ ap (λ (cs : List Command). session_of cs (so_far.replies ++ reply ∷ []) new.needs_reopen) (sym (map-append Enrol names (name ∷ [])))
 
   fits : length (so_far.replies ++ reply ∷ []) ≡ length (names ++ name ∷ [])
   fits = one_longer so_far.replies reply ∙ ap (λ n. n + 1) as_many ∙ sym (length-append names (name ∷ []))
@@ -118,7 +119,7 @@ module _ (grow : ListsGrow) (names : List (List ℕ)) (old mid new : DeskState) 
             rw (long, begins) ran;
         asked =
             let asked = subst (λ (r : Reply).
-            with_name session name reply new ≡ session_of (map Enrol (names ++ name ∷ [])) (so_far.replies ++ r ∷ []) new.stopped)
+            with_name session name reply new ≡ session_of (map Enrol (names ++ name ∷ [])) (so_far.replies ++ r ∷ []) new.needs_reopen)
             is asked_more in
             rw (long, begins) asked;
         counted = so_far.counted;
@@ -148,7 +149,8 @@ first_names lines i d within is =
     (ap (λ n. take n (names_of lines)) long ∙ take-map name (i + 1) lines)
 
 -- a name of a list, in its turn
-module _ (grow : ListsGrow) (lines : List PlayerLine) (i : ℕ) (line : PlayerLine) (within : i < length lines) (is : line ≡ get_or lines i line)
+module _ (grow : ListsGrow) (lines : List PlayerLine) (i : ℕ) (line : PlayerLine) (within : i < length lines)
+    (is : line ≡ get_or lines i line)
     (old mid new : DeskState) (additions : Additions) (session : Session)
     (so_far : Enrols (names_of (take i lines)) old additions None session mid) (reply : Reply)
     (turn : Turn mid (Enrol line.name) reply new) where

@@ -1,53 +1,47 @@
 -- A history goes on with what a command line asks.
 use Rattle.std.proofs.lemmas.Grind.{common_steps}
 use Rattle.std.proofs.Common.{◌≡◌, ◌⊎◌, inl, inr, ℕ, Bool, true, false, IsTrue, IsFalse, List, [], ◌∷◌, Option, None}
-use Rattle.std.proofs.Common.{Vec, Global, Result, MatchResult, Ok, Err, IfOk, IfErr, is_ok, refl, sym, ap, subst, ◌∙◌, arith, true≢false}
+use Rattle.std.proofs.Common.{Vec, Global, Result, Ok, Err, IfOk, IfErr, is_ok, refl, sym, ap, subst, ◌∙◌, arith, true≢false}
 use Rattle.sqlite.specs.{Tree.Trees, State.HasCleanDisk, declared.file.Leftover.Leftover}
-use Rattle.sqlite.specs.Files.{HoldsDatabase, file_state, image_of, over_files}
+use Rattle.sqlite.specs.Files.{HoldsDatabase, file_state, over_files}
 use Rattle.sqlite_disk.specs.declared.Disk as disk
-use Rattle.sqlite_disk.specs.declared.Files.{Files}
-use Rattle.sqlite_wal.specs.{Recovery.Image, Reads.AreClean}
+use Rattle.sqlite_wal.specs.Recovery.{Image}
 use Rattle.sqlite_store.specs.declared.store.FileStore.{FileStore}
 use Rattle.sqlite.specs.declared.error.Error.{Error}
 use Rattle.er_event.specs.{declared.commands.Command.Command, declared.commands.Receipt.Receipt, declared.refusals.Refusal.Refusal}
 use Rattle.er_event.specs.{declared.refusals.Refusal.TheVariants.{Memory, NoEvent}, Event.EventValue}
 use Rattle.er_rank.specs.declared.rows.Row.{Row}
-use Rattle.er_store.specs.{Fault.{IsFault, IsLoadFault}, Representing.{IsStored, Leaves}}
-use Rattle.er_desk.specs.{declared.desk.Desk.Desk, Desk.{Point, DeskState, Turn, Reads, ShowsEvent, ShowsOwn, point_of}}
-use Rattle.er_desk.specs.Desk.{running_at, desk_state, state, version_in}
-use Rattle.er_desk.specs.{Reply.{Reply, IsLawful, receipt}, Run.{Session, IsStoredEnd, no_session}, History.{Ended, LeadsTo}}
-use Rattle.er_desk.specs.{Headline.{FindsAgain, LeavesEnd, NextBegins, WasLeftBy}, Migrating.{MayMigrate, Migrates}}
+use Rattle.er_store.specs.{Fault.{IsFault}, Representing.{Leaves, RepresentsAt}, Layout.{Layout, version_of}}
+use Rattle.er_desk.specs.{declared.desk.Desk.Desk, Desk.{Point, Placed, DeskState, Turn, Reads, ShowsEvent, ShowsOwn, point_of}}
+use Rattle.er_desk.specs.Desk.{IsStoredAt, placed_at, placed_of, running_at, desk_state, state, version_in}
+use Rattle.er_desk.specs.{Reply.{Reply, IsLawful, receipt}, Run.{Session, IsStoredEnd, no_session}, History.{Ended}}
+use Rattle.er_desk.specs.{Headline.{FindsAgain, IsBeginning, WasLeftBy}, Migrating.{MayMigrate, Migrates, MovesDesk}}
 use Rattle.sqlite_trees.specs.declared.store.Store.{Ghosts}
-use Rattle.er_desk.specs.{Headline.AreTheStandings, Asking.{Asks, GoesOnFrom, NextSessions}, Closing.{IsAtRest, IsClosedAs, LeavesNoMore}}
+use Rattle.er_desk.specs.{Headline.AreTheStandings, Asking.{Asks, GoesOnFrom, NextSessions}}
 use Rattle.er_desk.specs.{History.new_point, Opening.HoldsNothing}
 use Rattle.er_event.specs.Sound.{IsSetUp}
-use Rattle.er_cli.specs.{Files.IsMade, Next.{FindsNext, GoesTo, IsLeftNext}}
-use Rattle.sqlite_store.specs.FileStore.{files as store_files}
+use Rattle.er_cli.specs.{Files.IsMade, Left.{IsClearedOf, IsPutAway}, Next.{BeginsIn, GoesTo}}
+use Rattle.er_cli.specs.declared.left.{Left.Left, Left.TheVariants.Nothing}
+use Rattle.er_cli.proofs.Leaving.{put_such, put_clean, was_put, cleared_such, cleared_clean, cleared_unopened, cleared_sound, put_sound}
+use Rattle.er_cli.proofs.Leaving.{left_by}
 use Rattle.std.proofs.Math.Logic.{∥∥₁_elim}
 use Rattle.sqlite_trees.specs.Props.{Trees-set}
+use Rattle.sqlite.specs.Effect.{Database}
+use Rattle.sqlite_catalog.specs.Listing.{IsSound}
+use Rattle.er_store.specs.Layout.Layout.{Old, New, Moved}
 use Rattle.er_desk.specs.{declared.opening.OpenFault.OpenFault, declared.opening.OpenFault.TheVariants.Unopened as NotOpened}
-use Rattle.er_desk.specs.{declared.opening.OpenFault.TheVariants.Refused as OpenedInVain, Opening.{OnRefused, OnUnopened, IsCleanFault, why_of}}
+use Rattle.er_desk.specs.{declared.opening.OpenFault.TheVariants.Refused as OpenedInVain}
+use Rattle.er_desk.specs.{Opening.{OnRefused, OnUnopened, WhereUnopened, IsCleanFault, SeesStill, why_of}}
 use Rattle.er_words.specs.{declared.action.Task.Task, declared.action.Task.TheVariants.{Ask, Import, Serve}}
 use Rattle.er_words.specs.{declared.action.Request.Request, declared.action.Request.TheVariants.{Submit, Players, Standings, Slips}}
 use Rattle.er_words.specs.{declared.action.Request.TheVariants.{Bracket, Export, Migrate}}
 use Rattle.er_cli.specs.{declared.texts.Answer.Answer, declared.texts.Answer.TheVariants.{Accepted, Text, Refused, Usage}}
 use Rattle.er_cli.specs.Answers.{AsksFor, DeskAnswers, IsRowsAnswer, Moves, moved_answer}
 use Rattle.er_cli.specs.Answers.{reply_answer, replies_of, session_at, ShowsPlayers, ShowsSlips, ShowsBracket, ShowsExport}
-use Rattle.er_cli.specs.GoingOn.{Answered, DoesNext, Handed, IsAnswered, IsAnswerAt, IsFound}
+use Rattle.er_cli.specs.GoingOn.{Answered, DoesNext, Handed, IsAnswered, IsAnswerAt, LeadsToVersion, MayMove}
 use Rattle.er_cli.specs.GoingOn.{OrFault, ShowsStandings}
-use Rattle.er_cli.specs.{GoingOn.{IsAbsent, OnOpen, GoesOn, GoesOnIfThere}, Files.{IsNotOpened, OpensFor}, Help.Tells}
+use Rattle.er_cli.specs.{GoingOn.{OnOpen, GoesOn, GoesOnIfThere}, Files.{OpensFor}, Help.Tells}
 use Rattle.er_words.specs.{declared.action.Action.Action, declared.action.Action.TheVariants.{Init, Open}}
-
-not_found : (why : Refusal) → (why ≡ NoEvent) ⊎ IsFault why → (why ≡ NoEvent) ⊎ IsLoadFault why
-not_found why (inl none) = inl none
-not_found why (inr fault) = inr (inl fault)
-
-pub not_opened : (why : Refusal) → (why ≡ NoEvent) ⊎ IsFault why → IsNotOpened (Refused why)
-not_opened why found = (why, not_found why found, refl)
-
-pub is_absent : (why : Refusal) → (why ≡ NoEvent) ⊎ IsFault why → IsAbsent (Refused why)
-is_absent why (inl none) = inl (ap (λ (w : Refusal). Refused w) none)
-is_absent why (inr fault) = inr (why, fault, refl)
 
 pub replies_told : (reply : Reply) → replies_of (reply_answer reply) ≡ reply ∷ []
 replies_told (Ok receipt) = refl
@@ -55,18 +49,11 @@ replies_told (Err why) = refl
 
 -- ---- the answer
 
-lawful_turn : (old new : DeskState) (c : Command) (r : Reply) → Turn old c r new → IsFalse old.stopped
+lawful_turn : (old new : DeskState) (c : Command) (r : Reply) → Turn old c r new → IsFalse old.needs_reopen
     → IsLawful old.version old.event old.serial c r
 lawful_turn old new c r h1 runs = grind (arith, common_steps)
 
--- its tables stay of their version
-turn_version : (old new : DeskState) (c : Command) (r : Reply) → Turn old c r new → new.version ≡ old.version
-turn_version old new c r (inl it) = it.version_is
-turn_version old new c r (inr (inl it)) = ap (λ (s : DeskState). s.version) it.same
-turn_version old new c r (inr (inr (inl it))) = ap (λ (s : DeskState). s.version) it.stopped
-turn_version old new c r (inr (inr (inr it))) = ap (λ (s : DeskState). s.version) it.same
-
-shown : (old : DeskState) (Shows : EventValue → Answer → Type 0) (answer : Answer) → IsFalse old.stopped
+shown : (old : DeskState) (Shows : EventValue → Answer → Type 0) (answer : Answer) → IsFalse old.needs_reopen
     → ShowsEvent Refused old Shows answer → OrFault (Shows old.event answer) answer
 shown old Shows answer runs (inl (going, inl shows)) = inl shows
 shown old Shows answer runs (inl (going, inr want)) = inr (Memory, inl refl, want)
@@ -79,20 +66,16 @@ rows_shown old (Ok rows) answer are fault (inl is) = inl (rows.items, are, is)
 rows_shown old (Ok rows) answer are fault (inr want) = inr (Memory, inl refl, want)
 rows_shown old (Err why) answer are fault is = inr (why, fault, is)
 
-moved_at : (old new : DeskState) (moved : Result ℕ Refusal) (answer : Answer) → IsFalse old.stopped
+moved_at : (old new : DeskState) (moved : Result ℕ Refusal) (answer : Answer) → IsFalse old.needs_reopen
     → Migrates old moved new → answer ≡ moved_answer moved → OrFault (answer ≡ Accepted (receipt old.serial)) answer
 moved_at old new (Ok serial) answer runs it is = inl (is ∙ ap (λ (n : ℕ). Accepted (receipt n)) it.1)
 moved_at old new (Err why) answer runs (inl it) is = absurd (true≢false (sym it.0 ∙ runs))
 moved_at old new (Err why) answer runs (inr it) is = inr (why, it.2, is)
 
-pub answer_at : (Represented : Type 0) (old new : DeskState) (request : Request) (answer : Answer) → Represented → IsFalse old.stopped
-    → DeskAnswers Represented old request answer new → IsAnswerAt new.version (point_of old) request answer
-answer_at Represented old new (Submit command) answer represented runs (reply, turn, is) = (
-  reply,
-  subst (λ (v : ℕ). IsLawful v old.event old.serial command reply) (sym (turn_version old new command reply turn))
-      (lawful_turn old new command reply turn runs),
-  is,
-)
+pub answer_at : (Represented : Type 0) (old new : DeskState) (request : Request) (answer : Answer) → Represented → IsFalse old.needs_reopen
+    → DeskAnswers Represented old request answer new → IsAnswerAt old.version (point_of old) request answer
+answer_at Represented old new (Submit command) answer represented runs (reply, turn, is) =
+    (reply, lawful_turn old new command reply turn runs, is)
 answer_at Represented old new Players answer represented runs it = shown old ShowsPlayers answer runs it.0
 answer_at Represented old new Standings answer represented runs (read, reads, are, is, fails) =
     rows_shown old read answer (are represented) (fails represented runs) is
@@ -127,7 +110,7 @@ is_accepted (Text text) = false
 is_accepted (Refused why) = false
 is_accepted Usage = false
 
-turn_runs : (old new : DeskState) (c : Command) (receipt : Receipt) → Turn old c (Ok receipt) new → IsFalse new.stopped
+turn_runs : (old new : DeskState) (c : Command) (receipt : Receipt) → Turn old c (Ok receipt) new → IsFalse new.needs_reopen
 turn_runs old new c receipt (inl it) = it.runs
 turn_runs old new c receipt (inr (inl it)) = absurd (true≢false (ap is_ok it.answered))
 turn_runs old new c receipt (inr (inr (inl it))) = absurd (true≢false (ap is_ok it.answered))
@@ -143,55 +126,57 @@ other_kept request answer stopped command asked other = absurd (true≢false (sy
 pub kept_alone : (Represented : Type 0) (old new : DeskState) (request : Request) (answer : Answer)
     → DeskAnswers Represented old request answer new
     → (command : Command) (receipt : Receipt) → request ≡ Submit command → answer ≡ Accepted receipt
-    → session_at request answer new.stopped ≡ one_kept command
+    → session_at request answer new.needs_reopen ≡ one_kept command
 kept_alone Represented old new (Submit c) answer (Ok given, turn, is) command receipt asked told =
-    subst (λ (a : Answer). session_at (Submit c) a new.stopped ≡ one_kept command) (sym is)
+    subst (λ (a : Answer). session_at (Submit c) a new.needs_reopen ≡ one_kept command) (sym is)
     (subst (λ (b : Bool). session_at (Submit c) (Accepted given) b ≡ one_kept command) (sym (turn_runs old new c given turn))
     (ap one_kept (ap (command_or c) asked)))
 kept_alone Represented old new (Submit c) answer (Err why, turn, is) command receipt asked told =
     absurd (true≢false (sym (ap is_accepted told) ∙ ap is_accepted is))
-kept_alone Represented old new Players answer it command receipt asked told = other_kept Players answer new.stopped command asked refl
-kept_alone Represented old new Standings answer it command receipt asked told = other_kept Standings answer new.stopped command asked refl
-kept_alone Represented old new (Slips round) answer it command receipt asked told = other_kept (Slips round) answer new.stopped command
+kept_alone Represented old new Players answer it command receipt asked told = other_kept Players answer new.needs_reopen command asked refl
+kept_alone Represented old new Standings answer it command receipt asked told = other_kept Standings answer new.needs_reopen command asked
+    refl
+kept_alone Represented old new (Slips round) answer it command receipt asked told = other_kept (Slips round) answer new.needs_reopen command
     asked refl
-kept_alone Represented old new Bracket answer it command receipt asked told = other_kept Bracket answer new.stopped command asked refl
-kept_alone Represented old new (Export kind) answer it command receipt asked told = other_kept (Export kind) answer new.stopped command
+kept_alone Represented old new Bracket answer it command receipt asked told = other_kept Bracket answer new.needs_reopen command asked refl
+kept_alone Represented old new (Export kind) answer it command receipt asked told = other_kept (Export kind) answer new.needs_reopen command
     asked refl
-kept_alone Represented old new Migrate answer it command receipt asked told = other_kept Migrate answer new.stopped command asked refl
+kept_alone Represented old new Migrate answer it command receipt asked told = other_kept Migrate answer new.needs_reopen command asked refl
 
 -- ---- a fault of the store
 
-turn_fault : (old new : DeskState) (c : Command) (r : Reply) → Turn old c r new → IsFalse old.stopped → IsTrue new.stopped
+turn_fault : (old new : DeskState) (c : Command) (r : Reply) → Turn old c r new → IsFalse old.needs_reopen → IsTrue new.needs_reopen
     → (why : Refusal) × IsFault why × (r ≡ Err why)
 turn_fault old new c r (inl it) runs stopped = absurd (true≢false (sym stopped ∙ it.runs))
 turn_fault old new c r (inr (inl it)) runs stopped =
-    absurd (true≢false (sym stopped ∙ (ap (λ (s : DeskState). s.stopped) it.same ∙ runs)))
+    absurd (true≢false (sym stopped ∙ (ap (λ (s : DeskState). s.needs_reopen) it.same ∙ runs)))
 turn_fault old new c r (inr (inr (inl it))) runs stopped = (it.why, it.fault, it.answered)
-turn_fault old new c r (inr (inr (inr it))) runs stopped = absurd (true≢false (sym it.was_stopped ∙ runs))
+turn_fault old new c r (inr (inr (inr it))) runs stopped = absurd (true≢false (sym it.needed_reopen ∙ runs))
 
-still : {P : Type 0} (old new : DeskState) → new ≡ old → IsFalse old.stopped → IsTrue new.stopped → P
-still old new same runs stopped = absurd (true≢false (sym stopped ∙ (ap (λ (s : DeskState). s.stopped) same ∙ runs)))
+still : {P : Type 0} (old new : DeskState) → new ≡ old → IsFalse old.needs_reopen → IsTrue new.needs_reopen → P
+still old new same runs stopped = absurd (true≢false (sym stopped ∙ (ap (λ (s : DeskState). s.needs_reopen) same ∙ runs)))
 
 read_fault : (old : DeskState) (read : Result (Vec Row Global) Refusal) (answer : Answer) → IfErr read IsFault
     → IsRowsAnswer old.event read answer → (IsTrue (is_ok read) → ⊥) → OrFault ⊥ answer
 read_fault old (Ok rows) answer fault is not = absurd (not refl)
 read_fault old (Err why) answer fault is not = inr (why, fault, is)
 
-reads_stopped : {A : Type 0} (old new : DeskState) (read : Result A Refusal) → Reads Memory old read new → IsFalse old.stopped
-    → IsTrue new.stopped → IsTrue (is_ok read) → ⊥
+reads_stopped : {A : Type 0} (old new : DeskState) (read : Result A Refusal) → Reads Memory old read new → IsFalse old.needs_reopen
+    → IsTrue new.needs_reopen → IsTrue (is_ok read) → ⊥
 reads_stopped old new read (inl (going, same, was)) runs stopped fine = still old new same runs stopped
 reads_stopped old new read (inr (inl (going, same, why, fault, is))) runs stopped fine = true≢false (sym fine ∙ ap is_ok is)
 reads_stopped old new read (inr (inr (was, same, is))) runs stopped fine = true≢false (sym was ∙ runs)
 
-moved_fault : (old new : DeskState) (moved : Result ℕ Refusal) (answer : Answer) → IsFalse old.stopped
-    → Migrates old moved new → answer ≡ moved_answer moved → IsTrue new.stopped → OrFault ⊥ answer
+moved_fault : (old new : DeskState) (moved : Result ℕ Refusal) (answer : Answer) → IsFalse old.needs_reopen
+    → Migrates old moved new → answer ≡ moved_answer moved → IsTrue new.needs_reopen → OrFault ⊥ answer
 moved_fault old new (Ok serial) answer runs it is stopped =
-    absurd (true≢false (sym stopped ∙ (ap (λ (s : DeskState). s.stopped) it.2 ∙ runs)))
+    absurd (true≢false (sym stopped ∙ (ap (λ (s : DeskState). s.needs_reopen) it.2 ∙ runs)))
 moved_fault old new (Err why) answer runs (inl it) is stopped = still old new it.2 runs stopped
 moved_fault old new (Err why) answer runs (inr it) is stopped = inr (why, it.2, is)
 
-pub doubt_fault : (Represented : Type 0) (old new : DeskState) (request : Request) (answer : Answer) → Represented → IsFalse old.stopped
-    → DeskAnswers Represented old request answer new → IsTrue new.stopped → OrFault ⊥ answer
+pub doubt_fault : (Represented : Type 0) (old new : DeskState) (request : Request) (answer : Answer) → Represented
+    → IsFalse old.needs_reopen
+    → DeskAnswers Represented old request answer new → IsTrue new.needs_reopen → OrFault ⊥ answer
 doubt_fault Represented old new (Submit command) answer represented runs (reply, turn, is) stopped =
     let it = turn_fault old new command reply turn runs stopped in
     inr (it.0, it.1, is ∙ ap reply_answer it.2)
@@ -206,51 +191,62 @@ doubt_fault Represented old new Migrate answer represented runs (moved, it, is) 
 
 -- ---- the file
 
--- what a history needs to know of a request that asks this session
-pub record Goes {S : Type 0} (g : Ghosts S) (old : Desk S g) (session : Session) (new : Desk S g) : Type 0 where
-  pub leads : LeadsTo (point_of (desk_state old)) session.kept (point_of (desk_state new))
-  pub sure : IsFalse (desk_state new).stopped → session.doubt ≡ None
+-- what a history needs to know of a request that asks this session, and may leave the tables in such a version
+pub record Goes {S : Type 0} (g : Ghosts S) (In : (was now : ℕ) → Type 0) (old : Desk S g) (session : Session) (new : Desk S g) : Type
+    0 where
   pub clean : HasCleanDisk (state g new) → HasCleanDisk (state g old)
-  pub represents : HasCleanDisk (state g new) → ShowsOwn g old → IsFalse (desk_state new).stopped → ShowsOwn g new
-  pub crash : ShowsOwn g old → LeavesEnd (state g new) (point_of (desk_state old)) session
+  pub crash : ShowsOwn g old → Leaves (state g new)
+      (λ trees. (v : ℕ) × In (version_in old) v × IsStoredEnd (placed_at (point_of (desk_state old)) v) session trees)
 
-goes_asking : {S : Type 0} (g : Ghosts S) (old : Desk S g) (session : Session) (new : Desk S g) → Asks g old session new
-    → Goes g old session new
+abbrev pub Stays : (was now : ℕ) → Type 0
+Stays was now = now ≡ was
+
+pub goes_asking : {S : Type 0} (g : Ghosts S) (old : Desk S g) (session : Session) (new : Desk S g) → Asks g old session new
+    → Goes g Stays old session new
 goes_asking g old session new it =
-    record { leads = it.leads; sure = it.sure; clean = it.clean; represents = it.represents; crash = it.crash }
+    record { clean = it.clean; crash = λ shows clean trees may. (version_in old, refl, it.crash shows clean trees may) }
 
--- a migration leaves the event and the serial
-still_there : (old new : DeskState) (moved : Result ℕ Refusal) → Migrates old moved new → point_of new ≡ point_of old
-still_there old new (Ok serial) it = ap point_of it.2
-still_there old new (Err why) (inl it) = ap point_of it.2
-still_there old new (Err why) (inr it) = ap point_of it.3
-
--- and tables of version 2 are of it then
+-- tables of version 2 stay so
 still_second : (old new : DeskState) (moved : Result ℕ Refusal) → Migrates old moved new → old.version ≡ 2 → new.version ≡ 2
 still_second old new (Ok serial) it second = ap (λ (s : DeskState). s.version) it.2
 still_second old new (Err why) (inl it) second = ap (λ (s : DeskState). s.version) it.2 ∙ second
 still_second old new (Err why) (inr it) second = ap (λ (s : DeskState). s.version) it.3 ∙ second
 
 -- the history stays where it is
-leads_nowhere : (first last : Point) → last ≡ first → LeadsTo first [] last
-leads_nowhere first last same = subst (λ (p : Point). LeadsTo first [] p) (sym same) (record { event = refl; serial = omega arith })
+pub ends_nowhere : (first : Placed) (trees : Trees) → IsStoredAt first trees → IsStoredEnd first no_session trees
+ends_nowhere first trees stored = (first.point, inl (record { event = refl; serial = omega arith; taken = tt }), stored)
 
-ends_nowhere : (first : Point) (trees : Trees) → IsStored first.event first.serial trees → IsStoredEnd first no_session trees
-ends_nowhere first trees stored = (first, inl (record { event = refl; serial = omega arith; taken = tt }), stored)
-
-goes_moving : {S : Type 0} (g : Ghosts S) (old : Desk S g) (answer : Answer) (new : Desk S g) → Moves g old answer new → MayMigrate g old
-    → Goes g old no_session new
+-- what is moved may be moved, as the file shows that was opened
+goes_moving : {S : Type 0} (g : Ghosts S) (old : Desk S g) (answer : Answer) (new : Desk S g) → Moves g old answer new
+    → (HasCleanDisk (state g old) → MayMigrate g old)
+    → Goes g (LeadsToVersion Migrate answer) old no_session new
 goes_moving g old answer new it may = record {
-  leads = leads_nowhere _ _ (still_there (desk_state old) (desk_state new) it.turn.0 it.turn.1);
-  sure = λ runs. refl;
-  clean = it.clean;
-  represents = it.represents may;
-  crash = λ shows clean trees left. ends_nowhere (point_of (desk_state old)) trees (it.crash may shows clean trees left);
+  clean = it.does.clean;
+  crash = λ shows clean trees left.
+      subst (λ (a : Answer). (v : ℕ) × LeadsToVersion Migrate a (version_in old) v
+      × IsStoredEnd (placed_at (point_of (desk_state old)) v) no_session trees) (sym it.told)
+      (by it.moved it.does shows clean trees left);
 }
+  where
+    by : (moved : Result ℕ Refusal) → MovesDesk g old moved new → ShowsOwn g old → HasCleanDisk (state g new) → (trees : Trees)
+        → (state g new).may_leave trees
+        → (v : ℕ) × LeadsToVersion Migrate (moved_answer moved) (version_in old) v
+        × IsStoredEnd (placed_at (point_of (desk_state old)) v) no_session trees
+    by (Ok serial) does shows clean trees left = (
+      2,
+      refl,
+      ends_nowhere (placed_at (point_of (desk_state old)) 2) trees
+          (does.acknowledged (may (does.clean clean)) shows clean trees left),
+    )
+    by (Err why) does shows clean trees left = elim (does.crash (may (does.clean clean)) shows clean trees left) [
+      | inl before ↦ (version_in old, inl refl, ends_nowhere (placed_of (desk_state old)) trees before)
+      | inr moved ↦ (2, inr refl, ends_nowhere (placed_at (point_of (desk_state old)) 2) trees moved)
+    ]
 
 -- over tables of version 2 they represent the event while the desk runs
 pub represents_second : {S : Type 0} (g : Ghosts S) (old new : Desk S g) (request : Request) (answer : Answer)
-    → AsksFor g old request answer new → version_in old ≡ 2 → HasCleanDisk (state g new) → ShowsOwn g old → IsFalse (desk_state new).stopped
+    → AsksFor g old request answer new → version_in old ≡ 2 → HasCleanDisk (state g new) → ShowsOwn g old
+    → IsFalse (desk_state new).needs_reopen
     → ShowsOwn g new
 represents_second g old new (Submit command) answer it second = it.represents
 represents_second g old new Players answer it second = it.represents
@@ -258,7 +254,7 @@ represents_second g old new Standings answer it second = it.represents
 represents_second g old new (Slips round) answer it second = it.represents
 represents_second g old new Bracket answer it second = it.represents
 represents_second g old new (Export kind) answer it second = it.represents
-represents_second g old new Migrate answer it second = it.represents (inl second)
+represents_second g old new Migrate answer it second = it.does.represents (inl second)
 
 pub stays_second : {S : Type 0} (g : Ghosts S) (old new : Desk S g) (request : Request) (answer : Answer)
     → AsksFor g old request answer new → version_in old ≡ 2 → version_in new ≡ 2
@@ -269,190 +265,221 @@ stays_second g old new (Slips round) answer it second = it.version ∙ second
 stays_second g old new Bracket answer it second = it.version ∙ second
 stays_second g old new (Export kind) answer it second = it.version ∙ second
 stays_second g old new Migrate answer it second =
-    still_second (desk_state old) (desk_state new) it.turn.0 it.turn.1 second
+    still_second (desk_state old) (desk_state new) it.moved it.does.turn second
 
 -- a desk that runs is at its point
-runs_at : (old : DeskState) (point : Point) → IsFalse old.stopped → point_of old ≡ point → old ≡ running_at point old.version
-runs_at old point runs is =
-    subst (λ (p : Point). old ≡ running_at p old.version) is (ap (λ (b : Bool). let it : DeskState = record old { stopped = b } in it) runs)
+pub runs_at : (old : DeskState) (first : Placed) → IsFalse old.needs_reopen → placed_of old ≡ first
+    → old ≡ running_at first.point first.version
+runs_at old first runs is =
+    subst (λ (p : Placed). old ≡ running_at p.point p.version) is
+    (ap (λ (b : Bool). let it : DeskState = record old { needs_reopen = b } in it) runs)
+
+-- This desk opened the file: it found the point at which the history ends, and sees what the file holds.
+pub record IsFound {D : Type 0} (d : disk.Ghosts D) (image : Image) (first : Placed) (desk : Desk (FileStore D d) over_files) : Type 0 where
+  pub finds : HasCleanDisk (state over_files desk) → FindsAgain over_files desk first
+  pub sees : (db : Trees) → HoldsDatabase image db → SeesStill (state over_files desk) db
+
+module _ {D : Type 0} (d : disk.Ghosts D) (image : Image) (first : Placed) (desk : Desk (FileStore D d) over_files)
+    (found : IsFound d image first desk) (clean : HasCleanDisk (state over_files desk)) where
+  -- its tables may be migrated where those of the file may
+  may_migrate : MayMove image first.point → MayMigrate over_files desk
+  may_migrate may = by shows.represents.layout shows.represents.is shows.represents.represents
+    where
+      again : FindsAgain over_files desk first
+      again = found.finds clean
+
+      shows : ShowsOwn over_files desk
+      shows = again.shows
+
+      now : Database
+      now = (state over_files desk).now
+
+      same : now.trees ≡ may.db
+      same = (found.sees may.db may.holds clean shows.is_open).0
+
+      by : (layout : Layout) → version_of layout ≡ version_in desk → RepresentsAt layout now desk.event desk.serial
+          → MayMigrate over_files desk
+      by New is represents = inl (sym is)
+      by Moved is represents = inl (sym is)
+      by Old is represents = inr (may.alone now.schema (subst (IsSound now.schema) same shows.sound)
+          (subst (λ (t : Trees). RepresentsAt Old (record { schema = now.schema; trees = t }) first.point.event first.point.serial) same
+          (subst (λ (p : Placed). RepresentsAt Old now p.point.event p.point.serial) again.found represents)))
 
 -- a session goes on from where the history has ended
-module _ (new first : Point) (ends : List Ended) (from : GoesOnFrom new first ends) where
-  -- files at rest at this point are found by the next command line
-  finds_next : (session : Session) (last : Point) → LeadsTo first session.kept last → session.doubt ≡ None → (left : Image)
-      → IsAtRest left last → FindsNext new ends session last left
-  finds_next session last leads sure left rest =
-      record { both = from.leaves session last left leads sure rest.both; alone = from.leaves session last _ leads sure rest.alone }
+module _ (new : Point) (first : Placed) (ends : List Ended) (begins : IsBeginning new) (from : GoesOnFrom new first.point ends) where
+  module _ {D : Type 0} (d : disk.Ghosts D) (In : (was now : ℕ) → Type 0) (desk last : Desk (FileStore D d) over_files) (session : Session)
+      (found : HasCleanDisk (state over_files desk) → FindsAgain over_files desk first)
+      (asked : Goes over_files In desk session last) where
+    pub leaves_next : Leaves (state over_files last) (BeginsIn (In first.version) new ends session)
+    leaves_next clean trees may =
+        let again = found (asked.clean clean) in
+        let (version, within, ended) = asked.crash again.shows clean trees may in (
+          version,
+          subst (λ (p : Placed). In p.version version) again.found within,
+          from.begins version session trees
+              (subst (λ (p : Placed). IsStoredEnd (placed_at p.point version) session trees) again.found ended),
+        )
+
+    pub goes_to : (what : Left D d) → IsPutAway (state over_files last) what → GoesTo d (In first.version) new ends session what
+    goes_to what put = record {
+      put_away = was_put (state over_files last) what put;
+      leaves = left_by (In first.version) new ends session begins what (put_sound (state over_files last) what put)
+          (put_such (BeginsIn (In first.version) new ends session) (state over_files last) what put leaves_next);
+    }
 
   module _ {D : Type 0} (d : disk.Ghosts D) (desk last : Desk (FileStore D d) over_files) (session : Session)
       (found : HasCleanDisk (state over_files desk) → FindsAgain over_files desk first)
-      (asked : Goes over_files desk session last) where
-    leads_there : HasCleanDisk (state over_files last) → LeadsTo first session.kept (point_of (desk_state last))
-    leads_there clean =
-        subst (λ (p : Point). LeadsTo p session.kept (point_of (desk_state last))) (found (asked.clean clean)).found asked.leads
-
-    rests_next : (closed : Result (Files D) (Error × FileStore D d)) → IsClosedAs last closed
-        → IfOk closed (λ files. AreClean d files.log files.db → IsFalse (desk_state last).stopped
-        → IsLeftNext d new ends session (point_of (desk_state last)) files)
-    rests_next (Ok files) it = λ clean runs.
-        let was_clean = it.clean clean in
-        let rest = it.rests clean (asked.represents was_clean (found (asked.clean was_clean)).shows runs) in
-        record {
-          seen = finds_next session (point_of (desk_state last)) (leads_there was_clean) (asked.sure runs) (image_of d files) rest.seen;
-          left = λ left may.
-              finds_next session (point_of (desk_state last)) (leads_there was_clean) (asked.sure runs) left (rest.left left may);
-        }
-    rests_next (Err why) it = tt
-
-    stays_next : (closed : Result (Files D) (Error × FileStore D d)) → IsClosedAs last closed
-        → MatchResult closed (λ files. (it : FileStore D d) × (store_files it ≡ (files.log, files.db)) × LeavesNoMore last it)
-        (λ it. LeavesNoMore last it.1)
-    stays_next (Ok files) it = it.spares
-    stays_next (Err why) it = it.fails.as_before
-
-    pub goes_to : (closed : Result (Files D) (Error × FileStore D d)) → IsClosedAs last closed → GoesTo d new ends session last
-    goes_to closed put_away = record {
-      next = λ clean trees may.
-          let again = found (asked.clean clean) in
-          from.begins session trees
-          (subst (λ (p : Point). IsStoredEnd p session trees) again.found (asked.crash again.shows clean trees may));
-      shows = λ clean runs. asked.represents clean (found (asked.clean clean)).shows runs;
-      closed = closed;
-      rests = rests_next closed put_away;
-      stays = stays_next closed put_away;
-    }
-
-    handed : (Did : DeskState → Session → DeskState → Type 0) → IsFalse (desk_state desk).stopped
-        → Did (desk_state desk) session (desk_state last)
-        → (closed : Result (Files D) (Error × FileStore D d)) → IsClosedAs last closed → Handed d new ends first Did
-    handed Did runs did closed put_away = record {
-      last = last;
+      (asked : Goes over_files Stays desk session last) where
+    handed : (Did : DeskState → Session → DeskState → Type 0)
+        → IsFalse (desk_state desk).needs_reopen → Did (desk_state desk) session (desk_state last)
+        → (what : Left D d) → IsPutAway (state over_files last) what → Handed d new ends first Did what
+    handed Did runs did what put = record {
       session = session;
-      goes = goes_to closed put_away;
-      did = λ clean. (
-        version_in desk,
+      goes = goes_to d Stays desk last session found asked what put;
+      did = put_clean _ (state over_files last) what put (λ clean. (
+        desk_state last,
         subst (λ (s : DeskState). Did s session (desk_state last))
             (runs_at (desk_state desk) first runs (found (asked.clean clean)).found) did,
-      );
+      ));
     }
 
 -- ---- a new event
 
-first_point : (new : Point) (old : DeskState) → old ≡ running_at new 2 → point_of old ≡ new
-first_point new old is = ap point_of is
+first_placed : (new : Point) (old : DeskState) → old ≡ running_at new 2 → placed_of old ≡ placed_at new 2
+first_placed new old is = ap placed_of is
 
 -- where an event was made in a file that held nothing, its empty history begins
 pub made_begins : NextSessions → {D : Type 0} (d : disk.Ghosts D) (image : Image) (name : List ℕ) (rounds cut : ℕ)
     (desk : Desk (FileStore D d) over_files)
     → IsSetUp name rounds cut → IsMade image (new_point name rounds cut) desk → Asks over_files desk no_session desk
-    → (closed : Result (Files D) (Error × FileStore D d)) → IsClosedAs desk closed → HoldsNothing image
-    → GoesTo d (new_point name rounds cut) [] no_session desk
-made_begins law d image name rounds cut desk set_up made asks closed put_away nothing =
+    → (what : Left D d) → IsPutAway (state over_files desk) what → HoldsNothing image
+    → GoesTo d (λ version. version ≡ 2) (new_point name rounds cut) [] no_session what
+made_begins law d image name rounds cut desk set_up made asks what put nothing =
     let new = new_point name rounds cut in
-    goes_to new new [] (law new new [] (record { name = name; limits = (rounds, cut); is_new = refl; set_up = set_up }) refl) d desk desk
-    no_session
+    let begins : IsBeginning new = record { name = name; limits = (rounds, cut); is_new = refl; set_up = set_up } in
+    goes_to new (placed_at new 2) [] begins (law new new [] begins refl) d Stays desk desk no_session
     (λ clean. record {
-      found = first_point new (desk_state desk) made.is_new;
+      found = first_placed new (desk_state desk) made.is_new;
       shows = made.represents nothing clean;
       leaves = made.leaves nothing;
     })
-    (goes_asking _ _ _ _ asks) closed put_away
+    (goes_asking _ _ _ _ asks) what put
 
 -- ---- a history that left the file
 
-module _ (law : NextSessions) (image : Image) (new first : Point) (ends : List Ended) (was : WasLeftBy image new ends first) where
-  from : GoesOnFrom new first ends
-  from = law new first ends was.begins was.history
+module _ (law : NextSessions) (image : Image) (new : Point) (first : Placed) (ends : List Ended)
+    (was : WasLeftBy image new ends first) where
+  from : GoesOnFrom new first.point ends
+  from = law new first.point ends was.begins was.history
 
-  module _ {D : Type 0} (d : disk.Ghosts D) where
+  module _ {D : Type 0} (d : disk.Ghosts D) (what : Left D d) where
     asked_goes_on : (desk last : Desk (FileStore D d) over_files) (request : Request) (answer : Answer)
-        → (HasCleanDisk (state over_files desk) → FindsAgain over_files desk first)
-        → Goes over_files desk (session_at request answer (desk_state last).stopped) last → IsFalse (desk_state desk).stopped
+        → IsFound d image first desk
+        → Goes over_files (LeadsToVersion request answer) desk (session_at request answer (desk_state last).needs_reopen) last
+        → IsFalse (desk_state desk).needs_reopen
         → DeskAnswers (HasCleanDisk (state over_files last) × ShowsOwn over_files desk) (desk_state desk) request answer (desk_state last)
-        → (closed : Result (Files D) (Error × FileStore D d)) → IsClosedAs last closed → Answered d new ends first request answer
-    asked_goes_on desk last request answer found asked runs answers closed put_away = record {
-      last = last;
-      goes = goes_to new first ends from d desk last (session_at request answer (desk_state last).stopped) found asked closed put_away;
-      lawful = λ clean.
-          let again = found (asked.clean clean) in
-          subst (λ (p : Point). IsAnswerAt (version_in last) p request answer) again.found
-          (answer_at _ (desk_state desk) (desk_state last) request answer (clean, again.shows) runs answers);
+        → IsPutAway (state over_files last) what → Answered d new ends first request answer what
+    asked_goes_on desk last request answer found asked runs answers put = record {
+      needs_reopen = (desk_state last).needs_reopen;
+      goes = goes_to new first ends was.begins from d (LeadsToVersion request answer) desk last
+          (session_at request answer (desk_state last).needs_reopen) found.finds asked what put;
+      lawful = put_clean _ (state over_files last) what put (λ clean.
+          let again = found.finds (asked.clean clean) in
+          subst (λ (p : Placed). IsAnswerAt p.version p.point request answer) again.found
+          (answer_at _ (desk_state desk) (desk_state last) request answer (clean, again.shows) runs answers));
       acknowledged = kept_alone _ (desk_state desk) (desk_state last) request answer answers;
-      doubt = λ clean stopped.
-          doubt_fault _ (desk_state desk) (desk_state last) request answer (clean, (found (asked.clean clean)).shows) runs answers stopped;
+      doubt = put_clean _ (state over_files last) what put (λ clean stopped.
+          doubt_fault _ (desk_state desk) (desk_state last) request answer (clean, (found.finds (asked.clean clean)).shows) runs answers
+          stopped);
     }
 
     is_answered : (desk last : Desk (FileStore D d) over_files) (request : Request) (answer : Answer) → IsFound d image first desk
-        → IsFalse (desk_state desk).stopped → AsksFor over_files desk request answer last
+        → IsFalse (desk_state desk).needs_reopen → AsksFor over_files desk request answer last
         → DeskAnswers (HasCleanDisk (state over_files last) × ShowsOwn over_files desk) (desk_state desk) request answer (desk_state last)
-        → (closed : Result (Files D) (Error × FileStore D d)) → IsClosedAs last closed → IsAnswered d image new ends first request answer
-    is_answered desk last (Submit command) answer found runs asked answers closed put_away =
-        asked_goes_on desk last (Submit command) answer found.finds (goes_asking _ _ _ _ asked) runs answers closed put_away
-    is_answered desk last Players answer found runs asked answers closed put_away =
-        asked_goes_on desk last Players answer found.finds (goes_asking _ _ _ _ asked) runs answers closed put_away
-    is_answered desk last Standings answer found runs asked answers closed put_away =
-        asked_goes_on desk last Standings answer found.finds (goes_asking _ _ _ _ asked) runs answers closed put_away
-    is_answered desk last (Slips round) answer found runs asked answers closed put_away =
-        asked_goes_on desk last (Slips round) answer found.finds (goes_asking _ _ _ _ asked) runs answers closed put_away
-    is_answered desk last Bracket answer found runs asked answers closed put_away =
-        asked_goes_on desk last Bracket answer found.finds (goes_asking _ _ _ _ asked) runs answers closed put_away
-    is_answered desk last (Export kind) answer found runs asked answers closed put_away =
-        asked_goes_on desk last (Export kind) answer found.finds (goes_asking _ _ _ _ asked) runs answers closed put_away
-    is_answered desk last Migrate answer found runs moved answers closed put_away = (
-      desk,
-      found,
-      λ may. asked_goes_on desk last Migrate answer found.finds (goes_moving _ _ _ _ moved may) runs answers closed put_away,
-    )
+        → IsPutAway (state over_files last) what → IsAnswered d image new ends first request answer what
+    is_answered desk last (Submit command) answer found runs asked answers put =
+        asked_goes_on desk last (Submit command) answer found (goes_asking _ _ _ _ asked) runs answers put
+    is_answered desk last Players answer found runs asked answers put =
+        asked_goes_on desk last Players answer found (goes_asking _ _ _ _ asked) runs answers put
+    is_answered desk last Standings answer found runs asked answers put =
+        asked_goes_on desk last Standings answer found (goes_asking _ _ _ _ asked) runs answers put
+    is_answered desk last (Slips round) answer found runs asked answers put =
+        asked_goes_on desk last (Slips round) answer found (goes_asking _ _ _ _ asked) runs answers put
+    is_answered desk last Bracket answer found runs asked answers put =
+        asked_goes_on desk last Bracket answer found (goes_asking _ _ _ _ asked) runs answers put
+    is_answered desk last (Export kind) answer found runs asked answers put =
+        asked_goes_on desk last (Export kind) answer found (goes_asking _ _ _ _ asked) runs answers put
+    is_answered desk last Migrate answer found runs moved answers put = λ may.
+        asked_goes_on desk last Migrate answer found
+        (goes_moving _ _ _ _ moved (λ clean. may_migrate d image first desk found clean may)) runs answers put
 
-    pub refused_next : (why : OpenFault D d)
+    refused_next : (why : OpenFault D d)
         → ((db : Trees) → HoldsDatabase image db → OnRefused why (λ conn. Leaves (file_state conn) (λ trees. trees ≡ db)))
-        → OnRefused why (λ conn. Leaves (file_state conn) (NextBegins new ends no_session))
+        → OnRefused why (λ conn. Leaves (file_state conn) (BeginsIn (Stays first.version) new ends no_session))
     refused_next (NotOpened refusal left) kept = tt
     refused_next (OpenedInVain conn refusal) kept = λ clean trees may.
-        let same : trees ≡ was.left.0 = ∥∥₁_elim was.left.1 (Trees-set _ _) (λ holds. kept was.left.0 holds clean trees may) in
-        from.begins no_session trees
-        (ends_nowhere first trees (subst (IsStored first.event first.serial) (sym same) was.left.2))
+        let same : trees ≡ was.left.0 = ∥∥₁_elim was.left.1 (Trees-set _ _) (λ holds. kept was.left.0 holds clean trees may) in (
+          first.version,
+          refl,
+          from.begins first.version no_session trees
+              (ends_nowhere first trees (subst (IsStoredAt first) (sym same) was.left.2)),
+        )
+
+    -- where the event is not served, memory or the device was wanting
+    refused_fault : (fault : OpenFault D d) (why : Refusal) → why ≡ why_of fault → (IsCleanFault fault → IsFault (why_of fault))
+        → OnRefused fault (λ conn. HasCleanDisk (file_state conn) → IsFault why)
+    refused_fault (NotOpened refusal left) why is failed = tt
+    refused_fault (OpenedInVain conn refusal) why is failed = λ clean. subst IsFault (sym is) (failed clean)
 
     module _ (Spares : Error → Option (Leftover D d) → Type 0) (out out_then err err_then : Option (List ℕ)) (status : ℕ) where
-      does_next : (task : Task) (desk : Desk (FileStore D d) over_files) → IsFalse (desk_state desk).stopped
-          → IsFound d image first desk → OpensFor d out out_then err err_then status task desk
-          → DoesNext d Spares image new ends first out out_then err err_then status task
+      does_next : (task : Task) (desk : Desk (FileStore D d) over_files) → IsFalse (desk_state desk).needs_reopen
+          → IsFound d image first desk → OpensFor what out out_then err err_then status task desk
+          → DoesNext d Spares image new ends first what out out_then err err_then status task
       does_next (Ask request) desk runs found it =
           let (answer, answers, asked, tells) = it.does in
-          (answer, is_answered desk it.last request answer found runs asked answers it.put_away.0 it.put_away.1, tells)
+          (answer, is_answered desk it.last request answer found runs asked answers it.put_away, tells)
       does_next (Import list) desk runs found it =
           let (session, imports, asked) = it.does in
-          handed new first ends from d desk it.last session found.finds (goes_asking _ _ _ _ asked) _ runs imports it.put_away.0 it.put_away.1
+          handed new first ends was.begins from d desk it.last session found.finds (goes_asking _ _ _ _ asked) _ runs imports what
+          it.put_away
       does_next (Serve port count) desk runs found it =
           let (session, serves, asked) = it.does in
-          handed new first ends from d desk it.last session found.finds (goes_asking _ _ _ _ asked) _ runs serves it.put_away.0 it.put_away.1
+          handed new first ends was.begins from d desk it.last session found.finds (goes_asking _ _ _ _ asked) _ runs serves what
+          it.put_away
 
-      pub task_goes_on : (task : Task) (desk : Desk (FileStore D d) over_files) → IsFalse (desk_state desk).stopped
-          → IsFound d image first desk → OpensFor d out out_then err err_then status task desk
-          → GoesOn d Spares image new ends first out out_then err err_then status task
+      pub task_goes_on : (task : Task) (desk : Desk (FileStore D d) over_files) → IsFalse (desk_state desk).needs_reopen
+          → IsFound d image first desk → OpensFor what out out_then err err_then status task desk
+          → GoesOn d Spares image new ends first what out out_then err err_then status task
       task_goes_on task desk runs found it = inr (does_next task desk runs found it)
 
-      pub unopened_goes_on : (task : Task) (fault : OpenFault D d) (why : Refusal) → why ≡ why_of fault
+      pub unopened_goes_on : (task : Task) (fault : OpenFault D d) (why : Refusal) → why ≡ why_of fault → IsClearedOf fault what
           → (IsCleanFault fault → IsFault (why_of fault))
           → ((db : Trees) → HoldsDatabase image db → OnRefused fault (λ conn. Leaves (file_state conn) (λ trees. trees ≡ db)))
-          → OnUnopened fault Spares → Tells (Refused why) out out_then err err_then status
-          → GoesOn d Spares image new ends first out out_then err err_then status task
-      unopened_goes_on task fault why is cause kept spared tells = inl (
+          → WhereUnopened fault (IsFault (why_of fault)) → OnUnopened fault Spares → Tells (Refused why) out out_then err err_then status
+          → GoesOn d Spares image new ends first what out out_then err err_then status task
+      unopened_goes_on task fault why is cleared cause kept failed spared tells = inl (
         Refused why,
         record {
-          fault = fault;
-          answered = ap (λ (w : Refusal). Refused w) is;
-          why = cause;
-          next = refused_next fault kept;
-          spared = spared;
+          why = why;
+          answered = refl;
+          fault = cleared_clean (IsFault why) fault what cleared (refused_fault fault why is cause);
+          leaves = left_by (Stays first.version) new ends no_session was.begins what (cleared_sound fault what cleared)
+              (cleared_such (BeginsIn (Stays first.version) new ends no_session) fault what cleared (refused_next fault kept));
+          unopened = cleared_unopened Spares fault why what is cleared failed spared;
         },
         tells,
       )
 
 -- the file is not there, or memory is wanting for any words
-module _ {D : Type 0} (d : disk.Ghosts D) (Spares : Error → Option (Leftover D d) → Type 0) (image : Image) (new : Point) (ends : List Ended) (first : Point)
-    (out out_then err err_then : Option (List ℕ)) (status : ℕ) where
-  pub absent_goes_on : (answer : Answer) → IsAbsent answer → Tells answer out out_then err err_then status → (action : Action)
-      → OnOpen action (GoesOnIfThere d Spares image new ends first out out_then err err_then status)
-  absent_goes_on answer absent tells (Init name rounds cut) = tt
-  absent_goes_on answer absent tells (Open task) = inl (answer, absent, tells)
+absent : (why : Refusal) → (why ≡ NoEvent) ⊎ IsFault why → OrFault (Refused why ≡ Refused NoEvent) (Refused why)
+absent why (inl none) = inl (ap (λ (w : Refusal). Refused w) none)
+absent why (inr fault) = inr (why, fault, refl)
+
+module _ {D : Type 0} (d : disk.Ghosts D) (Spares : Error → Option (Leftover D d) → Type 0) (image : Image) (new : Point)
+    (ends : List Ended)
+    (first : Placed) (what : Left D d) (out out_then err err_then : Option (List ℕ)) (status : ℕ) where
+  pub absent_goes_on : (why : Refusal) → (why ≡ NoEvent) ⊎ IsFault why → what ≡ Nothing → Tells (Refused why) out out_then err err_then
+      status
+      → (action : Action) → OnOpen action (GoesOnIfThere d Spares image new ends first what out out_then err err_then status)
+  absent_goes_on why cause none tells (Init name rounds cut) = tt
+  absent_goes_on why cause none tells (Open task) = inl (Refused why, (none, absent why cause), tells)

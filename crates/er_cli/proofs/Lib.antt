@@ -7,4 +7,7 @@ mod Connecting
 mod Enrolling
 mod Examples
 mod GoingOn
+mod Leaving
+mod Outcomes
 mod Making
+mod Holding

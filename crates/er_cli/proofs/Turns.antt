@@ -13,39 +13,40 @@ pub memory_answers : (old : Option DeskState) (action : Option Action) → LineA
 memory_answers old None = (inr refl, refl)
 memory_answers old (Some action) = inr (refl, refl)
 
-ran_on : (old new : DeskState) (command : Command) (reply : Reply) → Turn old command reply new → IsFalse new.stopped → IsFalse old.stopped
+ran_on : (old new : DeskState) (command : Command) (reply : Reply) → Turn old command reply new → IsFalse new.needs_reopen
+    → IsFalse old.needs_reopen
 ran_on old new command reply (inl it) runs = it.was_running
 ran_on old new command reply (inr (inl it)) runs = it.was_running
 ran_on old new command reply (inr (inr (inl it))) runs = it.was_running
-ran_on old new command reply (inr (inr (inr it))) runs = subst (λ (s : DeskState). IsFalse s.stopped) it.same runs
+ran_on old new command reply (inr (inr (inr it))) runs = subst (λ (s : DeskState). IsFalse s.needs_reopen) it.same runs
 
 ran_reading : {A : Type 0} (passing : Refusal) (old new : DeskState) (read : Result A Refusal) → Reads passing old read new
-    → IsFalse new.stopped → IsFalse old.stopped
+    → IsFalse new.needs_reopen → IsFalse old.needs_reopen
 ran_reading passing old new read (inl it) runs = it.0
 ran_reading passing old new read (inr (inl it)) runs = it.0
-ran_reading passing old new read (inr (inr it)) runs = subst (λ (s : DeskState). IsFalse s.stopped) it.1 runs
+ran_reading passing old new read (inr (inr it)) runs = subst (λ (s : DeskState). IsFalse s.needs_reopen) it.1 runs
 
-ran_moving : (old new : DeskState) (moved : Result ℕ Refusal) → Migrates old moved new → IsFalse new.stopped → IsFalse old.stopped
+ran_moving : (old new : DeskState) (moved : Result ℕ Refusal) → Migrates old moved new → IsFalse new.needs_reopen → IsFalse old.needs_reopen
 ran_moving old new (Ok serial) it runs = it.0
-ran_moving old new (Err why) (inl it) runs = subst (λ (s : DeskState). IsFalse s.stopped) it.2 runs
+ran_moving old new (Err why) (inl it) runs = subst (λ (s : DeskState). IsFalse s.needs_reopen) it.2 runs
 ran_moving old new (Err why) (inr it) runs = it.0
 
 -- a desk that no fault has stopped had none before
 pub ran_before : (Represented : Type 0) (old new : DeskState) (request : Request) (answer : Answer)
     → DeskAnswers Represented old request answer new
-    → IsFalse new.stopped → IsFalse old.stopped
+    → IsFalse new.needs_reopen → IsFalse old.needs_reopen
 ran_before Represented old new (Submit command) answer it runs = ran_on old new command it.0 it.1 runs
-ran_before Represented old new Players answer it runs = subst (λ (s : DeskState). IsFalse s.stopped) it.1 runs
+ran_before Represented old new Players answer it runs = subst (λ (s : DeskState). IsFalse s.needs_reopen) it.1 runs
 ran_before Represented old new Standings answer it runs = ran_reading Memory old new it.0 it.1 runs
-ran_before Represented old new (Slips round) answer it runs = subst (λ (s : DeskState). IsFalse s.stopped) it.1 runs
-ran_before Represented old new Bracket answer it runs = subst (λ (s : DeskState). IsFalse s.stopped) it.1 runs
-ran_before Represented old new (Export kind) answer it runs = subst (λ (s : DeskState). IsFalse s.stopped) it.1 runs
+ran_before Represented old new (Slips round) answer it runs = subst (λ (s : DeskState). IsFalse s.needs_reopen) it.1 runs
+ran_before Represented old new Bracket answer it runs = subst (λ (s : DeskState). IsFalse s.needs_reopen) it.1 runs
+ran_before Represented old new (Export kind) answer it runs = subst (λ (s : DeskState). IsFalse s.needs_reopen) it.1 runs
 ran_before Represented old new Migrate answer (moved, it, is) runs = ran_moving old new moved it runs
 
 -- what is read rests on the tables of a desk that runs, and else nothing is read
 read_represented : {A : Type 0} (Represented : Type 0) (Are : A → Type 0) (passing : Refusal) (old new : DeskState)
     (read : Result A Refusal)
-    → (IsFalse old.stopped → Represented)
+    → (IsFalse old.needs_reopen → Represented)
     → Reads passing old read new → (Represented → IfOk read Are) → IfOk read Are
 read_represented Represented Are passing old new (Ok it) represented (inl reads) found = found (represented reads.0)
 read_represented Represented Are passing old new (Ok it) represented (inr (inl (running, same, why, fault, e))) found = absurd
@@ -55,7 +56,7 @@ read_represented Represented Are passing old new (Err why) represented reads fou
 
 -- over tables that stand, the answers rest on nothing else
 pub represented_answers : (Represented : Type 0) (old new : DeskState) (request : Request) (answer : Answer)
-    → (IsFalse old.stopped → Represented)
+    → (IsFalse old.needs_reopen → Represented)
     → DeskAnswers Represented old request answer new
     → DeskAnswers ⊤ old request answer new
 represented_answers Represented old new (Submit command) answer represented it = it

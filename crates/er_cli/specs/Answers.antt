@@ -2,7 +2,6 @@
 use Rattle.std.specs.Global.{Global}
 use Rattle.std.specs.Prelude.{◌≡◌, ◌⊎◌, ℕ, Bool, IsFalse, List, [], ◌∷◌, Option, Some, None, Result, Ok, Err, IfOk, IfErr, Vec}
 use Rattle.sqlite_trees.specs.declared.store.Store.{Ghosts}
-use Rattle.sqlite.specs.State.{HasCleanDisk}
 use Rattle.er_event.specs.declared.refusals.Refusal.{Refusal}
 use Rattle.er_event.specs.declared.refusals.Refusal.TheVariants.{Memory, NoSuchMatch}
 use Rattle.er_event.specs.Event.{EventValue}
@@ -11,9 +10,9 @@ use Rattle.er_paper.specs.Tables.{players_csv, results_csv}
 use Rattle.er_rank.specs.declared.rows.Row.{Row}
 use Rattle.er_desk.specs.declared.desk.Desk.{Desk}
 use Rattle.er_desk.specs.Asking.{Asks}
-use Rattle.er_desk.specs.Desk.{DeskState, Turn, ReadsRows, ShowsEvent, ShowsOwn, point_of, desk_state, state}
-use Rattle.er_desk.specs.Headline.{AreTheStandings, LeavesJust}
-use Rattle.er_desk.specs.Migrating.{MayMigrate, Migrates}
+use Rattle.er_desk.specs.Desk.{DeskState, Turn, ReadsRows, ShowsEvent, desk_state}
+use Rattle.er_desk.specs.Headline.{AreTheStandings}
+use Rattle.er_desk.specs.Migrating.{Migrates, MovesDesk}
 use Rattle.er_desk.specs.Reply.{Reply, receipt}
 use Rattle.er_desk.specs.Run.{Session, session_of, no_session}
 use Rattle.er_store.specs.Fault.{IsFault}
@@ -68,7 +67,7 @@ DeskAnswers Represented old Players answer new = ShowsEvent Refused old ShowsPla
 DeskAnswers Represented old Standings answer new =
     (read : Result (Vec Row Global) Refusal) × ReadsRows old read new
     × (Represented → IfOk read (λ rows. AreTheStandings old.event rows.items)) × IsRowsAnswer old.event read answer
-    × (Represented → IsFalse old.stopped → IfErr read IsFault)
+    × (Represented → IsFalse old.needs_reopen → IfErr read IsFault)
 DeskAnswers Represented old (Slips round) answer new = ShowsEvent Refused old (ShowsSlips round) answer × (new ≡ old)
 DeskAnswers Represented old Bracket answer new = ShowsEvent Refused old ShowsBracket answer × (new ≡ old)
 DeskAnswers Represented old (Export kind) answer new = ShowsEvent Refused old (ShowsExport kind) answer × (new ≡ old)
@@ -84,24 +83,23 @@ replies_of Usage = []
 
 -- what was asked of the file: one command with its reply, or nothing
 abbrev pub session_at : Request → Answer → Bool → Session
-session_at (Submit command) answer stopped = session_of (command ∷ []) (replies_of answer) stopped
-session_at Players answer stopped = no_session
-session_at Standings answer stopped = no_session
-session_at (Slips round) answer stopped = no_session
-session_at Bracket answer stopped = no_session
-session_at (Export kind) answer stopped = no_session
-session_at Migrate answer stopped = no_session
+session_at (Submit command) answer needs_reopen = session_of (command ∷ []) (replies_of answer) needs_reopen
+session_at Players answer needs_reopen = no_session
+session_at Standings answer needs_reopen = no_session
+session_at (Slips round) answer needs_reopen = no_session
+session_at Bracket answer needs_reopen = no_session
+session_at (Export kind) answer needs_reopen = no_session
+session_at Migrate answer needs_reopen = no_session
 
--- What a migration does to the file, and answers. It asks no command. What it leaves is said of tables that may be migrated.
+-- What a migration does to the file, and answers. It asks no command.
 pub record Moves {S : Type 0} (g : Ghosts S) (old : Desk S g) (answer : Answer) (new : Desk S g) : Type 0 where
-  pub turn : (moved : Result ℕ Refusal) × Migrates (desk_state old) moved (desk_state new) × (answer ≡ moved_answer moved)
-  pub clean : HasCleanDisk (state g new) → HasCleanDisk (state g old)
-  pub represents : MayMigrate g old → HasCleanDisk (state g new) → ShowsOwn g old → IsFalse (desk_state new).stopped → ShowsOwn g new
-  pub crash : MayMigrate g old → ShowsOwn g old → LeavesJust (state g new) (point_of (desk_state old))
+  pub moved : Result ℕ Refusal
+  pub does : MovesDesk g old moved new
+  pub told : answer ≡ moved_answer moved
 
 -- what a request does to the file: a session of its desk is asked, or its tables are moved
 abbrev pub AsksFor : {S : Type 0} (g : Ghosts S) → Desk S g → Request → Answer → Desk S g → Type 0
-AsksFor g old (Submit command) answer new = Asks g old (session_at (Submit command) answer (desk_state new).stopped) new
+AsksFor g old (Submit command) answer new = Asks g old (session_at (Submit command) answer (desk_state new).needs_reopen) new
 AsksFor g old Players answer new = Asks g old no_session new
 AsksFor g old Standings answer new = Asks g old no_session new
 AsksFor g old (Slips round) answer new = Asks g old no_session new

@@ -7,7 +7,8 @@ use Rattle.sqlite.specs.State.{HasCleanDisk}
 use Rattle.sqlite.specs.declared.error.Error.{Error}
 use Rattle.sqlite.specs.declared.file.Leftover.{Leftover}
 use Rattle.sqlite.specs.Tree.{Trees}
-use Rattle.sqlite.specs.Files.{HoldsDatabase, file_state, over_files}
+use Rattle.sqlite.specs.Effect.{Database, IsDatabase}
+use Rattle.sqlite.specs.Files.{AreFoundIn, HoldsDatabase, over_files}
 use Rattle.sqlite_wal.specs.Recovery.{Image}
 use Rattle.er_event.specs.declared.refusals.Refusal.{Refusal}
 use Rattle.er_event.specs.declared.refusals.Refusal.TheVariants.{Memory, NoEvent, EventExists}
@@ -15,14 +16,14 @@ use Rattle.er_event.specs.Sound.{IsSetUp}
 use Rattle.er_event.specs.declared.commands.TheConstants.{MAX_SERIAL}
 use Rattle.er_rules.specs.Commands.{first_refusal}
 use Rattle.er_rules.specs.Sound.{IsSound}
-use Rattle.er_store.specs.Fault.{IsFault, IsLoadFault}
-use Rattle.er_store.specs.Representing.{HasTables, AreKeyed, Either, IsStored, Leaves}
+use Rattle.er_store.specs.{Begins.alone_schema, Fault.{IsFault, IsLoadFault}}
+use Rattle.er_store.specs.Representing.{HasTables, AreKeyed, Either, IsStoredIn}
+use Rattle.er_store.specs.Beside.{IsStoredBeside}
 use Rattle.er_desk.specs.declared.desk.Desk.{Desk}
 use Rattle.er_desk.specs.Asking.{AsksSome}
-use Rattle.er_desk.specs.Desk.{Point, DeskState, ShowsOwn, running_at, desk_state, state, version_in}
-use Rattle.er_desk.specs.Headline.{LeavesJust}
-use Rattle.er_desk.specs.declared.opening.OpenFault.{OpenFault}
-use Rattle.er_desk.specs.Opening.{HoldsNothing, LeavesOver, ListsNothing, MakesOver, OnRefused, OnUnopened, why_of}
+use Rattle.er_desk.specs.Desk.{Point, Placed, DeskState, ShowsOwn, placed_at, running_at, desk_state, state, version_in}
+use Rattle.er_desk.specs.Headline.{FindsAgain, LeavesJust, WasLeft}
+use Rattle.er_desk.specs.Opening.{HoldsNothing, ListsNothing, MakesOver, NamesFirstFault, SeesStill}
 use Rattle.er_desk.specs.History.{new_point}
 use Rattle.er_desk.specs.Reply.{receipt}
 use Rattle.er_desk.specs.Run.{Session, no_session}
@@ -36,51 +37,79 @@ use Rattle.er_cli.specs.declared.TheConstants.{DEVICE}
 use Rattle.er_cli.specs.declared.help.TheConstants.{CANNOT_LISTEN}
 use Rattle.er_cli.specs.Help.{Says, Tells}
 use Rattle.er_cli.specs.Importing.{Imports}
-use Rattle.er_cli.specs.Serving.{ConnectsUpTo, PrintsServed}
+use Rattle.er_cli.specs.Serving.{PrintsServed, ServesAll}
 use Rattle.er_cli.specs.Next.{GoesTo}
 use Rattle.er_cli.specs.Setup.{init_checks}
 use Rattle.er_cli.specs.Answers.{AsksFor, DeskAnswers}
-use Rattle.er_cli.specs.Closing.{IsPutAway}
+use Rattle.er_cli.specs.Left.{IfClean, IfUnopened, IsPutAway, LeavesSuch}
+use Rattle.er_cli.specs.declared.left.Left.{Left}
+use Rattle.er_cli.specs.declared.left.Left.TheVariants.{Nothing}
+use Rattle.er_cli.specs.declared.left.NoDesk.{NoDesk}
 
--- there is no event in the file, or it is damaged, or memory or the device fails
-abbrev pub IsNotOpened : Answer → Type 0
-IsNotOpened answer = (why : Refusal) × ((why ≡ NoEvent) ⊎ IsLoadFault why) × (answer ≡ Refused why)
+-- the system says that there is no file, or memory or the device fails before it is opened
+abbrev pub IsNotThere : {D : Type 0} {g : disk.Ghosts D} → Left D g → Answer → Type 0
+IsNotThere what answer = (what ≡ Nothing) × (why : Refusal) × ((why ≡ NoEvent) ⊎ IsFault why) × (answer ≡ Refused why)
 
--- The desk of an event that was just made. In a file that held nothing its tables represent that event, and a crash leaves
--- just that. In any other the event's tables are there beside what it held.
+-- the first fault of what an opening finds in the file
+abbrev pub NamesFirst : Image → Refusal → Type 0
+NamesFirst image why = (db : Database) × IsDatabase db × AreFoundIn image db.trees × NamesFirstFault db why
+
+-- The event was not opened. No event and a damaged table are the first fault of what the file held, and what is left holds just that:
+-- no table of it changes, and a crash leaves nothing else.
+pub record IsNotOpened {D : Type 0} {g : disk.Ghosts D} (Spares : Error → Option (Leftover D g) → Type 0) (image : Image) (what : Left D g)
+    (answer : Answer) : Type 0 where
+  pub why : Refusal
+  pub answered : answer ≡ Refused why
+  pub cause : (why ≡ NoEvent) ⊎ IsLoadFault why
+  pub unopened : IfUnopened Spares why what
+  pub first : IfClean (NamesFirst image why) what
+  pub kept : (db : Trees) → HoldsDatabase image db → LeavesSuch (λ trees. trees ≡ db) what
+
+-- the desk sees what the file holds, and of what a crash left of a sound event it found just that
+pub record SeesFile {D : Type 0} {g : disk.Ghosts D} (image : Image) (desk : Desk (FileStore D g) over_files) : Type 0 where
+  pub sees : (db : Trees) → HoldsDatabase image db → SeesStill (state over_files desk) db
+  pub finds : (placed : Placed) → WasLeft image placed → IsSound placed.point.event → HasCleanDisk (state over_files desk)
+      → FindsAgain over_files desk placed
+
+-- The desk of an event that was just made. In a file that held nothing its tables stand alone and represent that event, and a crash
+-- leaves just that. In any other the event's tables are there beside what it held.
 pub record IsMade {D : Type 0} {g : disk.Ghosts D} (image : Image) (new : Point) (desk : Desk (FileStore D g) over_files) : Type 0 where
   pub is_new : desk_state desk ≡ running_at new 2
+  pub alone : HoldsNothing image → HasCleanDisk (state over_files desk) → (state over_files desk).now.schema ≡ alone_schema 2
   pub represents : HoldsNothing image → HasCleanDisk (state over_files desk) → ShowsOwn over_files desk
-  pub leaves : HoldsNothing image → LeavesJust (state over_files desk) new
+  pub leaves : HoldsNothing image → LeavesJust (state over_files desk) (placed_at new 2)
   pub beside : (db : Trees) → HoldsDatabase image db → HasCleanDisk (state over_files desk) → MakesOver new db (state over_files desk)
 
--- No event was made: the file has one, or memory or the store fails. In a file that held nothing a crash leaves nothing
--- then, or that event whole; in any other what it held, alone or with the event's tables beside it.
-pub record IsNotMade {D : Type 0} (g : disk.Ghosts D) (Spares : Error → Option (Leftover D g) → Type 0) (image : Image) (new : Point)
-    (why : Refusal) : Type 0 where
+-- what is left holds what the file held, or that with the event's tables beside it
+pub record LeavesBeside {D : Type 0} {g : disk.Ghosts D} (new : Point) (held : Trees) (what : Left D g) : Type 0 where
+  pub old : Database
+  pub is : old.trees ≡ held
+  pub sound : IsDatabase old
+  pub leaves : LeavesSuch (Either (λ db. db ≡ held) (IsStoredBeside 2 new.event old)) what
+
+-- No event was made: the file has one, or memory or the store fails. Of a file that held nothing, nothing is left then, or that event
+-- whole; of any other what it held, alone or with the event's tables beside it.
+pub record IsNotMade {D : Type 0} {g : disk.Ghosts D} (Spares : Error → Option (Leftover D g) → Type 0) (image : Image) (new : Point)
+    (why : Refusal) (what : Left D g) : Type 0 where
   pub cause : (why ≡ EventExists) ⊎ IsFault why
-  pub fault : OpenFault D g
-  pub is : why ≡ why_of fault
-  pub leaves : HoldsNothing image
-      → OnRefused fault (λ conn. Leaves (file_state conn) (Either ListsNothing (IsStored new.event new.serial)))
-  pub beside : (db : Trees) → HoldsDatabase image db
-      → OnRefused fault (λ conn. HasCleanDisk (file_state conn) → LeavesOver new db (file_state conn))
-  -- what is left of a file that was not opened, as the storage crate has it
-  pub spared : OnUnopened fault Spares
+  pub unopened : IfUnopened Spares why what
+  pub leaves : HoldsNothing image → LeavesSuch (Either ListsNothing (IsStoredIn 2 new.event new.serial)) what
+  pub beside : (db : Trees) → HoldsDatabase image db → IfClean (LeavesBeside new db what) what
 
 -- What is checked of an event that is to be made comes before any file is touched.
 abbrev pub InitReplies : {D : Type 0} (g : disk.Ghosts D) → (Error → Option (Leftover D g) → Type 0) → Image → List ℕ → ℕ → ℕ
-    → Result (Desk (FileStore D g) over_files) Refusal → Type 0
+    → Result (Desk (FileStore D g) over_files) (NoDesk D g) → Type 0
 InitReplies g Spares image name rounds cut made =
     MatchOption (first_refusal (init_checks false name rounds cut))
-    (IsSetUp name rounds cut × MatchResult made (IsMade image (new_point name rounds cut)) (IsNotMade g Spares image (new_point name rounds cut)))
-    (λ why. made ≡ Err why)
+    (IsSetUp name rounds cut
+    × MatchResult made (IsMade image (new_point name rounds cut)) (λ it. IsNotMade Spares image (new_point name rounds cut) it.why it.left))
+    (λ why. made ≡ Err (record { why = why; left = Nothing }))
 
 module _ (out out_then err err_then : Option (List ℕ)) (status : ℕ) where
   -- clients were served, or the port can't be had, or memory was wanting before anybody was listened to
   abbrev pub ServesClients : ℕ → DeskState → Session → DeskState → Type 0
   ServesClients count old session new =
-      (PrintsServed count out out_then status × (err_then ≡ err) × ConnectsUpTo count old session new)
+      (PrintsServed count out out_then status × (err_then ≡ err) × ServesAll count status old session new)
       ⊎ (Says CANNOT_LISTEN.now DEVICE (record { meant = err; other = out }) (record { meant = err_then; other = out_then }) status
       × (session ≡ no_session) × (new ≡ old))
       ⊎ (Tells (Refused Memory) out out_then err err_then status × (session ≡ no_session) × (new ≡ old))
@@ -89,7 +118,7 @@ module _ (out out_then err err_then : Option (List ℕ)) (status : ℕ) where
 pub record IsOpened {S : Type 0} (g : Ghosts S) (desk : Desk S g) : Type 0 where
   pub sound : IsSound desk.event
   pub low : desk.serial ≤ MAX_SERIAL
-  pub ready : IsFalse (desk_state desk).stopped
+  pub ready : IsFalse (desk_state desk).needs_reopen
   -- tables with the schema of the desk's version represent it, on a clean disk
   pub represents : HasCleanDisk (state g desk) → HasTables (version_in desk) (state g desk).now.schema
       → AreKeyed (state g desk).now → ShowsOwn g desk
@@ -106,30 +135,33 @@ Does g desk (Import list) last out out_then err err_then status =
 Does g desk (Serve port count) last out out_then err err_then status =
     AsksSome g desk (ServesClients out out_then err err_then status count) last
 
-module _ {D : Type 0} (g : disk.Ghosts D) (out out_then err err_then : Option (List ℕ)) (status : ℕ) where
-  -- An event was opened by this desk, one thing was done with it, and its file put away.
+module _ {D : Type 0} {g : disk.Ghosts D} (what : Left D g) (out out_then err err_then : Option (List ℕ)) (status : ℕ) where
+  -- An event was opened by this desk, one thing was done with it, and what is left is its file, put away then.
   pub record OpensFor (task : Task) (desk : Desk (FileStore D g) over_files) : Type 0 where
     pub last : Desk (FileStore D g) over_files
     pub opened : IsOpened over_files desk
     pub does : Does over_files desk task last out out_then err err_then status
-    pub put_away : IsPutAway g last
+    pub put_away : IsPutAway (state over_files last) what
 
-module _ {D : Type 0} (g : disk.Ghosts D) (Spares : Error → Option (Leftover D g) → Type 0) (image : Image)
+module _ {D : Type 0} (g : disk.Ghosts D) (Spares : Error → Option (Leftover D g) → Type 0) (image : Image) (what : Left D g)
     (out out_then err err_then : Option (List ℕ)) (status : ℕ) where
   -- An event was made, and its file put away; or why it was not. In a file that held nothing this begins the empty history,
   -- with which the next command line goes on.
   abbrev pub Makes : List ℕ → ℕ → ℕ → Type 0
   Makes name rounds cut =
-      (made : Result (Desk (FileStore D g) over_files) Refusal)
+      (made : Result (Desk (FileStore D g) over_files) (NoDesk D g))
       × InitReplies g Spares image name rounds cut made
       × MatchResult made
-      (λ desk. IsPutAway g desk × (HoldsNothing image → GoesTo g (new_point name rounds cut) [] no_session desk)
+      (λ desk. IsPutAway (state over_files desk) what × (HoldsNothing image → GoesTo g (λ version. version ≡ 2)
+      (new_point name rounds cut) [] no_session what)
       × Tells (Accepted (receipt 0)) out out_then err err_then status)
-      (λ why. Tells (Refused why) out out_then err err_then status)
+      (λ it. (what ≡ it.left) × Tells (Refused it.why) out out_then err err_then status)
 
-  -- What a command line does to the output and the errors, and its status. An event is opened by a desk over such files.
+  -- What a command line does to the output and the errors and leaves of the file, and its status. An event is opened by a desk over such
+  -- files.
   abbrev pub EndsLine : Action → Type 0
   EndsLine (Init name rounds cut) = Makes name rounds cut
   EndsLine (Open task) =
-      ((answer : Answer) × IsNotOpened answer × Tells answer out out_then err err_then status)
-      ⊎ ((desk : Desk (FileStore D g) over_files) × OpensFor g out out_then err err_then status task desk)
+      ((answer : Answer) × IsNotThere what answer × Tells answer out out_then err err_then status)
+      ⊎ ((answer : Answer) × IsNotOpened Spares image what answer × Tells answer out out_then err err_then status)
+      ⊎ ((desk : Desk (FileStore D g) over_files) × SeesFile image desk × OpensFor what out out_then err err_then status task desk)

@@ -1,9 +1,10 @@
 -- What the words of a command line are answered.
-use Rattle.std.specs.Prelude.{◌≡◌, ◌⊎◌, ℕ, ◌==◌, ◌||◌, Bool, if◌then◌else◌, List, [], ◌∷◌, Option, Some, None, option_and_then, option_map, codes}
+use Rattle.std.specs.Prelude.{◌≡◌, ◌⊎◌, ℕ, ◌||◌, Bool, if◌then◌else◌, List, [], ◌∷◌, Option, Some, None, option_and_then, option_map}
+use Rattle.std.specs.Prelude.{codes}
 use Rattle.std.specs.Str.{bytes_eq}
 use Rattle.std.specs.Io.KnownBytes.{Appends}
 use Rattle.er_event.specs.declared.refusals.Refusal.{Refusal}
-use Rattle.er_event.specs.Refusal.{entry_of}
+use Rattle.er_event.specs.declared.refusals.Refusal.TheVariants.{Memory, NeedsReopen, Store}
 use Rattle.er_words.specs.declared.subcommand.Subcommand.{Subcommand}
 use Rattle.er_words.specs.declared.subcommand.Subcommand.TheVariants as sub
 use Rattle.er_words.specs.Line.{subcommand_of}
@@ -62,12 +63,12 @@ text_for _ = None
 
 -- ---- where an answer goes, and the status that comes with it
 
--- by the refusal's number
-abbrev pub status_at : ℕ → ℕ
-status_at number = if number == 24 then MEMORY else (if number == 25 then DEVICE else (if number == 26 then DEVICE else REFUSED))
-
+-- want of memory, a fault of the store, and any other refusal
 abbrev pub refusal_status : Refusal → ℕ
-refusal_status why = status_at (entry_of why).0
+refusal_status Memory = MEMORY
+refusal_status (Store cause) = DEVICE
+refusal_status NeedsReopen = DEVICE
+refusal_status why = REFUSED
 
 abbrev pub status_of : Answer → ℕ
 status_of (Accepted receipt) = DONE

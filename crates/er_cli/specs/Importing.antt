@@ -49,7 +49,7 @@ pub record Enrols (names : List (List ℕ)) (old : DeskState) (additions : Addit
   pub replies : List Reply
   pub ran : Runs old (map Enrol (take (length (replies ++ stopping stop)) names)) (replies ++ stopping stop) new
   -- these commands are the session
-  pub asked : session ≡ session_of (map Enrol (take (length (replies ++ stopping stop)) names)) (replies ++ stopping stop) new.stopped
+  pub asked : session ≡ session_of (map Enrol (take (length (replies ++ stopping stop)) names)) (replies ++ stopping stop) new.needs_reopen
   pub counted : additions ≡ additions_of replies
   pub goes_on : IsFalse (list_any is_stop replies)
   pub all : stop ≡ None → length replies ≡ length names

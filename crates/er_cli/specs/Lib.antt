@@ -1,7 +1,7 @@
 -- What er_cli promises: what a command line prints, where, and with which status; what a script prints; and what
 -- serving and importing do.
 --
--- Answers is what a desk answers to a line; Files is a command line over a file, Closing how it leaves that, and Help
+-- Answers is what a desk answers to a line; Files is a command line over a file, Left what is left of that, and Help
 -- one over none. Script and Input are a script and its lines, Status how it ends. Importing is a list of players, Serving the clients of a
 -- listener. Texts says what a writer holds after an answer, Setup what an event is set up with, and Complaints what a
 -- person is told of words that are no line. GoingOn is a command line over the file that a history
@@ -13,7 +13,7 @@ pub mod Texts
 pub mod Input
 pub mod Answers
 pub mod Script
-pub mod Closing
+pub mod Left
 pub mod Next
 pub mod Files
 pub mod Status
@@ -23,4 +23,5 @@ pub mod Serving
 pub mod Importing
 pub mod Words
 pub mod GoingOn
+pub mod Sessions
 pub mod inside

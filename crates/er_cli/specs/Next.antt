@@ -1,46 +1,68 @@
--- What a command line leaves of a history in the file that it closes: the next command line finds it.
-use Rattle.std.specs.Prelude.{◌≡◌, IsFalse, List, [], Result, IfOk, MatchResult}
+-- What a command line leaves of a history in the file that it gives back: the next command line finds it.
+use Rattle.std.specs.Prelude.{ℕ, IsTrue, List, []}
 use Rattle.sqlite_disk.specs.declared.Disk as disk
 use Rattle.sqlite_disk.specs.declared.Files.{Files}
 use Rattle.sqlite_wal.specs.Recovery.{Image}
 use Rattle.sqlite_wal.specs.Files.{outcomes}
 use Rattle.sqlite_wal.specs.Reads.{AreClean}
+use Rattle.sqlite_trees.specs.View.{IsClean}
 use Rattle.sqlite_store.specs.declared.store.FileStore.{FileStore}
-use Rattle.sqlite_store.specs.FileStore.{files as store_files}
-use Rattle.sqlite.specs.declared.error.Error.{Error}
-use Rattle.sqlite.specs.State.{HasCleanDisk}
-use Rattle.sqlite.specs.Files.{image_of, over_files}
-use Rattle.er_store.specs.Representing.{Leaves}
-use Rattle.er_desk.specs.declared.desk.Desk.{Desk}
-use Rattle.er_desk.specs.Desk.{Point, ShowsOwn, point_of, state, desk_state}
+use Rattle.sqlite_store.specs.FileStore.{files as store_files, view, recovers}
+use Rattle.sqlite.specs.Tree.{Trees}
+use Rattle.sqlite.specs.Files.{image_of}
+use Rattle.er_desk.specs.Desk.{Point, Placed}
 use Rattle.er_desk.specs.Run.{Session}
 use Rattle.er_desk.specs.History.{Ended}
 use Rattle.er_desk.specs.Headline.{NextBegins, WasLeftBy, and_then}
-use Rattle.er_desk.specs.Closing.{LeavesNoMore}
+use Rattle.er_cli.specs.declared.left.Left.{Left}
+use Rattle.er_cli.specs.declared.left.Left.TheVariants as left
 
 -- in these two files, with the log and without it, the next command line finds the history with this session behind it
-pub record FindsNext (new : Point) (ends : List Ended) (session : Session) (last : Point) (image : Image) : Type 0 where
-  pub both : WasLeftBy image new (and_then ends session last) last
-  pub alone : WasLeftBy (record image { log = [] }) new (and_then ends session last) last
+pub record FindsNext (new : Point) (ends : List Ended) (session : Session) (last : Placed) (image : Image) : Type 0 where
+  pub both : WasLeftBy image new (and_then ends session last.point) last
+  pub alone : WasLeftBy (record image { log = [] }) new (and_then ends session last.point) last
 
 -- as the two read now, and as a crash may leave them
-pub record IsLeftNext {D : Type 0} (d : disk.Ghosts D) (new : Point) (ends : List Ended) (session : Session) (last : Point)
+pub record IsLeftNext {D : Type 0} (d : disk.Ghosts D) (new : Point) (ends : List Ended) (session : Session) (last : Placed)
     (files : Files D) : Type 0 where
   pub seen : FindsNext new ends session last (image_of d files)
   pub left : (image : Image) → outcomes d files.log files.db image → FindsNext new ends session last image
 
--- The desk that opened the file was asked this session, and its file was closed.
-pub record GoesTo {D : Type 0} (d : disk.Ghosts D) (new : Point) (ends : List Ended) (session : Session)
-    (last : Desk (FileStore D d) over_files) : Type 0 where
-  -- each thing that a crash may leave is an end of the history with this session, and the next one begins there
-  pub next : Leaves (state over_files last) (NextBegins new ends session)
-  -- while it runs, its tables represent its event, in its version
-  pub shows : HasCleanDisk (state over_files last) → IsFalse (desk_state last).stopped → ShowsOwn over_files last
-  -- how its file was closed
-  pub closed : Result (Files D) (Error × FileStore D d)
-  -- On a clean disk, with no fault behind, the next command line begins there.
-  pub rests : IfOk closed (λ files. AreClean d files.log files.db → IsFalse (desk_state last).stopped
-      → IsLeftNext d new ends session (point_of (desk_state last)) files)
-  -- However that ended, a crash then leaves nothing that it could not leave before.
-  pub stays : MatchResult closed
-      (λ files. (it : FileStore D d) × (store_files it ≡ (files.log, files.db)) × LeavesNoMore last it) (λ it. LeavesNoMore last it.1)
+-- one of these versions, in which the next session begins
+abbrev pub BeginsIn : (ℕ → Type 0) → Point → List Ended → Session → Trees → Type 0
+BeginsIn In new ends session trees = (version : ℕ) × In version × NextBegins new ends session version trees
+
+-- or the files were left so
+abbrev pub WasLeftIn : (ℕ → Type 0) → Point → List Ended → Session → Image → Type 0
+WasLeftIn In new ends session image =
+    (last : Placed) × In last.version × WasLeftBy image new (and_then ends session last.point) last
+
+-- The files of a store that was not closed. Each thing that an opening after a crash may find there is an end of the history with this
+-- session, and the next one begins there. The same of the bytes that a crash may leave, where the store still lists its tables by number.
+pub record KeepsNext {D : Type 0} (d : disk.Ghosts D) (In : ℕ → Type 0) (new : Point) (ends : List Ended) (session : Session)
+    (store : FileStore D d) : Type 0 where
+  pub begins : (trees : Trees) → recovers store trees → BeginsIn In new ends session trees
+  pub left : IsTrue (view store).is_numbered → (image : Image) → outcomes d (store_files store).0 (store_files store).1 image
+      → ∥ WasLeftIn In new ends session image ∥₁
+
+-- What is left of a file in which a session was asked: on a clean disk the next command line finds the history with the session behind it,
+-- in tables of one of these versions.
+abbrev pub IsLeftBy : {D : Type 0} (d : disk.Ghosts D) → (ℕ → Type 0) → Point → List Ended → Session → Left D d → Type 0
+IsLeftBy d In new ends session left.Nothing = Unit {0}
+IsLeftBy d In new ends session (left.Closed files) =
+    AreClean d files.log files.db → (last : Placed) × In last.version × IsLeftNext d new ends session last files
+IsLeftBy d In new ends session (left.Unclosed store) = IsClean (view store) → KeepsNext d In new ends session store
+IsLeftBy d In new ends session (left.Unopened rest) = Unit {0}
+
+-- a file was opened and put away, closed or not
+abbrev pub WasPutAway : {D : Type 0} {d : disk.Ghosts D} → Left D d → Type 0
+WasPutAway left.Nothing = ⊥
+WasPutAway (left.Closed files) = Unit {0}
+WasPutAway (left.Unclosed store) = Unit {0}
+WasPutAway (left.Unopened rest) = ⊥
+
+-- The file was opened, its desk was asked this session, and it was put away.
+pub record GoesTo {D : Type 0} (d : disk.Ghosts D) (In : ℕ → Type 0) (new : Point) (ends : List Ended) (session : Session) (what : Left D d)
+    : Type 0 where
+  pub put_away : WasPutAway what
+  pub leaves : IsLeftBy d In new ends session what

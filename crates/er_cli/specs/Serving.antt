@@ -22,7 +22,7 @@ Connects old session new =
     ⊎ ((read : Result (Vec Row Global) Refusal) × ReadsRows old read new × (session ≡ no_session))
     ⊎ ((read : Result SlipRow Refusal) × ReadsSlip old read new × (session ≡ no_session))
     ⊎ ((round table : ℕ) × (score : Games) × (reply : Reply) × Turn old (Hand round table score) reply new
-    × (session ≡ session_of (Hand round table score ∷ []) (reply ∷ []) new.stopped))
+    × (session ≡ session_of (Hand round table score ∷ []) (reply ∷ []) new.needs_reopen))
 
 -- so many connections, one after the other
 abbrev pub ConnectsAll : ℕ → DeskState → Session → DeskState → Type 0

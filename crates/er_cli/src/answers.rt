@@ -2,7 +2,8 @@ ghost use Rattle.std.specs.Prelude.{◌≡◌, ◌⊎◌, IfOk, IsFalse, MatchRe
 ghost use Rattle.sqlite.specs.State.{HasCleanDisk};
 ghost use Rattle.er_desk.specs.Desk.{ShowsEvent, ShowsOwn, desk_state, state};
 ghost use Rattle.er_paper.specs.Texts.{rows_text};
-ghost use Rattle.er_cli.specs.Answers.{AsksFor, DeskAnswers, Moves, ShowsPlayers, ShowsSlips, ShowsBracket, ShowsExport, csv_of, reply_answer, slips_answer};
+ghost use Rattle.er_cli.specs.Answers.{AsksFor, DeskAnswers, Moves, ShowsPlayers, ShowsSlips, ShowsBracket, ShowsExport, csv_of};
+ghost use Rattle.er_cli.specs.Answers.{reply_answer, slips_answer};
 ghost use Rattle.er_desk.specs.Asking.{Asks};
 ghost use Rattle.er_desk.specs.Run.{no_session};
 ghost use Rattle.er_words.specs.declared.action.Request.TheVariants.{Standings, Migrate};
@@ -60,7 +61,7 @@ fn players<S: Alter>(alloc: Global, desk: &Desk<S>) -> Answer
 
 /// The text of these rows of standings.
 fn rows_answer<S: Alter>(alloc: Global, desk: &Desk<S>, rows: &[Row]) -> Answer
-    ensures { IsFalse (desk_state desk.now).stopped
+    ensures { IsFalse (desk_state desk.now).needs_reopen
         → (result ≡ Answer.Text (rows_text desk.now.event rows.now))
         ⊎ (result ≡ Answer.Refused Refusal.Memory) }
 {

@@ -1,9 +1,11 @@
-ghost use Rattle.std.specs.Prelude.{◌≡◌, ◌<◌, ◌↔◌, IsTrue, if◌then◌else◌, Some, None};
+ghost use Rattle.std.specs.Prelude.{◌≡◌, ◌<◌, ◌↔◌, IsTrue, if◌then◌else◌, Some, None, MatchOption};
+ghost use Rattle.sqlite.specs.Files.{file_state, over_files};
+ghost use Rattle.er_desk.specs.Desk.{state};
 ghost use Rattle.er_desk.specs.Opening.{why_of};
-ghost use Rattle.er_cli.specs.Closing.{IsPutAway};
+ghost use Rattle.er_cli.specs.Left.{IsClearedOf, IsPutAway};
 
-use er_desk::{Desk, OpenFault, close_file};
-use er_event::Refusal;
+use crate::left::{Left, NoDesk};
+use er_desk::{Desk, OpenFault};
 use sqlite::{Connection, FileStore, Leftover};
 use sqlite_disk::Disk;
 use std::fs;
@@ -19,14 +21,29 @@ pub struct NewLog {
     is_beside_nothing: bool,
 }
 
-/// Closes the desk of a file at the end of a run. Nothing that was answered rests on it: where it fails, the log keeps what it has.
-pub fn put_away<D: Disk + Drop>(desk: Desk<FileStore<D>>)
-    ensures { IsPutAway D.Disk desk }
+/// Closes a connection to a file: copies the log into the database file. Where that fails, the log keeps what it has.
+pub fn close<D: Disk + Drop>(conn: Connection<FileStore<D>>) -> Left<D>
+    ensures { IsPutAway (file_state conn) result }
 {
-    match close_file(desk) {
-        Ok(_files) => {}
-        Err((_error, store)) => drop(store.close()),
+    match conn.close_files() {
+        Ok(files) => Left::Closed(files),
+        Err((_error, store)) => Left::Unclosed(store),
     }
+}
+
+/// Takes the files of a connection as they are, and writes nothing.
+pub fn take<D: Disk + Drop>(conn: Connection<FileStore<D>>) -> Left<D>
+    ensures { IsPutAway (file_state conn) result }
+{
+    Left::Unclosed(conn.into_store())
+}
+
+/// Closes the desk of a file at the end of a run, and gives back what is left of the file.
+pub fn put_away<D: Disk + Drop>(desk: Desk<FileStore<D>>) -> Left<D>
+    ensures { IsPutAway (state over_files desk) result }
+{
+    let conn = desk.close();
+    close(conn)
 }
 
 /// Where the log of a file lies: beside what a link leads to.
@@ -81,32 +98,43 @@ fn remove_empty(rt: &HostRuntime, log: &NewLog) {
     }
 }
 
-/// Takes away what an opening that was refused has left beside the file. `log` is a log that this run made.
+/// Takes away what an opening that was refused has left beside the file, and gives back what is left of the file. `log` is a log that this
+/// run made.
 fn clear_refused<D: Disk + Drop>(
     rt: &HostRuntime,
     conn: Connection<FileStore<D>>,
     log: Option<&NewLog>,
-) {
+) -> Left<D>
+    ensures { IsPutAway (file_state conn) result }
+{
     let Some(log) = log else {
-        return;
+        return take(conn);
     };
-    match conn.close_files() {
-        Ok(_files) => remove_empty(rt, log),
-        Err((_error, store)) => drop(store.close()),
+    let left = close(conn);
+    if let Left::Closed(_files) = &left {
+        remove_empty(rt, log);
     }
+    left
 }
 
-/// The same where the file was not opened. Where nothing is left of it, it isn't held, and no log is removed; nor is that of a new database.
+/// The same where the file was not opened. Where nothing is left of it, it isn't held, and no log is removed; nor is that of a new
+/// database.
 fn clear_unopened<D: Disk + Drop>(
     rt: &HostRuntime,
     left: Option<Leftover<D>>,
     log: Option<&NewLog>,
-) {
-    if let (Some(_left), Some(log)) = (left, log)
+) -> Left<D>
+    ensures { MatchOption left (result ≡ Left.Nothing) (λ rest. result ≡ Left.Unopened rest) }
+{
+    let Some(rest) = left else {
+        return Left::Nothing;
+    };
+    if let Some(log) = log
         && !log.is_beside_nothing
     {
         remove_empty(rt, log);
     }
+    Left::Unopened(rest)
 }
 
 /// The same of an opening of an event, and says why it was refused.
@@ -114,13 +142,14 @@ pub fn clear_fault<D: Disk + Drop>(
     rt: &HostRuntime,
     fault: OpenFault<D>,
     log: Option<&NewLog>,
-) -> Refusal
-    ensures { result ≡ why_of fault }
+) -> NoDesk<D>
+    ensures why { result.why ≡ why_of fault }
+    ensures left { IsClearedOf fault result.left }
 {
     let why = fault.refusal();
-    match fault {
+    let left = match fault {
         OpenFault::Unopened { left, .. } => clear_unopened(rt, left, log),
         OpenFault::Refused { conn, .. } => clear_refused(rt, conn, log),
-    }
-    why
+    };
+    NoDesk { why, left }
 }

@@ -5,7 +5,7 @@ ghost use Rattle.er_event.specs.declared.commands.TheConstants.{MAX_SERIAL};
 ghost use Rattle.er_rules.specs.Sound.{IsSound};
 ghost use Rattle.er_event.specs.Sound.{AreLimits};
 ghost use Rattle.er_desk.specs.Asking.{Asks, AsksSome};
-ghost use Rattle.er_desk.specs.Desk.{Point, desk_state};
+ghost use Rattle.er_desk.specs.Desk.{Point, Placed, desk_state, state};
 ghost use Rattle.er_desk.specs.Run.{no_session};
 ghost use Rattle.er_desk.specs.History.{Ended, new_point};
 ghost use Rattle.er_desk.specs.Headline.{WasLeftBy};
@@ -15,7 +15,7 @@ ghost use Rattle.er_desk.specs.Reply.{receipt};
 ghost use Rattle.er_words.specs.declared.action.Action.TheVariants.{Init, Open};
 ghost use Rattle.er_words.specs.Action.{action_of};
 ghost use Rattle.er_store.specs.Fault.{IsFault};
-ghost use Rattle.er_cli.specs.Closing.{IsPutAway};
+ghost use Rattle.er_cli.specs.Left.{IsPutAway};
 ghost use Rattle.er_cli.specs.Files.{Does, EndsLine, InitReplies, IsMade, IsNotMade, IsOpened, Makes, OpensFor, ServesClients};
 ghost use Rattle.er_cli.specs.Help.{Tells};
 
@@ -23,6 +23,7 @@ use crate::answers::answer;
 use crate::closing::{clear_fault, log_to_make, put_away};
 use crate::help::CANNOT_LISTEN;
 use crate::importing::import;
+use crate::left::{Left, NoDesk, Ran};
 use crate::serving::serve_on;
 use crate::setup::set_up;
 use crate::texts::Answer;
@@ -59,10 +60,10 @@ fn create<S: Start>(
     rounds: u8,
     cut: u8,
     start: S,
-) -> Result<Desk<FileStore<FileFrom<S>>>, Refusal>
+) -> Result<Desk<FileStore<FileFrom<S>>>, NoDesk<FileFrom<S>>>
     requires limits { AreLimits rounds cut }
     ensures { MatchResult result (IsMade (image_at S.Start) (new_point name rounds cut))
-        (IsNotMade ⟦<FileFrom<S> as Disk>⟧ IsSpared (image_at S.Start) (new_point name rounds cut)) }
+        (λ it. IsNotMade IsSpared (image_at S.Start) (new_point name rounds cut) it.why it.left) }
 {
     let log = log_to_make(rt, path);
     match er_desk::create_in(rt, path, start, name, rounds, cut) {
@@ -79,11 +80,16 @@ fn init<S: Start>(
     rounds: u8,
     cut: u8,
     start: S,
-) -> Result<Desk<FileStore<FileFrom<S>>>, Refusal>
+) -> Result<Desk<FileStore<FileFrom<S>>>, NoDesk<FileFrom<S>>>
     ensures { InitReplies ⟦<FileFrom<S> as Disk>⟧ IsSpared (image_at S.Start) name.now rounds cut result }
 {
-    let name = set_up(rt.alloc(), name, rounds, cut)?;
-    create(rt, path, name, rounds, cut, start)
+    match set_up(rt.alloc(), name, rounds, cut) {
+        Ok(name) => create(rt, path, name, rounds, cut, start),
+        Err(why) => Err(NoDesk {
+            why,
+            left: Left::Nothing,
+        }),
+    }
 }
 
 /// Tells that an event was made, and closes its file once that is written.
@@ -91,17 +97,19 @@ fn print_made<D: Disk + Drop, O: Write, E: Write>(
     desk: Desk<FileStore<D>>,
     out: &mut O,
     err: &mut E,
-) -> u8
-    ensures put_away { IsPutAway D.Disk desk }
+) -> Ran<D>
+    ensures put_away { IsPutAway (state over_files desk) result.left }
     ensures asks { Asks over_files desk no_session desk }
     ensures told { Tells (Answer.Accepted (receipt 0)) (O.contents out.old) (O.contents out.new)
-        (E.contents err.old) (E.contents err.new) result }
+        (E.contents err.old) (E.contents err.new) result.status }
 {
     // A desk that is only looked at asks nothing of its file: this tells the proof.
     desk.asks_nothing();
     let status = print(out, err, &Answer::Accepted(Receipt { serial: 0 }));
-    put_away(desk);
-    status
+    Ran {
+        status,
+        left: put_away(desk),
+    }
 }
 
 /// Makes an event, and tells so or why not.
@@ -114,15 +122,15 @@ fn make<S: Start, O: Write, E: Write>(
     start: S,
     out: &mut O,
     err: &mut E,
-) -> u8
-    ensures { Makes ⟦<FileFrom<S> as Disk>⟧ IsSpared (image_at S.Start) (O.contents out.old) (O.contents out.new)
-        (E.contents err.old) (E.contents err.new) result name.now rounds cut }
+) -> Ran<FileFrom<S>>
+    ensures { Makes ⟦<FileFrom<S> as Disk>⟧ IsSpared (image_at S.Start) result.left (O.contents out.old) (O.contents out.new)
+        (E.contents err.old) (E.contents err.new) result.status name.now rounds cut }
 {
     // What is begun here is the history that the next command line goes on with: this tells the proof.
     next_sessions();
     match init(rt, path, name, rounds, cut, start) {
         Ok(desk) => print_made(desk, out, err),
-        Err(why) => tell_refusal(out, err, why),
+        Err(why) => tell_no_desk(out, err, why),
     }
 }
 
@@ -159,7 +167,7 @@ fn do_task<S: Alter, O: Write, E: Write>(
 ) -> u8
     requires sound { IsSound desk.old.event }
     requires low { desk.old.serial ≤ MAX_SERIAL }
-    requires ready { IsFalse (desk_state desk.old).stopped }
+    requires ready { IsFalse (desk_state desk.old).needs_reopen }
     ensures { Does S.Store desk.old task desk.new (O.contents out.old) (O.contents out.new)
         (E.contents err.old) (E.contents err.new) result }
 {
@@ -177,14 +185,16 @@ fn do_and_close<D: Disk + Drop, O: Write, E: Write>(
     task: Task,
     out: &mut O,
     err: &mut E,
-) -> u8
+) -> Ran<D>
     requires opened { IsOpened over_files desk }
-    ensures { OpensFor D.Disk (O.contents out.old) (O.contents out.new) (E.contents err.old)
-        (E.contents err.new) result task desk }
+    ensures { OpensFor result.left (O.contents out.old) (O.contents out.new) (E.contents err.old)
+        (E.contents err.new) result.status task desk }
 {
     let status = do_task(rt, &mut desk, task, out, err);
-    put_away(desk);
-    status
+    Ran {
+        status,
+        left: put_away(desk),
+    }
 }
 
 /// Tells why a file was not opened.
@@ -195,6 +205,38 @@ fn tell_refusal<O: Write, E: Write>(out: &mut O, err: &mut E, why: Refusal) -> u
     print(out, err, &Answer::Refused(why))
 }
 
+/// Tells why there is no desk over a file, and gives back what is left of that.
+fn tell_no_desk<D: Disk + Drop, O: Write, E: Write>(
+    out: &mut O,
+    err: &mut E,
+    none: NoDesk<D>,
+) -> Ran<D>
+    ensures left { result.left ≡ none.left }
+    ensures told { Tells (Answer.Refused none.why) (O.contents out.old) (O.contents out.new)
+        (E.contents err.old) (E.contents err.new) result.status }
+{
+    Ran {
+        status: tell_refusal(out, err, none.why),
+        left: none.left,
+    }
+}
+
+/// Tells why no file was opened.
+fn tell_unopened<D: Disk + Drop, O: Write, E: Write>(
+    out: &mut O,
+    err: &mut E,
+    why: Refusal,
+) -> Ran<D>
+    ensures left { result.left ≡ Left.Nothing }
+    ensures told { Tells (Answer.Refused why) (O.contents out.old) (O.contents out.new)
+        (E.contents err.old) (E.contents err.new) result.status }
+{
+    Ran {
+        status: tell_refusal(out, err, why),
+        left: Left::Nothing,
+    }
+}
+
 /// Opens the event in a file that is there for a task. The file is opened before a list is read, and before anybody is listened to.
 fn open<S: Start, O: Write, E: Write>(
     rt: &HostRuntime,
@@ -203,41 +245,41 @@ fn open<S: Start, O: Write, E: Write>(
     start: S,
     out: &mut O,
     err: &mut E,
-) -> u8
-    ensures ends { EndsLine ⟦<FileFrom<S> as Disk>⟧ IsSpared (image_at S.Start) (O.contents out.old) (O.contents out.new)
-        (E.contents err.old) (E.contents err.new) result (Open task) }
+) -> Ran<FileFrom<S>>
+    ensures ends { EndsLine ⟦<FileFrom<S> as Disk>⟧ IsSpared (image_at S.Start) result.left (O.contents out.old) (O.contents out.new)
+        (E.contents err.old) (E.contents err.new) result.status (Open task) }
     // Of a file that a history left, the history goes on with what the desk is asked.
-    ensures goes_on { (new first : Point) (ends : List Ended)
+    ensures goes_on { (new : Point) (first : Placed) (ends : List Ended)
         → WasLeftBy (image_at S.Start) new ends first
-        → GoesOn ⟦<FileFrom<S> as Disk>⟧ IsSpared (image_at S.Start) new ends first
-        (O.contents out.old) (O.contents out.new) (E.contents err.old) (E.contents err.new) result
-        task }
+        → GoesOn ⟦<FileFrom<S> as Disk>⟧ IsSpared (image_at S.Start) new ends first result.left
+        (O.contents out.old) (O.contents out.new) (E.contents err.old) (E.contents err.new)
+        result.status task }
 {
     // What a session leaves is an end of the history with that session: this tells the proof.
     next_sessions();
     let log = log_to_make(rt, path);
     match er_desk::open(rt, path, start) {
         Ok(desk) => do_and_close(rt, desk, task, out, err),
-        Err(fault) => tell_refusal(out, err, clear_fault(rt, fault, log.as_ref())),
+        Err(fault) => tell_no_desk(out, err, clear_fault(rt, fault, log.as_ref())),
     }
 }
 
-/// Does what a command line asks of its file, and gives the status to end with.
+/// Does what a command line asks of its file, and gives the status to end with and what is left of the file.
 pub fn run_line<S: Start, O: Write, E: Write>(
     rt: &HostRuntime,
     line: Line,
     start: S,
     out: &mut O,
     err: &mut E,
-) -> u8
-    ensures ends { EndsLine ⟦<FileFrom<S> as Disk>⟧ IsSpared (image_at S.Start) (O.contents out.old) (O.contents out.new)
-        (E.contents err.old) (E.contents err.new) result (action_of line) }
+) -> Ran<FileFrom<S>>
+    ensures ends { EndsLine ⟦<FileFrom<S> as Disk>⟧ IsSpared (image_at S.Start) result.left (O.contents out.old) (O.contents out.new)
+        (E.contents err.old) (E.contents err.new) result.status (action_of line) }
     // Of a file that a history left, the history goes on with what the desk is asked, or the system says that it isn't there.
-    ensures goes_on { (new first : Point) (ends : List Ended)
+    ensures goes_on { (new : Point) (first : Placed) (ends : List Ended)
         → WasLeftBy (image_at S.Start) new ends first
         → OnOpen (action_of line) (GoesOnIfThere ⟦<FileFrom<S> as Disk>⟧ IsSpared
-        (image_at S.Start) new ends first (O.contents out.old) (O.contents out.new)
-        (E.contents err.old) (E.contents err.new) result) }
+        (image_at S.Start) new ends first result.left (O.contents out.old) (O.contents out.new)
+        (E.contents err.old) (E.contents err.new) result.status) }
 {
     let (file, action) = line.into_parts();
     match action {
@@ -255,7 +297,7 @@ pub fn run_line<S: Start, O: Write, E: Write>(
         }
         Action::Open { task } => match find_file(rt, file.as_str()) {
             Ok(()) => open(rt, file.as_str(), task, start, out, err),
-            Err(why) => tell_refusal(out, err, why),
+            Err(why) => tell_unopened(out, err, why),
         },
     }
 }

@@ -92,10 +92,10 @@ fn is_taken(why: &Refusal) -> bool
 
 /// Hands one name to the desk.
 fn enrol<S: Alter>(alloc: Global, desk: &mut Desk<S>, name: &Name) -> Reply
-    requires { IsFalse (desk_state desk.old).stopped }
+    requires { IsFalse (desk_state desk.old).needs_reopen }
     ensures turn { Turn (desk_state desk.old) (Enrol name.now) result (desk_state desk.new) }
     ensures asked { Asks S.Store desk.old
-        (session_of (Enrol name.now ∷ []) (result ∷ []) (desk_state desk.new).stopped) desk.new }
+        (session_of (Enrol name.now ∷ []) (result ∷ []) (desk_state desk.new).needs_reopen) desk.new }
 {
     // A name that is not handed in asks nothing of the file: this tells the proof.
     desk.asks_nothing();
@@ -108,7 +108,7 @@ fn enrol<S: Alter>(alloc: Global, desk: &mut Desk<S>, name: &Name) -> Reply
 
 /// Hands the names to the desk in order, until one is refused otherwise than as taken.
 fn enrol_all<S: Alter>(alloc: Global, desk: &mut Desk<S>, lines: &[PlayerLine]) -> Enrolled
-    requires { IsFalse (desk_state desk.old).stopped }
+    requires { IsFalse (desk_state desk.old).needs_reopen }
     ensures { AsksSome S.Store desk.old (λ first session last. Enrols (names_of lines.now) first
         result.additions result.stop session last) desk.new }
 {
@@ -160,7 +160,7 @@ fn import_list<S: Alter, O: Write, E: Write>(
     out: &mut O,
     err: &mut E,
 ) -> u8
-    requires { IsFalse (desk_state desk.old).stopped }
+    requires { IsFalse (desk_state desk.old).needs_reopen }
     ensures { AsksSome S.Store desk.old (ImportsList (O.contents out.old) (O.contents out.new)
         (E.contents err.old) (E.contents err.new) result list.now) desk.new }
 {
@@ -184,7 +184,7 @@ pub fn import<S: Alter, O: Write, E: Write>(
     out: &mut O,
     err: &mut E,
 ) -> u8
-    requires { IsFalse (desk_state desk.old).stopped }
+    requires { IsFalse (desk_state desk.old).needs_reopen }
     ensures { AsksSome S.Store desk.old (Imports (O.contents out.old) (O.contents out.new)
         (E.contents err.old) (E.contents err.new) result) desk.new }
 {

@@ -5,7 +5,7 @@ ghost use Rattle.std.specs.Prelude.{List, ◌≡◌, ◌⊎◌, IfOk, IfSome, On
 ghost use Rattle.std.specs.Io.KnownBytes.{Appends};
 ghost use Rattle.er_cli.specs.Texts.{answer_text, AppendsPart};
 ghost use Rattle.sqlite_wal.specs.Files.{image_at};
-ghost use Rattle.er_desk.specs.Desk.{Point};
+ghost use Rattle.er_desk.specs.Desk.{Point, Placed};
 ghost use Rattle.er_desk.specs.History.{Ended};
 ghost use Rattle.er_desk.specs.Headline.{WasLeftBy};
 ghost use Rattle.er_desk.specs.Opening.{IsSpared};
@@ -28,8 +28,10 @@ mod files;
 mod help;
 mod importing;
 mod input;
+mod left;
 mod script;
 mod serving;
+mod sessions;
 mod setup;
 mod texts;
 
@@ -41,8 +43,10 @@ pub use er_words::{
 use files::run_line;
 use help::{AWAITING, print_text, text_for};
 use input::{InputFault, lines_of, read_script};
+pub use left::{Left, Ran};
 use script::run_lines;
 pub use serving::serve_on;
+pub use sessions::{Held, Sessions, hold_sessions, next_session};
 use sqlite::{FileFrom, Start, Wary};
 use sqlite_disk::Disk;
 use std::alloc::Global;
@@ -117,9 +121,9 @@ pub fn run_script<R: Read, W: Write>(rt: &HostRuntime, reader: &mut R, writer: &
 fn refusal_status(why: &Refusal) -> u8
     ensures { result ≡ refusal_status why.now }
 {
-    match why.number() {
-        24 => MEMORY,
-        25 | 26 => DEVICE,
+    match why {
+        Refusal::Memory => MEMORY,
+        Refusal::Store { .. } | Refusal::NeedsReopen => DEVICE,
         _ => REFUSED,
     }
 }
@@ -179,46 +183,56 @@ fn print_usage<O: Write, E: Write>(
     }
 }
 
-/// Does what the words of a command line ask, and gives the status to end with. The event's file is opened, asked and, once the answer is written,
-/// closed again, so that it holds the event without its log too.
+/// Does what the words of a command line ask, and gives the status to end with. The event's file is opened, asked and, once the answer is
+/// written, closed again, so that it holds the event without its log too.
 pub fn run<O: Write, E: Write>(rt: &HostRuntime, words: &[String], out: &mut O, err: &mut E) -> u8
-    ensures { EndsWords ⟦<FileFrom<Wary> as Disk>⟧ IsSpared (image_at ⟦<Wary as Start>⟧)
-        (map string_bytes words.now) (O.contents out.old) (O.contents out.new) (E.contents err.old)
-        (E.contents err.new) result }
+    ensures { (what : _) × EndsWords ⟦<FileFrom<Wary> as Disk>⟧ IsSpared (image_at ⟦<Wary as Start>⟧)
+        (map string_bytes words.now) what (O.contents out.old) (O.contents out.new)
+        (E.contents err.old) (E.contents err.new) result }
 {
-    run_from(rt, words, Wary, out, err)
+    run_from(rt, words, Wary, out, err).status
 }
 
-/// The same over any first contents of the file, for which `S` stands. No clause ties it to the path.
+/// The same over any first contents of the file, for which `S` stands. No clause ties it to the path. What is left of the file comes back:
+/// whoever lets it go lets others have the file.
 pub fn run_from<S: Start, O: Write, E: Write>(
     rt: &HostRuntime,
     words: &[String],
     start: S,
     out: &mut O,
     err: &mut E,
-) -> u8
+) -> Ran<FileFrom<S>>
     ensures ends { EndsWords ⟦<FileFrom<S> as Disk>⟧ IsSpared (image_at S.Start)
-        (map string_bytes words.now) (O.contents out.old) (O.contents out.new) (E.contents err.old)
-        (E.contents err.new) result }
-    // Of a file that a history of a new event left, the history goes on with what is asked of the desk: the one command, the names of a list, the
-    // scores that clients hand in, or nothing. The answer is that of the event at its end; and in the file that is closed then the next command
-    // line finds it. Or the answer is one that comes before the file is opened: that it isn't there, or that memory or the device is wanting.
-    // Then no more is said.
-    ensures goes_on { (new first : Point) (ends : List Ended)
+        (map string_bytes words.now) result.left (O.contents out.old) (O.contents out.new)
+        (E.contents err.old) (E.contents err.new) result.status }
+    // Of a file that a history of a new event left, the history goes on with what is asked of the desk: the one command, the names of a
+    // list, the scores that clients hand in, or nothing. The answer is that of the event at its end; and in what is left of the file the
+    // next command line finds it. Or the answer is one that comes before the file is opened: that it isn't there, or that memory or the
+    // device is wanting. Then nothing is left.
+    ensures goes_on { (new : Point) (first : Placed) (ends : List Ended)
         → WasLeftBy (image_at S.Start) new ends first
         → text_for (map string_bytes words.now) ≡ None
         → IfSome (line_of (map string_bytes words.now)) (λ line. OnOpen (action_of line)
         (GoesOnIfThere ⟦<FileFrom<S> as Disk>⟧ IsSpared (image_at S.Start) new ends first
-        (O.contents out.old) (O.contents out.new) (E.contents err.old) (E.contents err.new)
-        result)) }
+        result.left (O.contents out.old) (O.contents out.new) (E.contents err.old)
+        (E.contents err.new) result.status)) }
 {
     if let Some(text) = text_for(words) {
-        return end_with(out, text, DONE);
+        return Ran {
+            status: end_with(out, text, DONE),
+            left: Left::Nothing,
+        };
     }
     match read_words(rt.alloc(), words) {
         Ok(line) => run_line(rt, line, start, out, err),
-        Err(LineFault::Usage(fault)) => print_usage(rt.alloc(), words, fault, out, err),
-        Err(LineFault::Memory) => print(out, err, &Answer::Refused(Refusal::Memory)),
+        Err(LineFault::Usage(fault)) => Ran {
+            status: print_usage(rt.alloc(), words, fault, out, err),
+            left: Left::Nothing,
+        },
+        Err(LineFault::Memory) => Ran {
+            status: print(out, err, &Answer::Refused(Refusal::Memory)),
+            left: Left::Nothing,
+        },
     }
 }
 

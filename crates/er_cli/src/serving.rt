@@ -73,8 +73,8 @@ fn serve_clients<S: Alter>(
 }
 
 /// Serves so many clients of a listener, one after the other, and gives the status to end with: 3 where the listener or a print fails.
-/// Prints the port that it listens at, and at the end how many it has served. A client that goes away counts as served. Each has a second for
-/// each read, ten for each write, and thirty in all: then it counts as served too, and the next one is taken.
+/// Prints the port that it listens at, and at the end how many it has served. A client that goes away counts as served. Each has a second
+/// for each read, ten for each write, and thirty in all: then it counts as served too, and the next one is taken.
 pub fn serve_on<S: Alter, W: Write>(
     rt: &HostRuntime,
     routes: &Routes,

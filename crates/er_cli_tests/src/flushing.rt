@@ -64,8 +64,8 @@ fn a_script_that_is_not_flushed_fails(rt: HostRuntime) -> Result<(), Fail> {
     Ok(())
 }
 
-/// How `--version` ends over a writer that holds its text back, where the stream behind it takes so many bytes alone: with its status, what that
-/// stream has taken, and what the errors have.
+/// How `--version` ends over a writer that holds its text back, where the stream behind it takes so many bytes alone: with its status, what
+/// that stream has taken, and what the errors have.
 fn version_in_vain(rt: &HostRuntime, room: usize) -> Option<(u8, Vec<u8>, Vec<u8>)> {
     let version = String::from_str(rt.alloc(), "--version").ok()?;
     let mut out = BufWriter::new(rt.alloc(), flushing_in_vain(rt, room)).ok()?;

@@ -1,8 +1,10 @@
-//! Tests of `er_cli`, for what no clause says and no script shows. They stand apart from `er_tests`, so that those need not wait for command
-//! lines.
+//! Tests of `er_cli`, for what no clause says and no script shows. They stand apart from `er_tests`, so that those need not wait for
+//! command lines.
 #![tactic(auto)]
 
 #[cfg(test)]
 mod flushing;
+#[cfg(test)]
+mod sessions;
 #[cfg(test)]
 mod sockets;

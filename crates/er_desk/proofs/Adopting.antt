@@ -1,6 +1,7 @@
 -- What an opening makes of the tables that it finds.
 use Rattle.std.proofs.lemmas.Grind.{common_steps}
-use Rattle.std.proofs.Common.{arith, Option, Some, None, IfSome, inl, inr, ◌⊎◌, ◌≡◌, ℕ, List, [], ◌∷◌, is_ok, IsTrue, refl, sym, ap, ap₂, subst, ◌∙◌}
+use Rattle.std.proofs.Common.{arith, Option, Some, None, IfSome, ◌⊎◌, ◌≡◌, ℕ, List, [], ◌∷◌, is_ok, IsTrue, refl, sym, ap}
+use Rattle.std.proofs.Common.{subst, ◌∙◌}
 use Rattle.std.specs.List.{AllZip}
 use Rattle.sqlite_catalog.specs.Listing.{IsTableRow, IsIndexRow, IsViewRow}
 use Rattle.sqlite_schema.specs.declared.schema.Table.{Table}
@@ -26,30 +27,19 @@ use Rattle.sqlite_wal.specs.Recovery.{Image}
 use Rattle.er_event.specs.{Event.EventValue, declared.events.parts.Parts.Parts, declared.refusals.Place.Place}
 use Rattle.er_event.specs.declared.refusals.Refusal.TheVariants.{Memory, NoEvent, Damaged}
 use Rattle.er_store.specs.{Damage.ReadsParts, Reading.KeepsTables}
-use Rattle.er_store.specs.{Representing.{Represents, IsStored, IsStoredIn, Shows, Leaves, ReadsEvent}}
+use Rattle.er_store.specs.{Representing.{RepresentsIn, IsStoredIn, Shows, Leaves, ReadsEvent}}
 use Rattle.er_store.specs.declared.Store.{Store}
-use Rattle.er_desk.specs.{Desk.Point, Headline.{IsEmptyFile, WasLeft}, Opening.{HoldsNothing, IsSpared, LeavesAll, NamesFirstFault}}
+use Rattle.er_desk.specs.{Desk.{Placed, IsStoredAt}, Headline.{IsEmptyFile, WasLeft}}
+use Rattle.er_desk.specs.{Opening.{HoldsNothing, IsSpared, LeavesAll, NamesFirstFault}}
 use Rattle.er_desk.proofs.Turns.{unchanged_keeps}
 use Rattle.er_store.specs.Store as tables
 
-pub point_is : (point : Point) (e : EventValue) (n : ℕ) → e ≡ point.event → n ≡ point.serial
-    → ◌≡◌ {A = Point} (record { event = e; serial = n }) point
-point_is point e n event serial = ap₂ (λ (x : EventValue) (k : ℕ). (let p : Point = record { event = x; serial = k } in p)) event serial
+pub placed_is : (placed : Placed) (e : EventValue) (n v : ℕ) → e ≡ placed.point.event → n ≡ placed.point.serial → v ≡ placed.version
+    → (let p : Placed = record { point = record { event = e; serial = n }; version = v } in p) ≡ placed
+placed_is placed e n v event serial version = rw (event, serial, version) refl
 
 pub shows_as : (v : ℕ) (s : State) (e f : EventValue) (m n : ℕ) → f ≡ e → n ≡ m → Shows v s e m → Shows v s f n
 shows_as v s e f m n event serial shows = rw (event, serial) shows
-
--- what is stored in a version is stored
-pub stored_either : {v : ℕ} {e : EventValue} {n : ℕ} {trees : Trees} → IsStoredIn v e n trees → IsStored e n trees
-stored_either it = record { schema = it.schema; sound = it.sound; represents = (it.represents.layout, it.represents.represents) }
-
-pub stored_or : {v : ℕ} {e : EventValue} {n : ℕ} {trees : Trees} {P : Type 0} → P ⊎ IsStoredIn v e n trees → P ⊎ IsStored e n trees
-stored_or (inl before) = inl before
-stored_or (inr after) = inr (stored_either after)
-
-pub stored_whole : {e : EventValue} {n : ℕ} {trees : Trees} → IsStoredIn 1 e n trees ⊎ IsStoredIn 2 e n trees → IsStored e n trees
-stored_whole (inl first) = stored_either first
-stored_whole (inr second) = stored_either second
 
 -- the event's rows are read where the tables are
 pub read_whole : (db : Database) (parts : Parts) → ReadsParts db parts → ReadsEvent db.schema
@@ -100,10 +90,11 @@ module _ (s : State) (image : Image) (opened : Opens s × IsLive s) (found : Fin
   sees db holds = ap (λ (d : Database). d.trees) opened.0.clean ∙ found.holds db holds
 
   -- what a crash left represents its event again
-  pub opened_represents : (point : Point) → ((db : Database) (e : EventValue) (n : ℕ) → IsDatabase db → IsStored e n db.trees
-      → Represents db e n) → WasLeft image point → Represents s.now point.event point.serial
-  opened_represents point law (db, holds, stored) = law s.now point.event point.serial (opened.1 opened.0.is_open).0
-      (subst (IsStored point.event point.serial) (sym (∥∥₁_elim holds (Trees-set _ _) (sees db))) stored)
+  pub opened_represents : (placed : Placed) → ((v : ℕ) (db : Database) (e : EventValue) (n : ℕ) → IsDatabase db → IsStoredIn v e n db.trees
+      → RepresentsIn v db e n) → WasLeft image placed → RepresentsIn placed.version s.now placed.point.event placed.point.serial
+  opened_represents placed law (db, holds, stored) =
+      law placed.version s.now placed.point.event placed.point.serial (opened.1 opened.0.is_open).0
+      (subst (IsStoredAt placed) (sym (∥∥₁_elim holds (Trees-set _ _) (sees db))) stored)
 
   pub sees_unchanged : (new : State) (db : Trees) → HoldsDatabase image db → IsUnchanged s new
       → (new.now.trees ≡ db) × (new.now ≡ new.committed)

@@ -1,5 +1,5 @@
 -- What a call does to the file, and two calls one after the other.
-use Rattle.std.proofs.{Common.{◌≡◌, inl, inr, ◌+◌, Bool, true, false, IsTrue, IsFalse, List, [], ◌∷◌, ◌++◌, Result, MatchResult}}
+use Rattle.std.proofs.{Common.{◌≡◌, ℕ, inl, inr, ◌+◌, Bool, true, false, IsTrue, IsFalse, List, [], ◌∷◌, ◌++◌, Result, MatchResult}}
 use Rattle.std.proofs.Common.{Option, Some, None, Ok, Err, IfErr, IfSome, OnOk, OnErr, MatchOption, refl, sym, ap, ap₂, subst, ◌∙◌, arith}
 use Rattle.std.proofs.Common.{append-nil, true≢false}
 use Rattle.std.specs.Prelude.{if◌then◌else◌}
@@ -10,12 +10,13 @@ use Rattle.sqlite.specs.{Tree.Trees, State.{HasCleanDisk, IsUnchanged}}
 use Rattle.er_event.specs.{declared.commands.Command.Command, Event.EventValue}
 use Rattle.er_rules.specs.Step.{Steps}
 use Rattle.er_store.specs.{Reading.KeepsTables, Representing.{KeepsOthers, Leaves, Shows}}
-use Rattle.er_desk.specs.{Reply.Reply, Desk.{Point, DeskState, Turn, ShowsOwn, point_of, state, desk_state, version_in}}
-use Rattle.er_desk.specs.{declared.desk.Desk.Desk}
+use Rattle.er_desk.specs.{Reply.Reply, Desk.{Point, Placed, DeskState, Turn, ShowsOwn, point_of, placed_at, placed_of, state, desk_state}}
+use Rattle.er_desk.specs.{declared.desk.Desk.Desk, Desk.version_in}
 use Rattle.er_desk.specs.{Headline.{LeavesJust, LeavesEither, LeavesEnd}, Run.{Session, session_of, no_session, EndsAfterKept}}
 use Rattle.er_desk.specs.{Run.{EndsWithDoubt, IsStoredEnd, Runs, acknowledged, last_tried, tried_or}, History.LeadsTo}
 use Rattle.er_desk.specs.Asking.{Asks, Submits, joined, later_doubt}
-use Rattle.er_desk.proofs.Running.{accepts_of, runs_lead, session_goes_on, session_stops, stays, stops_now, keeps_more, was_running, fault_tried}
+use Rattle.er_desk.proofs.Running.{accepts_of, runs_lead, session_goes_on, session_stops, stays, stops_now, turn_version, keeps_more}
+use Rattle.er_desk.proofs.Running.{was_running, fault_tried}
 use Rattle.er_desk.proofs.Turns.{waits_of, stops_of, stopped_of, turn_fault, turn_asks, keeps_self, same_keeps}
 use Rattle.er_desk.proofs.Slips.{read_keeps, read_others, still_shows}
 use Rattle.er_desk.proofs.Histories.{leads_then}
@@ -29,56 +30,58 @@ waited_session c false = refl
 
 module _ {S : Type 0} (g : Ghosts S) (old new : Desk S g) (c : Command) where
   stored_now : (r : Reply) → Turn (desk_state old) c r (desk_state new)
-      → OnOk r (LeavesJust (state g new) (point_of (desk_state new)))
-      → IfErr r (λ _. IsFalse (desk_state new).stopped → LeavesJust (state g new) (point_of (desk_state old)))
-      → IsFalse (desk_state new).stopped → LeavesJust (state g new) (point_of (desk_state new))
+      → OnOk r (LeavesJust (state g new) (placed_of (desk_state new)))
+      → IfErr r (λ _. IsFalse (desk_state new).needs_reopen → LeavesJust (state g new) (placed_of (desk_state old)))
+      → IsFalse (desk_state new).needs_reopen → LeavesJust (state g new) (placed_of (desk_state new))
   stored_now (Ok it) turn done refused runs = done
   stored_now (Err why) turn done refused runs =
-      subst (λ (p : Point). LeavesJust (state g new) p) (sym (stays (desk_state old) (desk_state new) c why turn)) (refused runs)
+      subst (λ (p : Placed). LeavesJust (state g new) p) (sym (stays (desk_state old) (desk_state new) c why turn)) (refused runs)
 
   module _ (r : Reply) (turn : Turn (desk_state old) c r (desk_state new)) where
-    pub command_sure : IsFalse (desk_state new).stopped → (session_of (c ∷ []) (r ∷ []) (desk_state new).stopped).doubt ≡ None
+    pub command_sure : IsFalse (desk_state new).needs_reopen → (session_of (c ∷ []) (r ∷ []) (desk_state new).needs_reopen).doubt ≡ None
     command_sure runs = rw runs refl
 
-    pub command_leads : LeadsTo (point_of (desk_state old)) (session_of (c ∷ []) (r ∷ []) (desk_state new).stopped).kept
+    pub command_leads : LeadsTo (point_of (desk_state old)) (session_of (c ∷ []) (r ∷ []) (desk_state new).needs_reopen).kept
         (point_of (desk_state new))
     command_leads = runs_lead (desk_state old) (desk_state new) (c ∷ []) (r ∷ []) (desk_state new, turn, refl)
 
-    pub command_waits : (IsTrue (desk_state old).stopped → new ≡ old) → IsTrue (desk_state old).stopped
-        → (new ≡ old) × (session_of (c ∷ []) (r ∷ []) (desk_state new).stopped ≡ no_session)
+    pub command_waits : (IsTrue (desk_state old).needs_reopen → new ≡ old) → IsTrue (desk_state old).needs_reopen
+        → (new ≡ old) × (session_of (c ∷ []) (r ∷ []) (desk_state new).needs_reopen ≡ no_session)
     command_waits same stopped = (
       same stopped,
-      subst (λ (x : Reply). session_of (c ∷ []) (x ∷ []) (desk_state new).stopped ≡ no_session)
-          (sym (waits_of (desk_state old) (desk_state new) c r turn stopped)) (waited_session c (desk_state new).stopped),
+      subst (λ (x : Reply). session_of (c ∷ []) (x ∷ []) (desk_state new).needs_reopen ≡ no_session)
+          (sym (waits_of (desk_state old) (desk_state new) c r turn stopped)) (waited_session c (desk_state new).needs_reopen),
     )
 
-    pub command_crash : (IsTrue (desk_state old).stopped → new ≡ old) → (ShowsOwn g old
-        → LeavesJust (state g old) (point_of (desk_state old)))
-        → (ShowsOwn g old → OnOk r (LeavesJust (state g new) (point_of (desk_state new))))
-        → (IsFalse (desk_state old).stopped → ShowsOwn g old → LeavesEither (state g new) (point_of (desk_state old)) c)
+    pub command_crash : (IsTrue (desk_state old).needs_reopen → new ≡ old) → (ShowsOwn g old
+        → LeavesJust (state g old) (placed_of (desk_state old)))
+        → (ShowsOwn g old → OnOk r (LeavesJust (state g new) (placed_of (desk_state new))))
+        → (IsFalse (desk_state old).needs_reopen → ShowsOwn g old → LeavesEither (state g new) (placed_of (desk_state old)) c)
         → (ShowsOwn g old
-        → IfErr r (λ _. IsFalse (desk_state new).stopped → LeavesJust (state g new) (point_of (desk_state old))))
-        → ShowsOwn g old → LeavesEnd (state g new) (point_of (desk_state old)) (session_of (c ∷ []) (r ∷ []) (desk_state new).stopped)
-    command_crash same left done undecided refused shows clean trees may = by_start (desk_state old).stopped refl
+        → IfErr r (λ _. IsFalse (desk_state new).needs_reopen → LeavesJust (state g new) (placed_of (desk_state old))))
+        → ShowsOwn g old → LeavesEnd (state g new) (placed_of (desk_state old)) (session_of (c ∷ []) (r ∷ []) (desk_state new).needs_reopen)
+    command_crash same left done undecided refused shows clean trees may = by_start (desk_state old).needs_reopen refl
       where
-        by_stop : IsFalse (desk_state old).stopped → (b : Bool) → (desk_state new).stopped ≡ b
-            → IsStoredEnd (point_of (desk_state old)) (session_of (c ∷ []) (r ∷ []) (desk_state new).stopped) trees
-        by_stop runs true is = subst (λ (b : Bool). IsStoredEnd (point_of (desk_state old)) (session_of (c ∷ []) (r ∷ []) b) trees) (sym is)
-            (session_stops (desk_state old) (desk_state old) (desk_state new) [] [] c r trees refl
+        by_stop : IsFalse (desk_state old).needs_reopen → (b : Bool) → (desk_state new).needs_reopen ≡ b
+            → IsStoredEnd (placed_of (desk_state old)) (session_of (c ∷ []) (r ∷ []) (desk_state new).needs_reopen) trees
+        by_stop runs true is = subst (λ (b : Bool). IsStoredEnd (placed_of (desk_state old)) (session_of (c ∷ []) (r ∷ []) b) trees)
+            (sym is)
+            (session_stops (desk_state old) (desk_state old) (desk_state new) [] [] c r trees refl refl
             (stops_now (desk_state old) (desk_state new) c r runs is turn) (undecided runs shows clean trees may))
-        by_stop runs false is = subst (λ (b : Bool). IsStoredEnd (point_of (desk_state old)) (session_of (c ∷ []) (r ∷ []) b) trees)
+        by_stop runs false is = subst (λ (b : Bool). IsStoredEnd (placed_of (desk_state old)) (session_of (c ∷ []) (r ∷ []) b) trees)
             (sym is)
             (session_goes_on (desk_state old) (desk_state new) (c ∷ []) (r ∷ []) trees (desk_state new, turn, refl)
+            (turn_version (desk_state old) (desk_state new) c r turn)
             (stored_now r turn (done shows) (refused shows) is clean trees may))
 
-        by_start : (b : Bool) → (desk_state old).stopped ≡ b
-            → IsStoredEnd (point_of (desk_state old)) (session_of (c ∷ []) (r ∷ []) (desk_state new).stopped) trees
+        by_start : (b : Bool) → (desk_state old).needs_reopen ≡ b
+            → IsStoredEnd (placed_of (desk_state old)) (session_of (c ∷ []) (r ∷ []) (desk_state new).needs_reopen) trees
         by_start true is =
             let waited = command_waits same is in
-            subst (λ (s : Session). IsStoredEnd (point_of (desk_state old)) s trees) (sym waited.1)
-            (quiet_end (point_of (desk_state old)) trees
-            (subst (λ (d : Desk S g). LeavesJust (state g d) (point_of (desk_state old))) (sym waited.0) (left shows) clean trees may))
-        by_start false is = by_stop is (desk_state new).stopped refl
+            subst (λ (s : Session). IsStoredEnd (placed_of (desk_state old)) s trees) (sym waited.1)
+            (quiet_end (placed_of (desk_state old)) trees
+            (subst (λ (d : Desk S g). LeavesJust (state g d) (placed_of (desk_state old))) (sym waited.0) (left shows) clean trees may))
+        by_start false is = by_stop is (desk_state new).needs_reopen refl
 
 -- ---- two
 
@@ -109,9 +112,10 @@ module _ (first mid : Point) (s t : Session) (leads : LeadsTo first s.kept mid) 
   joined_doubt : (last : Point) (doubt : Command) → EndsWithDoubt mid t last doubt → EndsWithDoubt first (joined s t) last doubt
   joined_doubt last doubt it = record { mid = it.mid; kept = joined_kept it.mid it.kept; event = it.event; serial = it.serial }
 
-  joined_end : (trees : Trees) → IsStoredEnd mid t trees → IsStoredEnd first (joined s t) trees
-  joined_end trees (last, inl kept, stored) = (last, inl (joined_kept last kept), stored)
-  joined_end trees (last, inr with_doubt, stored) = (
+  joined_end : (version : ℕ) (trees : Trees) → IsStoredEnd (placed_at mid version) t trees
+      → IsStoredEnd (placed_at first version) (joined s t) trees
+  joined_end version trees (last, inl kept, stored) = (last, inl (joined_kept last kept), stored)
+  joined_end version trees (last, inr with_doubt, stored) = (
     last,
     inr (subst (λ (o : Option Command). MatchOption o ⊥ (EndsWithDoubt first (joined s t) last))
         (sym (later_alone s.doubt t.doubt sure))
@@ -132,41 +136,43 @@ none_then (x ∷ xs) ys none = absurd (cc)
 
 module _ {S : Type 0} (g : Ghosts S) (old mid new : Desk S g) (s t : Session) (one : Asks g old s mid) (two : Asks g mid t new) where
   -- a desk that runs has run before
-  ran : IsFalse (desk_state new).stopped → IsFalse (desk_state mid).stopped
-  ran runs = by_stop (desk_state mid).stopped refl
+  ran : IsFalse (desk_state new).needs_reopen → IsFalse (desk_state mid).needs_reopen
+  ran runs = by_stop (desk_state mid).needs_reopen refl
     where
-      by_stop : (b : Bool) → (desk_state mid).stopped ≡ b → IsFalse (desk_state mid).stopped
-      by_stop true is = absurd (true≢false (sym (ap (λ (d : Desk S g). (desk_state d).stopped) (two.waits is).0 ∙ is) ∙ runs))
+      by_stop : (b : Bool) → (desk_state mid).needs_reopen ≡ b → IsFalse (desk_state mid).needs_reopen
+      by_stop true is = absurd (true≢false (sym (ap (λ (d : Desk S g). (desk_state d).needs_reopen) (two.waits is).0 ∙ is) ∙ runs))
       by_stop false is = is
 
-  both_wait : IsTrue (desk_state old).stopped → (new ≡ old) × (joined s t ≡ no_session)
+  both_wait : IsTrue (desk_state old).needs_reopen → (new ≡ old) × (joined s t ≡ no_session)
   both_wait stopped =
       let before = one.waits stopped in
-      let after = two.waits (ap (λ (d : Desk S g). (desk_state d).stopped) before.0 ∙ stopped) in (
+      let after = two.waits (ap (λ (d : Desk S g). (desk_state d).needs_reopen) before.0 ∙ stopped) in (
         after.0 ∙ before.0,
         subst (λ (a : Session). joined a t ≡ no_session) (sym before.1)
             (subst (λ (b : Session). joined no_session b ≡ no_session) (sym after.1) refl),
       )
 
-  both_crash : ShowsOwn g old → LeavesEnd (state g new) (point_of (desk_state old)) (joined s t)
-  both_crash shows clean trees may = by_stop (desk_state mid).stopped refl
+  both_crash : ShowsOwn g old → LeavesEnd (state g new) (placed_of (desk_state old)) (joined s t)
+  both_crash shows clean trees may = by_stop (desk_state mid).needs_reopen refl
     where
-      by_stop : (b : Bool) → (desk_state mid).stopped ≡ b → IsStoredEnd (point_of (desk_state old)) (joined s t) trees
+      by_stop : (b : Bool) → (desk_state mid).needs_reopen ≡ b → IsStoredEnd (placed_of (desk_state old)) (joined s t) trees
       by_stop true is =
           let after = two.waits is in
-          subst (λ (x : Session). IsStoredEnd (point_of (desk_state old)) x trees)
+          subst (λ (x : Session). IsStoredEnd (placed_of (desk_state old)) x trees)
           (sym (subst (λ (b : Session). joined s b ≡ s) (sym after.1) (joined_none s)))
           (one.crash shows (two.clean clean) trees (subst (λ (d : Desk S g). (state g d).may_leave trees) after.0 may))
-      by_stop false is = joined_end (point_of (desk_state old)) (point_of (desk_state mid)) s t one.leads (one.sure is) trees
-          (two.crash (one.represents (two.clean clean) shows is) clean trees may)
+      by_stop false is =
+          joined_end (point_of (desk_state old)) (point_of (desk_state mid)) s t one.leads (one.sure is) (version_in old) trees
+          (subst (λ (v : ℕ). IsStoredEnd (placed_at (point_of (desk_state mid)) v) t trees) one.version
+          (two.crash (one.represents (two.clean clean) shows is) clean trees may))
 
   both_kept : (joined s t).kept ≡ [] → HasCleanDisk (state g new) → ShowsOwn g old → KeepsTables (state g old) (state g new)
-  both_kept none clean shows = by_stop (desk_state mid).stopped refl
+  both_kept none clean shows = by_stop (desk_state mid).needs_reopen refl
     where
       before : KeepsTables (state g old) (state g mid)
       before = one.kept (none_first s.kept t.kept none) (two.clean clean) shows
 
-      by_stop : (b : Bool) → (desk_state mid).stopped ≡ b → KeepsTables (state g old) (state g new)
+      by_stop : (b : Bool) → (desk_state mid).needs_reopen ≡ b → KeepsTables (state g old) (state g new)
       by_stop true is = subst (λ (d : Desk S g). KeepsTables (state g old) (state g d)) (sym (two.waits is).0) before
       by_stop false is = λ settled is_open.
           let here = one.represents (two.clean clean) shows is in
@@ -192,13 +198,13 @@ module _ {S : Type 0} (g : Ghosts S) (old mid new : Desk S g) (s t : Session) (o
 -- ---- nothing
 
 -- a desk that only reads
-pub reading_asks : {S : Type 0} (g : Ghosts S) (old new : Desk S g) → (IsTrue (desk_state old).stopped → new ≡ old)
+pub reading_asks : {S : Type 0} (g : Ghosts S) (old new : Desk S g) → (IsTrue (desk_state old).needs_reopen → new ≡ old)
     → point_of (desk_state new) ≡ point_of (desk_state old) → (HasCleanDisk (state g new) → HasCleanDisk (state g old))
-    → (HasCleanDisk (state g new) → ShowsOwn g old → IsFalse (desk_state new).stopped → ShowsOwn g new)
+    → (HasCleanDisk (state g new) → ShowsOwn g old → IsFalse (desk_state new).needs_reopen → ShowsOwn g new)
     → (HasCleanDisk (state g new) → ShowsOwn g old → IsTrue (state g new).is_open
     → KeepsOthers (version_in old) (state g old).now (state g new).now)
     → (HasCleanDisk (state g new) → KeepsTables (state g old) (state g new))
-    → version_in new ≡ version_in old → (ShowsOwn g old → LeavesJust (state g new) (point_of (desk_state old))) → Asks g old no_session new
+    → version_in new ≡ version_in old → (ShowsOwn g old → LeavesJust (state g new) (placed_of (desk_state old))) → Asks g old no_session new
 reading_asks g old new waits same clean represents others kept version crash = record {
   waits = λ stopped. (waits stopped, refl);
   leads = record { event = ap (λ (p : Point). p.event) same; serial = ap (λ (p : Point). p.serial) same ∙ omega arith };
@@ -208,30 +214,31 @@ reading_asks g old new waits same clean represents others kept version crash = r
   others = others;
   kept = λ none now shows. kept now;
   version = version;
-  crash = λ shows clean trees may. quiet_end (point_of (desk_state old)) trees (crash shows clean trees may);
+  crash = λ shows clean trees may. quiet_end (placed_of (desk_state old)) trees (crash shows clean trees may);
 }
 
 -- a desk that reads nothing of its tables, as one that was just adopted
-pub same_asks : {S : Type 0} (g : Ghosts S) (desk : Desk S g) → (ShowsOwn g desk → LeavesJust (state g desk) (point_of (desk_state desk)))
+pub same_asks : {S : Type 0} (g : Ghosts S) (desk : Desk S g) → (ShowsOwn g desk → LeavesJust (state g desk) (placed_of (desk_state desk)))
     → Asks g desk no_session desk
 same_asks g desk crash = reading_asks g desk desk (λ _. refl) refl (λ clean. clean) (λ clean shows runs. shows)
     (λ clean shows is_open. keeps_self _ (state g desk).now) (λ clean. same_keeps (state g desk)) refl crash
 
 -- a desk whose store has read something
 module _ {S A : Type 0} (g : Ghosts S) (old new : Desk S g) (Fails : Refusal → Type 0) (read : Result A Refusal) where
-  pub read_asks : IsFalse (desk_state old).stopped → point_of (desk_state new) ≡ point_of (desk_state old) → version_in new ≡ version_in old
-      → MatchResult read (λ _. IsFalse (desk_state new).stopped) Fails → (HasCleanDisk (state g new) → HasCleanDisk (state g old))
-      → (HasCleanDisk (state g new) → IsFalse (desk_state new).stopped → IsUnchanged (state g old) (state g new))
+  pub read_asks : IsFalse (desk_state old).needs_reopen → point_of (desk_state new) ≡ point_of (desk_state old)
+      → version_in new ≡ version_in old
+      → MatchResult read (λ _. IsFalse (desk_state new).needs_reopen) Fails → (HasCleanDisk (state g new) → HasCleanDisk (state g old))
+      → (HasCleanDisk (state g new) → IsFalse (desk_state new).needs_reopen → IsUnchanged (state g old) (state g new))
       → (HasCleanDisk (state g new) → OnErr read (KeepsTables (state g old) (state g new))) → Leaves (state g new) (state g old).may_leave
-      → (ShowsOwn g old → LeavesJust (state g old) (point_of (desk_state old))) → Asks g old no_session new
+      → (ShowsOwn g old → LeavesJust (state g old) (placed_of (desk_state old))) → Asks g old no_session new
   read_asks runs same version stops clean still kept crash left =
       reading_asks g old new (λ stopped. absurd (true≢false (sym stopped ∙ runs))) same clean
       (λ now shows runs. subst (λ (p : Point). Shows (version_in new) (state g new) p.event p.serial) (sym same)
       (still_shows (version_in old) (version_in new) (state g old) (state g new) old.event old.serial version shows (still now runs)))
-      (λ now shows is_open. read_others Fails read (desk_state new).stopped (version_in old) (state g old) (state g new)
+      (λ now shows is_open. read_others Fails read (desk_state new).needs_reopen (version_in old) (state g old) (state g new)
       shows.settled is_open
       stops (still now) (kept now))
-      (λ now. read_keeps Fails read (desk_state new).stopped (state g old) (state g new) stops (still now) (kept now))
+      (λ now. read_keeps Fails read (desk_state new).needs_reopen (state g old) (state g new) stops (still now) (kept now))
       version (λ shows now trees may. left shows (clean now) trees (crash now trees may))
 
 -- ---- one command, whole
@@ -244,17 +251,17 @@ unless_kept c (Err why) P none kept = kept
 module _ {S : Type 0} (g : Ghosts S) (old new : Desk S g) (c : Command) (r : Reply)
     (turn : Turn (desk_state old) c r (desk_state new)) where
   -- what one command does to the file
-  pub command_asks : (IsTrue (desk_state old).stopped → new ≡ old) → (HasCleanDisk (state g new) → HasCleanDisk (state g old))
-      → (HasCleanDisk (state g new) → ShowsOwn g old → IsFalse (desk_state new).stopped → ShowsOwn g new)
+  pub command_asks : (IsTrue (desk_state old).needs_reopen → new ≡ old) → (HasCleanDisk (state g new) → HasCleanDisk (state g old))
+      → (HasCleanDisk (state g new) → ShowsOwn g old → IsFalse (desk_state new).needs_reopen → ShowsOwn g new)
       → (HasCleanDisk (state g new) → ShowsOwn g old → IsTrue (state g new).is_open
       → KeepsOthers (version_in old) (state g old).now (state g new).now)
       → (HasCleanDisk (state g new) → OnErr r (KeepsTables (state g old) (state g new)))
-      → version_in new ≡ version_in old → (ShowsOwn g old → LeavesJust (state g old) (point_of (desk_state old)))
-      → (ShowsOwn g old → OnOk r (LeavesJust (state g new) (point_of (desk_state new))))
-      → (IsFalse (desk_state old).stopped → ShowsOwn g old → LeavesEither (state g new) (point_of (desk_state old)) c)
+      → version_in new ≡ version_in old → (ShowsOwn g old → LeavesJust (state g old) (placed_of (desk_state old)))
+      → (ShowsOwn g old → OnOk r (LeavesJust (state g new) (placed_of (desk_state new))))
+      → (IsFalse (desk_state old).needs_reopen → ShowsOwn g old → LeavesEither (state g new) (placed_of (desk_state old)) c)
       → (ShowsOwn g old
-      → IfErr r (λ _. IsFalse (desk_state new).stopped → LeavesJust (state g new) (point_of (desk_state old))))
-      → Asks g old (session_of (c ∷ []) (r ∷ []) (desk_state new).stopped) new
+      → IfErr r (λ _. IsFalse (desk_state new).needs_reopen → LeavesJust (state g new) (placed_of (desk_state old))))
+      → Asks g old (session_of (c ∷ []) (r ∷ []) (desk_state new).needs_reopen) new
   command_asks waits clean represents others kept version left done undecided refused = record {
     waits = command_waits g old new c r turn waits;
     leads = command_leads g old new c r turn;
@@ -270,7 +277,7 @@ module _ {S : Type 0} (g : Ghosts S) (old new : Desk S g) (c : Command) (r : Rep
 -- a refusal that leaves the desk as it is
 module _ {S : Type 0} (g : Ghosts S) (desk : Desk S g) (c : Command) where
   pub refused_submits : (r : Reply) → Turn (desk_state desk) c r (desk_state desk)
-      → (ShowsOwn g desk → LeavesJust (state g desk) (point_of (desk_state desk))) → Submits g desk c r desk
+      → (ShowsOwn g desk → LeavesJust (state g desk) (placed_of (desk_state desk))) → Submits g desk c r desk
   refused_submits (Ok it) turn left = absurd (no_more (accepts_of (desk_state desk) (desk_state desk) c it turn).serial_is)
     where
       no_more : desk.serial ≡ desk.serial + 1 → ⊥
@@ -310,19 +317,20 @@ tried_last old mid [] [] c r is = later_none (tried_or None c r)
 tried_last old mid [] (s ∷ rs) c r is = absurd is
 tried_last old mid (d ∷ cs) [] c r is = absurd is
 tried_last old mid (d ∷ cs) (s ∷ rs) c r is =
-    ap (λ (o : Option Command). tried_or o d s) (tried_last is.0 mid cs rs c r is.2) ∙ tried_later (last_tried cs rs) (tried_or None c r) d s
+    ap (λ (o : Option Command). tried_or o d s) (tried_last is.0 mid cs rs c r is.2) ∙ tried_later (last_tried cs rs) (tried_or None c r)
+    d s
 
 -- The session of a list and of one command more. A desk that was stopped tries no more of it, and one that runs has
 -- nothing in doubt.
 pub session_push : (old mid new : DeskState) (cs : List Command) (rs : List Reply) (c : Command) (r : Reply) → Runs old cs rs mid
     → Turn mid c r new
-    → joined (session_of cs rs mid.stopped) (session_of (c ∷ []) (r ∷ []) new.stopped)
-    ≡ session_of (cs ++ c ∷ []) (rs ++ r ∷ []) new.stopped
+    → joined (session_of cs rs mid.needs_reopen) (session_of (c ∷ []) (r ∷ []) new.needs_reopen)
+    ≡ session_of (cs ++ c ∷ []) (rs ++ r ∷ []) new.needs_reopen
 session_push old mid new cs rs c r runs turn =
     ap₂ (λ (ks : List Command) (o : Option Command). let it : Session = record { kept = ks; doubt = o } in it)
-    (sym (kept_push old mid cs rs c r runs)) (by_stops mid.stopped new.stopped refl refl)
+    (sym (kept_push old mid cs rs c r runs)) (by_stops mid.needs_reopen new.needs_reopen refl refl)
   where
-    by_stops : (b d : Bool) → mid.stopped ≡ b → new.stopped ≡ d
+    by_stops : (b d : Bool) → mid.needs_reopen ≡ b → new.needs_reopen ≡ d
         → later_doubt (if b then last_tried cs rs else None) (if d then tried_or None c r else None)
         ≡ (if d then last_tried (cs ++ c ∷ []) (rs ++ r ∷ []) else None)
     by_stops true true was is = sym (tried_last old mid cs rs c r runs)
@@ -336,9 +344,9 @@ session_push old mid new cs rs c r runs turn =
         ∙ sym (tried_last old mid cs rs c r runs ∙ ap (λ (o : Option Command). later_doubt (last_tried cs rs) o) tried)
 
 pub empty_asks : {S : Type 0} (g : Ghosts S) (desk : Desk S g)
-    → (ShowsOwn g desk → LeavesJust (state g desk) (point_of (desk_state desk)))
-    → Asks g desk (session_of [] [] (desk_state desk).stopped) desk
-empty_asks g desk crash = subst (λ (s : Session). Asks g desk s desk) (sym (empty (desk_state desk).stopped)) (same_asks g desk crash)
+    → (ShowsOwn g desk → LeavesJust (state g desk) (placed_of (desk_state desk)))
+    → Asks g desk (session_of [] [] (desk_state desk).needs_reopen) desk
+empty_asks g desk crash = subst (λ (s : Session). Asks g desk s desk) (sym (empty (desk_state desk).needs_reopen)) (same_asks g desk crash)
   where
     empty : (b : Bool) → session_of [] [] b ≡ no_session
     empty true = refl

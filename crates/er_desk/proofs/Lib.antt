@@ -9,3 +9,5 @@ mod NextSession
 mod Resting
 mod Asking
 mod Moving
+mod Looking
+mod Doubting

@@ -1,7 +1,8 @@
 -- A history with migrations is one without them.
 use Rattle.std.proofs.Common.{Some, ◌≡◌, ◌⊎◌, inl, inr, List, [], ◌∷◌, ap, ◌∙◌, refl}
 use Rattle.er_desk.specs.{History.IsHistory}
-use Rattle.er_desk.specs.Migrations.{Request, Submits, Migrates, Placed, MovingEnded, MayEndIn, IsMovingHistory, version_after}
+use Rattle.er_desk.specs.Desk.{Placed}
+use Rattle.er_desk.specs.Migrations.{Request, Submits, Migrates, MovingEnded, MayEndIn, IsMovingHistory, version_after}
 use Rattle.er_desk.specs.Migrations.{without_migrations}
 
 pub passes_over : (first : Placed) (ends : List MovingEnded) (last : Placed) → IsMovingHistory first ends last

@@ -1,13 +1,12 @@
 -- A session goes on from where a history has ended.
-use Rattle.std.proofs.{Common.{◌≡◌, List, [], ◌∷◌, ◌++◌, Ok}}
+use Rattle.std.proofs.{Common.{◌≡◌, ℕ, List, [], ◌∷◌, ◌++◌, Ok}}
 use Rattle.std.proofs.Common.{Option, None, IfSome, inl, refl, sym, subst, arith}
 use Rattle.sqlite.specs.{Tree.Trees}
 use Rattle.sqlite_wal.specs.Recovery.{Image}
 use Rattle.er_event.specs.declared.commands.Command.{Command}
 use Rattle.er_event.specs.Event.{EventValue}
 use Rattle.er_rules.specs.{Sound.IsSound, Step.Steps}
-use Rattle.er_store.specs.Representing.{IsStored}
-use Rattle.er_desk.specs.{Desk.{Point}}
+use Rattle.er_desk.specs.Desk.{Point, Placed, IsStoredAt, placed_at}
 use Rattle.er_desk.specs.{Run.{Session, MayEnd, IsStoredEnd, no_session}}
 use Rattle.er_desk.specs.{History.{Ended, IsHistory, LeadsTo}, Headline.{Histories, IsEndOf, NextBegins}}
 use Rattle.er_desk.specs.Headline.{IsBeginning, WasLeft, WasLeftBy, and_then}
@@ -18,8 +17,8 @@ history_more new first [] it is may = (subst (λ (p : Point). MayEnd p it.sessio
 history_more new first (before ∷ more) it (ended, rest) may = (ended, history_more before.last first more it rest may)
 
 -- nothing was asked, and what is left is what was there
-pub quiet_end : (first : Point) (trees : Trees) → IsStored first.event first.serial trees → IsStoredEnd first no_session trees
-quiet_end first trees stored = (first, inl (record { event = refl; serial = omega arith; taken = tt }), stored)
+pub quiet_end : (first : Placed) (trees : Trees) → IsStoredAt first trees → IsStoredEnd first no_session trees
+quiet_end first trees stored = (first.point, inl (record { event = refl; serial = omega arith; taken = tt }), stored)
 
 -- a session that leaves nothing in doubt ends where its acknowledged commands lead
 sure_end : (first : Point) (session : Session) (last : Point) → LeadsTo first session.kept last → session.doubt ≡ None
@@ -40,16 +39,18 @@ module _ (law : Histories) (new first : Point) (ends : List Ended) (begins : IsB
   pub first_sound : IsSound first.event
   first_sound = (ends_so ends first was).sound
 
-  pub next_begins : (session : Session) (trees : Trees) → IsStoredEnd first session trees → NextBegins new ends session trees
-  next_begins session trees (last, may, stored) =
+  pub next_begins : (version : ℕ) (session : Session) (trees : Trees) → IsStoredEnd (placed_at first version) session trees
+      → NextBegins new ends session version trees
+  next_begins version session trees (last, may, stored) =
       let history = history_more new first ends (record { session = session; last = last }) was may in
       record { last = last; history = history; is_end = ends_so (and_then ends session last) last history; stored = stored }
 
   -- files that represent the sure end of the session were left by the history with it
-  pub next_leaves : (session : Session) (last : Point) (left : Image) → LeadsTo first session.kept last → session.doubt ≡ None
-      → WasLeft left last → WasLeftBy left new (and_then ends session last) last
+  pub next_leaves : (session : Session) (last : Placed) (left : Image) → LeadsTo first session.kept last.point → session.doubt ≡ None
+      → WasLeft left last → WasLeftBy left new (and_then ends session last.point) last
   next_leaves session last left leads sure stored = record {
     begins = begins;
-    history = history_more new first ends (record { session = session; last = last }) was (sure_end first session last leads sure);
+    history = history_more new first ends (record { session = session; last = last.point }) was
+        (sure_end first session last.point leads sure);
     left = stored;
   }

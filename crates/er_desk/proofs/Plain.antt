@@ -9,22 +9,23 @@ use Rattle.er_desk.specs.{Reply.{Reply, IsLawful}, Desk.{DeskState, Stops, Turn}
 use Rattle.er_desk.proofs.{Turns.{turn_fault, waits_of, stops_of, stopped_of}, Running.runs_lead}
 
 -- once stopped, it stays so
-runs_stopped : (old new : DeskState) (cs : List Command) (rs : List Reply) → Runs old cs rs new → IsTrue old.stopped → IsTrue new.stopped
-runs_stopped old new [] [] is was = ap (λ (s : DeskState). s.stopped) is ∙ was
+runs_stopped : (old new : DeskState) (cs : List Command) (rs : List Reply) → Runs old cs rs new → IsTrue old.needs_reopen
+    → IsTrue new.needs_reopen
+runs_stopped old new [] [] is was = ap (λ (s : DeskState). s.needs_reopen) is ∙ was
 runs_stopped old new [] (r ∷ rs) is was = absurd is
 runs_stopped old new (c ∷ cs) [] is was = absurd is
 runs_stopped old new (c ∷ cs) (r ∷ rs) (mid, turn, rest) was = runs_stopped mid new cs rs rest (stopped_of old mid c r turn (inl was))
 
 -- each reply is lawful, or the desk is stopped
 pub turn_lawful : (old new : DeskState) (c : Command) (r : Reply) → Turn old c r new
-    → IsLawful old.version old.event old.serial c r ⊎ ((r ≡ Err NeedsReopen) × IsTrue old.stopped)
+    → IsLawful old.version old.event old.serial c r ⊎ ((r ≡ Err NeedsReopen) × IsTrue old.needs_reopen)
 turn_lawful old new c r h1 = grind (arith, common_steps)
 
 -- the version stays
 turn_version : (old new : DeskState) (c : Command) (r : Reply) → Turn old c r new → new.version ≡ old.version
 turn_version old new c r (inl it) = it.version_is
 turn_version old new c r (inr (inl it)) = ap (λ (s : DeskState). s.version) it.same
-turn_version old new c r (inr (inr (inl it))) = ap (λ (s : DeskState). s.version) it.stopped
+turn_version old new c r (inr (inr (inl it))) = ap (λ (s : DeskState). s.version) it.needs_reopen
 turn_version old new c r (inr (inr (inr it))) = ap (λ (s : DeskState). s.version) it.same
 
 runs_version : (old new : DeskState) (cs : List Command) (rs : List Reply) → Runs old cs rs new → new.version ≡ old.version
@@ -38,13 +39,13 @@ abbrev At : DeskState → List Command → List Reply → DeskState → ℕ → 
 At old cs rs new k c r =
     (mid : EventValue) × Folds old.event (acknowledged (take k cs) (take k rs)) mid
     × (IsLawful old.version mid (old.serial + length (acknowledged (take k cs) (take k rs))) c r
-    ⊎ ((r ≡ Err NeedsReopen) × IsTrue new.stopped))
+    ⊎ ((r ≡ Err NeedsReopen) × IsTrue new.needs_reopen))
 
 -- the runs before and after a place
 split : (old new : DeskState) (cs : List Command) (rs : List Reply) (k : ℕ) (c : Command) (r : Reply) → Runs old cs rs new
     → slice_get cs k ≡ Some c → slice_get rs k ≡ Some r
     → (mid : DeskState) × (next : DeskState) × Runs old (take k cs) (take k rs) mid × Turn mid c r next
-    × (IsTrue next.stopped → IsTrue new.stopped)
+    × (IsTrue next.needs_reopen → IsTrue new.needs_reopen)
 split old new [] rs k c r is at there = absurd (none-some c at)
 split old new (x ∷ cs) [] k c r is at there = absurd (none-some r there)
 split old new (x ∷ cs) (y ∷ rs) zero c r (mid, turn, rest) at there = grind (arith, common_steps, runs_stopped, same_Some)
@@ -53,7 +54,7 @@ split old new (x ∷ cs) (y ∷ rs) (suc k) c r (mid, turn, rest) at there =
     (more.0, more.1, (mid, turn, more.2), more.3, more.4)
 
 -- a stopped desk answers each command alike
-all_wait : (old new : DeskState) (cs : List Command) (rs : List Reply) → Runs old cs rs new → IsTrue old.stopped → (k : ℕ) (r : Reply)
+all_wait : (old new : DeskState) (cs : List Command) (rs : List Reply) → Runs old cs rs new → IsTrue old.needs_reopen → (k : ℕ) (r : Reply)
     → slice_get rs k ≡ Some r → r ≡ Err NeedsReopen
 all_wait old new cs [] is was k r at = absurd (none-some r at)
 all_wait old new [] (y ∷ rs) is was k r at = absurd is
@@ -62,9 +63,9 @@ all_wait old new (c ∷ cs) (y ∷ rs) (mid, turn, rest) was (suc k) r at =
     all_wait mid new cs rs rest (stopped_of old mid c y turn (inl was)) k r at
 
 -- a fault of the store is behind a desk that stops
-runs_stopped_by : (old new : DeskState) (cs : List Command) (rs : List Reply) → Runs old cs rs new → IsTrue new.stopped
-    → IsTrue old.stopped ⊎ ((k : ℕ) × FailsAt rs k)
-runs_stopped_by old new [] [] is stopped = inl (sym (ap (λ (s : DeskState). s.stopped) is) ∙ stopped)
+runs_stopped_by : (old new : DeskState) (cs : List Command) (rs : List Reply) → Runs old cs rs new → IsTrue new.needs_reopen
+    → IsTrue old.needs_reopen ⊎ ((k : ℕ) × FailsAt rs k)
+runs_stopped_by old new [] [] is stopped = inl (sym (ap (λ (s : DeskState). s.needs_reopen) is) ∙ stopped)
 runs_stopped_by old new [] (r ∷ rs) is stopped = absurd is
 runs_stopped_by old new (c ∷ cs) [] is stopped = absurd is
 runs_stopped_by old new (c ∷ cs) (r ∷ rs) (mid, turn, rest) stopped = elim (runs_stopped_by mid new cs rs rest stopped) [
@@ -77,17 +78,19 @@ runs_stopped_by old new (c ∷ cs) (r ∷ rs) (mid, turn, rest) stopped = elim (
     after k all zero reply low at = absurd (omega (arith, low))
     after k all (suc later) reply low at = all later reply (omega (arith, low)) at
 
-    first : IsTrue mid.stopped → (later : ℕ) (reply : Reply) → 0 < later → slice_get (r ∷ rs) later ≡ Some reply → reply ≡ Err NeedsReopen
+    first : IsTrue mid.needs_reopen → (later : ℕ) (reply : Reply) → 0 < later → slice_get (r ∷ rs) later ≡ Some reply
+        → reply ≡ Err NeedsReopen
     first was zero reply low at = absurd (omega (arith, low))
     first was (suc later) reply low at = all_wait mid new cs rs rest was later reply at
 
-    by_turn : IsTrue mid.stopped → IsTrue old.stopped ⊎ Stops old c r mid → IsTrue old.stopped ⊎ ((k : ℕ) × FailsAt (r ∷ rs) k)
+    by_turn : IsTrue mid.needs_reopen → IsTrue old.needs_reopen ⊎ Stops old c r mid → IsTrue old.needs_reopen
+        ⊎ ((k : ℕ) × FailsAt (r ∷ rs) k)
     by_turn was (inl before) = inl before
     by_turn was (inr stops) = inr (0, ((stops.why, stops.fault, ap (λ (x : Reply). Some x) stops.answered), first was))
 
 -- and each fault stops it
 runs_fault : (old new : DeskState) (cs : List Command) (rs : List Reply) → Runs old cs rs new → (k : ℕ) (cause : Cause)
-    → slice_get rs k ≡ Some (Err (Store cause)) → IsTrue new.stopped
+    → slice_get rs k ≡ Some (Err (Store cause)) → IsTrue new.needs_reopen
 runs_fault old new cs [] is k cause at = absurd (none-some _ at)
 runs_fault old new [] (r ∷ rs) is k cause at = absurd is
 runs_fault old new (c ∷ cs) (r ∷ rs) (mid, turn, rest) zero cause at = grind (arith, common_steps, runs_stopped, same_Some, turn_fault)
@@ -103,7 +106,7 @@ runs_plain old new cs rs is =
       serial_is = leads.serial;
       version_is = runs_version old new cs rs is;
       stopped_by = runs_stopped_by old new cs rs is;
-      was_stopped = λ was. (runs_stopped old new cs rs is was, all_wait old new cs rs is was);
+      needed_reopen = λ was. (runs_stopped old new cs rs is was, all_wait old new cs rs is was);
       stops = runs_fault old new cs rs is;
     }
   where

@@ -1,14 +1,16 @@
 -- A run of commands, and where a crash leaves it.
-use Rattle.std.proofs.{lemmas.Grind.common_steps, Common.{◌≡◌, inl, inr, ◌+◌, Bool, true, false, IsTrue, IsFalse, List, [], ◌∷◌, ◌++◌}}
+use Rattle.std.proofs.{lemmas.Grind.common_steps, Common.{◌≡◌, ℕ, inl, inr, ◌+◌, Bool, true, false, IsTrue, IsFalse, List, [], ◌∷◌, ◌++◌}}
 use Rattle.std.proofs.Common.{Option, Some, None, Ok, Err, IfSome, MatchOption, refl, sym, ap, subst, ◌∙◌, arith, true≢false}
 use Rattle.sqlite_trees.specs.declared.store.Store.{Ghosts}
 use Rattle.sqlite.specs.{Tree.Trees}
 use Rattle.er_event.specs.{declared.commands.Command.Command, declared.commands.Receipt.Receipt, declared.refusals.Refusal.Refusal}
 use Rattle.er_event.specs.{declared.refusals.Refusal.TheVariants.NeedsReopen, Event.EventValue}
 use Rattle.er_rules.specs.Step.{Steps, Answers}
-use Rattle.er_store.specs.{Fault.IsFault, Representing.{IsStored, Either, KeepsOthers}}
+use Rattle.er_store.specs.{Fault.IsFault, Representing.{Either, KeepsOthers}}
 use Rattle.er_desk.specs.{Reply.Reply}
-use Rattle.er_desk.specs.{Desk.{Point, DeskState, Accepts, Stops, Turn, ShowsOwn, IsStoredAfter, point_of, state, desk_state, version_in}}
+use Rattle.er_desk.specs.Desk.{Point, Placed, DeskState, Accepts, Stops, Turn, ShowsOwn, IsStoredAt, IsStoredAfter, point_of}
+use Rattle.er_desk.specs.Desk.{placed_at, placed_of, state}
+use Rattle.er_desk.specs.Desk.{desk_state, version_in}
 use Rattle.er_desk.specs.{declared.desk.Desk.Desk, Run.{Runs, acknowledged, tried_or}}
 use Rattle.er_desk.specs.{Run.{last_tried, Session, session_of, EndsAfterKept, EndsWithDoubt, IsStoredEnd}, History.LeadsTo}
 use Rattle.er_desk.proofs.Turns.{stops_of, keeps_then}
@@ -27,10 +29,10 @@ pub accepts_of : (old new : DeskState) (command : Command) (receipt : Receipt) �
 accepts_of old new command receipt h1 = grind (arith, common_steps)
 
 -- a refusal leaves the event and its serial
-pub stays : (old new : DeskState) (command : Command) (why : Refusal) → Turn old command (Err why) new → point_of new ≡ point_of old
+pub stays : (old new : DeskState) (command : Command) (why : Refusal) → Turn old command (Err why) new → placed_of new ≡ placed_of old
 stays old new command why h1 = grind (arith, common_steps)
 
-pub stops_now : (old new : DeskState) (command : Command) (reply : Reply) → IsFalse old.stopped → IsTrue new.stopped
+pub stops_now : (old new : DeskState) (command : Command) (reply : Reply) → IsFalse old.needs_reopen → IsTrue new.needs_reopen
     → Turn old command reply new → Stops old command reply new
 stops_now old new command reply runs stopped turn =
     elim (stops_of old new command reply turn stopped) [ inl was ↦ absurd (true≢false (sym was ∙ runs)) | inr stops ↦ stops ]
@@ -91,57 +93,66 @@ pub session_waits : (old mid : DeskState) (cs : List Command) (rs : List Reply) 
 session_waits old mid cs rs c r answer is = grind (arith, common_steps, refused_push, waited_push)
 
 -- where the doubt is a command that the step takes, the session may end before or after it
-ends_either : (first : Point) (mid : DeskState) (s : Session) (c : Command) (next : EventValue) (trees : Trees)
-    → LeadsTo first s.kept (point_of mid) → s.doubt ≡ Some c → Steps mid.event c (Ok next)
-    → Either (IsStored mid.event mid.serial) (IsStoredAfter mid.event mid.serial c) trees → IsStoredEnd first s trees
+ends_either : (first : Placed) (mid : DeskState) (s : Session) (c : Command) (next : EventValue) (trees : Trees)
+    → LeadsTo first.point s.kept (point_of mid) → s.doubt ≡ Some c → Steps mid.event c (Ok next)
+    → Either (IsStoredAt (placed_at (point_of mid) first.version)) (IsStoredAfter (placed_at (point_of mid) first.version) c) trees
+    → IsStoredEnd first s trees
 ends_either first mid s c next trees leads doubt steps left =
     let taken : IfSome s.doubt (λ (d : Command). (n : EventValue) × Steps mid.event d (Ok n)) =
     subst (λ (o : Option Command). IfSome o (λ (d : Command). (n : EventValue) × Steps mid.event d (Ok n))) (sym doubt) (next, steps) in
-    let kept : EndsAfterKept first s (point_of mid) = record { event = leads.event; serial = leads.serial; taken = taken } in
+    let kept : EndsAfterKept first.point s (point_of mid) = record { event = leads.event; serial = leads.serial; taken = taken } in
     elim left [
       | inl before ↦ (point_of mid, inl kept, before)
       | inr (n, answers, after) ↦
           let last : Point = record { event = n; serial = mid.serial + 1 } in
-          let ends : EndsWithDoubt first s last c =
+          let ends : EndsWithDoubt first.point s last c =
           record { mid = point_of mid; kept = kept; event = steps_of mid.event n c answers; serial = refl } in
-          (last, inr (subst (λ (o : Option Command). MatchOption o ⊥ (EndsWithDoubt first s last)) (sym doubt) ends), after)
+          (last, inr (subst (λ (o : Option Command). MatchOption o ⊥ (EndsWithDoubt first.point s last)) (sym doubt) ends), after)
     ]
 
 -- the store has failed in this command
 pub session_stops : (old mid new : DeskState) (cs : List Command) (rs : List Reply) (c : Command) (r : Reply) (trees : Trees)
-    → Runs old cs rs mid → Stops mid c r new
-    → Either (IsStored mid.event mid.serial) (IsStoredAfter mid.event mid.serial c) trees
-    → IsStoredEnd (point_of old) (session_of (cs ++ c ∷ []) (rs ++ r ∷ []) true) trees
-session_stops old mid new cs rs c r trees is it left =
-    subst (λ (x : Reply). IsStoredEnd (point_of old) (session_of (cs ++ c ∷ []) (rs ++ x ∷ []) true) trees) (sym it.answered)
-    (ends_either (point_of old) mid (session_of (cs ++ c ∷ []) (rs ++ Err it.why ∷ []) true) c it.next trees
+    → Runs old cs rs mid → mid.version ≡ old.version → Stops mid c r new
+    → Either (IsStoredAt (placed_of mid)) (IsStoredAfter (placed_of mid) c) trees
+    → IsStoredEnd (placed_of old) (session_of (cs ++ c ∷ []) (rs ++ r ∷ []) true) trees
+session_stops old mid new cs rs c r trees is same it left =
+    subst (λ (x : Reply). IsStoredEnd (placed_of old) (session_of (cs ++ c ∷ []) (rs ++ x ∷ []) true) trees) (sym it.answered)
+    (ends_either (placed_of old) mid (session_of (cs ++ c ∷ []) (rs ++ Err it.why ∷ []) true) c it.next trees
     (subst (λ (ks : List Command). LeadsTo (point_of old) ks (point_of mid)) (sym (refused_push old mid cs rs c it.why is))
     (runs_lead old mid cs rs is))
-    (tried_push old mid cs rs c (Err it.why) (fault_tried c it.why it.fault) is) (steps_of mid.event it.next c it.taken) left)
+    (tried_push old mid cs rs c (Err it.why) (fault_tried c it.why it.fault) is) (steps_of mid.event it.next c it.taken)
+    (subst (λ (v : ℕ). Either (IsStoredAt (placed_at (point_of mid) v)) (IsStoredAfter (placed_at (point_of mid) v) c) trees) same left))
 
 -- it has not failed
 pub session_goes_on : (old new : DeskState) (cs : List Command) (rs : List Reply) (trees : Trees) → Runs old cs rs new
-    → IsStored new.event new.serial trees → IsStoredEnd (point_of old) (session_of cs rs false) trees
-session_goes_on old new cs rs trees is stored =
-    let leads = runs_lead old new cs rs is in
-    (point_of new, inl (record { event = leads.event; serial = leads.serial; taken = tt }), stored)
+    → new.version ≡ old.version → IsStoredAt (placed_of new) trees → IsStoredEnd (placed_of old) (session_of cs rs false) trees
+session_goes_on old new cs rs trees is same stored =
+    let leads = runs_lead old new cs rs is in (
+      point_of new,
+      inl (record { event = leads.event; serial = leads.serial; taken = tt }),
+      subst (λ (v : ℕ). IsStoredAt (placed_at (point_of new) v) trees) same stored,
+    )
 
-pub was_running : (old new : DeskState) (command : Command) (reply : Reply) → IsFalse new.stopped → Turn old command reply new
-    → IsFalse old.stopped
+-- a command leaves the version
+pub turn_version : (old new : DeskState) (command : Command) (reply : Reply) → Turn old command reply new → new.version ≡ old.version
+turn_version old new command reply h1 = grind (arith, common_steps)
+
+pub was_running : (old new : DeskState) (command : Command) (reply : Reply) → IsFalse new.needs_reopen → Turn old command reply new
+    → IsFalse old.needs_reopen
 was_running old new command reply runs h1 = grind (arith, common_steps)
 
 -- ---- desks
 
 -- other tables stay from one command to the next, also where the desk has stopped
 module _ {S : Type 0} (g : Ghosts S) (first old new : Desk S g) where
-  pub keeps_more : version_in old ≡ version_in first → (IsTrue (desk_state old).stopped → new ≡ old)
-      → (IsFalse (desk_state old).stopped → ShowsOwn g old)
+  pub keeps_more : version_in old ≡ version_in first → (IsTrue (desk_state old).needs_reopen → new ≡ old)
+      → (IsFalse (desk_state old).needs_reopen → ShowsOwn g old)
       → (IsTrue (state g old).is_open → KeepsOthers (version_in first) (state g first).now (state g old).now)
       → (ShowsOwn g old → IsTrue (state g new).is_open → KeepsOthers (version_in old) (state g old).now (state g new).now)
       → IsTrue (state g new).is_open → KeepsOthers (version_in first) (state g first).now (state g new).now
-  keeps_more version waits represents before more is_open = by_stop (desk_state old).stopped refl
+  keeps_more version waits represents before more is_open = by_stop (desk_state old).needs_reopen refl
     where
-      by_stop : (b : Bool) → (desk_state old).stopped ≡ b → KeepsOthers (version_in first) (state g first).now (state g new).now
+      by_stop : (b : Bool) → (desk_state old).needs_reopen ≡ b → KeepsOthers (version_in first) (state g first).now (state g new).now
       by_stop true is = subst (λ (d : Desk S g). KeepsOthers (version_in first) (state g first).now (state g d).now) (sym (waits is))
           (before (subst (λ (d : Desk S g). IsTrue (state g d).is_open) (waits is) is_open))
       by_stop false is =

@@ -1,5 +1,5 @@
 -- What reading the tables leaves of the tables of others.
-use Rattle.std.proofs.Common.{◌≡◌, ◌⊎◌, inl, inr, ℕ, Bool, Result, Ok, Err, IfOk, IfErr, OnErr, MatchResult, IsTrue, IsFalse}
+use Rattle.std.proofs.Common.{◌≡◌, ◌⊎◌, inl, inr, ℕ, Bool, Result, Ok, Err, OnErr, MatchResult, IsTrue, IsFalse}
 use Rattle.std.proofs.Common.{refl, sym, ap, ap₂, subst, ◌∙◌}
 use Rattle.sqlite.specs.{Effect.{Database, IsDatabase}, State.{State, IsUnchanged}}
 use Rattle.er_event.specs.declared.refusals.Refusal.{Refusal}
@@ -27,18 +27,18 @@ read_keeps Fails (Ok row) stopped old new still same kept = unchanged_keeps old 
 read_keeps Fails (Err why) stopped old new stops same kept = kept
 
 -- what is read leaves the desk as it is, or stops it
-pub reads : {A : Type 0} (passing : Refusal) (old : DeskState) (v : ℕ) (is : Bool) (read : Result A Refusal) → IsFalse old.stopped
+pub reads : {A : Type 0} (passing : Refusal) (old : DeskState) (v : ℕ) (is : Bool) (read : Result A Refusal) → IsFalse old.needs_reopen
     → v ≡ old.version → MatchResult read (λ _. IsFalse is) (λ why. ((why ≡ passing) × IsFalse is) ⊎ (IsReadFault why × IsTrue is))
-    → Reads passing old read (record old { version = v; stopped = is })
+    → Reads passing old read (record old { version = v; needs_reopen = is })
 reads passing old v is (Ok row) runs same still =
-    inl (runs, ap₂ (λ (n : ℕ) (b : Bool). record old { version = n; stopped = b }) same (still ∙ sym runs), inl refl)
+    inl (runs, ap₂ (λ (n : ℕ) (b : Bool). record old { version = n; needs_reopen = b }) same (still ∙ sym runs), inl refl)
 reads passing old v is (Err why) runs same (inl (passes, still)) = inl (
   runs,
-  ap₂ (λ (n : ℕ) (b : Bool). record old { version = n; stopped = b }) same (still ∙ sym runs),
+  ap₂ (λ (n : ℕ) (b : Bool). record old { version = n; needs_reopen = b }) same (still ∙ sym runs),
   inr (ap (λ (w : Refusal). Err w) passes),
 )
 reads passing old v is (Err why) runs same (inr (fault, stopped)) =
-    inr (inl (runs, ap₂ (λ (n : ℕ) (b : Bool). record old { version = n; stopped = b }) same stopped, why, fault, refl))
+    inr (inl (runs, ap₂ (λ (n : ℕ) (b : Bool). record old { version = n; needs_reopen = b }) same stopped, why, fault, refl))
 
 -- and the tables represent its event
 pub still_shows : (v w : ℕ) (old new : State) (e : EventValue) (n : ℕ) → w ≡ v → Shows v old e n → IsUnchanged old new → Shows w new e n
@@ -49,13 +49,3 @@ still_shows v w old new e n is shows same = record {
   represents = subst (λ (db : Database). RepresentsIn w db e n) (sym same.0.now_is)
       (subst (λ k. RepresentsIn k old.now e n) (sym is) shows.represents);
 }
-
--- what is known of either outcome, of one of them
-module _ {A E : Type 0} (P : A → Type 0) (Q : E → Type 0) where
-  pub if_ok : (read : Result A E) → MatchResult read P Q → IfOk read P
-  if_ok (Ok a) either = either
-  if_ok (Err e) either = tt
-
-  pub if_err : (read : Result A E) → MatchResult read P Q → IfErr read Q
-  if_err (Ok a) either = tt
-  if_err (Err e) either = either

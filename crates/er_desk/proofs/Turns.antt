@@ -5,14 +5,16 @@ use Rattle.std.proofs.lemmas.Bool.Decides.{nat_tests}
 use Rattle.std.specs.List.{AllByRecursion}
 use Rattle.sqlite_trees.specs.declared.store.Store.{Ghosts}
 use Rattle.sqlite.specs.{Table.Table, Effect.Database, State.{State, IsUnchanged}}
+use Rattle.er_event.specs.declared.changes.Change.{Change}
 use Rattle.er_event.specs.{declared.refusals.Cause.Cause, declared.commands.Command.Command, declared.commands.Receipt.Receipt}
-use Rattle.er_event.specs.{declared.refusals.Refusal.Refusal, declared.refusals.Refusal.TheVariants.{Memory, Budget, SerialFull, BadSetup, Store}}
+use Rattle.er_event.specs.{declared.refusals.Refusal.Refusal}
+use Rattle.er_event.specs.{declared.refusals.Refusal.TheVariants.{Memory, Budget, SerialFull, BadSetup, Store}}
 use Rattle.er_event.specs.{declared.refusals.Refusal.TheVariants.NeedsReopen, Event.EventValue}
 use Rattle.er_rules.specs.{Late.is_late, Refusing.IsOfRules, Step.{Answers, NeedsMoreSteps}}
 use Rattle.er_store.specs.{Fault.IsFault, Reading.KeepsTables, Representing.{IsOther, HasTablesAt, KeepsOthers}, Layout.Layout}
 use Rattle.er_desk.specs.{Reply.{Reply, reply_to, receipt, IsDue}}
-use Rattle.er_desk.specs.{Desk.{DeskState, Turn, Stops, ShowsOwn, IsOwn, point_of, state, desk_state}}
-use Rattle.er_desk.specs.{Headline.LeavesJust, declared.desk.Desk.Desk}
+use Rattle.er_desk.specs.{Desk.{DeskState, Turn, Stops, ShowsOwn, IsOwn, placed_of, state, desk_state}}
+use Rattle.er_desk.specs.{Headline.LeavesJust, inside.Taking.TakesChange, declared.desk.Desk.Desk}
 
 -- ---- replies
 
@@ -27,7 +29,7 @@ module _ (version : ℕ) (event : EventValue) (serial : ℕ) (command : Command)
       → Ok (receipt (serial + 1)) ≡ reply_to version event serial command (Ok next)
   reply-low low in_time = let other : eqb serial 999999 ≡ false = grind (arith, nat_tests) in rw (other, in_time) refl
 
-module _ (old : DeskState) (runs : IsFalse old.stopped) (command : Command) where
+module _ (old : DeskState) (runs : IsFalse old.needs_reopen) (command : Command) where
   declines : (why : Refusal) → (why ≡ Memory) ⊎ IsDue old.version old.event old.serial command (Err why) → IsOwn why
       → Turn old command (Err why) old
   declines why cause own = inr (inl (record { was_running = runs; same = refl; why = why; answered = refl; cause = cause; own = own }))
@@ -63,7 +65,7 @@ module _ (old : DeskState) (runs : IsFalse old.stopped) (command : Command) wher
   pub written : (new : DeskState) (result : Reply) (next : EventValue) (Same : Type 0) → (Same → new ≡ old)
       → Answers old.event command (Ok next) → old.serial < 999999 → IsFalse (is_late old.version old.event command)
       → IfOk result (λ r. (new ≡ record old { event = next; serial = old.serial + 1 }) × (r.serial ≡ old.serial + 1))
-      → IfErr result (λ why. (Same × (why ≡ Memory)) ⊎ ((new ≡ record old { stopped = true }) × IsFault why))
+      → IfErr result (λ why. (Same × (why ≡ Memory)) ⊎ ((new ≡ record old { needs_reopen = true }) × IsFault why))
       → Turn old command result new
   written new (Ok r) next Same same taken room in_time (is, numbered) refused =
       let serial = ap (λ (s : DeskState). s.serial) is in inl (record {
@@ -73,7 +75,7 @@ module _ (old : DeskState) (runs : IsFalse old.stopped) (command : Command) wher
         in_time = in_time;
         serial_is = serial;
         version_is = ap (λ (s : DeskState). s.version) is;
-        runs = ap (λ (s : DeskState). s.stopped) is ∙ runs;
+        runs = ap (λ (s : DeskState). s.needs_reopen) is ∙ runs;
         answered = ap (λ (n : ℕ). Ok (receipt n)) (numbered ∙ sym serial);
       })
   written new (Err e) next Same same taken room in_time done (inl own) =
@@ -84,15 +86,15 @@ module _ (old : DeskState) (runs : IsFalse old.stopped) (command : Command) wher
     taken = taken;
     room = room;
     in_time = in_time;
-    stopped = stops.0;
+    needs_reopen = stops.0;
     why = e;
     fault = stops.1;
     answered = refl;
   })))
 
 pub desk_state_same : (a b : EventValue) (n v w : ℕ) (s t : Bool) → a ≡ b → v ≡ w → s ≡ t
-    → (let it : DeskState = record { event = a; serial = n; version = v; stopped = s } in it)
-    ≡ record { event = b; serial = n; version = w; stopped = t }
+    → (let it : DeskState = record { event = a; serial = n; version = v; needs_reopen = s } in it)
+    ≡ record { event = b; serial = n; version = w; needs_reopen = t }
 desk_state_same a b n v w s t events versions stops = cc
 
 -- ---- what a turn tells
@@ -123,37 +125,37 @@ fault_reopen (inr refused) = cc
 
 module _ (old new : DeskState) (command : Command) (result : Reply) where
   -- a fault of the store stops the desk
-  pub turn_fault : Turn old command result new → (cause : Cause) → result ≡ Err (Store cause) → IsTrue new.stopped
+  pub turn_fault : Turn old command result new → (cause : Cause) → result ≡ Err (Store cause) → IsTrue new.needs_reopen
   turn_fault (inl it) cause is = absurd (no_receipt _ _ (sym it.answered ∙ is))
   turn_fault (inr (inl it)) cause is = absurd (own_store cause (subst IsOwn (same_refusal _ _ (sym it.answered ∙ is)) it.own))
-  turn_fault (inr (inr (inl it))) cause is = ap (λ (s : DeskState). s.stopped) it.stopped
-  turn_fault (inr (inr (inr it))) cause is = ap (λ (s : DeskState). s.stopped) it.same ∙ it.was_stopped
+  turn_fault (inr (inr (inl it))) cause is = ap (λ (s : DeskState). s.needs_reopen) it.needs_reopen
+  turn_fault (inr (inr (inr it))) cause is = ap (λ (s : DeskState). s.needs_reopen) it.same ∙ it.needed_reopen
 
   -- and only a stopped desk asks for reopening
-  pub turn_asks : Turn old command result new → result ≡ Err NeedsReopen → IsTrue old.stopped
+  pub turn_asks : Turn old command result new → result ≡ Err NeedsReopen → IsTrue old.needs_reopen
   turn_asks (inl it) is = absurd (no_receipt _ _ (sym it.answered ∙ is))
   turn_asks (inr (inl it)) is = absurd (own_reopen (subst IsOwn (same_refusal _ _ (sym it.answered ∙ is)) it.own))
   turn_asks (inr (inr (inl it))) is = absurd (fault_reopen (subst IsFault (same_refusal _ _ (sym it.answered ∙ is)) it.fault))
-  turn_asks (inr (inr (inr it))) is = it.was_stopped
+  turn_asks (inr (inr (inr it))) is = it.needed_reopen
 
-  pub waits_of : Turn old command result new → IsTrue old.stopped → result ≡ Err NeedsReopen
+  pub waits_of : Turn old command result new → IsTrue old.needs_reopen → result ≡ Err NeedsReopen
   waits_of (inl it) stopped = absurd (true≢false (sym stopped ∙ it.was_running))
   waits_of (inr (inl it)) stopped = absurd (true≢false (sym stopped ∙ it.was_running))
   waits_of (inr (inr (inl it))) stopped = absurd (true≢false (sym stopped ∙ it.was_running))
   waits_of (inr (inr (inr it))) stopped = it.answered
 
-  pub stops_of : Turn old command result new → IsTrue new.stopped → IsTrue old.stopped ⊎ Stops old command result new
+  pub stops_of : Turn old command result new → IsTrue new.needs_reopen → IsTrue old.needs_reopen ⊎ Stops old command result new
   stops_of (inl it) stopped = absurd (true≢false (sym stopped ∙ it.runs))
-  stops_of (inr (inl it)) stopped = inl (sym (ap (λ (s : DeskState). s.stopped) it.same) ∙ stopped)
+  stops_of (inr (inl it)) stopped = inl (sym (ap (λ (s : DeskState). s.needs_reopen) it.same) ∙ stopped)
   stops_of (inr (inr (inl it))) stopped = inr it
-  stops_of (inr (inr (inr it))) stopped = inl it.was_stopped
+  stops_of (inr (inr (inr it))) stopped = inl it.needed_reopen
 
-  pub stopped_of : Turn old command result new → IsTrue old.stopped ⊎ Stops old command result new → IsTrue new.stopped
-  stopped_of turn (inr stops) = ap (λ (s : DeskState). s.stopped) stops.stopped
+  pub stopped_of : Turn old command result new → IsTrue old.needs_reopen ⊎ Stops old command result new → IsTrue new.needs_reopen
+  stopped_of turn (inr stops) = ap (λ (s : DeskState). s.needs_reopen) stops.needs_reopen
   stopped_of (inl it) (inl was) = absurd (true≢false (sym was ∙ it.was_running))
-  stopped_of (inr (inl it)) (inl was) = ap (λ (s : DeskState). s.stopped) it.same ∙ was
-  stopped_of (inr (inr (inl it))) (inl was) = ap (λ (s : DeskState). s.stopped) it.stopped
-  stopped_of (inr (inr (inr it))) (inl was) = ap (λ (s : DeskState). s.stopped) it.same ∙ was
+  stopped_of (inr (inl it)) (inl was) = ap (λ (s : DeskState). s.needs_reopen) it.same ∙ was
+  stopped_of (inr (inr (inl it))) (inl was) = ap (λ (s : DeskState). s.needs_reopen) it.needs_reopen
+  stopped_of (inr (inr (inr it))) (inl was) = ap (λ (s : DeskState). s.needs_reopen) it.same ∙ was
 
 -- ---- the budget
 
@@ -193,7 +195,7 @@ module _ (old new : DeskState) (command : Command) where
   not_taken next needs (inr (is, more)) = cc
 
   -- and it always says so, where memory lasts
-  pub turn_searched : (result : Reply) → Turn old command result new → IsFalse old.stopped → NeedsMoreSteps old.event command
+  pub turn_searched : (result : Reply) → Turn old command result new → IsFalse old.needs_reopen → NeedsMoreSteps old.event command
       → (result ≡ Err Memory) ⊎ ((steps : ℕ) × (result ≡ Err (Budget steps)))
   turn_searched result (inl it) runs needs = absurd (not_taken _ needs it.taken)
   turn_searched result (inr (inl it)) runs needs = elim it.cause [
@@ -203,7 +205,7 @@ module _ (old new : DeskState) (command : Command) where
     | inr (Err w, inr (is, more), due) ↦ inr (_, it.answered ∙ (due ∙ ap (λ (w : Refusal). Err w) (same_refusal _ _ is)))
   ]
   turn_searched result (inr (inr (inl it))) runs needs = absurd (not_taken _ needs it.taken)
-  turn_searched result (inr (inr (inr it))) runs needs = absurd (true≢false (sym it.was_stopped ∙ runs))
+  turn_searched result (inr (inr (inr it))) runs needs = absurd (true≢false (sym it.needed_reopen ∙ runs))
 
 -- ---- tables
 
@@ -252,29 +254,47 @@ if_error P Q (Err e) more h = more e h
 
 module _ {S : Type 0} (g : Ghosts S) (old new : Desk S g) (result : Reply) where
   abbrev pub Unwritten : Refusal → Type 0
-  Unwritten why = ((new ≡ old) × (why ≡ Memory)) ⊎ ((desk_state new ≡ record (desk_state old) { stopped = true }) × IsFault why)
+  Unwritten why = ((new ≡ old) × (why ≡ Memory)) ⊎ ((desk_state new ≡ record (desk_state old) { needs_reopen = true }) × IsFault why)
 
   abbrev pub IsUnwritten : Type 0
   IsUnwritten = IfErr result Unwritten
 
-  stops : desk_state new ≡ record (desk_state old) { stopped = true } → IsFalse (desk_state new).stopped → ⊥
-  stops is runs = true≢false (sym (ap (λ (s : DeskState). s.stopped) is) ∙ runs)
+  stops : desk_state new ≡ record (desk_state old) { needs_reopen = true } → IsFalse (desk_state new).needs_reopen → ⊥
+  stops is runs = true≢false (sym (ap (λ (s : DeskState). s.needs_reopen) is) ∙ runs)
 
-  pub same_unless : IsUnwritten → IfErr result (λ _. IsFalse (desk_state new).stopped → new ≡ old)
+  pub same_unless : IsUnwritten → IfErr result (λ _. IsFalse (desk_state new).needs_reopen → new ≡ old)
   same_unless refused = if_error _ _ result same refused
     where
-      same : (why : Refusal) → Unwritten why → IsFalse (desk_state new).stopped → new ≡ old
+      same : (why : Refusal) → Unwritten why → IsFalse (desk_state new).needs_reopen → new ≡ old
       same why (inl own) runs = own.0
       same why (inr is) runs = absurd (stops is.0 runs)
 
-  pub represents_after : ShowsOwn g old → OnOk result (ShowsOwn g new) → IsUnwritten → IsFalse (desk_state new).stopped → ShowsOwn g new
+  pub represents_after : ShowsOwn g old → OnOk result (ShowsOwn g new) → IsUnwritten → IsFalse (desk_state new).needs_reopen
+      → ShowsOwn g new
   represents_after shows done refused runs = grind (arith, common_steps)
 
-  pub leaves_refused : LeavesJust (state g old) (point_of (desk_state old)) → IsUnwritten
-      → IfErr result (λ _. IsFalse (desk_state new).stopped → LeavesJust (state g new) (point_of (desk_state old)))
+  pub leaves_refused : LeavesJust (state g old) (placed_of (desk_state old)) → IsUnwritten
+      → IfErr result (λ _. IsFalse (desk_state new).needs_reopen → LeavesJust (state g new) (placed_of (desk_state old)))
   leaves_refused leaves refused = if_error _ _ result left refused
     where
-      left : (why : Refusal) → Unwritten why → IsFalse (desk_state new).stopped → LeavesJust (state g new) (point_of (desk_state old))
+      left : (why : Refusal) → Unwritten why → IsFalse (desk_state new).needs_reopen → LeavesJust (state g new) (placed_of (desk_state old))
       left why (inl own) runs =
-          subst (λ (d : Desk S g). LeavesJust (state g d) (point_of (desk_state old))) (sym own.0) leaves
+          subst (λ (d : Desk S g). LeavesJust (state g d) (placed_of (desk_state old))) (sym own.0) leaves
       left why (inr is) runs = absurd (stops is.0 runs)
+
+-- a change for which memory is wanting beside the store leaves all as it was
+pub untaken : {S : Type 0} (g : Ghosts S) (desk : Desk S g) (change : Change) (reply : Reply) (why : Refusal)
+    → IsErrAnd reply (λ e. e ≡ why) → why ≡ Memory → (ShowsOwn g desk → LeavesJust (state g desk) (placed_of (desk_state desk)))
+    → TakesChange g desk change reply desk
+untaken g desk change (Ok r) why is memory left = absurd is
+untaken g desk change (Err e) why is memory left = record {
+  taken = tt;
+  refused = inl (refl, is ∙ memory);
+  clean = λ clean. clean;
+  written = λ clean shows. tt;
+  kept = λ clean at_rest is_open. (refl, sym at_rest);
+  others = λ clean shows is_open. keeps_self _ (state g desk).now;
+  version = refl;
+  acknowledged = λ shows. tt;
+  crash = λ shows clean trees may. inl (left shows clean trees may);
+}

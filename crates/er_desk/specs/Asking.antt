@@ -1,5 +1,5 @@
 -- What a call does to the file, where it asks a session of the desk: commands, or nothing.
-use Rattle.std.specs.Prelude.{◌≡◌, ◌⊎◌, ◌↔◌, ◌++◌, List, [], ◌∷◌, IsTrue, IsFalse, Option, Some, None, Err, IfErr, OnOk, OnErr}
+use Rattle.std.specs.Prelude.{◌≡◌, ◌⊎◌, ◌↔◌, ◌++◌, ℕ, List, [], ◌∷◌, IsTrue, IsFalse, Option, Some, None, Err, IfErr, OnOk, OnErr}
 use Rattle.sqlite_trees.specs.declared.store.Store.{Ghosts}
 use Rattle.sqlite.specs.State.{HasCleanDisk}
 use Rattle.er_event.specs.declared.commands.Command.{Command}
@@ -11,7 +11,8 @@ use Rattle.er_store.specs.Representing.{KeepsOthers}
 use Rattle.sqlite.specs.Tree.{Trees}
 use Rattle.sqlite_wal.specs.Recovery.{Image}
 use Rattle.er_desk.specs.declared.desk.Desk.{Desk}
-use Rattle.er_desk.specs.Desk.{Point, ShowsOwn, DeskState, Stops, Turn, point_of, state, desk_state, version_in}
+use Rattle.er_desk.specs.Desk.{Point, Placed, ShowsOwn, DeskState, Stops, Turn, point_of, placed_at, placed_of, state, desk_state}
+use Rattle.er_desk.specs.Desk.{version_in}
 use Rattle.er_desk.specs.Reply.{Reply}
 use Rattle.er_desk.specs.Run.{Runs, Session, IsStoredEnd, session_of, no_session}
 use Rattle.er_desk.specs.History.{Ended, IsHistory, LeadsTo}
@@ -29,13 +30,13 @@ joined one two = record { kept = one.kept ++ two.kept; doubt = later_doubt one.d
 -- Of a call that only reads, the session is `no_session`.
 pub record Asks {S : Type 0} (g : Ghosts S) (old : Desk S g) (session : Session) (new : Desk S g) : Type 0 where
   -- a desk that was stopped stays as it is, and nothing is tried
-  pub waits : IsTrue (desk_state old).stopped → (new ≡ old) × (session ≡ no_session)
+  pub waits : IsTrue (desk_state old).needs_reopen → (new ≡ old) × (session ≡ no_session)
   -- the event is the fold of the acknowledged commands, and nothing is in doubt while the desk runs
   pub leads : LeadsTo (point_of (desk_state old)) session.kept (point_of (desk_state new))
-  pub sure : IsFalse (desk_state new).stopped → session.doubt ≡ None
+  pub sure : IsFalse (desk_state new).needs_reopen → session.doubt ≡ None
   -- the disk was clean if it is, the tables represent the event, and those of others stay
   pub clean : HasCleanDisk (state g new) → HasCleanDisk (state g old)
-  pub represents : HasCleanDisk (state g new) → ShowsOwn g old → IsFalse (desk_state new).stopped → ShowsOwn g new
+  pub represents : HasCleanDisk (state g new) → ShowsOwn g old → IsFalse (desk_state new).needs_reopen → ShowsOwn g new
   pub others : HasCleanDisk (state g new) → ShowsOwn g old → IsTrue (state g new).is_open
       → KeepsOthers (version_in old) (state g old).now (state g new).now
   -- and all of them, where no command was kept
@@ -43,7 +44,7 @@ pub record Asks {S : Type 0} (g : Ghosts S) (old : Desk S g) (session : Session)
   -- in the version that they were in
   pub version : version_in new ≡ version_in old
   -- a crash leaves an end of the session
-  pub crash : ShowsOwn g old → LeavesEnd (state g new) (point_of (desk_state old)) session
+  pub crash : ShowsOwn g old → LeavesEnd (state g new) (placed_of (desk_state old)) session
 
 -- Some session is asked, which does this to the desk.
 abbrev pub AsksSome : {S : Type 0} (g : Ghosts S) → Desk S g → (DeskState → Session → DeskState → Type 0) → Desk S g → Type 0
@@ -53,20 +54,21 @@ AsksSome g old Does new = (session : Session) × Does (desk_state old) session (
 pub record Submits {S : Type 0} (g : Ghosts S) (old : Desk S g) (command : Command) (reply : Reply) (new : Desk S g) : Type 0 where
   pub turn : Turn (desk_state old) command reply (desk_state new)
   -- A fault of the store stops the desk, and nothing else does. `NeedsReopen` comes exactly where it was stopped.
-  pub stops : IsTrue (desk_state new).stopped ↔ (IsTrue (desk_state old).stopped ⊎ Stops (desk_state old) command reply (desk_state new))
-  pub fault : (cause : Cause) → reply ≡ Err (StoreFault cause) → IsTrue (desk_state new).stopped
-  pub asks : (reply ≡ Err NeedsReopen) ↔ IsTrue (desk_state old).stopped
+  pub stops : IsTrue (desk_state new).needs_reopen ↔ (IsTrue (desk_state old).needs_reopen ⊎ Stops (desk_state old) command reply
+      (desk_state new))
+  pub fault : (cause : Cause) → reply ≡ Err (StoreFault cause) → IsTrue (desk_state new).needs_reopen
+  pub asks : (reply ≡ Err NeedsReopen) ↔ IsTrue (desk_state old).needs_reopen
   -- a session of this one command
-  pub asked : Asks g old (session_of (command ∷ []) (reply ∷ []) (desk_state new).stopped) new
+  pub asked : Asks g old (session_of (command ∷ []) (reply ∷ []) (desk_state new).needs_reopen) new
   -- A refusal that is no fault of the store leaves all as it was, and none changes a table.
-  pub same : IfErr reply (λ _. IsFalse (desk_state new).stopped → new ≡ old)
+  pub same : IfErr reply (λ _. IsFalse (desk_state new).needs_reopen → new ≡ old)
   pub kept : HasCleanDisk (state g new) → OnErr reply (KeepsTables (state g old) (state g new))
   -- With a receipt a crash leaves the event after the command, after a fault of the store the event before or after it,
   -- and else the event before it.
-  pub acknowledged : ShowsOwn g old → OnOk reply (LeavesJust (state g new) (point_of (desk_state new)))
-  pub undecided : IsFalse (desk_state old).stopped → ShowsOwn g old → LeavesEither (state g new) (point_of (desk_state old)) command
+  pub acknowledged : ShowsOwn g old → OnOk reply (LeavesJust (state g new) (placed_of (desk_state new)))
+  pub undecided : IsFalse (desk_state old).needs_reopen → ShowsOwn g old → LeavesEither (state g new) (placed_of (desk_state old)) command
   pub refused : ShowsOwn g old
-      → IfErr reply (λ _. IsFalse (desk_state new).stopped → LeavesJust (state g new) (point_of (desk_state old)))
+      → IfErr reply (λ _. IsFalse (desk_state new).needs_reopen → LeavesJust (state g new) (placed_of (desk_state old)))
 
 -- two calls of a desk, one after the other, ask the two sessions one behind the other
 abbrev pub AsksThen : {S : Type 0} → Ghosts S → Type 0
@@ -76,17 +78,18 @@ AsksThen {S} g = (old mid new : Desk S g) (one two : Session) → Asks g old one
 abbrev pub ListsGrow : Type 0
 ListsGrow = (old mid new : DeskState) (commands : List Command) (replies : List Reply) (command : Command) (reply : Reply)
     → Runs old commands replies mid → Turn mid command reply new
-    → joined (session_of commands replies mid.stopped) (session_of (command ∷ []) (reply ∷ []) new.stopped)
-    ≡ session_of (commands ++ command ∷ []) (replies ++ reply ∷ []) new.stopped
+    → joined (session_of commands replies mid.needs_reopen) (session_of (command ∷ []) (reply ∷ []) new.needs_reopen)
+    ≡ session_of (commands ++ command ∷ []) (replies ++ reply ∷ []) new.needs_reopen
 
 -- Of a history of a new event. It ended at a sound event. Where what is left then is an end of a session that began
 -- there, the next session begins at it. Files that represent what the session surely led to were left by the history with this session
 -- behind it.
 pub record GoesOnFrom (new first : Point) (ends : List Ended) : Type 0 where
   pub sound : IsSound first.event
-  pub begins : (session : Session) (trees : Trees) → IsStoredEnd first session trees → NextBegins new ends session trees
-  pub leaves : (session : Session) (last : Point) (left : Image) → LeadsTo first session.kept last → session.doubt ≡ None
-      → WasLeft left last → WasLeftBy left new (and_then ends session last) last
+  pub begins : (version : ℕ) (session : Session) (trees : Trees) → IsStoredEnd (placed_at first version) session trees
+      → NextBegins new ends session version trees
+  pub leaves : (session : Session) (last : Placed) (left : Image) → LeadsTo first session.kept last.point → session.doubt ≡ None
+      → WasLeft left last → WasLeftBy left new (and_then ends session last.point) last
 
 abbrev pub NextSessions : Type 0
 NextSessions = (new first : Point) (ends : List Ended) → IsBeginning new → IsHistory new ends first → GoesOnFrom new first ends

@@ -12,21 +12,20 @@ use Rattle.sqlite.specs.Tree.{Trees}
 use Rattle.sqlite.specs.State.{HasCleanDisk}
 use Rattle.sqlite.specs.declared.error.Error.{Error}
 use Rattle.sqlite.specs.Files.{image_of, over_files, FailsToClose}
-use Rattle.er_store.specs.Representing.{IsStored}
 use Rattle.er_store.specs.Store.{connection}
 use Rattle.er_desk.specs.declared.desk.Desk.{Desk}
-use Rattle.er_desk.specs.Desk.{Point, ShowsOwn, point_of, state, desk_state}
+use Rattle.er_desk.specs.Desk.{Placed, ShowsOwn, IsStoredAt, placed_of, state, desk_state}
 use Rattle.er_desk.specs.Headline.{WasLeft}
 
--- the event's file holds this event and this serial, with its log and without it
-pub record IsAtRest (image : Image) (point : Point) : Type 0 where
-  pub both : WasLeft image point
-  pub alone : WasLeft (record image { log = [] }) point
+-- the event's file holds this event and this serial, in this version, with its log and without it
+pub record IsAtRest (image : Image) (placed : Placed) : Type 0 where
+  pub both : WasLeft image placed
+  pub alone : WasLeft (record image { log = [] }) placed
 
 -- as the two files read now, and as a crash may leave them
-pub record AreAtRest {D : Type 0} (g : Ghosts D) (files : Files D) (point : Point) : Type 0 where
-  pub seen : IsAtRest (image_of g files) point
-  pub left : (image : Image) → outcomes g files.log files.db image → IsAtRest image point
+pub record AreAtRest {D : Type 0} (g : Ghosts D) (files : Files D) (placed : Placed) : Type 0 where
+  pub seen : IsAtRest (image_of g files) placed
+  pub left : (image : Image) → outcomes g files.log files.db image → IsAtRest image placed
 
 module _ {D : Type 0} {g : Ghosts D} (desk : Desk (FileStore D g) over_files) where
   -- a crash leaves nothing that it could not leave before
@@ -37,13 +36,13 @@ module _ {D : Type 0} {g : Ghosts D} (desk : Desk (FileStore D g) over_files) wh
   pub record LosesNothing (last : FileStore D g) : Type 0 where
     pub as_before : LeavesNoMore last
     pub stored : IsClean (view last) → ShowsOwn over_files desk → (trees : Trees) → recovers last trees
-        → IsStored (point_of (desk_state desk)).event (point_of (desk_state desk)).serial trees
+        → IsStoredAt (placed_of (desk_state desk)) trees
 
   -- How the desk's file was closed: it is at rest, or memory or the device was wanting, and nothing is lost.
   pub record IsClosedAs (closed : Result (Files D) (Error × FileStore D g)) : Type 0 where
     pub clean : IfOk closed (λ files. AreClean g files.log files.db → HasCleanDisk (state over_files desk))
     pub rests : IfOk closed (λ files. AreClean g files.log files.db → ShowsOwn over_files desk
-        → AreAtRest g files (point_of (desk_state desk)))
+        → AreAtRest g files (placed_of (desk_state desk)))
     -- and whatever the desk stood at, a fault behind it or not, these are files from which a crash leaves nothing new
     pub spares : IfOk closed (λ files. (last : FileStore D g) × (store_files last ≡ (files.log, files.db)) × LeavesNoMore last)
     -- the two may be opened again

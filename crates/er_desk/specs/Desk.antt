@@ -31,14 +31,29 @@ pub record DeskState : Type 0 where
   -- of its tables
   pub version : ℕ
   -- a fault of the store has ended it
-  pub stopped : Bool
+  pub needs_reopen : Bool
 
 abbrev pub point_of : DeskState → Point
 point_of s = record { event = s.event; serial = s.serial }
 
+-- that, in tables of this version
+pub record Placed : Type 0 where
+  pub point : Point
+  pub version : ℕ
+
+abbrev pub placed_at : Point → ℕ → Placed
+placed_at point version = record { point = point; version = version }
+
+abbrev pub placed_of : DeskState → Placed
+placed_of s = placed_at (point_of s) s.version
+
+-- what a crash left represents the event and the serial, whole, in this version
+abbrev pub IsStoredAt : Placed → Trees → Type 0
+IsStoredAt placed = tables.IsStoredIn placed.version placed.point.event placed.point.serial
+
 -- in tables of this version, with no fault behind
 abbrev pub running_at : Point → ℕ → DeskState
-running_at point version = record { event = point.event; serial = point.serial; version = version; stopped = false }
+running_at point version = record { event = point.event; serial = point.serial; version = version; needs_reopen = false }
 
 -- what its store shows
 abbrev pub state : {S : Type 0} (g : Ghosts S) → Desk S g → State
@@ -49,22 +64,24 @@ desk_state desk = record {
   event = desk.event;
   serial = desk.serial;
   version = store.version_in desk.store;
-  stopped = store.is_stopped desk.store;
+  needs_reopen = store.needs_reopen desk.store;
 }
 
 -- the event is shown, where memory serves and no fault of the store is behind
 abbrev pub ShowsEvent : {A : Type 0} → (Refusal → A) → DeskState → (EventValue → A → Type 0) → A → Type 0
 ShowsEvent refused desk Shows answer =
-    (IsFalse desk.stopped × (Shows desk.event answer ⊎ (answer ≡ refused Memory)))
-    ⊎ (IsTrue desk.stopped × (answer ≡ refused NeedsReopen))
+    (IsFalse desk.needs_reopen × (Shows desk.event answer ⊎ (answer ≡ refused Memory)))
+    ⊎ (IsTrue desk.needs_reopen × (answer ≡ refused NeedsReopen))
 
 -- of what only a desk that runs gives; one that was stopped asks for reopening
 abbrev pub IfRunning : {A : Type 0} → DeskState → Result A Refusal → Type 0
-IfRunning desk result = MatchResult result (λ _. IsFalse desk.stopped) (λ why. IsTrue desk.stopped × (why ≡ NeedsReopen))
+IfRunning desk result = MatchResult result (λ _. IsFalse desk.needs_reopen) (λ why. IsTrue desk.needs_reopen × (why ≡ NeedsReopen))
 
--- a crash leaves the event after the command, whole
-abbrev pub IsStoredAfter : EventValue → ℕ → Command → Trees → Type 0
-IsStoredAfter event serial command trees = (next : EventValue) × Answers event command (Ok next) × tables.IsStored next (serial + 1) trees
+-- a crash leaves the event after the command, whole, in the same version
+abbrev pub IsStoredAfter : Placed → Command → Trees → Type 0
+IsStoredAfter placed command trees =
+    (next : EventValue) × Answers placed.point.event command (Ok next)
+    × tables.IsStoredIn placed.version next (placed.point.serial + 1) trees
 
 -- the store has no part in the refusal
 abbrev pub IsOwn : Refusal → Type 0
@@ -81,18 +98,18 @@ ShowsOwn g desk = tables.Shows (version_in desk) (state g desk) desk.event desk.
 module _ (old : DeskState) (command : Command) (reply : Reply) (new : DeskState) where
   -- the command is accepted
   pub record Accepts : Type 0 where
-    pub was_running : IsFalse old.stopped
+    pub was_running : IsFalse old.needs_reopen
     pub taken : Answers old.event command (Ok new.event)
     pub room : old.serial < MAX_SERIAL
     pub in_time : IsFalse (is_late old.version old.event command)
     pub serial_is : new.serial ≡ old.serial + 1
     pub version_is : new.version ≡ old.version
-    pub runs : IsFalse new.stopped
+    pub runs : IsFalse new.needs_reopen
     pub answered : reply ≡ Ok (receipt new.serial)
 
   -- it is not, and all stays as it is
   pub record Declines : Type 0 where
-    pub was_running : IsFalse old.stopped
+    pub was_running : IsFalse old.needs_reopen
     pub same : new ≡ old
     pub why : Refusal
     pub answered : reply ≡ Err why
@@ -101,19 +118,19 @@ module _ (old : DeskState) (command : Command) (reply : Reply) (new : DeskState)
 
   -- the store is asked in place of a receipt, and has a fault
   pub record Stops : Type 0 where
-    pub was_running : IsFalse old.stopped
+    pub was_running : IsFalse old.needs_reopen
     pub next : EventValue
     pub taken : Answers old.event command (Ok next)
     pub room : old.serial < MAX_SERIAL
     pub in_time : IsFalse (is_late old.version old.event command)
-    pub stopped : new ≡ record old { stopped = true }
+    pub needs_reopen : new ≡ record old { needs_reopen = true }
     pub why : Refusal
     pub fault : IsFault why
     pub answered : reply ≡ Err why
 
   -- a fault is behind, and nothing is done
   pub record Waits : Type 0 where
-    pub was_stopped : IsTrue old.stopped
+    pub needed_reopen : IsTrue old.needs_reopen
     pub same : new ≡ old
     pub answered : reply ≡ Err NeedsReopen
 
@@ -124,9 +141,9 @@ module _ (old : DeskState) (command : Command) (reply : Reply) (new : DeskState)
 -- store. A fault of the store stops it, and a desk that was stopped asks for reopening.
 abbrev pub Reads : {A : Type 0} → Refusal → DeskState → Result A Refusal → DeskState → Type 0
 Reads passing old result new =
-    (IsFalse old.stopped × (new ≡ old) × (IsOk result ⊎ (result ≡ Err passing)))
-    ⊎ (IsFalse old.stopped × (new ≡ record old { stopped = true }) × (why : Refusal) × IsReadFault why × (result ≡ Err why))
-    ⊎ (IsTrue old.stopped × (new ≡ old) × (result ≡ Err NeedsReopen))
+    (IsFalse old.needs_reopen × (new ≡ old) × (IsOk result ⊎ (result ≡ Err passing)))
+    ⊎ (IsFalse old.needs_reopen × (new ≡ record old { needs_reopen = true }) × (why : Refusal) × IsReadFault why × (result ≡ Err why))
+    ⊎ (IsTrue old.needs_reopen × (new ≡ old) × (result ≡ Err NeedsReopen))
 
 -- of standings, for which memory may be wanting beside the store
 abbrev pub ReadsRows : {A : Type 0} → DeskState → Result A Refusal → DeskState → Type 0

@@ -18,23 +18,23 @@ use Rattle.er_event.specs.Sound.{IsSetUp}
 use Rattle.er_rank.specs.declared.rows.Row.{Row}
 use Rattle.er_rank.specs.Standings.{AreStandings, OneStandings}
 use Rattle.er_rules.specs.Sound.{IsSound}
-use Rattle.er_store.specs.Representing.{IsStored, Leaves, Either}
+use Rattle.er_store.specs.Representing.{Leaves, Either}
 use Rattle.er_store.specs.Tables.{no_schema}
-use Rattle.er_desk.specs.Desk.{Point, ShowsOwn, IsStoredAfter, point_of, state, desk_state}
+use Rattle.er_desk.specs.Desk.{Point, Placed, ShowsOwn, IsStoredAt, IsStoredAfter, placed_at, placed_of, state, desk_state}
 use Rattle.er_desk.specs.declared.desk.Desk.{Desk}
 use Rattle.er_desk.specs.Run.{Session, IsStoredEnd}
 use Rattle.er_desk.specs.History.{Ended, IsHistory, LeadsTo, accepted, accepted_surely, new_point}
 
--- each thing that a crash may leave represents this event and this serial, whole
-abbrev pub LeavesJust : State → Point → Type 0
-LeavesJust s point = Leaves s (IsStored point.event point.serial)
+-- each thing that a crash may leave represents this event and this serial, whole, in tables of this version
+abbrev pub LeavesJust : State → Placed → Type 0
+LeavesJust s placed = Leaves s (IsStoredAt placed)
 
 -- for the event before the command or for the one after it, whole
-abbrev pub LeavesEither : State → Point → Command → Type 0
-LeavesEither s point command = Leaves s (Either (IsStored point.event point.serial) (IsStoredAfter point.event point.serial command))
+abbrev pub LeavesEither : State → Placed → Command → Type 0
+LeavesEither s placed command = Leaves s (Either (IsStoredAt placed) (IsStoredAfter placed command))
 
 -- for the fold of the acknowledged commands, or for that with the one in doubt
-abbrev pub LeavesEnd : State → Point → Session → Type 0
+abbrev pub LeavesEnd : State → Placed → Session → Type 0
 LeavesEnd s first session = Leaves s (IsStoredEnd first session)
 
 -- nothing stands in the file before the event is created in it
@@ -42,14 +42,14 @@ abbrev pub IsEmptyFile : State → Type 0
 IsEmptyFile s = s.now.schema ≡ no_schema
 
 -- what the file holds is a thing that a crash left of this event
-abbrev pub WasLeft : Image → Point → Type 0
-WasLeft image point = (db : Trees) × ∥ HoldsDatabase image db ∥₁ × IsStored point.event point.serial db
+abbrev pub WasLeft : Image → Placed → Type 0
+WasLeft image placed = (db : Trees) × ∥ HoldsDatabase image db ∥₁ × IsStoredAt placed db
 
--- an opening finds just this event and this serial: its tables represent them, and a crash leaves them again
-pub record FindsAgain {S : Type 0} (g : Ghosts S) (desk : Desk S g) (point : Point) : Type 0 where
-  pub found : point_of (desk_state desk) ≡ point
+-- an opening finds just this event and this serial, in this version: its tables represent them, and a crash leaves them again
+pub record FindsAgain {S : Type 0} (g : Ghosts S) (desk : Desk S g) (placed : Placed) : Type 0 where
+  pub found : placed_of (desk_state desk) ≡ placed
   pub shows : ShowsOwn g desk
-  pub leaves : LeavesJust (state g desk) point
+  pub leaves : LeavesJust (state g desk) placed
 
 -- no stored round repeats an opponent or a bye: no two stored matches have the same two players, where the second of a bye is 0
 abbrev pub RepeatsNobody : EventValue → Type 0
@@ -78,12 +78,12 @@ Histories = (name : List ℕ) (rounds cut : ℕ) → IsSetUp name rounds cut
 abbrev pub and_then : List Ended → Session → Point → List Ended
 and_then ends session last = ends ++ record { session = session; last = last } ∷ []
 
--- What is left is an end of the history with this session after it, whole, and the next session begins there.
-pub record NextBegins (new : Point) (ends : List Ended) (session : Session) (trees : Trees) : Type 0 where
+-- What is left is an end of the history with this session after it, whole, in tables of this version, and the next session begins there.
+pub record NextBegins (new : Point) (ends : List Ended) (session : Session) (version : ℕ) (trees : Trees) : Type 0 where
   pub last : Point
   pub history : IsHistory new (and_then ends session last) last
   pub is_end : IsEndOf new (and_then ends session last) last
-  pub stored : IsStored last.event last.serial trees
+  pub stored : IsStoredAt (placed_at last version) trees
 
 -- An event may be set up so, and is new.
 pub record IsBeginning (new : Point) : Type 0 where
@@ -92,8 +92,8 @@ pub record IsBeginning (new : Point) : Type 0 where
   pub is_new : new ≡ new_point name limits.0 limits.1
   pub set_up : IsSetUp name limits.0 limits.1
 
--- The file was left by a history of a new event.
-pub record WasLeftBy (image : Image) (new : Point) (ends : List Ended) (first : Point) : Type 0 where
+-- The file was left by a history of a new event, in tables of this version.
+pub record WasLeftBy (image : Image) (new : Point) (ends : List Ended) (first : Placed) : Type 0 where
   pub begins : IsBeginning new
-  pub history : IsHistory new ends first
+  pub history : IsHistory new ends first.point
   pub left : WasLeft image first

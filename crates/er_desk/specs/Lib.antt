@@ -6,6 +6,13 @@
 -- one after the other, Resuming sessions that send from one list, Asking what a call does to the file, Opening why a file
 -- was not opened, and Closing what it holds once it is closed. Migrating says what a desk answers that moves its tables to
 -- version 2, and Migrations what histories with such moves come to.
+--
+-- Doubt is what becomes of the command that a stop left in doubt.
+--
+-- Begins is how a desk begins, Looking what a call does that only reads the tables, and Files how the file of an event is opened,
+-- or made: the records that those calls' contracts are made of.
+--
+-- What private functions alone cite lies in `inside`.
 pub mod Reply
 pub mod Desk
 pub mod Run
@@ -17,3 +24,8 @@ pub mod Closing
 pub mod Asking
 pub mod Migrations
 pub mod Migrating
+pub mod Looking
+pub mod Begins
+pub mod Files
+pub mod Doubt
+pub mod inside

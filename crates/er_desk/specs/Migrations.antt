@@ -3,7 +3,7 @@
 use Rattle.std.specs.Prelude.{◌≡◌, ◌⊎◌, ℕ, List, [], ◌∷◌, map, Option, Some, None}
 use Rattle.er_event.specs.declared.commands.Command.{Command}
 use Rattle.er_event.specs.Sound.{IsSetUp}
-use Rattle.er_desk.specs.Desk.{Point}
+use Rattle.er_desk.specs.Desk.{Placed}
 use Rattle.er_desk.specs.Run.{Session, MayEnd}
 use Rattle.er_desk.specs.History.{Ended, new_point}
 use Rattle.er_desk.specs.Headline.{IsEndOf}
@@ -32,11 +32,6 @@ pub record MovingSession : Type 0 where
 -- its commands alone
 abbrev pub passed_over : MovingSession → Session
 passed_over s = record { kept = commands_in s.kept; doubt = command_in s.doubt }
-
--- where a session begins or ends, and the version of its tables
-pub record Placed : Type 0 where
-  pub point : Point
-  pub version : ℕ
 
 -- A migration leads to version 2, and nothing leads back.
 abbrev pub version_after : ℕ → List Request → ℕ

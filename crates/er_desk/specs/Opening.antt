@@ -20,7 +20,7 @@ use Rattle.sqlite.specs.declared.error.Error.{Error}
 use Rattle.sqlite.specs.declared.error.Error.TheVariants.{SqliteFailure}
 use Rattle.sqlite.specs.declared.error.ErrorCode.TheVariants.{CannotOpen, DatabaseBusy, OutOfMemory}
 use Rattle.sqlite.specs.declared.file.Leftover.{Leftover}
-use Rattle.sqlite.specs.Files.{AreFoundIn, FailsToOpenFiles, IsCleanLeft, LeavesFiles, file_state, over_files}
+use Rattle.sqlite.specs.Files.{AreFoundIn, FailsToOpenFiles, IsCleanLeft, LeavesFiles, file_state}
 use Rattle.er_event.specs.declared.refusals.Refusal.{Refusal}
 use Rattle.er_event.specs.declared.refusals.Refusal.TheVariants.{NoEvent}
 use Rattle.er_event.specs.declared.refusals.Place.{Place}
@@ -35,7 +35,7 @@ use Rattle.er_store.specs.Fault.{refusal_of}
 use Rattle.er_store.specs.Damage.{ReadsParts, ReadsTallies, IsAtFault, IfDamaged}
 use Rattle.er_store.specs.Beside.{IsStoredBeside, ShowsBeside}
 use Rattle.er_store.specs.Reading.{KeepsTables}
-use Rattle.er_store.specs.Representing.{CanRead, Either, IsStored, Leaves, ReadsEvent}
+use Rattle.er_store.specs.Representing.{CanRead, Either, IsStoredIn, Leaves, ReadsEvent}
 use Rattle.er_desk.specs.declared.desk.Desk.{Desk}
 use Rattle.er_desk.specs.Desk.{Point, state}
 use Rattle.er_desk.specs.Headline.{IsEmptyFile}
@@ -76,9 +76,9 @@ pub record LeavesAll (old new : State) : Type 0 where
 pub record MakesNothing (new_event : Point) (old new : State) : Type 0 where
   pub kept : HasCleanDisk new → KeepsTables old new
   pub spares : CanRead old.now.schema → Leaves new old.may_leave
-  pub crash : IsEmptyFile old → Leaves new (Either old.may_leave (IsStored new_event.event new_event.serial))
+  pub crash : IsEmptyFile old → Leaves new (Either old.may_leave (IsStoredIn 2 new_event.event new_event.serial))
   pub left : IsEmptyFile old → IsTrue old.is_open
-      → Leaves new (Either (λ db. db ≡ old.committed.trees) (IsStored new_event.event new_event.serial))
+      → Leaves new (Either (λ db. db ≡ old.committed.trees) (IsStoredIn 2 new_event.event new_event.serial))
   pub beside : IsTrue old.is_open → Leaves new (Either (λ db. db ≡ old.committed.trees) (IsStoredBeside 2 new_event.event old.now))
 
 -- An event was made beside what the file held, whatever that was.
@@ -138,11 +138,6 @@ module _ {D : Type 0} {g : Ghosts D} where
   abbrev pub WhereUnopened : OpenFault D g → Type 0 → Type 0
   WhereUnopened (Unopened error left) P = P
   WhereUnopened (Refused conn refusal) P = Unit {0}
-
-  -- what is seen of the file then: by the desk, or by the connection where one comes back
-  abbrev pub OnSeen : Result (Desk (FileStore D g) over_files) (OpenFault D g) → (State → Type 0) → Type 0
-  OnSeen (Ok desk) P = P (state over_files desk)
-  OnSeen (Err why) P = OnRefused why (λ conn. P (file_state conn))
 
   -- of files that were not opened: why, and what is left of them
   abbrev pub OnUnopened : OpenFault D g → (Error → Option (Leftover D g) → Type 0) → Type 0

@@ -9,10 +9,9 @@ use Rattle.er_event.specs.declared.refusals.Refusal.TheVariants.{Store, NeedsReo
 use Rattle.er_event.specs.Event.{EventValue}
 use Rattle.er_rules.specs.Step.{Steps}
 use Rattle.er_store.specs.Fault.{IsFault}
-use Rattle.er_store.specs.Representing.{IsStored}
 use Rattle.er_rules.specs.Fold.{Folds}
 use Rattle.er_desk.specs.Reply.{Reply, IsLawful}
-use Rattle.er_desk.specs.Desk.{Point, DeskState, Turn}
+use Rattle.er_desk.specs.Desk.{Point, Placed, DeskState, Turn, IsStoredAt, placed_at}
 
 -- the replies to commands one after the other
 abbrev pub Runs : DeskState → List Command → List Reply → DeskState → Type 0
@@ -41,15 +40,15 @@ pub record IsRun (old : DeskState) (commands : List Command) (replies : List Rep
   pub each : (k : ℕ) (command : Command) (reply : Reply) → slice_get commands k ≡ Some command → slice_get replies k ≡ Some reply
       → (mid : EventValue) × Folds old.event (acknowledged (take k commands) (take k replies)) mid
       × (IsLawful old.version mid (old.serial + length (acknowledged (take k commands) (take k replies))) command reply
-      ⊎ ((reply ≡ Err NeedsReopen) × IsTrue new.stopped))
+      ⊎ ((reply ≡ Err NeedsReopen) × IsTrue new.needs_reopen))
   pub event_is : Folds old.event (acknowledged commands replies) new.event
   pub serial_is : new.serial ≡ old.serial + length (acknowledged commands replies)
   pub version_is : new.version ≡ old.version
   -- the desk is stopped where it was before, or by a fault of the store in one of the commands
-  pub stopped_by : IsTrue new.stopped → IsTrue old.stopped ⊎ ((k : ℕ) × FailsAt replies k)
-  pub was_stopped : IsTrue old.stopped
-      → IsTrue new.stopped × ((k : ℕ) (reply : Reply) → slice_get replies k ≡ Some reply → reply ≡ Err NeedsReopen)
-  pub stops : (k : ℕ) (cause : Cause) → slice_get replies k ≡ Some (Err (Store cause)) → IsTrue new.stopped
+  pub stopped_by : IsTrue new.needs_reopen → IsTrue old.needs_reopen ⊎ ((k : ℕ) × FailsAt replies k)
+  pub needed_reopen : IsTrue old.needs_reopen
+      → IsTrue new.needs_reopen × ((k : ℕ) (reply : Reply) → slice_get replies k ≡ Some reply → reply ≡ Err NeedsReopen)
+  pub stops : (k : ℕ) (cause : Cause) → slice_get replies k ≡ Some (Err (Store cause)) → IsTrue new.needs_reopen
 
 -- ---- sessions
 
@@ -77,9 +76,9 @@ last_tried (command ∷ commands) [] = None
 
 -- the session of a run: where the store has failed, it failed in the last command that was tried
 abbrev pub session_of : List Command → List Reply → Bool → Session
-session_of commands replies stopped = record {
+session_of commands replies needs_reopen = record {
   kept = acknowledged commands replies;
-  doubt = if stopped then last_tried commands replies else None;
+  doubt = if needs_reopen then last_tried commands replies else None;
 }
 
 -- the session ends after what was acknowledged
@@ -99,6 +98,6 @@ pub record EndsWithDoubt (first : Point) (session : Session) (last : Point) (dou
 abbrev pub MayEnd : Point → Session → Point → Type 0
 MayEnd first session last = EndsAfterKept first session last ⊎ MatchOption session.doubt ⊥ (EndsWithDoubt first session last)
 
--- what a crash leaves represents one of the session's ends, whole
-abbrev pub IsStoredEnd : Point → Session → Trees → Type 0
-IsStoredEnd first session trees = (last : Point) × MayEnd first session last × IsStored last.event last.serial trees
+-- what a crash leaves represents one of the session's ends, whole, in the same version
+abbrev pub IsStoredEnd : Placed → Session → Trees → Type 0
+IsStoredEnd first session trees = (last : Point) × MayEnd first.point session last × IsStoredAt (placed_at last first.version) trees

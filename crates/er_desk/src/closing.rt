@@ -8,8 +8,8 @@ use sqlite_disk::Disk;
 pub fn close_file<D: Disk + Drop>(
     desk: Desk<FileStore<D>>,
 ) -> Result<Files<D>, (Error, FileStore<D>)>
-    // On a clean disk the database file, with its log and without it, holds the event and the serial, as the two read now and as a crash may
-    // leave them: the next opening finds just these. Where it fails, a crash leaves what it could leave before.
+    // On a clean disk the database file, with its log and without it, holds the event and the serial, as the two read now and as a crash
+    // may leave them: the next opening finds just these. Where it fails, a crash leaves what it could leave before.
     ensures { IsClosedAs desk result }
 {
     let conn = desk.close();

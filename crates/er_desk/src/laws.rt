@@ -2,6 +2,7 @@
 
 ghost use Rattle.er_desk.specs.Headline.{Histories};
 ghost use Rattle.er_desk.specs.Asking.{ListsGrow, NextSessions};
+ghost use Rattle.er_desk.specs.Doubt.{DoubtsAreAnswered};
 ghost use Rattle.er_desk.specs.Migrations.{MovingHistories};
 ghost use Rattle.er_desk.specs.Resuming.{Resuming};
 ghost use Rattle.er_rules.specs.Retry.{NoDoubleEffect};
@@ -22,6 +23,13 @@ pub fn next_sessions()
     histories();
 }
 
+/// A command that was in doubt when a session was stopped is found stored in the next one, or new.
+pub fn doubts()
+    ensures { DoubtsAreAnswered }
+{
+    step_has_no_double_effect();
+}
+
 /// Migrations among the commands change nothing of what a history comes to, and no history leads back to version 1.
 pub fn histories_with_migrations()
     ensures { MovingHistories }
@@ -39,8 +47,8 @@ pub fn resuming()
     ensures { Resuming }
 {}
 
-/// A command that was taken once, and no correction, is refused at every later point of a run. A correction that is sent again at once gives the
-/// same event.
+/// A command that was taken once, and no correction, is refused at every later point of a run. A correction that is sent again at once
+/// gives the same event.
 pub fn no_double_effect()
     ensures { NoDoubleEffect }
 {

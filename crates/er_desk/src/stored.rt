@@ -1,11 +1,8 @@
-ghost use Rattle.std.specs.Prelude.{◌≡◌, ◌⊎◌, ℕ, OnErr, MatchResult, IsTrue, IsFalse};
+ghost use Rattle.std.specs.Prelude.{IsFalse};
 ghost use Rattle.sqlite.specs.State.{HasCleanDisk, IsUnchanged};
-ghost use Rattle.er_event.specs.Event.{EventValue};
-ghost use Rattle.er_event.specs.Sound.{IsSoundButForSeeds};
-ghost use Rattle.er_store.specs.Fault.{IsFault, IsReadFault};
-ghost use Rattle.er_store.specs.Reading.{KeepsTables};
-ghost use Rattle.er_store.specs.Representing.{RepresentsIn, Leaves};
+ghost use Rattle.er_store.specs.Representing.{RepresentsIn};
 ghost use Rattle.er_store.specs.Store as tables;
+ghost use Rattle.er_store.specs.Calls.{OnlyReads, Finds, OrFails, StopsUnless};
 ghost use Rattle.er_desk.specs.Headline.{AreTheStandings};
 
 use er_event::Refusal;
@@ -16,25 +13,13 @@ use std::alloc::Global;
 
 /// The standings by the totals and the meetings that the tables keep. Lists that are of no event end the store.
 pub fn read_standings<S: Alter>(alloc: Global, store: &mut Store<S>) -> Result<Vec<Row>, Refusal>
-    requires running { IsFalse (tables.is_stopped store.old) }
-    ensures stops { MatchResult result (λ _. IsFalse (tables.is_stopped store.new)) (λ why. ((why
-        ≡ Refusal.Memory) × IsFalse (tables.is_stopped store.new))
-        ⊎ (IsReadFault why × IsTrue (tables.is_stopped store.new))) }
-    ensures clean { HasCleanDisk (tables.state S.Store store.new)
-        → HasCleanDisk (tables.state S.Store store.old) }
-    ensures found { HasCleanDisk (tables.state S.Store store.new) → (e : EventValue) (s : ℕ)
-        → RepresentsIn (tables.version_in store.old) (tables.state S.Store store.old).now e s
-        → IsSoundButForSeeds e
-        → MatchResult result (λ rows. AreTheStandings e rows.items) IsFault }
+    requires running { IsFalse (tables.needs_reopen store.old) }
+    ensures reads { OnlyReads S.Store (StopsUnless Refusal.Memory) store.old result store.new }
+    ensures found { Finds S.Store (RepresentsIn (tables.version_in store.old))
+        (λ e s. OrFails (λ rows. AreTheStandings e rows.items)) store.old result store.new }
     ensures same { HasCleanDisk (tables.state S.Store store.new)
-        → IsFalse (tables.is_stopped store.new)
+        → IsFalse (tables.needs_reopen store.new)
         → IsUnchanged (tables.state S.Store store.old) (tables.state S.Store store.new) }
-    ensures version { tables.version_in store.new ≡ tables.version_in store.old }
-    ensures kept { HasCleanDisk (tables.state S.Store store.new)
-        → OnErr result (KeepsTables (tables.state S.Store store.old)
-        (tables.state S.Store store.new)) }
-    ensures crash { Leaves (tables.state S.Store store.new)
-        (tables.state S.Store store.old).may_leave }
 {
     let tallies = store.tallies(alloc)?;
     let meetings = store.meetings(alloc)?;

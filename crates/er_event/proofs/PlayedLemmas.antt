@@ -1,15 +1,20 @@
 -- What the rounds of all players come to, by the seats of each round.
 use Rattle.er_event.proofs.Prelude.{counted_appearances, appearances_from, appearances_of_match, own, totals_of, IsAbsent, Match, Round}
 use Rattle.er_event.proofs.Prelude.{Games, AreOver, IsSeatedOnce, All}
-use Rattle.er_event.proofs.Prelude.{List, None, Option, Some, [], arith, flat_map, get_or, length, refl, seats, set, suc, sym, take, zero, ℕ}
-use Rattle.er_event.proofs.Prelude.{◌+◌, ◌<◌, ◌==◌, ◌∙◌, ◌∷◌, ◌≡◌, ◌≢◌, ◌≤◌, ◌⊎◌, ap, subst, inl, inr, true, false, get_or_default, nat_tests, none-some, same_Some}
-use Rattle.er_event.proofs.Prelude.{All-cons, IfSome, IsSoundButForSeeds, EventValue, open_match, scored, scored_slot, ◌++◌, length-append, Player, ap₂, totals, ◌-◌, length-set}
+use Rattle.er_event.proofs.Prelude.{List, None, Option, Some, [], arith, flat_map, get_or, length, refl, seats, set, suc, sym, take, zero}
+use Rattle.er_event.proofs.Prelude.{ℕ}
+use Rattle.er_event.proofs.Prelude.{◌+◌, ◌<◌, ◌==◌, ◌∙◌, ◌∷◌, ◌≡◌, ◌≢◌, ◌≤◌, ◌⊎◌, ap, subst, inl, inr, true, false, get_or_default}
+use Rattle.er_event.proofs.Prelude.{nat_tests, none-some, same_Some}
+use Rattle.er_event.proofs.Prelude.{All-cons, IfSome, IsSoundButForSeeds, EventValue, open_match, scored, scored_slot, ◌++◌, length-append}
+use Rattle.er_event.proofs.Prelude.{Player, ap₂, totals, ◌-◌, length-set}
 use Rattle.std.proofs.{Common.min, lemmas.Bool.{cases_Bool, cases_eq, cases_lt, cond_both}, lemmas.List.{get_or-set_same, get_or-set_other}}
 use Rattle.er_event.specs.{Totals.{totals_of_games, plus, missed_totals, Gathered, gathered_of, AreTotals}, declared.totals.Totals.Totals}
 use Rattle.er_event.specs.{Change.{after, new_player}, declared.changes.Change.Change}
 use Rattle.er_event.specs.declared.changes.Change.TheVariants.{AddPlayer, AddRound, SetDropped, SetScore}
-use Rattle.er_event.specs.inside.{Joined.joined_of, Played.{with_new, ArePlayed, IsRescored, Rescores}, Seats.{sits_at, seat_of}, Seen.AreSeen}
-use Rattle.er_event.proofs.{MissedLemmas.{Counted, complete, joined-at, joined-dropped, joined-others, totals-split, totals_of-append}, PartsLemmas.number_at, SeatLemmas.{All-seats, seats-All, seats-set, sit-apart}}
+use Rattle.er_event.specs.inside.{Joined.joined_of, Played.{with_new, ArePlayed, IsRescored, Rescores}, Seats.{sits_at, seat_of}}
+use Rattle.er_event.specs.inside.{Seen.AreSeen}
+use Rattle.er_event.proofs.{MissedLemmas.{Counted, complete, joined-at, joined-dropped, joined-others, totals-split, totals_of-append}}
+use Rattle.er_event.proofs.{PartsLemmas.number_at, SeatLemmas.{All-seats, seats-All, seats-set, sit-apart}}
 use Rattle.er_event.proofs.{SeatTables.no-seat, TotalLemmas.{absent_appearances, appearances_from-push, one_match, own-append, own-more}}
 
 -- ---- the match that a number sits at
@@ -63,7 +68,8 @@ same-seats old m after h = seats-set m h.place old h.first h.second ∙ ap (flat
 seen-at : (ms : List Match) → IsSeatedOnce ms → (k : ℕ) (m : Match) (player : ℕ) → k < length ms → get_or ms k m ≡ m
     → (player ≡ m.a) ⊎ (player ≡ m.b) → (g : Option Games) → AreSeen m player g
     → (round : ℕ) → totals_of (own player (flat_map (appearances_of_match round) ms)) ≡ totals_of_games g
-seen-at ms once k m player below here sits None seen round = ap totals_of (one_match ms once k m player below (sym here) sits round ∙ seen round)
+seen-at ms once k m player below here sits None seen round = ap totals_of (one_match ms once k m player below (sym here) sits round
+    ∙ seen round)
 seen-at ms once k m player below here sits (Some g) seen round =
     ap totals_of (one_match ms once k m player below (sym here) sits round) ∙ seen.2 round
 
@@ -146,7 +152,8 @@ module _ (old : List Match) (once : IsSeatedOnce old) (player : ℕ) (m : Match)
         seen-new old once player m is g s first (rw same at seen) after h round
     | inr differ ↦
         let other : s.a ≢ m.a = grind (arith, nat_tests) in
-        seen-old old once player m is g (rw differ at seen) (Some s) (λ t e f. other (ap (λ (n : Match). n.a) (same_Some s t e) ∙ f)) after h round
+        seen-old old once player m is g (rw differ at seen) (Some s) (λ t e f. other (ap (λ (n : Match). n.a) (same_Some s t e) ∙ f))
+        after h round
   ]
 
 pub new-apart : (m : Match) (new : Option Match) → m.a ≢ m.b → IfSome new (λ s. s.a ≢ s.b) → (with_new m new).a ≢ (with_new m new).b
@@ -213,7 +220,8 @@ gathered-now e sound g played long count = λ k d below.
     gathered-is e sound (length e.stored) (omega arith) g played long count p (omega arith) (omega arith) missed
     (joined-at e.players k p sound.players.numbered below is)
 
-pub totals-at : (e : EventValue) (ps : List Player) (g : Gathered) → AreTotals e ps g → (k : ℕ) (p : Player) → k < length ps → p ≡ get_or ps k p
+pub totals-at : (e : EventValue) (ps : List Player) (g : Gathered) → AreTotals e ps g → (k : ℕ) (p : Player) → k < length ps
+    → p ≡ get_or ps k p
     → gathered_of g p ≡ totals e p.no
 totals-at e ps g all k p below is = subst (λ (q : Player). gathered_of g q ≡ totals e q.no) (sym is) (all k p below)
 

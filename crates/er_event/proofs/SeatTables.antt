@@ -1,7 +1,8 @@
 -- A table of a round says where each number sits, and who met whom.
 use Rattle.er_event.proofs.Prelude.{is_same_pairing, Match, IsSeatedOnce, AllPairs, Bool, List, None, Option, Some, [], arith, cond, false}
 use Rattle.er_event.proofs.Prelude.{get_or, length, refl, set, sym, suc, take, true, ℕ, ◌==◌, ◌||◌, ◌&&◌, ◌+◌, ◌<◌, ◌∙◌}
-use Rattle.er_event.proofs.Prelude.{◌∷◌, ◌++◌, ◌≡◌, ◌≢◌, ap, inl, inr, length-set, list_any, list_any_none, nat_tests, common_steps, none-some, take_more, find, not, is_some, true≢false}
+use Rattle.er_event.proofs.Prelude.{◌∷◌, ◌++◌, ◌≡◌, ◌≢◌, ap, inl, inr, length-set, list_any, list_any_none, nat_tests, common_steps}
+use Rattle.er_event.proofs.Prelude.{none-some, take_more, find, not, is_some, true≢false}
 use Rattle.std.proofs.lemmas.{Bool.{cases_Bool, cases_eq}, List.Folds.find-append}
 use Rattle.std.specs.Option.{option_or}
 use Rattle.er_event.specs.{Match.shares_seat, Recounted.sits}
@@ -11,7 +12,8 @@ use Rattle.er_event.proofs.SeatLemmas.{AreApart, sit-apart}
 -- ---- one match more
 
 module _ (ms : List Match) (i : ℕ) (m : Match) (below : i < length ms) (here : get_or ms i m ≡ m) where
-  with_more : (number : ℕ) → seat_of (take (i + 1) ms) number ≡ option_or (seat_of (take i ms) number) (cond (sits_at number m) (Some m) None)
+  with_more : (number : ℕ) → seat_of (take (i + 1) ms) number ≡ option_or (seat_of (take i ms) number)
+      (cond (sits_at number m) (Some m) None)
   with_more number =
       ap (find (sits_at number)) (take_more ms i m below ∙ ap (λ (n : Match). take i ms ++ n ∷ []) here)
       ∙ find-append (sits_at number) (take i ms) (m ∷ [])
@@ -26,7 +28,8 @@ module _ (ms : List Match) (i : ℕ) (m : Match) (below : i < length ms) (here :
   elsewhere : (number : ℕ) → sits_at number m ≡ false → seat_of (take (i + 1) ms) number ≡ seat_of (take i ms) number
   elsewhere number sits = with_more number ∙ rw sits (or_none (seat_of (take i ms) number))
 
-  pub seats-with : (table : List (Option Match)) → AreSeats (take i ms) table → seat_of (take i ms) m.a ≡ None → seat_of (take i ms) m.b ≡ None
+  pub seats-with : (table : List (Option Match)) → AreSeats (take i ms) table → seat_of (take i ms) m.a ≡ None → seat_of (take i ms) m.b ≡
+      None
       → AreSeats (take (i + 1) ms) (set (set table m.a (Some m)) m.b (Some m))
   seats-with table before a b number within =
       let inside : number < length table = omega (arith, length-set table m.a (Some m), length-set (set table m.a (Some m)) m.b (Some m)) in
@@ -47,7 +50,8 @@ module _ (ms : List Match) (i : ℕ) (m : Match) (below : i < length ms) (here :
 
 -- ---- who sits nowhere shares no seat
 
-pub no-seat : (number : ℕ) (m : Match) (ms : List Match) → seat_of (m ∷ ms) number ≡ None → (sits_at number m ≡ false) × (seat_of ms number ≡ None)
+pub no-seat : (number : ℕ) (m : Match) (ms : List Match) → seat_of (m ∷ ms) number ≡ None → (sits_at number m ≡ false)
+    × (seat_of ms number ≡ None)
 no-seat number m ms none = elim (cases_Bool (sits_at number m)) [
   | inl sits ↦ absurd (none-some m (sym none ∙ rw sits refl))
   | inr free ↦ (free, rw free at none)
@@ -61,7 +65,8 @@ free-shares m (n ∷ ms) a b =
     let here : shares_seat n m ≡ false = grind (arith, common_steps, first.0, second.0) in
     rw here (free-shares m ms first.1 second.1)
 
-pub shares-free : (m : Match) (ms : List Match) → list_any (λ n. shares_seat n m) ms ≡ false → (seat_of ms m.a ≡ None) × (seat_of ms m.b ≡ None)
+pub shares-free : (m : Match) (ms : List Match) → list_any (λ n. shares_seat n m) ms ≡ false → (seat_of ms m.a ≡ None)
+    × (seat_of ms m.b ≡ None)
 shares-free m [] free = (refl, refl)
 shares-free m (n ∷ ms) free =
     let both : (shares_seat n m ≡ false) × (list_any (λ n. shares_seat n m) ms ≡ false) = grind (arith, common_steps) in

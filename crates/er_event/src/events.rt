@@ -1,4 +1,5 @@
-ghost use Rattle.std.specs.Prelude.{◌≡◌, ◌≢◌, ◌↔◌, ◌≤◌, ◌<◌, ◌==◌, ◌||◌, None, Ok, Err, IsTrue, IsFalse, IsOk, IfOk, IfErr, IfSome, option_map, length, find, List};
+ghost use Rattle.std.specs.Prelude.{◌≡◌, ◌≢◌, ◌↔◌, ◌≤◌, ◌<◌, ◌==◌, ◌||◌, None, Ok, Err, IsTrue, IsFalse, IsOk, IfOk, IfErr, IfSome};
+ghost use Rattle.std.specs.Prelude.{option_map, length, find, List};
 ghost use Rattle.er_event.specs.declared.scores.Games.{Games};
 ghost use Rattle.er_event.specs.Round.{is_bye, match_at};
 ghost use Rattle.er_event.specs.Bracket.{slot_at, following, is_over};
@@ -83,7 +84,8 @@ impl Model for Event {
 }
 
 impl Event {
-    /// An event with no player, whose Swiss rounds are 1 to 12, and whose playoff is of 2, 4 or 8 players, or 0 for none. It takes no memory.
+    /// An event with no player, whose Swiss rounds are 1 to 12, and whose playoff is of 2, 4 or 8 players, or 0 for none. It takes no
+    /// memory.
     pub fn create(alloc: Global, name: Name, rounds: u8, cut: u8) -> Result<Event, Refusal>
         ensures value { IfOk result (λ e. e ≡ created name rounds cut) }
         ensures within { IsOk result ↔ AreLimits rounds cut }
@@ -119,7 +121,8 @@ impl Event {
         self.rounds
     }
 
-    /// How many players go to the playoff, or 0 where there is none. Once all Swiss rounds are complete, the playoff may begin with a stage of so many.
+    /// How many players go to the playoff, or 0 where there is none. Once all Swiss rounds are complete, the playoff may begin with a stage
+    /// of so many.
     pub fn cut(&self) -> u8
         ensures value { result ≡ self.now.cut }
         ensures fits { (matches : List Match) → IsOpening self.now matches
@@ -173,7 +176,8 @@ impl Event {
         self.stored.as_slice()
     }
 
-    /// The match of a table of a Swiss round, where tables are numbered from 1 and a bye has table 0. A match of two players takes each score that is lawful in a Swiss round.
+    /// The match of a table of a Swiss round, where tables are numbered from 1 and a bye has table 0. A match of two players takes each
+    /// score that is lawful in a Swiss round.
     pub fn match_at(&self, round: u8, table: u16) -> Option<&Match>
         ensures value { option_map (λ m. m.now) result ≡ match_at self.now round table }
         ensures fits { IfSome result (λ m. IsFalse (is_bye m.now) → (score : Games)

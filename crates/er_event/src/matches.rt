@@ -35,6 +35,13 @@ impl Match {
         }
     }
 
+    /// Whether it is a bye: nobody sits opposite the first player.
+    pub fn is_bye(&self) -> bool
+        ensures { result ≡ is_bye self.now }
+    {
+        self.b == 0
+    }
+
     /// The number of the player who won the match, and 0 where it is open.
     pub fn winner(&self) -> u16
         ensures { result ≡ winner self.now }
@@ -81,7 +88,7 @@ fn is_lawful(count: u16, played: &Match) -> bool
 pub(crate) fn may_stand(table: u16, played: &Match) -> bool
     ensures { IsTrue result ↔ MayStand table played.now }
 {
-    played.a != played.b && (played.b == 0) == (table == 0) && is_lawful(MAX_PLAYERS, played)
+    played.a != played.b && played.is_bye() == (table == 0) && is_lawful(MAX_PLAYERS, played)
 }
 
 pub(crate) fn are_lawful(count: u16, matches: &[Match]) -> bool
@@ -100,7 +107,7 @@ pub(crate) fn are_seated_once(matches: &[Match]) -> bool
 fn bye_of(matches: &[Match]) -> Option<&Match>
     ensures { option_map (λ m. m.now) result ≡ find is_bye matches.now }
 {
-    matches.iter().find(|played| played.b == 0)
+    matches.iter().find(|played| played.is_bye())
 }
 
 /// The match of this table: tables are numbered by place from 1, and a bye has table 0.
@@ -111,7 +118,7 @@ pub(crate) fn match_in(matches: &[Match], table: u16) -> Option<&Match>
         return bye_of(matches);
     }
     match matches.get(usize::from(table) - 1) {
-        Some(played) if played.b != 0 => Some(played),
+        Some(played) if !played.is_bye() => Some(played),
         _ => None,
     }
 }

@@ -1,4 +1,5 @@
-ghost use Rattle.std.specs.Prelude.{◌≡◌, ◌≢◌, ◌≤◌, ◌<◌, ◌==◌, nat_le, ◌↔◌, not, length, find, option_map, All, AllPairs, IsTrue, IsSome, IfSome};
+ghost use Rattle.std.specs.Prelude.{◌≡◌, ◌≢◌, ◌≤◌, ◌<◌, ◌==◌, nat_le, ◌↔◌, not, length, find, option_map, All, AllPairs, IsTrue, IsSome};
+ghost use Rattle.std.specs.Prelude.{IfSome};
 ghost use Rattle.std.specs.List.{list_all, range_with_len};
 ghost use Rattle.er_event.specs.Change.{has_name};
 ghost use Rattle.er_event.specs.Name.{is_lawful_name};

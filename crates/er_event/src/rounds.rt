@@ -39,7 +39,7 @@ fn is_bye_last(matches: &[Match]) -> bool
     ensures { result ≡ list_all (λ m. not (is_bye m)) (take (length matches.now - 1) matches.now) }
 {
     let earlier = matches.len().saturating_sub(1);
-    matches[..earlier].iter().all(|played| played.b != 0)
+    matches[..earlier].iter().all(|played| !played.is_bye())
 }
 
 /// Whether the matches may be a Swiss round of so many players.

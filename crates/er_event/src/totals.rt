@@ -1,4 +1,5 @@
-ghost use Rattle.std.specs.Prelude.{◌≡◌, ◌≢◌, ℕ, List, [], ◌∷◌, ◌++◌, Some, ◌+◌, ◌<◌, ◌≤◌, ◌==◌, nat_lt, if◌then◌else◌, length, take, filter, flat_map, slice_index_or, All, IfSome};
+ghost use Rattle.std.specs.Prelude.{◌≡◌, ◌≢◌, ℕ, List, [], ◌∷◌, ◌++◌, Some, ◌+◌, ◌<◌, ◌≤◌, ◌==◌, nat_lt, if◌then◌else◌, length, take};
+ghost use Rattle.std.specs.Prelude.{filter, flat_map, slice_index_or, All, IfSome};
 ghost use Rattle.er_share.specs.declared.TheConstants.{MAX_ROUNDS};
 ghost use Rattle.er_event.specs.declared.rounds.Round.{Round};
 ghost use Rattle.er_event.specs.Appearances.{own, appearances_of_match, counted_appearances, appearances_from};
@@ -19,6 +20,7 @@ use crate::players::{Player, PlayerNo, joined_of};
 use crate::rounds::Round;
 use crate::scores::{Games, Score};
 pub use all::AllTotals;
+use all::played_in;
 use er_share::MAX_ROUNDS;
 use std::cmp::Ordering;
 
@@ -107,56 +109,6 @@ fn games_seen(played: &Match, player: u16) -> Option<Games>
     }
 }
 
-/// The games of a round as the player saw them.
-fn own_games(matches: &[Match], player: u16) -> Option<Games>
-    requires seated { IsSeatedOnce matches.now }
-    requires player { 0 < player }
-    ensures value { (round : ℕ)
-        → totals_of (own player (flat_map (appearances_of_match round) matches.now))
-        ≡ totals_of_games result }
-    ensures few { IfSome result AreFew }
-{
-    for played in matches {
-        if let Some(games) = games_seen(played, player) {
-            return Some(games);
-        }
-    }
-    None
-}
-
-/// The games of a round as the player saw them, once it is complete.
-fn counted_games(matches: &[Match], player: u16) -> Option<Games>
-    requires seated { IsSeatedOnce matches.now }
-    requires player { 0 < player }
-    ensures value { (number : ℕ)
-        → totals_of (own player (counted_appearances number (record { matches = matches.now })))
-        ≡ totals_of_games result }
-    ensures few { IfSome result AreFew }
-{
-    if is_complete(matches) {
-        own_games(matches, player)
-    } else {
-        None
-    }
-}
-
-/// What the player's matches of the complete rounds come to.
-fn totals_in(rounds: &[Round], player: u16) -> Totals
-    requires few { length rounds.now ≤ MAX_ROUNDS }
-    requires seated { All (λ round. IsSeatedOnce round.matches) rounds.now }
-    requires player { 0 < player }
-    ensures value { result ≡ totals_of (own player (appearances_from 1 rounds.now)) }
-    ensures over { AreOver (length rounds.now) result }
-{
-    let mut totals = Totals::none();
-    for round in rounds {
-        if let Some(games) = counted_games(round.matches.as_slice(), player) {
-            totals = totals.with(games);
-        }
-    }
-    totals
-}
-
 /// The match at a place of a round in which the match of a table has this score.
 fn match_with(matches: &[Match], at: usize, table: usize, score: Score) -> Match
     requires within { at < length matches.now }
@@ -185,103 +137,12 @@ pub(crate) fn is_complete_with(matches: &[Match], table: usize, score: Score) ->
     true
 }
 
-/// The games of the round as the player saw them, once the match of a table has this score.
-fn games_with(matches: &[Match], table: usize, score: Score, player: u16) -> Option<Games>
-    requires table { (1 ≤ table) × (table ≤ length matches.now) }
-    requires seated { IsSeatedOnce (scored_slot matches.now table score) }
-    requires player { 0 < player }
-    ensures value { (round : ℕ)
-        → totals_of (own player (flat_map (appearances_of_match round)
-        (scored_slot matches.now table score))) ≡ totals_of_games result }
-    ensures few { IfSome result AreFew }
-{
-    for at in 0..matches.len() {
-        if let Some(games) = games_seen(&match_with(matches, at, table, score), player) {
-            return Some(games);
-        }
-    }
-    None
-}
-
-/// The games of a round as the player saw them, once it is complete with this score of a table.
-fn counted_games_with(matches: &[Match], table: usize, score: Score, player: u16) -> Option<Games>
-    requires table { (1 ≤ table) × (table ≤ length matches.now) }
-    requires seated { IsSeatedOnce (scored_slot matches.now table score) }
-    requires player { 0 < player }
-    ensures value { (number : ℕ)
-        → totals_of (own player (counted_appearances number
-        (record { matches = scored_slot matches.now table score }))) ≡ totals_of_games result }
-    ensures few { IfSome result AreFew }
-{
-    if is_complete_with(matches, table, score) {
-        games_with(matches, table, score, player)
-    } else {
-        None
-    }
-}
-
 /// A score that the match of a table gets, of the round at this place.
 #[derive(Clone, Copy)]
 struct NewScore {
     place: usize,
     table: usize,
     score: Score,
-}
-
-/// The games of one of the rounds as the player saw them, once it is complete with the new score.
-fn games_at(rounds: &[Round], at: usize, new: &NewScore, player: u16) -> Option<Games>
-    requires within { at < length rounds.now }
-    requires table { HasTable rounds.now new.now.place new.now.table }
-    requires seated { All (λ round. IsSeatedOnce round.matches)
-        (rescored rounds.now new.now.place new.now.table new.now.score) }
-    requires player { 0 < player }
-    ensures value { (round : Round)
-        → round ≡ slice_index_or (rescored rounds.now new.now.place new.now.table new.now.score) at
-        round → (number : ℕ) → totals_of (own player (counted_appearances number round))
-        ≡ totals_of_games result }
-    ensures few { IfSome result AreFew }
-{
-    let matches = rounds[at].matches.as_slice();
-    if at == new.place {
-        counted_games_with(matches, new.table, new.score, player)
-    } else {
-        counted_games(matches, player)
-    }
-}
-
-/// What the player's matches of the complete rounds come to with the new score.
-fn totals_with(rounds: &[Round], new: &NewScore, player: u16) -> Totals
-    requires few { length rounds.now ≤ MAX_ROUNDS }
-    requires table { HasTable rounds.now new.now.place new.now.table }
-    requires seated { All (λ round. IsSeatedOnce round.matches)
-        (rescored rounds.now new.now.place new.now.table new.now.score) }
-    requires player { 0 < player }
-    ensures { result ≡ totals_of (own player
-        (appearances_from 1 (rescored rounds.now new.now.place new.now.table new.now.score))) }
-{
-    let mut totals = Totals::none();
-    for at in 0..rounds.len() {
-        if let Some(games) = games_at(rounds, at, new, player) {
-            totals = totals.with(games);
-        }
-    }
-    totals
-}
-
-/// What the player's matches of the complete rounds come to with one round more.
-fn totals_with_round(rounds: &[Round], matches: &[Match], player: u16) -> Totals
-    requires few { length rounds.now < MAX_ROUNDS }
-    requires seated { All (λ round. IsSeatedOnce round.matches) rounds.now }
-    requires seated_now { IsSeatedOnce matches.now }
-    requires player { 0 < player }
-    ensures { result ≡ totals_of (own player (appearances_from 1 (rounds.now
-        ++ record { matches = matches.now } ∷ []))) }
-{
-    let totals = totals_in(rounds, player);
-    match counted_games(matches, player) {
-        Some(games) => totals.with(games),
-        None => totals,
-    }
 }
 
 /// How many of the first rounds are complete.
@@ -345,7 +206,7 @@ impl Event {
     {
         let joined = joined_of(self.players(), player.get());
         let missed = complete_of(self.stored(), joined);
-        totals_in(self.stored(), player.get()).with_missed(missed)
+        played_in(self.stored())[usize::from(player.get())].with_missed(missed)
     }
 
     /// How many rounds the player of this number has missed after a change.
@@ -393,31 +254,7 @@ impl Event {
         ensures { result
             ≡ totals_of (own player (appearances_from 1 (after self.now change.now).stored)) }
     {
-        let stored = self.stored();
-        match change {
-            Change::AddRound { matches } => totals_with_round(
-                stored,
-                matches.as_slice(),
-                player.get(),
-            ),
-            Change::SetScore {
-                round,
-                table,
-                score,
-            } => {
-                let new = NewScore {
-                    place: usize::from(*round) - 1,
-                    table: usize::from(*table),
-                    score: *score,
-                };
-                totals_with(stored, &new, player.get())
-            }
-            Change::AddPlayer { .. }
-            | Change::SetDropped { .. }
-            | Change::SetPhase { .. }
-            | Change::AddBracket { .. }
-            | Change::SetBracketScore { .. } => totals_in(stored, player.get()),
-        }
+        self.all_played_after(change)[usize::from(player.get())]
     }
 
     /// The same as `totals` after a change. It takes no memory either.

@@ -4,7 +4,8 @@ ghost use Rattle.std.specs.Char.{is_ascii_digit};
 ghost use Rattle.er_paper.specs.Tables.{players_heading, results_heading};
 ghost use Rattle.csv.specs.Records.{fields_of};
 ghost use Rattle.er_event.specs.declared.players.TheConstants.{MAX_PLAYERS};
-ghost use Rattle.er_paper.specs.Reading.{number_of, number_within, player_line, full_line, name_line, lines_from, are_fields, ReadsPlayers, score_of, result_of, ReadsResults};
+ghost use Rattle.er_paper.specs.Reading.{number_of, number_within, player_line, full_line, name_line, lines_from, are_fields, ReadsPlayers};
+ghost use Rattle.er_paper.specs.Reading.{score_of, result_of, ReadsResults};
 ghost use Rattle.er_paper.specs.inside.Lines.{chosen_line};
 
 use crate::records::{only_field, records, seven_fields, three_fields};

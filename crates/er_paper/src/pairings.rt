@@ -56,7 +56,7 @@ pub fn table_at(place: usize, m: &Match) -> usize
     requires { place < 2 ^ 63 }
     ensures { result ≡ table_of (1 + place, m.now) }
 {
-    if m.b == 0 { 0 } else { 1 + place }
+    if m.is_bye() { 0 } else { 1 + place }
 }
 
 fn round_text(alloc: Global, event: &Event, matches: &[Match]) -> Result<Vec<u8>, AllocError>

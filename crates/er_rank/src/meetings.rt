@@ -36,7 +36,7 @@ fn push_meetings(
         ++ map (meeting_by (totals_of tallies.now)) (filter (λ m. not (is_bye m)) matches.now)) }
 {
     for played in matches {
-        if played.b != 0 {
+        if !played.is_bye() {
             meetings.push(meeting_of(tallies, played))?;
         }
     }

@@ -42,7 +42,8 @@ pub fn budget_searches()
         → Answers event command (Err (Budget steps)) → NeedsMoreSteps event command }
 {}
 
-/// A command that was taken once, and no correction, is refused at every later point. A correction that is sent again at once gives the same event.
+/// A command that was taken once, and no correction, is refused at every later point. A correction that is sent again at once gives the
+/// same event.
 pub fn no_double_effect()
     ensures { NoDoubleEffect }
 {}

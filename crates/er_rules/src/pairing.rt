@@ -1,4 +1,5 @@
-ghost use Rattle.std.specs.Prelude.{◌≡◌, ◌≢◌, ◌⊎◌, ◌↔◌, ℕ, List, ◌<◌, ◌≤◌, ◌%◌, ◌++◌, not, length, map, filter, AllPairs, IfOk, IfErr, OnOk, Ok, Err, None, Some, IsFalse};
+ghost use Rattle.std.specs.Prelude.{◌≡◌, ◌≢◌, ◌⊎◌, ◌↔◌, ℕ, List, ◌<◌, ◌≤◌, ◌%◌, ◌++◌, not, length, map, filter, AllPairs, IfOk, IfErr};
+ghost use Rattle.std.specs.Prelude.{OnOk, Ok, Err, None, Some, IsFalse};
 ghost use Rattle.er_event.specs.declared.events.Phase.TheVariants.{Swiss};
 ghost use Rattle.er_event.specs.declared.commands.Command.TheVariants.{Pair};
 ghost use Rattle.er_event.specs.Change.{after, Fits, IsNextRound};

@@ -23,7 +23,7 @@ fn match_of_two(event: &Event, round: u8, table: u16) -> Result<&Match, Refusal>
     let Some(played) = event.match_at(round, table) else {
         return Err(Refusal::NoSuchMatch);
     };
-    if played.b == 0 {
+    if played.is_bye() {
         return Err(Refusal::IsBye);
     }
     Ok(played)

@@ -1,6 +1,7 @@
 -- What the desk answers, and how serving an input ends.
 use Rattle.std.proofs.{lemmas.Grind.common_steps, Common.{◌≡◌, ◌⊎◌, ◌≤◌, inl, inr, ℕ, ◌==◌, false, true≢false, arith, List, Option}}
-use Rattle.std.proofs.Common.{Some, None, Bool, true, length, take, nat_lt, if◌then◌else◌, Result, Ok, Err, IsTrue, IsFalse, IfOk, IfSome, MatchResult, Vec, Global, is_ok}
+use Rattle.std.proofs.Common.{Some, None, Bool, true, length, take, nat_lt, if◌then◌else◌, Result, Ok, Err, IsTrue, IsFalse, IfOk, IfSome}
+use Rattle.std.proofs.Common.{MatchResult, Vec, Global, is_ok}
 use Rattle.std.proofs.{Common.{refl, sym, ap, subst, ◌∙◌}, lemmas.Bool.Decides.nat_tests}
 use Rattle.std.specs.{Io.KnownBytes.Keeps, declared.alloc.AllocError.AllocError}
 use Rattle.er_event.specs.{declared.refusals.Refusal.Refusal, declared.refusals.Refusal.TheVariants.{Memory, NeedsReopen, NoSuchMatch}}
@@ -9,9 +10,9 @@ use Rattle.er_event.specs.Event.{EventValue}
 use Rattle.er_json.specs.Slip.{slip_games, slip_text}
 use Rattle.er_paper.specs.Texts.{rows_text}
 use Rattle.er_rank.specs.declared.rows.Row.{Row}
-use Rattle.er_store.specs.{Fault.IsReadFault, Slip.FindsSlip}
+use Rattle.er_store.specs.{Fault.{IsFault, IsReadFault}, Slip.{FindsSlip, FindsSlipOrFails}}
 use Rattle.er_desk.specs.Desk.{DeskState, Turn, ShowsEvent}
-use Rattle.er_desk.specs.Desk.{ReadsRows, ReadsSlip}
+use Rattle.er_desk.specs.Desk.{Reads, ReadsRows, ReadsSlip}
 use Rattle.er_desk.specs.{Headline.AreTheStandings, Reply.{Reply, receipt, reply_to, IsDue}, Run.{Session, no_session}}
 use Rattle.er_slips.specs.{declared.answer.Answer.Answer, declared.request.wanted.Request.Request}
 use Rattle.er_slips.specs.{declared.request.wanted.Request.TheVariants.{Standings, Pairings, Slip, Report}}
@@ -20,14 +21,16 @@ use Rattle.er_slips.specs.{declared.request.wanted.NoRequest.NoRequest, declared
 use Rattle.er_slips.specs.declared.request.wanted.NoRequest.TheVariants as no_request
 use Rattle.er_slips.specs.{declared.request.Next.Next, declared.request.Next.TheVariants.{Get, Body}}
 use Rattle.er_slips.specs.declared.request.wanted.Fault.TheVariants.{BadRequest}
-use Rattle.er_slips.specs.{declared.serve.Served.Served, declared.serve.Served.TheVariants.{Answered, ReadFault, WriteFault}, Request.{Asks, headed, headless, HasBody, IsWhole, next_of, asked_with, reported}}
-use Rattle.er_slips.specs.{inside.Telling.TellsRequest, Answer.{AnswerValue, answer_value, fault_answer, refusal_answer, slip_answer, text_answer}}
+use Rattle.er_slips.specs.{declared.serve.Served.Served, declared.serve.Served.TheVariants.{Answered, ReadFault, WriteFault}}
+use Rattle.er_slips.specs.{Request.{Asks, headed, headless, IsWhole, next_of, asked_with, reported}}
+use Rattle.er_slips.specs.{inside.Telling.TellsRequest}
+use Rattle.er_slips.specs.{Answer.{AnswerValue, answer_value, fault_answer, refusal_answer, slip_answer, text_answer}}
 use Rattle.er_slips.specs.{Answer.status_of, Whole.{reply_answer, row_answer, IsAnswered, submitted, IsAnswerUnless503}}
 use Rattle.er_slips.specs.Serving.{IsRowsAnswer, IsSlipAnswer, AnswersRequest, IsServed, IsUnserved, Writes, EndsServing, IsWritten}
 use Rattle.er_event.specs.declared.commands.Command.TheVariants.{Result as Hand}
 
 pub reopening : (desk : DeskState) (Shows : EventValue → AnswerValue → Type 0) (answer : AnswerValue) (why : Refusal)
-    → IsTrue desk.stopped × (why ≡ NeedsReopen) → answer ≡ refusal_answer why → ShowsEvent refusal_answer desk Shows answer
+    → IsTrue desk.needs_reopen × (why ≡ NeedsReopen) → answer ≡ refusal_answer why → ShowsEvent refusal_answer desk Shows answer
 reopening desk Shows answer why stopped is = inr (stopped.0, is ∙ ap refusal_answer stopped.1)
 
 -- an answer that was made, or want of memory
@@ -53,13 +56,40 @@ rows-made e event rows made answer same of is =
 
 -- rows that were read leave the desk at its event
 pub rows-answered : (rows : Vec Row Global) (old new : DeskState) (answer : AnswerValue) → ReadsRows old (Ok rows) new
-    → (IsFalse new.stopped → (answer ≡ text_answer (rows_text new.event rows.items)) ⊎ (answer ≡ refusal_answer Memory))
+    → (IsFalse new.needs_reopen → (answer ≡ text_answer (rows_text new.event rows.items)) ⊎ (answer ≡ refusal_answer Memory))
     → IsRowsAnswer old.event (Ok rows) answer
 rows-answered rows old new answer (inl (running, same, e)) due =
-    subst (λ (s : DeskState). IsFalse s.stopped → (answer ≡ text_answer (rows_text s.event rows.items)) ⊎ (answer ≡ refusal_answer Memory))
+    subst (λ (s : DeskState). IsFalse s.needs_reopen → (answer ≡ text_answer (rows_text s.event rows.items))
+    ⊎ (answer ≡ refusal_answer Memory))
     same due running
 rows-answered rows old new answer (inr (inl (running, same, why, fault, e))) due = absurd (true≢false (ap is_ok e))
 rows-answered rows old new answer (inr (inr (stopped, same, e))) due = absurd (true≢false (ap is_ok e))
+
+same-refusal : {A : Type 0} (why other : Refusal) → ◌≡◌ {A = Result A Refusal} (Err why) (Err other) → why ≡ other
+same-refusal why other is = cc
+
+-- what was read was read by a desk that ran
+pub ran-before : {A : Type 0} (passing : Refusal) (old new : DeskState) (x : A) → Reads passing old (Ok x) new → IsFalse old.needs_reopen
+ran-before passing old new x (inl it) = it.0
+ran-before passing old new x (inr (inl it)) = it.0
+ran-before passing old new x (inr (inr (stopped, same, e))) = absurd (true≢false (ap is_ok e))
+
+no-fault : (why : Refusal) → IsFault why → why ≡ NoSuchMatch → ⊥
+no-fault why (inl memory) is = cc
+no-fault why (inr refused) is = cc
+
+no-slip : (e : EventValue) (k t : ℕ) (why : Refusal) → FindsSlipOrFails e k t (Err why) → FindsSlip e k t (Err why)
+no-slip e k t why (inl fault) is = absurd (no-fault why fault is)
+no-slip e k t why (inr none) is = none.1
+
+-- a desk that was stopped says of no match that there is none
+pub finds-slip : (old new : DeskState) (k t : ℕ) (read : Result SlipRow Refusal) → ReadsSlip old read new
+    → (IsFalse old.needs_reopen → FindsSlipOrFails old.event k t read) → FindsSlip old.event k t read
+finds-slip old new k t (Ok row) reads found = found (ran-before NoSuchMatch old new row reads)
+finds-slip old new k t (Err why) (inl it) found = no-slip old.event k t why (found it.0)
+finds-slip old new k t (Err why) (inr (inl it)) found = no-slip old.event k t why (found it.0)
+finds-slip old new k t (Err why) (inr (inr (stopped, same, e))) found =
+    λ is. absurd (let both = same-refusal why NeedsReopen e in cc)
 
 -- ---- how serving ends
 
@@ -112,9 +142,6 @@ ends-unserved Represented input old before after answer served why of told is wr
 
 -- ---- the answer of a desk that runs, over tables that stand
 
-same-refusal : {A : Type 0} (why other : Refusal) → ◌≡◌ {A = Result A Refusal} (Err why) (Err other) → why ≡ other
-same-refusal why other is = cc
-
 -- a body that is too short asks for nothing
 there : (round table n : ℕ) (rest : List ℕ) (asked : Request) → Ok asked ≡ asked_with (Ok (Body round table n)) rest → n ≤ length rest
 there round table n rest asked e = by (nat_lt (length rest) n) refl e
@@ -125,7 +152,8 @@ there round table n rest asked e = by (nat_lt (length rest) n) refl e
     by true is e = absurd (true≢false (ap is_ok e))
     by false is e = grind (arith, nat_tests)
 
-module _ (old : DeskState) (session : Session) (new : DeskState) (input : List ℕ) (answer : AnswerValue) (runs : IsFalse old.stopped) where
+module _ (old : DeskState) (session : Session) (new : DeskState) (input : List ℕ) (answer : AnswerValue)
+    (runs : IsFalse old.needs_reopen) where
   exact : (asked : Result Request Fault) → Asks input asked → IsAnswered old.event old.serial asked answer
       → IsAnswerUnless503 old.event old.serial input answer
   exact asked is answered = inl (submitted asked, record { asked = asked; asks = is; answered = answered; command = refl })
@@ -158,7 +186,7 @@ module _ (old : DeskState) (session : Session) (new : DeskState) (input : List �
     faulty why (inl (inr refused)) e = hindered why (ap status_of refused) e
     faulty why (inr row) e = hindered why (ap status_of row) e
 
-  runs-on : {A : Type 0} → IsTrue old.stopped → A
+  runs-on : {A : Type 0} → IsTrue old.needs_reopen → A
   runs-on stopped = absurd (true≢false (sym stopped ∙ runs))
 
   rows-by : (read : Result (Vec Row Global) Refusal) → Asks input (Ok Standings) → ReadsRows old read new
@@ -198,8 +226,9 @@ module _ (old : DeskState) (session : Session) (new : DeskState) (input : List �
           → IsAnswerUnless503 old.event old.serial input answer
       by (inl memory) = hindered (Report round table score) is Memory refl (e ∙ ap reply_answer it.answered ∙ ap refusal_answer memory)
       by (inr is_due) = exact (Ok (Report round table score)) is (Err it.why, due is_due, e ∙ ap reply_answer it.answered)
-  reply-by round table score reply is (inr (inr (inl it))) e = faulty (Report round table score) is it.why (inl it.fault) (e ∙ ap reply_answer it.answered)
-  reply-by round table score reply is (inr (inr (inr it))) e = runs-on it.was_stopped
+  reply-by round table score reply is (inr (inr (inl it))) e = faulty (Report round table score) is it.why (inl it.fault)
+      (e ∙ ap reply_answer it.answered)
+  reply-by round table score reply is (inr (inr (inr it))) e = runs-on it.needed_reopen
 
   slip-by : (round table : ℕ) (read : Result SlipRow Refusal) → Asks input (Ok (Slip round table)) → ReadsSlip old read new
       → FindsSlip old.event round table read → IsSlipAnswer read answer → IsAnswerUnless503 old.event old.serial input answer
@@ -235,7 +264,7 @@ module _ (old : DeskState) (session : Session) (new : DeskState) (input : List �
 pub written : (Represented : Type 0) (input : Option (List ℕ)) (old : DeskState) (session : Session) (new : DeskState)
     (before after : Option (List ℕ)) (served : Served)
     → EndsServing Represented input old session new before after served
-    → IfSome input (λ xs. IsFalse old.stopped → Represented → IsWritten old xs before after served)
+    → IfSome input (λ xs. IsFalse old.needs_reopen → Represented → IsWritten old xs before after served)
 written Represented None old session new before after served e = tt
 written Represented (Some xs) old session new before after ReadFault e = λ runs represented. e.0
 written Represented (Some xs) old session new before after (Answered status) (answer, wrote, due) =

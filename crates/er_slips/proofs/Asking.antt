@@ -12,7 +12,7 @@ use Rattle.er_slips.specs.{declared.request.head.Head.Head, declared.request.hea
 use Rattle.er_slips.specs.{declared.request.wanted.Fault.Fault, declared.request.Next.Next, declared.request.Next.TheVariants.{Get, Body}}
 use Rattle.er_slips.specs.{declared.request.wanted.Request.Request, declared.request.wanted.NoRequest.NoRequest}
 use Rattle.er_slips.specs.{declared.request.wanted.Fault.TheVariants.BadRequest, declared.request.head.TheConstants.MAX_HEAD}
-use Rattle.er_slips.specs.{Head.{HasNoHead, IsHead}, Request.{path_of, next_of, asked_with, asked_of, reported, Asks, headed, IsWhole}}
+use Rattle.er_slips.specs.{Head.{IsHead}, Request.{path_of, next_of, asked_with, asked_of, reported, Asks, headed, IsWhole}}
 use Rattle.er_slips.specs.inside.{Scan.{IfFound, ShowsHead}, Telling.{IsDueUnlessMemory, TellsRequest}}
 use Rattle.er_slips.specs.declared.request.wanted.NoRequest.TheVariants as no_request
 

@@ -1,6 +1,7 @@
 -- Which route a path has, in plain words.
 use Rattle.std.proofs.{lemmas.Grind.common_steps, Common.{◌≡◌, ◌≢◌, ℕ, zero, suc, ◌-◌, ◌<◌, Bool, true, false, cond, not, ◌&&◌, ◌||◌, List}}
-use Rattle.std.proofs.Common.{[], ◌∷◌, ◌++◌, codes, drop, length, get_or, Option, Some, None, option_map, refl, sym, ap, ap₂, ◌∙◌, arith, nat_eq}
+use Rattle.std.proofs.Common.{[], ◌∷◌, ◌++◌, codes, drop, length, get_or, Option, Some, None, option_map, refl, sym, ap, ap₂, ◌∙◌, arith}
+use Rattle.std.proofs.Common.{nat_eq}
 use Rattle.std.proofs.{Common.{◌==◌, ltb, append-nil, length-append, lit<, Fits, w8}, lemmas.Bool.Decides.nat_tests}
 use Rattle.std.specs.{Cmp.Lexicographic.pointwise, List.starts_with}
 use Rattle.matchit.specs.{Rows.{Rows, Seen, prepend, ends, param_token, rows, rows_of}, Seek.{step, or_else, seek, first, after_param}}

@@ -40,7 +40,8 @@ module _ (later : EventValue) (round table : ℕ) (handed : Games) where
       → IsToldAgain answer
   answered refused serial answer (reply, (result, inl (steps, few), due), same) =
       let it = refused result steps in
-      refusal_for answer it.0 result steps it.1 (same ∙ ap reply_answer (due ∙ ap (reply_to 2 later serial (Hand round table handed)) it.1)) it.2
+      refusal_for answer it.0 result steps it.1 (same ∙ ap reply_answer
+      (due ∙ ap (reply_to 2 later serial (Hand round table handed)) it.1)) it.2
   answered refused serial answer (reply, (result, inr (over, needs), due), same) = absurd needs
 
 pub retries : NoDoubleEffect → Retries

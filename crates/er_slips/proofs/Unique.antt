@@ -31,7 +31,8 @@ module _ (standings : HasOneStandings) (step : OneStep) (event : EventValue) (se
   one_reply : (round table : ℕ) (score : Games) (r q : Reply) → IsDue 2 event serial (Hand round table score) r
       → IsDue 2 event serial (Hand round table score) q → r ≡ q
   one_reply round table score r q (result, inl (steps, few), due) (other, inl (also, least), same) =
-      due ∙ ap (reply_to 2 event serial (Hand round table score)) (step event (Hand round table score) result other sound steps also) ∙ sym same
+      due ∙ ap (reply_to 2 event serial (Hand round table score)) (step event (Hand round table score) result other sound steps also)
+      ∙ sym same
   one_reply round table score r q (result, inr (over, needs), due) (other, answers, same) = absurd needs
   one_reply round table score r q (result, inl (steps, few), due) (other, inr (over, needs), same) = absurd needs
 

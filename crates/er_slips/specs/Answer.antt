@@ -1,8 +1,8 @@
 -- Answers, to the byte. Each text is nested to the right, as the code writes its parts.
-use Rattle.std.specs.Prelude.{ℕ, ◌==◌, ◌||◌, Bool, true, false, if◌then◌else◌, List, [], ◌∷◌, ◌++◌, length, Option, Some, None, codes}
+use Rattle.std.specs.Prelude.{ℕ, ◌==◌, Bool, true, false, if◌then◌else◌, List, [], ◌∷◌, ◌++◌, length, Option, Some, None, codes}
 use Rattle.std.specs.Fmt.{decimal}
 use Rattle.er_event.specs.declared.refusals.Refusal.{Refusal}
-use Rattle.er_event.specs.declared.refusals.Refusal.TheVariants.{AlreadyReported}
+use Rattle.er_event.specs.declared.refusals.Refusal.TheVariants.{AlreadyReported, NoSuchMatch, Memory, Store, NeedsReopen}
 use Rattle.er_event.specs.declared.scores.Games.{Games}
 use Rattle.er_event.specs.Refusal.{entry_of}
 use Rattle.er_slips.specs.declared.answer.Answer.{Answer}
@@ -66,11 +66,12 @@ fault_answer TooLarge = json_answer 413 (codes "{\"error\":\"body too large\"}")
 -- ---- after it
 
 -- no such match: 404; want of memory, a fault of the store, a store that needs reopening: 503; else 409
-abbrev pub status_by : ℕ → ℕ
-status_by number = if number == 12 then 404 else if number == 24 || number == 25 || number == 26 then 503 else 409
-
 abbrev pub status_of : Refusal → ℕ
-status_of why = status_by (entry_of why).0
+status_of NoSuchMatch = 404
+status_of Memory = 503
+status_of (Store cause) = 503
+status_of NeedsReopen = 503
+status_of why = 409
 
 abbrev pub games_text : Games → List ℕ
 games_text g = codes "{\"a\":" ++ (decimal g.x ++ (codes ",\"b\":" ++ (decimal g.y ++ (codes ",\"d\":" ++ (decimal g.d ++ codes "}")))))

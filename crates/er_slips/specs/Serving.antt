@@ -55,7 +55,7 @@ AnswersRequest Represented old (Ok (Slip round table)) answer session new =
     × (session ≡ no_session)
 AnswersRequest Represented old (Ok (Report round table score)) answer session new =
     (reply : Reply) × Turn old (Hand round table score) reply new × (answer ≡ reply_answer reply)
-    × (session ≡ session_of (Hand round table score ∷ []) (reply ∷ []) new.stopped)
+    × (session ≡ session_of (Hand round table score ∷ []) (reply ∷ []) new.needs_reopen)
 
 -- a desk is asked this, answers so, and its file takes the session
 pub record Answers {S : Type 0} (g : Ghosts S) (old : Desk S g) (asked : Request) (answer : AnswerValue) (new : Desk S g) : Type 0 where
@@ -94,7 +94,8 @@ EndsServing Represented input old session new before after (WriteFault sent) =
     × (IsServed Represented input old answer session new ⊎ IsUnserved input old answer session new)
 
 -- What serving one request does: one score is the session, or nothing is.
-pub record Serves {S : Type 0} (g : Ghosts S) (input : Option (List ℕ)) (old new : Desk S g) (before after : Option (List ℕ)) (served : Served)
+pub record Serves {S : Type 0} (g : Ghosts S) (input : Option (List ℕ)) (old new : Desk S g) (before after : Option (List ℕ))
+    (served : Served)
     : Type 0 where
   pub session : Session
   pub ends : EndsServing (HasCleanDisk (state g new) × ShowsOwn g old) input (desk_state old) session (desk_state new) before after served

@@ -15,8 +15,8 @@ pub fn one_answer()
     one_step();
 }
 
-/// A score that was taken once, and whose answer was lost, is answered at every later point with the stored one, or that the event is no longer in
-/// its Swiss rounds: handing it in again does nothing a second time.
+/// A score that was taken once, and whose answer was lost, is answered at every later point with the stored one, or that the event is no
+/// longer in its Swiss rounds: handing it in again does nothing a second time.
 pub fn retries()
     ensures { Retries }
 {

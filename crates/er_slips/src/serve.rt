@@ -45,7 +45,7 @@ fn answer_or_memory(answer: Result<Answer, AllocError>) -> Answer
 
 /// The answer with these rows of standings.
 fn rows_answer<S: Alter>(alloc: Global, desk: &Desk<S>, rows: &[Row]) -> Answer
-    ensures { IsFalse (desk_state desk.now).stopped
+    ensures { IsFalse (desk_state desk.now).needs_reopen
         → (answer_value result ≡ text_answer (rows_text desk.now.event rows.now))
         ⊎ (answer_value result ≡ refusal_answer Refusal.Memory) }
 {
@@ -166,7 +166,7 @@ pub fn serve_one<S: Alter, R: Read, W: Write>(
         (W.contents writer.old) (W.contents writer.new) result }
     // Where the desk runs and its tables represent its event, what is written is the answer to the input, or a 503.
     ensures written { IfSome (R.remaining reader.old)
-        (λ input. IsFalse (desk_state desk.old).stopped
+        (λ input. IsFalse (desk_state desk.old).needs_reopen
         → HasCleanDisk (state S.Store desk.new) × ShowsOwn S.Store desk.old
         → IsWritten (desk_state desk.old) input (W.contents writer.old)
         (W.contents writer.new) result) }

@@ -1,5 +1,5 @@
-//! A stop at each call of the disk, over sessions. The files are opened anew with what was synced alone, and with all that was written: each time
-//! they hold the event of the commands that were acknowledged, or of one more, and the rest of the commands lead to the same end.
+//! A stop at each call of the disk, over sessions. The files are opened anew with what was synced alone, and with all that was written:
+//! each time they hold the event of the commands that were acknowledged, or of one more, and the rest of the commands lead to the same end.
 ghost use Rattle.std.specs.Prelude.{◌≡◌, false, IsTrue, IfSome};
 ghost use Rattle.sqlite_disk.specs.Memory.{memory_is_usable};
 ghost use Rattle.sqlite_disk.specs.Fuse.{inner_of, IsFresh};
@@ -123,22 +123,22 @@ fn receipts(replies: &[Reply]) -> Option<usize> {
 }
 
 /// Whether the desk is to be opened anew: as it says of itself, to a command, to the reader of a slip and to requests.
-fn is_stopped<S: Alter>(alloc: Global, desk: &mut Desk<S>) -> bool {
+fn needs_reopen<S: Alter>(alloc: Global, desk: &mut Desk<S>) -> bool {
     desk.needs_reopen()
         && desk.submit(alloc, Command::Start) == Err(Refusal::NeedsReopen)
         && desk.slip(alloc, 1, 1).err() == Some(Refusal::NeedsReopen)
         && are_unavailable(alloc, desk)
 }
 
-/// Sends a case's commands from the serial on and before this place. The count of all that were acknowledged then. A desk that was stopped takes
-/// no other command, shows no slip, and answers each request with a 503.
+/// Sends a case's commands from the serial on and before this place. The count of all that were acknowledged then. A desk that was stopped
+/// takes no other command, shows no slip, and answers each request with a 503.
 fn send<S: Alter>(alloc: Global, desk: &mut Desk<S>, case: Case, to: usize) -> Option<usize> {
     let serial = desk.serial().ok()? as usize;
     let replies = desk
         .run(alloc, commands(alloc, case.lines, serial, to)?)
         .ok()?;
     let count = serial.checked_add(receipts(replies.as_slice())?)?;
-    let waits = count == to || is_stopped(alloc, desk);
+    let waits = count == to || needs_reopen(alloc, desk);
     waits.then_some(count)
 }
 
@@ -186,7 +186,7 @@ fn adopt_on<S: Alter>(
 fn is_moved<S: Alter>(alloc: Global, desk: &mut Desk<S>, serial: usize) -> Option<bool> {
     match desk.migrate() {
         Ok(moved) => (moved as usize == serial && desk.version() == Ok(2)).then_some(true),
-        Err(why) => (why == REFUSED && is_stopped(alloc, desk)).then_some(false),
+        Err(why) => (why == REFUSED && needs_reopen(alloc, desk)).then_some(false),
     }
 }
 
@@ -347,7 +347,8 @@ fn goes_on(alloc: Global, case: Case, files: &Disks, acknowledged: Option<usize>
     Some(ended.acknowledged.is_some())
 }
 
-/// Whether what a session left goes on after the process has stopped, with all that was written, and after the machine has, with what was synced.
+/// Whether what a session left goes on after the process has stopped, with all that was written, and after the machine has, with what was
+/// synced.
 fn survives(alloc: Global, case: Case, it: &mut Ended) -> bool {
     let after_process = goes_on(alloc, case, &it.files, it.acknowledged);
     it.files.log.crash();
@@ -384,7 +385,8 @@ fn whole_event(alloc: Global, case: Case, stops_log: bool) -> Option<u64> {
     None
 }
 
-/// Whether a session over these files, that sends the commands between two places, ends before the stop. It survives the stop, or there is no answer.
+/// Whether a session over these files, that sends the commands between two places, ends before the stop. It survives the stop, or there is
+/// no answer.
 fn session_ends(alloc: Global, case: Case, files: Disks, places: (usize, usize)) -> Option<bool>
     requires { IsTrue (memory_is_usable (inner_of files.log)) × IsFresh files.log
         × IsTrue (memory_is_usable (inner_of files.db)) × IsFresh files.db }
@@ -564,7 +566,8 @@ fn first_calls(
     None
 }
 
-/// Whether a later session has sent the commands before `places.1`, those before `places.0` being acknowledged, where it stops after so many calls.
+/// Whether a later session has sent the commands before `places.1`, those before `places.0` being acknowledged, where it stops after so
+/// many calls.
 fn is_sent(
     alloc: Global,
     case: Case,
@@ -600,8 +603,8 @@ fn later_calls(
     is_sent(alloc, case, files, places, stops_log, low)?.then_some(low)
 }
 
-/// Stops a session that sends the commands from `places.0` on and before `places.2`, at each call behind those that it takes to open the files and to
-/// send the ones before `places.1`. The count of these calls, if it survives each stop.
+/// Stops a session that sends the commands from `places.0` on and before `places.2`, at each call behind those that it takes to open the
+/// files and to send the ones before `places.1`. The count of these calls, if it survives each stop.
 fn command_stops(
     alloc: Global,
     case: Case,
@@ -640,7 +643,8 @@ fn stops_after(alloc: Global, calls: u64, stops_log: bool) -> Option<u64> {
     after_process.checked_add(two_second_stops(alloc, &it.files)?)
 }
 
-/// Stops a first session at each call by which it pairs the first round, and then each time a second session. The count of all second stops.
+/// Stops a first session at each call by which it pairs the first round, and then each time a second session. The count of all second
+/// stops.
 fn two_stops(alloc: Global, stops_log: bool) -> Option<u64> {
     let first = first_calls(alloc, EIGHT, 0, 9, stops_log)?;
     let end = first_calls(alloc, EIGHT, first, 10, stops_log)?;

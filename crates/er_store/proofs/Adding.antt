@@ -9,7 +9,8 @@ use Rattle.er_store.proofs.Prelude.{Moves}
 use Rattle.er_store.proofs.Prelude.{BringsToWith, all_from_test, test_from_all, BracketTable, BracketRow, with_stage, bracket_row}
 use Rattle.er_store.proofs.Prelude.{stage_rows, bracket_rows, bracket_columns, stored_slot, Layout, version_of}
 use Rattle.sqlite_trees.proofs.TreeLemmas.{IsTable-put_row, all-put_row}
-use Rattle.er_store.proofs.{Together.{keeps_as, pairings_set, moves_then, row_put, bracket_set}, Grouped.{rows_more, pairing_rows_are, newest_more}}
+use Rattle.er_store.proofs.{Together.{keeps_as, pairings_set, moves_then, row_put, bracket_set}}
+use Rattle.er_store.proofs.{Grouped.{rows_more, pairing_rows_are, newest_more}}
 use Rattle.er_store.proofs.Grouped.{bracket_rows_are}
 
 -- ---- the rows of one more round

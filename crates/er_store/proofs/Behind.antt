@@ -75,7 +75,8 @@ module _ {a b : Database} {table : ℕ → Table} (g : Grows table a b) where
       record {
         low = lt-leb _ _ (let low = listed.2.described.low in omega (arith, low));
         found = ap (find (λ t. t.tree == (table tree).tree)) lies
-            ∙ find_past (λ t. t.tree == (table tree).tree) a.schema.tables g.rest (table tree) (all_from _ a.schema.tables other) (eq-eqb _ _ refl);
+            ∙ find_past (λ t. t.tree == (table tree).tree) a.schema.tables g.rest (table tree) (all_from _ a.schema.tables other)
+            (eq-eqb _ _ refl);
       }
 
 -- ---- what is kept
@@ -142,6 +143,7 @@ five_made version {a} {b} {c} {d} {e} {f} one two three four five =
       event = grows_then (λ tree. refl) one.grows (keeps_then to_e five.grows.keeps);
       players = empty_then from_c (made_after (event (next_tree a.now.schema)) (players_anywhere version) first.listed two.grows);
       pairing = empty_then from_d (made_after (event (next_tree a.now.schema)) (λ tree. refl) (has_then to_c first).listed three.grows);
-      bracket = empty_then five.grows.keeps (made_after (event (next_tree a.now.schema)) (λ tree. refl) (has_then to_d first).listed four.grows);
+      bracket = empty_then five.grows.keeps (made_after (event (next_tree a.now.schema)) (λ tree. refl) (has_then to_d first).listed
+          four.grows);
       tally = made_after (event (next_tree a.now.schema)) (λ tree. refl) (has_then to_e first).listed five.grows;
     }

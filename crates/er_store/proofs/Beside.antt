@@ -32,7 +32,8 @@ module _ {version : ℕ} {old mid : State} (made : MakesFive version old mid) wh
   module _ {row : Row} {new : State} (put : Puts tree row mid new) where
     -- the other tables stay
     stays : (t : Table) → Has mid.now.schema.tables t → t.tree ≢ tree → new.now.trees t.tree ≡ mid.now.trees t.tree
-    stays t listed = all_has (λ t. t.tree ≢ tree → new.now.trees t.tree ≡ mid.now.trees t.tree) mid.now.schema.tables t put.goes.others listed
+    stays t listed = all_has (λ t. t.tree ≢ tree → new.now.trees t.tree ≡ mid.now.trees t.tree) mid.now.schema.tables t put.goes.others
+        listed
 
     still : (table : Table) → Has mid.now.schema.tables table → Has new.now.schema.tables table
     still table = subst (λ (s : Schema). Has s.tables table) (sym put.goes.schema)
@@ -71,7 +72,11 @@ ready_beside {version} {e} {old} made put = record {
     readable = subst CanRead (sym put.goes.schema) (event_readable made);
     event = (
       next_tree old.now.schema,
-      record { listed = still made put (event (next_tree old.now.schema)) (grown made.event); holds = put.rows ∙ ap (put_row (stored_event version e 0)) made.event.empty },
+      record {
+        listed = still made put (event (next_tree old.now.schema)) (grown made.event);
+        holds = put.rows
+            ∙ ap (put_row (stored_event version e 0)) made.event.empty;
+      },
     );
     players = still_empty made put (players_anywhere version) made.players;
     pairing = still_empty made put (λ n. refl) made.pairing;

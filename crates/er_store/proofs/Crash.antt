@@ -1,6 +1,6 @@
 -- What a crash, or a step within a transaction, leaves of a change.
 use Rattle.er_store.proofs.Prelude.{common_steps, refl, ◌≡◌, ◌⊎◌, inl, inr, ℕ, true, false, IsTrue, sym, ◌∙◌, arith, Trees, State}
-use Rattle.er_store.proofs.Prelude.{HasCleanDisk, Survives, survives_then, EventValue, IsStored, IsStoredIn, Shows, IsReady, List, Result}
+use Rattle.er_store.proofs.Prelude.{HasCleanDisk, Survives, survives_then, EventValue, IsStoredIn, Shows, IsReady, List, Result}
 use Rattle.er_store.proofs.Prelude.{Err}
 use Rattle.er_store.proofs.Prelude.{true≢false, Row, Error, Held, state, Ghosts, KeepsTables, Stays}
 use Rattle.sqlite.specs.{State.{KeepsCommit, IsRolledBack, ExecutesInside}, Steps.FailsToCommit}
@@ -22,14 +22,6 @@ survives_self s = grind (arith, common_steps)
 pub shows_leaves_in : (v : ℕ) (s : State) (e : EventValue) (serial : ℕ) → Settles s → Shows v s e serial → (trees : Trees)
     → s.may_leave trees → IsStoredIn v e serial trees
 shows_leaves_in v s e serial settles shows trees may = grind (arith, common_steps)
-
--- what is stored in a version is stored
-pub stored_either : {v : ℕ} {e : EventValue} {serial : ℕ} {trees : Trees} → IsStoredIn v e serial trees → IsStored e serial trees
-stored_either it = record { schema = it.schema; sound = it.sound; represents = (it.represents.layout, it.represents.represents) }
-
-pub shows_leaves : (v : ℕ) (s : State) (e : EventValue) (serial : ℕ) → Settles s → Shows v s e serial → (trees : Trees)
-    → s.may_leave trees → IsStored e serial trees
-shows_leaves v s e serial settles shows trees may = stored_either (shows_leaves_in v s e serial settles shows trees may)
 
 pub only : {A : Type 0} → A ⊎ ⊥ → A
 only (inl a) = a

@@ -4,18 +4,17 @@ use Rattle.er_store.proofs.Prelude.{column, is_lawful_name, is_bye, is_at, numbe
 use Rattle.er_store.proofs.Prelude.{[], ◌∷◌, ◌++◌, map, filter, flat_map, refl, ap, ap₂, subst, ◌∙◌, arith, list_all, IsPermutation, Binary}
 use Rattle.er_store.proofs.Prelude.{Value, Row, is_true, Env, eval_all, holds, IsAnswer, or_nulls, overlay, Trees, Compare, Eq, binary}
 use Rattle.er_store.proofs.Prelude.{Player, common_steps, ◌≢◌, ◌⊎◌, inl, inr, ℕ, suc, ◌==◌, ◌<◌, ◌≤◌, min, max, nat_lt}
-use Rattle.er_store.proofs.Prelude.{length, get_or, Result, Ok, Err, IfErr, MatchResult, Option, Some, None, option_map, option_to_list}
+use Rattle.er_store.proofs.Prelude.{length, get_or, Result, Option, Some, None, option_map, option_to_list}
 use Rattle.er_store.proofs.Prelude.{All, Contains, IfSome, IsTrue, IsFalse, sym, AllByRecursion, range_with_len, IsPermutation-sym}
 use Rattle.er_store.proofs.Prelude.{All-from_recursion, All-weaker, recursion_from_All, nat_tests, Text, Database, filter-map}
 use Rattle.er_store.proofs.Prelude.{IsPermutation-filter, PairingTable, PlayerTable, Match, Round, Games, SlipRow, EventValue, seats}
 use Rattle.er_store.proofs.Prelude.{match_at, pairing_row, pairing_rows, bye_score, slip_of, numbers, names, IsRound, IsSoundButForSeeds}
 use Rattle.er_store.proofs.Prelude.{NamedPairing, pairing_columns, named_columns, at_places, pairing_places}
 use Rattle.er_store.proofs.Prelude.{RepresentsAt, Side, number_in, name_in, match_of_slip, named_pairing, named_pairings, IsPlayer}
-use Rattle.er_store.proofs.Prelude.{IsLawful, Refusal, Memory, Store, IsFault}
+use Rattle.er_store.proofs.Prelude.{IsLawful, Refusal}
 use Rattle.std.proofs.{lemmas.List.Sorted.length_permutation, Common.AllPairs, lemmas.List.Elements.All-from_get_or}
 use Rattle.std.specs.Option.{ok_or}
 use Rattle.er_event.specs.{Match.{is_known, is_lawful_match, is_lawful_score}, Score.is_swiss_score, Slip.{name_of, second_of, slip_row}}
-use Rattle.er_event.specs.{declared.refusals.Cause.TheVariants.Refused, declared.refusals.Refusal.TheVariants.NoSuchMatch}
 use Rattle.sqlite_keyed.proofs.SliceLemmas.{All-find}
 use Rattle.sqlite_trees.proofs.ListLemmas.{all_from_map}
 use Rattle.er_store.proofs.{Picking.{within, picks, picks_one, picks_none, row_of, rows_of}, Writing.one_shown, Meaning.slip_query}
@@ -23,7 +22,7 @@ use Rattle.er_store.proofs.{Meaning.{slip_terms, score_tests}, Exact.{map-same, 
 use Rattle.er_store.proofs.{PickingMatch.picks_table}
 use Rattle.er_store.proofs.{PickingMatch.{rows_at, Finds}, Keyed.{all_bye_last, finds, numbered_at, numbered-match, table_alone}}
 use Rattle.er_store.proofs.SlipLemmas.{cond_of, of_max, of_min}
-use Rattle.er_store.specs.{Rows.text_or_null, Slip.FindsSlip}
+use Rattle.er_store.specs.{Rows.text_or_null, Slip.FindsSlipOrFails}
 use Rattle.er_event.specs.Slip.{name_in as name_found}
 
 -- ---- the rows that are joined, where the test looks at the first alone
@@ -355,28 +354,10 @@ pub few_slips : (found : Option SlipRow) (rows : List NamedPairing) → rows ≡
 few_slips None rows is low = let len = ap length is in omega (arith, len, low)
 few_slips (Some slip) rows is low = let len = ap length is in omega (arith, len, low)
 
-abbrev pub IsFound : EventValue → ℕ → ℕ → Result SlipRow Refusal → Type 0
-IsFound e k t r = MatchResult r (λ row. slip_of e k t ≡ Some row) (λ why. IsFault why ⊎ ((why ≡ NoSuchMatch) × (slip_of e k t ≡ None)))
-
 -- the slip of the row is that of the event
 pub slip_found : (e : EventValue) (k t : ℕ) (slip : SlipRow) (read : Option SlipRow) (fault : Refusal) (r : Result SlipRow Refusal)
     → r ≡ ok_or read fault → IsSoundButForSeeds e → slip_of e k t ≡ Some slip
-    → (IsLawful slip → slip.round ≡ k → slip.table ≡ t → read ≡ Some slip) → IsFound e k t r
+    → (IsLawful slip → slip.round ≡ k → slip.table ≡ t → read ≡ Some slip) → FindsSlipOrFails e k t r
 slip_found e k t slip read fault r answer sound is exact =
     let named = rw is at (slip_names e k t) in
     rw (answer, exact (rw is at (slips_lawful e k t sound)) named.0 named.1) is
-
-fault_finds : (why : Refusal) → IsFault why → why ≡ NoSuchMatch → ⊥
-fault_finds why (inl memory) is = absurd (let both : Memory ≡ NoSuchMatch = sym memory ∙ is in cc)
-fault_finds why (inr refused) is = absurd (let both : Store Refused ≡ NoSuchMatch = sym refused ∙ is in cc)
-
-pub finds_slip : (e : EventValue) (k t : ℕ) (r : Result SlipRow Refusal) → IsFound e k t r → FindsSlip e k t r
-finds_slip e k t (Ok row) found = found
-finds_slip e k t (Err why) (inl fault) = λ is. absurd (fault_finds why fault is)
-finds_slip e k t (Err why) (inr none) = λ is. none.1
-
-pub never_bad : (e : EventValue) (k t : ℕ) (r : Result SlipRow Refusal) → IsFound e k t r
-    → IfErr r (λ why. (why ≡ NoSuchMatch) ⊎ IsFault why)
-never_bad e k t (Ok row) found = tt
-never_bad e k t (Err why) (inl fault) = inr fault
-never_bad e k t (Err why) (inr none) = inl none.0

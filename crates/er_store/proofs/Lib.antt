@@ -31,3 +31,4 @@ mod Exact
 mod Refusals
 mod Loaded
 mod TableLemmas
+mod Lending

@@ -1,6 +1,6 @@
 -- What the rows of a sound event tell, and a crash leaves of it.
 use Rattle.er_store.proofs.Prelude.{common_steps, ◌≡◌, ℕ, List, [], ◌∷◌, refl, sym, ap, ap₂, ◌∙◌, arith, Row, Trees, Table, Schema}
-use Rattle.er_store.proofs.Prelude.{Database, EventValue, HasTablesAt, Layout, version_of, Represents, IsStored, ◌≤◌, inl, inr, subst}
+use Rattle.er_store.proofs.Prelude.{Database, EventValue, HasTablesAt, Layout, version_of, RepresentsIn, IsStoredIn, ◌≤◌, inl, inr, subst}
 use Rattle.er_store.proofs.Prelude.{IsPermutation-sym}
 use Rattle.er_store.proofs.Prelude.{IsPermutation-trans, Parts, Place, EventTable, PlayerTable, PairingTable, BracketTable, TallyTable}
 use Rattle.er_store.proofs.Prelude.{TallyRow, tally_rows, IsSoundButForSeeds, IsRowFault}
@@ -32,21 +32,25 @@ has_again : (l : Layout) (a b : Schema) → a.tables ≡ b.tables → HasTablesA
 has_again l a b same has = record { others = has.others; are = sym same ∙ has.are; apart = has.apart }
 
 -- a database whose trees are stored represents the event, whatever schema was read of them
-pub represents_again : (db : Database) (e : EventValue) (s : ℕ) → IsSound db.schema db.trees → IsStored e s db.trees → Represents db e s
-represents_again db e s sound it =
-    let represents = it.represents.1 in
-    let tables = schemas_agree it.schema db.schema db.trees it.sound sound in (
-      it.represents.0,
-      record {
+pub represents_again : (v : ℕ) (db : Database) (e : EventValue) (s : ℕ) → IsSound db.schema db.trees → IsStoredIn v e s db.trees
+    → RepresentsIn v db e s
+represents_again v db e s sound it =
+    let here = it.represents in
+    let represents = here.represents in
+    let tables = schemas_agree it.schema db.schema db.trees it.sound sound in
+    record {
+      layout = here.layout;
+      is = here.is;
+      represents = record {
         low = represents.low;
         keeps = represents.keeps;
         has = record {
-          tables = has_again it.represents.0 it.schema db.schema tables represents.has.tables;
+          tables = has_again here.layout it.schema db.schema tables represents.has.tables;
           rows = represents.has.rows;
           keyed = record { pairings = represents.has.keyed.pairings; bracket = represents.has.keyed.bracket };
         };
-      },
-    )
+      };
+    }
 
 -- ---- what the rows of a sound event tell
 

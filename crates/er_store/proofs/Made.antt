@@ -10,7 +10,8 @@ use Rattle.sqlite_ast.specs.declared.Statement.TheVariants as written
 use Rattle.sqlite_syntax.specs.declared.statement.Parsed.{Parsed}
 use Rattle.sqlite_schema.specs.declared.command.Command.TheVariants.{CreateTable as MakeTable}
 use Rattle.sqlite_schema.specs.Names.{table_named, index_named, view_named}
-use Rattle.sqlite_resolve.specs.Compile.{create_table, creates, is_attached, is_reserved, first, planned, meaning, returning, command, compiled}
+use Rattle.sqlite_resolve.specs.Compile.{create_table, creates, is_attached, is_reserved, first, planned, meaning, returning, command}
+use Rattle.sqlite_resolve.specs.Compile.{compiled}
 use Rattle.sqlite_resolve.specs.Compile.{timed, with_command, table_in, table_defined_by}
 use Rattle.sqlite_resolve.specs.Define as define
 use Rattle.sqlite_catalog.specs.{Calls.CreatesTable, Change.{is_used, next_tree}}
@@ -202,35 +203,101 @@ module _ {sql : List ℕ} {p : Parsed} {def : CreateTable} {table : ℕ → Tabl
 pub event_beside : {old new : State} → Ran event_text [] old new → MakesTable event old new
 unfolding everything digits
 event_beside = made {sql = event_text} {p = _} {def = _} {table = event}
-    (record { reads = refl; is = refl; formats = refl; whole = refl; always = refl; plain = refl; defined = refl; named = refl; suits = refl })
+    (record {
+      reads = refl;
+      is = refl;
+      formats = refl;
+      whole = refl;
+      always = refl;
+      plain = refl;
+      defined = refl;
+      named = refl;
+      suits =
+          refl;
+    })
     (λ tree. refl)
 
 pub player_beside : {old new : State} → Ran player_text [] old new → MakesTable player old new
 unfolding everything digits
 player_beside = made {sql = player_text} {p = _} {def = _} {table = player}
-    (record { reads = refl; is = refl; formats = refl; whole = refl; always = refl; plain = refl; defined = refl; named = refl; suits = refl })
+    (record {
+      reads = refl;
+      is = refl;
+      formats = refl;
+      whole = refl;
+      always = refl;
+      plain = refl;
+      defined = refl;
+      named = refl;
+      suits =
+          refl;
+    })
     (λ tree. refl)
 
 pub player2_beside : {old new : State} → Ran player2_text [] old new → MakesTable player2 old new
 unfolding everything digits
 player2_beside = made {sql = player2_text} {p = _} {def = _} {table = player2}
-    (record { reads = refl; is = refl; formats = refl; whole = refl; always = refl; plain = refl; defined = refl; named = refl; suits = refl })
+    (record {
+      reads = refl;
+      is = refl;
+      formats = refl;
+      whole = refl;
+      always = refl;
+      plain = refl;
+      defined = refl;
+      named = refl;
+      suits =
+          refl;
+    })
     (λ tree. refl)
 
 pub pairing_beside : {old new : State} → Ran pairing_text [] old new → MakesTable pairing old new
 unfolding everything digits
 pairing_beside = made {sql = pairing_text} {p = _} {def = _} {table = pairing}
-    (record { reads = refl; is = refl; formats = refl; whole = refl; always = refl; plain = refl; defined = refl; named = refl; suits = refl })
+    (record {
+      reads = refl;
+      is = refl;
+      formats = refl;
+      whole = refl;
+      always = refl;
+      plain = refl;
+      defined = refl;
+      named = refl;
+      suits =
+          refl;
+    })
     (λ tree. refl)
 
 pub bracket_beside : {old new : State} → Ran bracket_text [] old new → MakesTable bracket old new
 unfolding everything digits
 bracket_beside = made {sql = bracket_text} {p = _} {def = _} {table = bracket}
-    (record { reads = refl; is = refl; formats = refl; whole = refl; always = refl; plain = refl; defined = refl; named = refl; suits = refl })
+    (record {
+      reads = refl;
+      is = refl;
+      formats = refl;
+      whole = refl;
+      always = refl;
+      plain = refl;
+      defined = refl;
+      named = refl;
+      suits =
+          refl;
+    })
     (λ tree. refl)
 
 pub tally_beside : {old new : State} → Ran tally_text [] old new → MakesTable tally old new
 unfolding everything digits
 tally_beside = made {sql = tally_text} {p = _} {def = _} {table = tally}
-    (record { reads = refl; is = refl; formats = refl; whole = refl; always = refl; plain = refl; defined = refl; named = refl; suits = refl })
+    (record {
+      reads = refl;
+      is = refl;
+      formats = refl;
+      whole = refl;
+      always = refl;
+      plain = refl;
+      defined = refl;
+      named = refl;
+      suits =
+          refl;
+    })
     (λ tree. refl)

@@ -174,7 +174,8 @@ module _ {schema : Schema} {at : ℕ} {table : Table} (there : IsFound schema at
   abbrev program_of : List Output → Program
   program_of columns = record { lets = []; body = query_of (drafted columns).0 }
 
-  typed_at : IsRead schema table → (columns : List Output) → are_typed [] (row_classes table ∷ []) (map (λ (o : Output). o.term) columns) ≡ true
+  typed_at : IsRead schema table → (columns : List Output) → are_typed [] (row_classes table ∷ []) (map (λ (o : Output). o.term) columns)
+      ≡ true
       → program schema [] (drafted columns).0 ≡ Ok (program_of columns)
   unfolding program ungrouped
   typed_at reads columns typed = rw (reads.low, reads.found, typed)
@@ -215,7 +216,8 @@ ok_understood : (schema : Schema) (sql : List ℕ) → is_ok (compiled schema sq
 unfolding understood
 ok_understood schema sql ok = by_answer (compiled schema sql) ok
   where
-    by_answer : (c : Checked Compiled) → is_ok c ≡ true → is_ok (if misses_table c then if_select (compiled listing_schema sql) else c) ≡ true
+    by_answer : (c : Checked Compiled) → is_ok c ≡ true → is_ok (if misses_table c then if_select (compiled listing_schema sql) else c) ≡
+        true
     by_answer (Ok c) ok = refl
     by_answer (Err e) ok = absurd (true≢false (sym ok))
 

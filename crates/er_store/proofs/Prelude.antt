@@ -105,7 +105,7 @@ pub use Rattle.er_store.specs.Slip.{match_of_slip, is_swapped, Side, number_in, 
 pub use Rattle.er_store.specs.Layout.{Layout, Old, version_of, players_tree, with_ours}
 pub use Rattle.er_store.specs.Representing.{Represents, RepresentsAt, HasTables, HasTablesAt, RepresentsWith, IsOther, CanRead, IsKeyed}
 pub use Rattle.er_store.specs.Representing.{Shows}
-pub use Rattle.er_store.specs.Representing.{IsStored, RepresentsIn, IsStoredIn}
+pub use Rattle.er_store.specs.Representing.{RepresentsIn, IsStoredIn}
 pub use Rattle.er_store.specs.Representing.{rows_in, rows_with, KeepsRest, KeepsOthers, HasRows, AreKeyed}
 pub use Rattle.er_store.specs.Tables.{event_tree, player_tree, pairing_tree, bracket_tree, tally_tree}
 pub use Rattle.er_store.specs.Tables.{no_schema, pairing, bracket, read_event, player, tally, set_serial, set_phase, set_dropped, set_score}

@@ -113,7 +113,8 @@ is_early ps n it all found = All-find (λ (p : Player). p.joined ≡ 0) (has_num
 dropped_keeps : {v : ℕ} (n : ℕ) (ps : List Player) → KeepsPlayers v ps → KeepsPlayers v (map (dropped_at n) ps)
 dropped_keeps n ps keeps first =
     let IsEarly : Player → Type 0 = λ p. p.joined ≡ 0 in
-    All-map IsEarly (dropped_at n) ps (All-weaker IsEarly (λ p. IsEarly (dropped_at n p)) (λ p early. same p (p.no == n) early) ps (keeps first))
+    All-map IsEarly (dropped_at n) ps (All-weaker IsEarly (λ p. IsEarly (dropped_at n p)) (λ p early. same p (p.no == n) early) ps
+    (keeps first))
   where
     same : (p : Player) (b : Bool) → p.joined ≡ 0 → (if b then record p { dropped = true } else p).joined ≡ 0
     same p true early = early

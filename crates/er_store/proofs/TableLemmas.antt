@@ -4,20 +4,19 @@ use Rattle.er_store.proofs.Prelude.{pairing_places, bracket_places, tally_places
 use Rattle.er_store.proofs.Prelude.{Shape, Lists, IsReadRefused, first_columns, HasTablesAt, RepresentsAt, Represents, Layout, Old}
 use Rattle.er_store.proofs.Prelude.{version_of}
 use Rattle.er_store.proofs.Prelude.{player_shown, EventValue, IsSoundButForSeeds, Shown}
-use Rattle.er_store.proofs.Prelude.{FailsToQuery, common_steps, Result, Ok, Err, IsErrAnd, on_ok_weaker, Database, unchanged_then, Refusal}
+use Rattle.er_store.proofs.Prelude.{FailsToQuery, Result, Ok, Err, IsErrAnd, IfOk-weaker, IfErr-weaker, Database, Refusal, Held, Ghosts}
+use Rattle.er_store.proofs.Prelude.{state}
 use Rattle.er_store.proofs.Prelude.{Damaged, Place, IsFault}
 use Rattle.er_store.proofs.Prelude.{Bool, true, false, ◌==◌, if◌then◌else◌, New, Moved, Selects, table_query, begins_select, first}
 use Rattle.er_store.proofs.Prelude.{read_players, read_players2}
-use Rattle.std.proofs.lemmas.Result.{on_err_weaker}
 use Rattle.er_store.proofs.{Selecting.selects, Meaning.{event_selected, players_selected, pairings_selected, bracket_selected}}
 use Rattle.er_store.proofs.{Meaning.{tallies_selected, columns, read_terms}}
 use Rattle.er_store.proofs.{Exact.{answer_lists, sorted_by_one, sorted_by_two, sorted_players, listed_whole, event_exact}}
 use Rattle.er_store.proofs.{Exact.{players_exact, bracket_exact, tallies_exact, map-same}, Refusals.read_refused}
-use Rattle.er_store.proofs.{Refusals.{answers, may_read}, Keyed.pairings_exact, Effects.selected, Crash.survives_both}
-use Rattle.er_store.proofs.LoadLemmas.{then_keeps}
+use Rattle.er_store.proofs.{Refusals.{answers, may_read}, Keyed.pairings_exact, Effects.selected, Lending.{looks_on, looks_as, looks_fail}}
 use Rattle.er_store.specs.{inside.Lookup.{FindsRows, IsOurs, LooksUp, MissesTables}, Shape.{event_form, player_form, pairing_form}}
 use Rattle.er_store.specs.Shape.{bracket_form, tally_form, event_table, player_table, pairing_table, bracket_table, tally_table}
-use Rattle.er_store.specs.{Loading.IsListed, Damage.IsFirstMisread}
+use Rattle.er_store.specs.{Loading.IsListed, Damage.IsFirstMisread, Fault.IsLoadFault}
 
 -- ---- what the statement of a table reads
 
@@ -142,36 +141,42 @@ tally_is_ours = record {
 module _ {A B : Type 0} {F : Database → A → Type 0} {M : Database → Refusal → Type 0} {G : Database → B → Type 0}
     {N : Database → Refusal → Type 0} where
   -- where the first has found something, both are a look, and what both say is of the database before
-  pub looks_then : {old mid new : State} {a : A} {r : Result B Refusal} → LooksUp F M old mid (Ok a) → LooksUp G N mid new r
-      → LooksUp (λ db b. F db a × G db b) (λ db why. F db a × N db why) old new r
-  looks_then first second = grind (arith, common_steps, on_err_weaker, on_ok_weaker, survives_both, then_keeps, unchanged_then)
+  pub looks_then : {S : Type 0} {g : Ghosts S} {old mid new : Held S} {a : A} {r : Result B Refusal}
+      → LooksUp g F M old (Ok a) mid → LooksUp g G N mid r new
+      → LooksUp g (λ db b. F db a × G db b) (λ db why. F db a × N db why) old r new
+  looks_then {g = g} {old} {mid} {new} {r = r} first second = record {
+    looks = looks_on first.looks second.looks;
+    finds = λ clean.
+        let early = second.looks.clean clean in
+        IfOk-weaker r _ _ (λ b it. (first.finds early, subst (λ (db : Database). G db b) (first.looks.same early).0.now_is it))
+        (second.finds clean);
+    misses = λ clean.
+        let early = second.looks.clean clean in
+        IfErr-weaker r _ _ (λ why it. (first.finds early, subst (λ (db : Database). N db why) (first.looks.same early).0.now_is it))
+        (second.misses clean);
+    fault = second.fault;
+  }
 
   -- what is found, put together
-  pub found_as : {old new : State} {a : A} {b : B} → ((db : Database) → F db a → G db b) → LooksUp F M old new (Ok a)
-      → LooksUp G N old new (Ok b)
-  found_as {old} make look = record {
-    clean = look.clean;
-    finds = λ c. make old.now (look.finds c);
-    misses = λ c. tt;
+  pub found_as : {S : Type 0} {g : Ghosts S} {old new : Held S} {a : A} {b : B} → ((db : Database) → F db a → G db b)
+      → LooksUp g F M old (Ok a) new → LooksUp g G N old (Ok b) new
+  found_as {g = g} {old} {b = b} make look = record {
+    looks = looks_as (Ok b) look.looks;
+    finds = λ clean. make (state g old).now (look.finds clean);
+    misses = λ clean. tt;
     fault = tt;
-    same = look.same;
-    kept = λ c. tt;
-    survives = look.survives;
   }
 
   -- and a refusal, passed on
-  pub missed_as : {old new : State} {why : Refusal} {r : Result B Refusal} → IsErrAnd r (λ x. x ≡ why)
-      → ((db : Database) → M db why → N db why) → LooksUp F M old new (Err why) → LooksUp G N old new r
+  pub missed_as : {S : Type 0} {g : Ghosts S} {old new : Held S} {why : Refusal} {r : Result B Refusal} → IsErrAnd r (λ x. x ≡ why)
+      → ((db : Database) → M db why → N db why) → LooksUp g F M old (Err why) new → LooksUp g G N old r new
   missed_as {r = Ok b} is make look = absurd is
-  missed_as {old} {r = Err x} is make look = rw is (record {
-    clean = look.clean;
-    finds = λ c. tt;
-    misses = λ c. make old.now (look.misses c);
-    fault = look.fault;
-    same = λ c. tt;
-    kept = look.kept;
-    survives = look.survives;
-  })
+  missed_as {g = g} {old} {why = why} {r = Err x} is make look = record {
+    looks = looks_fail (Err x) why is look.looks;
+    finds = λ clean. tt;
+    misses = λ clean. subst (N (state g old).now) (sym is) (make (state g old).now (look.misses clean));
+    fault = subst IsLoadFault (sym is) look.fault;
+  }
 
 -- the tables before this one were read, and it was not
 pub first_misread : (table : Place) {Bad : Type 0} (db : Database) (why : Refusal) → (Bad → IsFirstMisread db table)

@@ -8,7 +8,8 @@ use Rattle.sqlite_syntax.specs.declared.statement.Parsed.{Parsed}
 use Rattle.sqlite_schema.specs.Names.{table_named, index_named, view_named}
 use Rattle.sqlite_resolve.specs.{declared.error.CompileError.CompileError, Lowering.{Checked, and_then}}
 use Rattle.sqlite_resolve.specs.declared.error.CompileError.TheVariants.{Misuse, Exists, Unsupported}
-use Rattle.sqlite_resolve.specs.Compile.{create_table, creates, is_attached, is_reserved, first, planned, meaning, returning, command, compiled}
+use Rattle.sqlite_resolve.specs.Compile.{create_table, creates, is_attached, is_reserved, first, planned, meaning, returning, command}
+use Rattle.sqlite_resolve.specs.Compile.{compiled}
 use Rattle.sqlite_catalog.specs.Change.{is_used}
 use Rattle.sqlite.specs.{Listing.misses_table, State.ExecutesIn}
 use Rattle.er_store.specs.{Tables.player2_text, Migrated.IsTaken}
@@ -45,14 +46,16 @@ planned_refused schema p def is not used =
     let it = create_refused schema p.formats def not used in
     record { why = it.why; is = rw (is, it.is) refl; named = it.named }
 
-pub compiled_refused : (schema : Schema) (sql : List ℕ) (p : Parsed) (def : CreateTable) → first sql ≡ Ok p → p.statement ≡ written.CreateTable def
+pub compiled_refused : (schema : Schema) (sql : List ℕ) (p : Parsed) (def : CreateTable) → first sql ≡ Ok p
+    → p.statement ≡ written.CreateTable def
     → def.if_missing ≡ false → is_used schema def.name ≡ true → IsRefused (compiled schema sql)
 unfolding compiled
 compiled_refused schema sql p def reads is not used =
     let it = planned_refused schema p def is not used in
     record { why = it.why; is = rw (reads, it.is) refl; named = it.named }
 
-understood_refused : (schema : Schema) (sql : List ℕ) → IsRefused (compiled schema sql) → (why : CompileError) × (understood schema sql ≡ Err why)
+understood_refused : (schema : Schema) (sql : List ℕ) → IsRefused (compiled schema sql) → (why : CompileError)
+    × (understood schema sql ≡ Err why)
 unfolding understood
 understood_refused schema sql it = (it.why, rw (it.is, it.named) refl)
 

@@ -140,7 +140,8 @@ module _ (now before : ℕ → Totals) where
 
 -- ---- the players whose totals stay
 
-pub totals-at : (e : EventValue) (ps : List Player) (all : Gathered) → AreTotals e ps all → (k : ℕ) (p : Player) → k < length ps → p ≡ get_or ps k p
+pub totals-at : (e : EventValue) (ps : List Player) (all : Gathered) → AreTotals e ps all → (k : ℕ) (p : Player) → k < length ps
+    → p ≡ get_or ps k p
     → gathered_of all p ≡ totals e p.no
 totals-at e ps all are k p below is = subst (λ (q : Player). gathered_of all q ≡ totals e q.no) (sym is) (are k p below)
 

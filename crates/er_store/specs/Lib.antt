@@ -6,6 +6,8 @@
 -- and Store what a store shows. Loading is what is found in the tables, Damage which table is the first at fault in any
 -- file, Slip the slip of a match by a join, Migrated what a migration promises, Beside what creation leaves beside
 -- tables of others. Reading says what a statement that reads leaves as it was, Fault what a refusal means.
+-- Begins is how a store begins, over tables that are made or that are there, and Calls what a call of it does: the records that the
+-- contracts of Store are made of.
 --
 -- What private functions alone cite lies in `inside`.
 pub mod Tables
@@ -21,4 +23,6 @@ pub mod Migrated
 pub mod Beside
 pub mod Damage
 pub mod Slip
+pub mod Calls
+pub mod Begins
 pub mod inside

@@ -1,9 +1,9 @@
 -- What a migration promises.
-use Rattle.std.specs.Prelude.{◌≡◌, ◌⊎◌, ℕ, [], Bool, true, IsTrue, IsFalse, Result, Ok, Err, codes}
+use Rattle.std.specs.Prelude.{◌≡◌, ◌⊎◌, ℕ, [], Bool, true, IsTrue, IsFalse, IsErr, OnOk, OnErr, Result, Ok, Err, codes}
 use Rattle.sqlite_catalog.specs.Change.{is_used}
 use Rattle.sqlite.specs.Effect.{Database}
 use Rattle.sqlite.specs.Tree.{Trees}
-use Rattle.sqlite.specs.State.{State}
+use Rattle.sqlite.specs.State.{State, HasCleanDisk}
 use Rattle.sqlite_trees.specs.declared.store.Store.{Ghosts}
 use Rattle.er_event.specs.Event.{EventValue}
 use Rattle.er_event.specs.declared.refusals.Refusal.{Refusal}
@@ -12,8 +12,9 @@ use Rattle.er_store.specs.declared.Store.{Store}
 use Rattle.er_store.specs.Fault.{IsFault}
 use Rattle.er_store.specs.Tables.{player_tree}
 use Rattle.er_store.specs.Layout.{StandsAlone}
-use Rattle.er_store.specs.Representing.{IsStoredIn, Shows}
-use Rattle.er_store.specs.Store.{version_in, is_stopped}
+use Rattle.er_store.specs.Reading.{KeepsTables}
+use Rattle.er_store.specs.Representing.{IsStoredIn, Shows, Leaves}
+use Rattle.er_store.specs.Store.{state, version_in, needs_reopen}
 
 -- The tables represent the event in version 1, and alone in the file.
 pub record MayMigrate (s : State) (e : EventValue) (serial : ℕ) : Type 0 where
@@ -36,14 +37,35 @@ IsStoredWhole e serial trees = IsStoredIn 1 e serial trees ⊎ IsStoredIn 2 e se
 -- the version that a store works in, and whether it has stopped
 pub record Turn : Type 0 where
   pub version : ℕ
-  pub stopped : Bool
+  pub needs_reopen : Bool
 
 abbrev pub turn_of : {S : Type 0} {g : Ghosts S} → Store S g → Turn
-turn_of store = record { version = version_in store; stopped = is_stopped store }
+turn_of store = record { version = version_in store; needs_reopen = needs_reopen store }
 
 -- what one call of `migrate` answers, and how the store works then
 abbrev pub MigratesStore : Turn → Result (Unit {0}) Refusal → Turn → Type 0
-MigratesStore old (Ok done) new = IsFalse old.stopped × IsFalse new.stopped × (new.version ≡ 2)
+MigratesStore old (Ok done) new = IsFalse old.needs_reopen × IsFalse new.needs_reopen × (new.version ≡ 2)
 MigratesStore old (Err why) new =
-    (IsTrue old.stopped × (why ≡ NeedsReopen) × (new ≡ old))
-    ⊎ (IsFalse old.stopped × (old.version ≡ 1) × IsFault why × (new ≡ record old { stopped = true }))
+    (IsTrue old.needs_reopen × (why ≡ NeedsReopen) × (new ≡ old))
+    ⊎ (IsFalse old.needs_reopen × (old.version ≡ 1) × IsFault why × (new ≡ record old { needs_reopen = true }))
+
+-- The tables of the event are moved to version 2, in one transaction. The serial is the event's, and stays.
+pub record MovesTables {S : Type 0} (g : Ghosts S) (e : EventValue) (serial : ℕ)
+    (old : Store S g) (result : Result (Unit {0}) Refusal) (new : Store S g)
+    : Type 0 where
+  pub turn : MigratesStore (turn_of old) result (turn_of new)
+  -- a store that has stopped, or whose tables are of version 2, stays as it is
+  pub waits : IsTrue (needs_reopen old) ⊎ (version_in old ≡ 2) → new ≡ old
+  pub clean : HasCleanDisk (state g new) → HasCleanDisk (state g old)
+  -- a refusal changes no table, whatever the tables hold
+  pub kept : HasCleanDisk (state g new) → OnErr result (KeepsTables (state g old) (state g new))
+  -- it is refused where the name `player2` is taken, and a crash then leaves version 1
+  pub taken : IsFalse (needs_reopen old) → version_in old ≡ 1 → HasCleanDisk (state g new) → IsTaken (state g old).now
+      → IsErr result × (Shows 1 (state g old) e serial → Leaves (state g new) (IsStoredIn 1 e serial))
+  -- tables that represent the event in version 1, and alone, then represent it in version 2, totals included, and `player` has no rows
+  pub migrated : HasCleanDisk (state g new) → version_in old ≡ 1 → MayMigrate (state g old) e serial
+      → OnOk result (IsMigrated (state g new) e serial)
+  pub acknowledged : version_in old ≡ 1 → MayMigrate (state g old) e serial → OnOk result (Leaves (state g new) (IsStoredIn 2 e serial))
+  -- at every exit a crash leaves version 1 or version 2, whole
+  pub crash : IsFalse (needs_reopen old) → version_in old ≡ 1 → MayMigrate (state g old) e serial
+      → Leaves (state g new) (IsStoredWhole e serial)

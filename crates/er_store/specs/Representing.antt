@@ -129,12 +129,6 @@ pub record IsStoredIn (version : ℕ) (e : EventValue) (serial : ℕ) (trees : T
   pub sound : IsSound schema trees
   pub represents : RepresentsIn version (record { schema = schema; trees = trees }) e serial
 
--- in either version
-pub record IsStored (e : EventValue) (serial : ℕ) (trees : Trees) : Type 0 where
-  pub schema : Schema
-  pub sound : IsSound schema trees
-  pub represents : Represents (record { schema = schema; trees = trees }) e serial
-
 -- the connection sees the event in this version, with nothing pending
 pub record Shows (version : ℕ) (s : State) (e : EventValue) (serial : ℕ) : Type 0 where
   pub is_open : IsTrue s.is_open

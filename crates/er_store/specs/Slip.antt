@@ -1,6 +1,7 @@
 -- The slip of a match, as the tables show it.
-use Rattle.std.specs.Prelude.{◌≡◌, ℕ, ◌≤◌, nat_lt, Bool, if◌then◌else◌, IsTrue, List, map, Option, Some, None, option_map, option_to_list}
-use Rattle.std.specs.Prelude.{unwrap_or, IfSome, Result, Ok, Err}
+use Rattle.std.specs.Prelude.{◌≡◌, ◌⊎◌, ℕ, ◌≤◌, nat_lt, Bool, if◌then◌else◌, IsTrue, List, map, Option, Some, None, option_map}
+use Rattle.std.specs.Prelude.{option_to_list}
+use Rattle.std.specs.Prelude.{unwrap_or, IfSome, Result, Ok, Err, MatchResult}
 use Rattle.er_event.specs.declared.players.TheConstants.{MAX_PLAYERS}
 use Rattle.er_event.specs.declared.refusals.Refusal.{Refusal}
 use Rattle.er_event.specs.declared.refusals.Refusal.TheVariants.{NoSuchMatch}
@@ -11,6 +12,7 @@ use Rattle.er_event.specs.Name.{is_lawful_name}
 use Rattle.er_event.specs.Match.{MayStand}
 use Rattle.er_event.specs.Rows.{pairing_row}
 use Rattle.er_event.specs.Slip.{slip_of}
+use Rattle.er_store.specs.Fault.{IsFault}
 use Rattle.er_store.specs.declared.rows.NamedPairing.{NamedPairing}
 
 -- a number with its name, or nobody
@@ -57,3 +59,9 @@ pub record IsLawful (slip : SlipRow) : Type 0 where
 abbrev pub FindsSlip : EventValue → ℕ → ℕ → Result SlipRow Refusal → Type 0
 FindsSlip event round table (Ok row) = slip_of event round table ≡ Some row
 FindsSlip event round table (Err why) = why ≡ NoSuchMatch → slip_of event round table ≡ None
+
+-- the slip of the event's match, or there is no such match, or memory or the store fails
+abbrev pub FindsSlipOrFails : EventValue → ℕ → ℕ → Result SlipRow Refusal → Type 0
+FindsSlipOrFails event round table result =
+    MatchResult result (λ row. slip_of event round table ≡ Some row)
+    (λ why. IsFault why ⊎ ((why ≡ NoSuchMatch) × (slip_of event round table ≡ None)))

@@ -19,5 +19,5 @@ abbrev pub version_in : {S : Type 0} {g : Ghosts S} → Store S g → ℕ
 version_in store = store.version
 
 -- a fault has ended it
-abbrev pub is_stopped : {S : Type 0} {g : Ghosts S} → Store S g → Bool
-is_stopped store = store.needs_reopen
+abbrev pub needs_reopen : {S : Type 0} {g : Ghosts S} → Store S g → Bool
+needs_reopen store = store.needs_reopen

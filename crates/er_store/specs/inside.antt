@@ -6,3 +6,5 @@ pub mod Queries
 pub mod Lookup
 pub mod Moving
 pub mod Making
+pub mod Within
+pub mod Looking

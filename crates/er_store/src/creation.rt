@@ -1,10 +1,11 @@
-ghost use Rattle.std.specs.Prelude.{◌≡◌, ℕ, [], IsErr, OnOk};
+ghost use Rattle.std.specs.Prelude.{◌≡◌, ℕ, [], IsErr};
 ghost use Rattle.sqlite.specs.State.{HasCleanDisk};
-ghost use Rattle.sqlite.specs.Held.{state};
 ghost use Rattle.er_event.specs.Event.{EventValue};
-ghost use Rattle.er_store.specs.Tables.{player_tree, event, player, player2, players_of, pairing, bracket, tally, no_schema, event_schema, player_schema, pairing_schema, bracket_schema, tally_schema};
-ghost use Rattle.er_store.specs.inside.Steps.{Stays, made_players, Creates, CreatesAll};
-ghost use Rattle.er_store.specs.inside.Making.{MakesTable, MakesFive};
+ghost use Rattle.er_store.specs.Tables.{player_tree, event, player, player2, players_of, pairing, bracket, tally, no_schema, event_schema};
+ghost use Rattle.er_store.specs.Tables.{player_schema, pairing_schema, bracket_schema, tally_schema};
+ghost use Rattle.er_store.specs.inside.Steps.{made_players, CreatesAll};
+ghost use Rattle.er_store.specs.inside.Within.{shown, Lends, Achieves, MakesNext};
+ghost use Rattle.er_store.specs.inside.Making.{MakesFive};
 ghost use Rattle.er_store.specs.inside.Moving.{MayMove, IsMoving};
 ghost use Rattle.er_store.specs.Migrated.{IsTaken};
 
@@ -16,15 +17,8 @@ pub const CREATE_EVENT: &str =
 
 /// Makes the table `event`.
 fn create_event<S: Alter>(tx: &mut Transaction<'_, S>) -> Result<(), Error>
-    ensures same_reference { tx.new.conn.ghost_name ≡ tx.old.conn.ghost_name }
-    ensures creates { HasCleanDisk (state S.Store tx.new.conn.now)
-        → (state S.Store tx.old.conn.now).now.schema ≡ no_schema
-        → OnOk result (Creates no_schema event_schema (state S.Store tx.old.conn.now)
-        (state S.Store tx.new.conn.now)) }
-    ensures beside { HasCleanDisk (state S.Store tx.new.conn.now)
-        → OnOk result (MakesTable event (state S.Store tx.old.conn.now)
-        (state S.Store tx.new.conn.now)) }
-    ensures stays { Stays (state S.Store tx.old.conn.now) (state S.Store tx.new.conn.now) }
+    ensures lends { Lends S.Store tx.old tx.new }
+    ensures makes { MakesNext S.Store event no_schema event_schema tx.old result tx.new }
 {
     run(tx, CREATE_EVENT, &[])
 }
@@ -34,15 +28,9 @@ pub const CREATE_PLAYER: &str =
 
 /// Makes the table `player` of version 1.
 fn create_player<S: Alter>(tx: &mut Transaction<'_, S>) -> Result<(), Error>
-    ensures same_reference { tx.new.conn.ghost_name ≡ tx.old.conn.ghost_name }
-    ensures creates { HasCleanDisk (state S.Store tx.new.conn.now)
-        → (state S.Store tx.old.conn.now).now.schema ≡ event_schema
-        → OnOk result (Creates event_schema (player_schema (player player_tree))
-        (state S.Store tx.old.conn.now) (state S.Store tx.new.conn.now)) }
-    ensures beside { HasCleanDisk (state S.Store tx.new.conn.now)
-        → OnOk result (MakesTable player (state S.Store tx.old.conn.now)
-        (state S.Store tx.new.conn.now)) }
-    ensures stays { Stays (state S.Store tx.old.conn.now) (state S.Store tx.new.conn.now) }
+    ensures lends { Lends S.Store tx.old tx.new }
+    ensures makes { MakesNext S.Store player event_schema (player_schema (player player_tree))
+        tx.old result tx.new }
 {
     run(tx, CREATE_PLAYER, &[])
 }
@@ -52,21 +40,14 @@ pub const CREATE_PLAYER2: &str =
 
 /// Makes the table `player2`, in the place of `player` or behind the five tables of version 1.
 pub fn create_player2<S: Alter>(tx: &mut Transaction<'_, S>) -> Result<(), Error>
-    ensures same_reference { tx.new.conn.ghost_name ≡ tx.old.conn.ghost_name }
-    ensures creates { HasCleanDisk (state S.Store tx.new.conn.now)
-        → (state S.Store tx.old.conn.now).now.schema ≡ event_schema
-        → OnOk result (Creates event_schema (player_schema (player2 player_tree))
-        (state S.Store tx.old.conn.now) (state S.Store tx.new.conn.now)) }
-    ensures moves { HasCleanDisk (state S.Store tx.new.conn.now) → (e : EventValue) (s : ℕ)
-        → MayMove (state S.Store tx.old.conn.now) e s
-        → OnOk result (IsMoving (state S.Store tx.old.conn.now) (state S.Store tx.new.conn.now) 1 []
-        e s ((state S.Store tx.old.conn.now).now.trees player_tree)) }
-    ensures taken { HasCleanDisk (state S.Store tx.new.conn.now)
-        → IsTaken (state S.Store tx.old.conn.now).now → IsErr result }
-    ensures beside { HasCleanDisk (state S.Store tx.new.conn.now)
-        → OnOk result (MakesTable player2 (state S.Store tx.old.conn.now)
-        (state S.Store tx.new.conn.now)) }
-    ensures stays { Stays (state S.Store tx.old.conn.now) (state S.Store tx.new.conn.now) }
+    ensures lends { Lends S.Store tx.old tx.new }
+    ensures makes { MakesNext S.Store player2 event_schema (player_schema (player2 player_tree))
+        tx.old result tx.new }
+    ensures moves { (e : EventValue) (s : ℕ) → MayMove (shown S.Store tx.old) e s
+        → Achieves S.Store (λ a b. IsMoving a b 1 [] e s (a.now.trees player_tree)) tx.old result
+        tx.new }
+    ensures taken { HasCleanDisk (shown S.Store tx.new) → IsTaken (shown S.Store tx.old).now
+        → IsErr result }
 {
     run(tx, CREATE_PLAYER2, &[])
 }
@@ -76,17 +57,10 @@ pub const CREATE_PAIRING: &str =
 
 /// Makes the table `pairing`.
 fn create_pairing<S: Alter>(tx: &mut Transaction<'_, S>) -> Result<(), Error>
-    ensures same_reference { tx.new.conn.ghost_name ≡ tx.old.conn.ghost_name }
-    ensures creates { HasCleanDisk (state S.Store tx.new.conn.now)
-        → (version : ℕ)
-        → (state S.Store tx.old.conn.now).now.schema ≡ player_schema (made_players version)
-        → OnOk result (Creates (player_schema (made_players version))
-        (pairing_schema (made_players version)) (state S.Store tx.old.conn.now)
-        (state S.Store tx.new.conn.now)) }
-    ensures beside { HasCleanDisk (state S.Store tx.new.conn.now)
-        → OnOk result (MakesTable pairing (state S.Store tx.old.conn.now)
-        (state S.Store tx.new.conn.now)) }
-    ensures stays { Stays (state S.Store tx.old.conn.now) (state S.Store tx.new.conn.now) }
+    ensures lends { Lends S.Store tx.old tx.new }
+    ensures makes { (version : ℕ) → MakesNext S.Store pairing
+        (player_schema (made_players version)) (pairing_schema (made_players version))
+        tx.old result tx.new }
 {
     run(tx, CREATE_PAIRING, &[])
 }
@@ -96,17 +70,10 @@ pub const CREATE_BRACKET: &str =
 
 /// Makes the table `bracket`.
 fn create_bracket<S: Alter>(tx: &mut Transaction<'_, S>) -> Result<(), Error>
-    ensures same_reference { tx.new.conn.ghost_name ≡ tx.old.conn.ghost_name }
-    ensures creates { HasCleanDisk (state S.Store tx.new.conn.now)
-        → (version : ℕ)
-        → (state S.Store tx.old.conn.now).now.schema ≡ pairing_schema (made_players version)
-        → OnOk result (Creates (pairing_schema (made_players version))
-        (bracket_schema (made_players version)) (state S.Store tx.old.conn.now)
-        (state S.Store tx.new.conn.now)) }
-    ensures beside { HasCleanDisk (state S.Store tx.new.conn.now)
-        → OnOk result (MakesTable bracket (state S.Store tx.old.conn.now)
-        (state S.Store tx.new.conn.now)) }
-    ensures stays { Stays (state S.Store tx.old.conn.now) (state S.Store tx.new.conn.now) }
+    ensures lends { Lends S.Store tx.old tx.new }
+    ensures makes { (version : ℕ) → MakesNext S.Store bracket
+        (pairing_schema (made_players version)) (bracket_schema (made_players version))
+        tx.old result tx.new }
 {
     run(tx, CREATE_BRACKET, &[])
 }
@@ -116,32 +83,19 @@ pub const CREATE_TALLY: &str =
 
 /// Makes the table `tally`. A crash in it leaves what it could leave before.
 fn create_tally<S: Alter>(tx: &mut Transaction<'_, S>) -> Result<(), Error>
-    ensures same_reference { tx.new.conn.ghost_name ≡ tx.old.conn.ghost_name }
-    ensures creates { HasCleanDisk (state S.Store tx.new.conn.now)
-        → (version : ℕ)
-        → (state S.Store tx.old.conn.now).now.schema ≡ bracket_schema (made_players version)
-        → OnOk result (Creates (bracket_schema (made_players version))
-        (tally_schema (made_players version)) (state S.Store tx.old.conn.now)
-        (state S.Store tx.new.conn.now)) }
-    ensures beside { HasCleanDisk (state S.Store tx.new.conn.now)
-        → OnOk result (MakesTable tally (state S.Store tx.old.conn.now)
-        (state S.Store tx.new.conn.now)) }
-    ensures stays { Stays (state S.Store tx.old.conn.now) (state S.Store tx.new.conn.now) }
+    ensures lends { Lends S.Store tx.old tx.new }
+    ensures makes { (version : ℕ) → MakesNext S.Store tally
+        (bracket_schema (made_players version)) (tally_schema (made_players version))
+        tx.old result tx.new }
 {
     run(tx, CREATE_TALLY, &[])
 }
 
 /// Makes the table of players of this version.
 fn create_players<S: Alter>(tx: &mut Transaction<'_, S>, version: u8) -> Result<(), Error>
-    ensures same_reference { tx.new.conn.ghost_name ≡ tx.old.conn.ghost_name }
-    ensures creates { HasCleanDisk (state S.Store tx.new.conn.now)
-        → (state S.Store tx.old.conn.now).now.schema ≡ event_schema
-        → OnOk result (Creates event_schema (player_schema (made_players version))
-        (state S.Store tx.old.conn.now) (state S.Store tx.new.conn.now)) }
-    ensures beside { HasCleanDisk (state S.Store tx.new.conn.now)
-        → OnOk result (MakesTable (players_of version) (state S.Store tx.old.conn.now)
-        (state S.Store tx.new.conn.now)) }
-    ensures stays { Stays (state S.Store tx.old.conn.now) (state S.Store tx.new.conn.now) }
+    ensures lends { Lends S.Store tx.old tx.new }
+    ensures makes { MakesNext S.Store (players_of version) event_schema
+        (player_schema (made_players version)) tx.old result tx.new }
 {
     if version == 2 {
         create_player2(tx)
@@ -152,15 +106,10 @@ fn create_players<S: Alter>(tx: &mut Transaction<'_, S>, version: u8) -> Result<
 
 /// Makes the five tables as this version has them.
 pub fn create_all<S: Alter>(tx: &mut Transaction<'_, S>, version: u8) -> Result<(), Error>
-    ensures same_reference { tx.new.conn.ghost_name ≡ tx.old.conn.ghost_name }
-    ensures creates { HasCleanDisk (state S.Store tx.new.conn.now)
-        → (state S.Store tx.old.conn.now).now.schema ≡ no_schema
-        → OnOk result (CreatesAll (made_players version) (state S.Store tx.old.conn.now)
-        (state S.Store tx.new.conn.now)) }
-    ensures beside { HasCleanDisk (state S.Store tx.new.conn.now)
-        → OnOk result (MakesFive version (state S.Store tx.old.conn.now)
-        (state S.Store tx.new.conn.now)) }
-    ensures stays { Stays (state S.Store tx.old.conn.now) (state S.Store tx.new.conn.now) }
+    ensures lends { Lends S.Store tx.old tx.new }
+    ensures creates { (shown S.Store tx.old).now.schema ≡ no_schema
+        → Achieves S.Store (CreatesAll (made_players version)) tx.old result tx.new }
+    ensures beside { Achieves S.Store (MakesFive version) tx.old result tx.new }
 {
     create_event(tx)?;
     create_players(tx, version)?;

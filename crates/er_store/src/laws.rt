@@ -4,22 +4,22 @@ ghost use Rattle.std.specs.Prelude.{ℕ, ◌≡◌, false, IsTrue};
 ghost use Rattle.sqlite.specs.Effect.{Database, IsDatabase};
 ghost use Rattle.sqlite.specs.Held.{state};
 ghost use Rattle.er_event.specs.Event.{EventValue};
-ghost use Rattle.er_store.specs.Representing.{Represents, IsStored, Shows, Leaves};
+ghost use Rattle.er_store.specs.Representing.{RepresentsIn, IsStoredIn, Shows, Leaves};
 ghost use Rattle.er_store.specs.Store as tables;
 
 use crate::Store;
 use sqlite::{Alter, Connection};
 
-/// While its tables represent an event, with nothing pending, each thing that a crash may leave represents it.
+/// While its tables represent an event in a version, with nothing pending, each thing that a crash may leave represents it in that version.
 pub fn shown_is_stored<S: Alter>(store: &Store<S>)
     ensures { (v : ℕ) (e : EventValue) (s : ℕ) → Shows v (tables.state S.Store store.now) e s
-        → Leaves (tables.state S.Store store.now) (IsStored e s) }
+        → Leaves (tables.state S.Store store.now) (IsStoredIn v e s) }
 {}
 
-/// What a crash left of an event represents it again, whatever schema is read of it.
+/// What a crash left of an event represents it again, in the version that it was in, whatever schema is read of it.
 pub fn stored_represents()
-    ensures { (db : Database) (e : EventValue) (s : ℕ) → IsDatabase db → IsStored e s db.trees
-        → Represents db e s }
+    ensures { (v : ℕ) (db : Database) (e : EventValue) (s : ℕ) → IsDatabase db
+        → IsStoredIn v e s db.trees → RepresentsIn v db e s }
 {}
 
 /// Outside a transaction an open connection sees the last commit, and that obeys its schema. Two calls of the connection say so.

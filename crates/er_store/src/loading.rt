@@ -1,5 +1,5 @@
-ghost use Rattle.std.specs.Prelude.{◌≡◌, ◌≤◌, ◌⊎◌, ℕ, Some, [], ◌∷◌, false, IfOk, IfErr, OnOk, OnErr, IsOkAnd, IsErrAnd, MatchResult};
-ghost use Rattle.sqlite.specs.State.{HasCleanDisk, Survives, IsUnchanged};
+ghost use Rattle.std.specs.Prelude.{◌≡◌, ◌≤◌, ◌⊎◌, ℕ, Some, [], ◌∷◌, false, IfOk, IfErr, MatchResult};
+ghost use Rattle.sqlite.specs.State.{HasCleanDisk};
 ghost use Rattle.sqlite.specs.Held.{state};
 ghost use Rattle.er_event.specs.declared.commands.TheConstants.{MAX_SERIAL};
 ghost use Rattle.er_event.specs.declared.refusals.Place.{Place};
@@ -13,8 +13,8 @@ ghost use Rattle.er_store.specs.Representing.{HasTables, RepresentsAt};
 ghost use Rattle.er_store.specs.Loading.{HoldsEvent};
 ghost use Rattle.er_store.specs.Damage.{says_second, said_version, ReadsParts, ReadsTallies, IsRowFault, IsAtFault, IfDamaged};
 ghost use Rattle.er_store.specs.Fault.{IsFault, IsLoadFault};
+ghost use Rattle.er_store.specs.inside.Looking.{OnlyLooks};
 ghost use Rattle.er_store.specs.inside.Lookup.{IsOurs, IsWhole, LooksUp, FindsRows, MissesRows, FindsParts, FindsTables, MissesTables};
-ghost use Rattle.er_store.specs.Reading.{KeepsTables};
 
 use crate::reading::{read_table, reading_refusal};
 use crate::tables::TableRow;
@@ -32,10 +32,8 @@ fn load_rows<T: TableRow, S: Alter>(
     version: u8,
 ) -> Result<Items<T>, Refusal>
     requires { IsOurs T.form T.table }
-    ensures mode { conn.old.in_transaction ≡ false → conn.new.in_transaction ≡ false }
-    ensures looks { LooksUp (FindsRows T.form T.table (T.table.read version))
-        (MissesRows T.form T.table (T.table.read version)) (state S.Store conn.old)
-        (state S.Store conn.new) result }
+    ensures { LooksUp S.Store (FindsRows T.form T.table (T.table.read version))
+        (MissesRows T.form T.table (T.table.read version)) conn.old result conn.new }
 {
     match read_table(alloc, conn, version) {
         Ok(rows) => Ok(Items::from(rows)),
@@ -59,9 +57,7 @@ fn said_version(rows: &[EventRow]) -> u8
 
 /// The rows of the four tables that an event is made of. Those of the event are read first, since they say where the players are.
 fn read_parts<S: Alter>(alloc: Global, conn: &mut Connection<S>) -> Result<Parts, Refusal>
-    ensures mode { conn.old.in_transaction ≡ false → conn.new.in_transaction ≡ false }
-    ensures looks { LooksUp FindsParts MissesTables (state S.Store conn.old)
-        (state S.Store conn.new) result }
+    ensures { LooksUp S.Store FindsParts MissesTables conn.old result conn.new }
 {
     let event = load_rows::<EventRow, S>(alloc, conn, 1)?;
     let version = said_version(event.as_slice());
@@ -81,9 +77,7 @@ fn read_tables<S: Alter>(
     alloc: Global,
     conn: &mut Connection<S>,
 ) -> Result<(Parts, Items<TallyRow>), Refusal>
-    ensures mode { conn.old.in_transaction ≡ false → conn.new.in_transaction ≡ false }
-    ensures looks { LooksUp FindsTables MissesTables (state S.Store conn.old)
-        (state S.Store conn.new) result }
+    ensures { LooksUp S.Store FindsTables MissesTables conn.old result conn.new }
 {
     let parts = read_parts(alloc, conn)?;
     let tallies = load_rows::<TallyRow, S>(alloc, conn, 1)?;
@@ -149,8 +143,7 @@ pub fn load_tables<S: Alter>(
     alloc: Global,
     conn: &mut Connection<S>,
 ) -> Result<(Event, u32, u8), Refusal>
-    ensures clean { HasCleanDisk (state S.Store conn.new) → HasCleanDisk (state S.Store conn.old) }
-    ensures mode { conn.old.in_transaction ≡ false → conn.new.in_transaction ≡ false }
+    ensures looks { OnlyLooks S.Store conn.old result conn.new }
     ensures low { IfOk result (λ it. it.1 ≤ MAX_SERIAL) }
     ensures sound { IfOk result (λ it. IsSoundButForSeeds it.0) }
     ensures known { IfOk result (λ it. IsVersion it.2) }
@@ -167,11 +160,6 @@ pub fn load_tables<S: Alter>(
         × ReadsTallies (state S.Store conn.old).now (tally_rows it.0)) }
     ensures first { HasCleanDisk (state S.Store conn.new)
         → IfErr result (IfDamaged (IsAtFault (state S.Store conn.old).now)) }
-    ensures same { HasCleanDisk (state S.Store conn.new)
-        → OnOk result (IsUnchanged (state S.Store conn.old) (state S.Store conn.new)) }
-    ensures kept { HasCleanDisk (state S.Store conn.new)
-        → OnErr result (KeepsTables (state S.Store conn.old) (state S.Store conn.new)) }
-    ensures survives { Survives (state S.Store conn.old) (state S.Store conn.new) (λ _. ⊥) }
 {
     let (parts, tallies) = read_tables(alloc, conn)?;
     counted_event_of(alloc, parts, tallies.as_slice())

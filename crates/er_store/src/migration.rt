@@ -1,17 +1,16 @@
 //! The move of an event's tables from version 1 to version 2.
 
-ghost use Rattle.std.specs.Prelude.{◌≡◌, ℕ, List, [], OnOk, OnErr, IsTrue, false, IsErr};
+ghost use Rattle.std.specs.Prelude.{◌≡◌, ℕ, List, [], OnOk, false, IsErr};
 ghost use Rattle.sqlite.specs.State.{HasCleanDisk};
 ghost use Rattle.sqlite.specs.Order.{Row};
-ghost use Rattle.sqlite.specs.Tree.{Trees};
 ghost use Rattle.sqlite.specs.Held.{state};
 ghost use Rattle.er_event.specs.declared.players.Player.{Player};
 ghost use Rattle.er_event.specs.Event.{EventValue};
 ghost use Rattle.er_store.specs.Migrated.{MayMigrate, IsMigrated, IsStoredWhole, IsTaken};
-ghost use Rattle.er_store.specs.Reading.{KeepsTables};
 ghost use Rattle.er_store.specs.Representing.{Leaves, IsStoredIn, Shows};
 ghost use Rattle.er_store.specs.inside.Moving.{HaveNumbers, IsMoving, IsMoved, MayMove};
-ghost use Rattle.er_store.specs.inside.Steps.{Stays};
+ghost use Rattle.er_store.specs.inside.Looking.{Transacts};
+ghost use Rattle.er_store.specs.inside.Within.{shown, Lends, Achieves, Inside};
 
 use crate::creation::create_player2;
 use crate::statements::{insert_player2, run};
@@ -20,13 +19,10 @@ use sqlite::{Alter, Connection, Error, Transaction, params};
 
 /// Inserts the players of the event.
 fn copy_players<S: Alter>(tx: &mut Transaction<'_, S>, event: &Event) -> Result<(), Error>
-    ensures same_reference { tx.new.conn.ghost_name ≡ tx.old.conn.ghost_name }
-    ensures copies { HasCleanDisk (state S.Store tx.new.conn.now)
-        → (e : EventValue) (s : ℕ) (former : List Row)
-        → IsMoving (state S.Store tx.old.conn.now) (state S.Store tx.old.conn.now) 1 [] e s former
-        → OnOk result (IsMoving (state S.Store tx.old.conn.now) (state S.Store tx.new.conn.now) 1
-        event.now.players e s former) }
-    ensures stays { Stays (state S.Store tx.old.conn.now) (state S.Store tx.new.conn.now) }
+    ensures lends { Lends S.Store tx.old tx.new }
+    ensures copies { (e : EventValue) (s : ℕ) (former : List Row)
+        → IsMoving (shown S.Store tx.old) (shown S.Store tx.old) 1 [] e s former
+        → Achieves S.Store (λ a b. IsMoving a b 1 event.now.players e s former) tx.old result tx.new }
 {
     for player in event.players() {
         let number = u32::from(player.no.get());
@@ -40,14 +36,12 @@ pub const CLEAR_PLAYERS: &str = "DELETE FROM player";
 
 /// Deletes all rows of the table `player`.
 fn clear_players<S: Alter>(tx: &mut Transaction<'_, S>) -> Result<(), Error>
-    ensures same_reference { tx.new.conn.ghost_name ≡ tx.old.conn.ghost_name }
-    ensures clears { HasCleanDisk (state S.Store tx.new.conn.now)
-        → (version : ℕ) (players : List Player) (e : EventValue) (s : ℕ) (former : List Row)
-        → IsMoving (state S.Store tx.old.conn.now) (state S.Store tx.old.conn.now) version players e
-        s former → HaveNumbers former
-        → OnOk result (IsMoving (state S.Store tx.old.conn.now) (state S.Store tx.new.conn.now)
-        version players e s []) }
-    ensures stays { Stays (state S.Store tx.old.conn.now) (state S.Store tx.new.conn.now) }
+    ensures lends { Lends S.Store tx.old tx.new }
+    ensures clears { (version : ℕ) (players : List Player) (e : EventValue) (s : ℕ)
+        (former : List Row)
+        → IsMoving (shown S.Store tx.old) (shown S.Store tx.old) version players e s former
+        → HaveNumbers former
+        → Achieves S.Store (λ a b. IsMoving a b version players e s []) tx.old result tx.new }
 {
     run(tx, CLEAR_PLAYERS, &[])
 }
@@ -56,31 +50,23 @@ pub const SET_VERSION: &str = "UPDATE event SET version = ?1";
 
 /// Sets the version of the event's row.
 fn set_version<S: Alter>(tx: &mut Transaction<'_, S>, version: u32) -> Result<(), Error>
-    ensures same_reference { tx.new.conn.ghost_name ≡ tx.old.conn.ghost_name }
-    ensures sets { HasCleanDisk (state S.Store tx.new.conn.now)
-        → (was : ℕ) (players : List Player) (e : EventValue) (s : ℕ) (former : List Row)
-        → IsMoving (state S.Store tx.old.conn.now) (state S.Store tx.old.conn.now) was players e s
-        former
-        → OnOk result (IsMoving (state S.Store tx.old.conn.now) (state S.Store tx.new.conn.now)
-        version players e s former) }
-    ensures inside { HasCleanDisk (state S.Store tx.new.conn.now)
-        → OnOk result (IsTrue (state S.Store tx.new.conn.now).in_transaction) }
-    ensures stays { Stays (state S.Store tx.old.conn.now) (state S.Store tx.new.conn.now) }
+    ensures lends { Lends S.Store tx.old tx.new }
+    ensures sets { (was : ℕ) (players : List Player) (e : EventValue) (s : ℕ) (former : List Row)
+        → IsMoving (shown S.Store tx.old) (shown S.Store tx.old) was players e s former
+        → Achieves S.Store (λ a b. IsMoving a b version players e s former) tx.old result tx.new }
+    ensures inside { Achieves S.Store Inside tx.old result tx.new }
 {
     run(tx, SET_VERSION, params![version])
 }
 
 /// Moves the players to `player2`, and sets version 2.
 fn move_players<S: Alter>(tx: &mut Transaction<'_, S>, event: &Event) -> Result<(), Error>
-    ensures same_reference { tx.new.conn.ghost_name ≡ tx.old.conn.ghost_name }
-    ensures moves { HasCleanDisk (state S.Store tx.new.conn.now) → (s : ℕ)
-        → MayMove (state S.Store tx.old.conn.now) event.now s
-        → OnOk result (IsMoved (state S.Store tx.new.conn.now) event.now s) }
-    ensures taken { HasCleanDisk (state S.Store tx.new.conn.now)
-        → IsTaken (state S.Store tx.old.conn.now).now → IsErr result }
-    ensures inside { HasCleanDisk (state S.Store tx.new.conn.now)
-        → OnOk result (IsTrue (state S.Store tx.new.conn.now).in_transaction) }
-    ensures stays { Stays (state S.Store tx.old.conn.now) (state S.Store tx.new.conn.now) }
+    ensures lends { Lends S.Store tx.old tx.new }
+    ensures moves { (s : ℕ) → MayMove (shown S.Store tx.old) event.now s
+        → Achieves S.Store (λ a b. IsMoved b event.now s) tx.old result tx.new }
+    ensures taken { HasCleanDisk (shown S.Store tx.new) → IsTaken (shown S.Store tx.old).now
+        → IsErr result }
+    ensures inside { Achieves S.Store Inside tx.old result tx.new }
 {
     create_player2(tx)?;
     copy_players(tx, event)?;
@@ -91,17 +77,12 @@ fn move_players<S: Alter>(tx: &mut Transaction<'_, S>, event: &Event) -> Result<
 /// Moves the tables of the event to version 2 in one transaction.
 pub fn migrate_tables<S: Alter>(conn: &mut Connection<S>, event: &Event) -> Result<(), Error>
     requires mode { conn.old.in_transaction ≡ false }
-    ensures mode { conn.new.in_transaction ≡ false }
-    ensures clean { HasCleanDisk (state S.Store conn.new) → HasCleanDisk (state S.Store conn.old) }
-    ensures kept { HasCleanDisk (state S.Store conn.new)
-        → OnErr result (KeepsTables (state S.Store conn.old) (state S.Store conn.new)) }
+    ensures transacts { Transacts S.Store conn.old result conn.new }
     ensures migrated { HasCleanDisk (state S.Store conn.new) → (s : ℕ)
         → MayMigrate (state S.Store conn.old) event.now s
         → OnOk result (IsMigrated (state S.Store conn.new) event.now s) }
-    ensures acknowledged { HasCleanDisk (state S.Store conn.new) → (s : ℕ)
-        → MayMigrate (state S.Store conn.old) event.now s
-        → OnOk result ((trees : Trees) → (state S.Store conn.new).may_leave trees
-        → IsStoredIn 2 event.now s trees) }
+    ensures acknowledged { (s : ℕ) → MayMigrate (state S.Store conn.old) event.now s
+        → OnOk result (Leaves (state S.Store conn.new) (IsStoredIn 2 event.now s)) }
     ensures crash { (s : ℕ) → MayMigrate (state S.Store conn.old) event.now s
         → Leaves (state S.Store conn.new) (IsStoredWhole event.now s) }
     ensures taken { HasCleanDisk (state S.Store conn.new) → IsTaken (state S.Store conn.old).now

@@ -1,5 +1,5 @@
-ghost use Rattle.std.specs.Prelude.{◌≡◌, ◌⊎◌, ℕ, false, IfOk, IfErr, OnOk, OnErr};
-ghost use Rattle.sqlite.specs.State.{HasCleanDisk, Survives, IsUnchanged};
+ghost use Rattle.std.specs.Prelude.{◌≡◌, ℕ, IfOk, IfErr};
+ghost use Rattle.sqlite.specs.State.{HasCleanDisk};
 ghost use Rattle.sqlite.specs.Held.{state};
 ghost use Rattle.er_event.specs.Event.{EventValue};
 ghost use Rattle.er_event.specs.Sound.{IsSoundButForSeeds};
@@ -10,8 +10,8 @@ ghost use Rattle.er_store.specs.Representing.{Represents, RepresentsAt, Represen
 ghost use Rattle.er_store.specs.Tables.{slip_text};
 ghost use Rattle.er_store.specs.Damage.{IsMisreadAs};
 ghost use Rattle.er_store.specs.Fault.{reading_refusal, IsLoadFault};
-ghost use Rattle.er_store.specs.Reading.{out_of_memory, IsReadRefused, KeepsTables};
 ghost use Rattle.er_store.specs.Slip.{named_pairings};
+ghost use Rattle.er_store.specs.inside.Looking.{OnlyLooks, FindsBy, FailsToRead};
 ghost use Rattle.er_store.specs.inside.Lookup.{IsOurs, FindsRows};
 ghost use Rattle.er_store.specs.inside.Meetings.{meeting_rows};
 
@@ -28,8 +28,7 @@ pub fn read_table<T: TableRow, S: Alter>(
     version: u8,
 ) -> Result<Vec<T>, Error>
     requires { IsOurs T.form T.table }
-    ensures clean { HasCleanDisk (state S.Store conn.new) → HasCleanDisk (state S.Store conn.old) }
-    ensures mode { conn.old.in_transaction ≡ false → conn.new.in_transaction ≡ false }
+    ensures looks { OnlyLooks S.Store conn.old result conn.new }
     ensures finds { HasCleanDisk (state S.Store conn.new)
         → IfOk result (λ rows. FindsRows T.form T.table (T.table.read version)
         (state S.Store conn.old).now rows.items) }
@@ -39,13 +38,7 @@ pub fn read_table<T: TableRow, S: Alter>(
     ensures refused { HasCleanDisk (state S.Store conn.new) → (l : Layout)
         → T.table.read (version_of l) ≡ T.table.read version → (e : EventValue) (s : ℕ)
         → RepresentsAt l (state S.Store conn.old).now e s → IsSoundButForSeeds e
-        → IfErr result (λ why. (why ≡ out_of_memory)
-        ⊎ IsReadRefused (state S.Store conn.old) (state S.Store conn.new) why) }
-    ensures same { HasCleanDisk (state S.Store conn.new)
-        → OnOk result (IsUnchanged (state S.Store conn.old) (state S.Store conn.new)) }
-    ensures kept { HasCleanDisk (state S.Store conn.new)
-        → OnErr result (KeepsTables (state S.Store conn.old) (state S.Store conn.new)) }
-    ensures survives { Survives (state S.Store conn.old) (state S.Store conn.new) (λ _. ⊥) }
+        → FailsToRead S.Store conn.old result conn.new }
 {
     let rows = conn.query_all(T::read(version), &[])?;
     typed_rows(alloc, &rows)
@@ -54,25 +47,17 @@ pub fn read_table<T: TableRow, S: Alter>(
 pub const READ_MEETINGS: &str =
     "SELECT p.round, p.tab, p.done, l.no, l.points, l.rounds, l.gamepoints, l.games, h.no, h.points, h.rounds, h.gamepoints, h.games FROM pairing AS p LEFT JOIN tally AS l ON l.no = p.lo LEFT JOIN tally AS h ON h.no = p.hi WHERE p.lo > 0 ORDER BY p.round, p.tab";
 
-/// The matches of two players by round and table, with the totals of the two, read one row at a time. A crash in it leaves what it could leave before.
+/// The matches of two players by round and table, with the totals of the two, read one row at a time. A crash in it leaves what it could
+/// leave before.
 pub fn read_meetings<S: Alter>(
     alloc: Global,
     conn: &mut Connection<S>,
 ) -> Result<Vec<MeetingRow>, Error>
-    ensures clean { HasCleanDisk (state S.Store conn.new) → HasCleanDisk (state S.Store conn.old) }
-    ensures mode { conn.old.in_transaction ≡ false → conn.new.in_transaction ≡ false }
-    ensures exact { HasCleanDisk (state S.Store conn.new) → (e : EventValue) (s : ℕ)
-        → Represents (state S.Store conn.old).now e s → IsSoundButForSeeds e
-        → IfOk result (λ rows. rows.items ≡ meeting_rows e) }
-    ensures refused { HasCleanDisk (state S.Store conn.new) → (e : EventValue) (s : ℕ)
-        → Represents (state S.Store conn.old).now e s → IsSoundButForSeeds e
-        → IfErr result (λ why. (why ≡ out_of_memory)
-        ⊎ IsReadRefused (state S.Store conn.old) (state S.Store conn.new) why) }
-    ensures same { HasCleanDisk (state S.Store conn.new)
-        → OnOk result (IsUnchanged (state S.Store conn.old) (state S.Store conn.new)) }
-    ensures kept { HasCleanDisk (state S.Store conn.new)
-        → OnErr result (KeepsTables (state S.Store conn.old) (state S.Store conn.new)) }
-    ensures survives { Survives (state S.Store conn.old) (state S.Store conn.new) (λ _. ⊥) }
+    ensures looks { OnlyLooks S.Store conn.old result conn.new }
+    ensures exact { FindsBy S.Store Represents
+        (λ e s read. IfOk read (λ rows. rows.items ≡ meeting_rows e)) conn.old result conn.new }
+    ensures refused { FindsBy S.Store Represents
+        (λ e s read. FailsToRead S.Store conn.old read conn.new) conn.old result conn.new }
 {
     let mut meetings = Vec::new(alloc);
     let mut rows = conn.query(READ_MEETINGS, &[])?;
@@ -95,7 +80,8 @@ fn slip_text(version: u8) -> &'static str
     if version == 2 { READ_SLIP2 } else { READ_SLIP }
 }
 
-/// The match of a round and a table with the names of its players, in tables of this version. A crash in it leaves what it could leave before.
+/// The match of a round and a table with the names of its players, in tables of this version. A crash in it leaves what it could leave
+/// before.
 pub fn read_slip<S: Alter>(
     alloc: Global,
     conn: &mut Connection<S>,
@@ -103,20 +89,12 @@ pub fn read_slip<S: Alter>(
     round: u32,
     table: u32,
 ) -> Result<Vec<NamedPairing>, Error>
-    ensures clean { HasCleanDisk (state S.Store conn.new) → HasCleanDisk (state S.Store conn.old) }
-    ensures mode { conn.old.in_transaction ≡ false → conn.new.in_transaction ≡ false }
-    ensures exact { HasCleanDisk (state S.Store conn.new) → (e : EventValue) (s : ℕ)
-        → RepresentsIn version (state S.Store conn.old).now e s → IsSoundButForSeeds e
-        → IfOk result (λ rows. rows.items ≡ named_pairings e round table) }
-    ensures refused { HasCleanDisk (state S.Store conn.new) → (e : EventValue) (s : ℕ)
-        → RepresentsIn version (state S.Store conn.old).now e s → IsSoundButForSeeds e
-        → IfErr result (λ why. (why ≡ out_of_memory)
-        ⊎ IsReadRefused (state S.Store conn.old) (state S.Store conn.new) why) }
-    ensures same { HasCleanDisk (state S.Store conn.new)
-        → OnOk result (IsUnchanged (state S.Store conn.old) (state S.Store conn.new)) }
-    ensures kept { HasCleanDisk (state S.Store conn.new)
-        → OnErr result (KeepsTables (state S.Store conn.old) (state S.Store conn.new)) }
-    ensures survives { Survives (state S.Store conn.old) (state S.Store conn.new) (λ _. ⊥) }
+    ensures looks { OnlyLooks S.Store conn.old result conn.new }
+    ensures exact { FindsBy S.Store (RepresentsIn version)
+        (λ e s read. IfOk read (λ rows. rows.items ≡ named_pairings e round table))
+        conn.old result conn.new }
+    ensures refused { FindsBy S.Store (RepresentsIn version)
+        (λ e s read. FailsToRead S.Store conn.old read conn.new) conn.old result conn.new }
 {
     let rows = conn.query_all(slip_text(version), params![round, table])?;
     typed_rows(alloc, &rows)

@@ -1,13 +1,11 @@
-ghost use Rattle.std.specs.Prelude.{◌≡◌, ◌⊎◌, ℕ, Some, None, [], ◌∷◌, false, IfSome, IfOk, IfErr, OnErr, MatchResult};
-ghost use Rattle.sqlite.specs.State.{HasCleanDisk, Survives, IsUnchanged};
+ghost use Rattle.std.specs.Prelude.{◌≡◌, ◌⊎◌, Some, None, [], IfSome, IfOk, IfErr};
+ghost use Rattle.sqlite.specs.State.{HasCleanDisk, IsUnchanged};
 ghost use Rattle.sqlite.specs.Held.{state};
 ghost use Rattle.er_event.specs.declared.slips.SlipRow.{SlipRow};
-ghost use Rattle.er_event.specs.Event.{EventValue};
 ghost use Rattle.er_event.specs.Slip.{slip_of};
-ghost use Rattle.er_event.specs.Sound.{IsSoundButForSeeds};
-ghost use Rattle.er_store.specs.Fault.{IsFault, IsReadFault};
-ghost use Rattle.er_store.specs.Reading.{KeepsTables};
-ghost use Rattle.er_store.specs.Slip.{Side, number_in, name_in, named_pairing, IsPlayer, IsLawful};
+ghost use Rattle.er_store.specs.Fault.{IsReadFault};
+ghost use Rattle.er_store.specs.Slip.{Side, number_in, name_in, named_pairing, IsPlayer, IsLawful, FindsSlipOrFails};
+ghost use Rattle.er_store.specs.inside.Looking.{OnlyLooks, FindsBy};
 ghost use Rattle.er_store.specs.Representing.{RepresentsIn};
 
 use crate::faults::{BAD_ROW, refusal_of};
@@ -66,22 +64,15 @@ pub fn find_slip<S: Alter>(
     round: u8,
     table: u16,
 ) -> Result<SlipRow, Refusal>
-    ensures clean { HasCleanDisk (state S.Store conn.new) → HasCleanDisk (state S.Store conn.old) }
-    ensures mode { conn.old.in_transaction ≡ false → conn.new.in_transaction ≡ false }
-    ensures found { HasCleanDisk (state S.Store conn.new) → (e : EventValue) (s : ℕ)
-        → RepresentsIn version (state S.Store conn.old).now e s → IsSoundButForSeeds e
-        → MatchResult result (λ row. slip_of e round table ≡ Some row) (λ why. IsFault why
-        ⊎ ((why ≡ Refusal.NoSuchMatch) × (slip_of e round table ≡ None))) }
+    ensures looks { OnlyLooks S.Store conn.old result conn.new }
+    ensures found { FindsBy S.Store (RepresentsIn version) (λ e s. FindsSlipOrFails e round table)
+        conn.old result conn.new }
     ensures allowed { IfOk result (λ slip. (slip.round ≡ round) × (slip.table ≡ table)
         × IsLawful slip) }
     ensures fault { IfErr result (λ why. (why ≡ Refusal.NoSuchMatch) ⊎ IsReadFault why) }
-    ensures same { HasCleanDisk (state S.Store conn.new)
-        → MatchResult result (λ _. IsUnchanged (state S.Store conn.old) (state S.Store conn.new))
-        (λ why. why ≡ Refusal.NoSuchMatch
+    ensures missed { HasCleanDisk (state S.Store conn.new) → IfErr result (λ why. why
+        ≡ Refusal.NoSuchMatch
         → IsUnchanged (state S.Store conn.old) (state S.Store conn.new)) }
-    ensures kept { HasCleanDisk (state S.Store conn.new)
-        → OnErr result (KeepsTables (state S.Store conn.old) (state S.Store conn.new)) }
-    ensures survives { Survives (state S.Store conn.old) (state S.Store conn.new) (λ _. ⊥) }
 {
     let rows = match read_slip(alloc, conn, version, u32::from(round), u32::from(table)) {
         Ok(rows) => rows,

@@ -1,24 +1,21 @@
-ghost use Rattle.std.specs.Prelude.{◌≡◌, ◌≤◌, ◌+◌, ◌++◌, ◌∷◌, [], ℕ, List, Some, OnOk, Contains, IsTrue, IsFalse, length};
-ghost use Rattle.std.specs.List.{range_with_len};
-ghost use Rattle.sqlite.specs.State.{HasCleanDisk};
+ghost use Rattle.std.specs.Prelude.{◌≡◌, ◌≤◌, ◌+◌, ◌++◌, ◌∷◌, [], ℕ, List, Some, IsFalse, length};
 ghost use Rattle.sqlite.specs.Values.{bound};
-ghost use Rattle.sqlite.specs.Held.{state};
 ghost use Rattle.er_event.specs.declared.commands.TheConstants.{MAX_SERIAL};
 ghost use Rattle.er_event.specs.declared.rows.tally.TallyRow.{TallyRow};
 ghost use Rattle.er_event.specs.Event.{EventValue};
-ghost use Rattle.er_event.specs.Sound.{numbers};
 ghost use Rattle.er_event.specs.Round.{is_bye, match_at};
 ghost use Rattle.er_event.specs.Bracket.{slot_at};
 ghost use Rattle.er_event.specs.Change.{with_phase, with_dropped, with_round, with_score, with_stage, with_slot_score};
 ghost use Rattle.er_store.specs.Rows.{stored_player, stored_player2, stored_event};
-ghost use Rattle.er_event.specs.Rows.{phase_code, pairing_row, bracket_row, tally_row, tally_rows_by};
+ghost use Rattle.er_event.specs.Rows.{pairing_row, bracket_row, tally_row, tally_rows_by};
 ghost use Rattle.er_store.specs.inside.Totals.{set_for};
 ghost use Rattle.er_event.specs.declared.totals.Totals.{Totals};
 ghost use Rattle.er_event.specs.declared.matches.Match.{Match};
 ghost use Rattle.er_store.specs.Tables as ours;
 ghost use Rattle.er_store.specs.Representing.{HasTablesAt, RepresentsWith};
 ghost use Rattle.er_store.specs.Layout.{Layout, Old, version_of, players_tree};
-ghost use Rattle.er_store.specs.inside.Steps.{Ran, Stays, Puts, BringsToWith};
+ghost use Rattle.er_store.specs.inside.Steps.{Ran, Puts, BringsToWith};
+ghost use Rattle.er_store.specs.inside.Within.{shown, Lends, Achieves, Brings, Counts, Inside, HasPlayer};
 ghost use Rattle.er_store.specs.inside.Making.{IsFound};
 
 use er_event::{BracketRow, Event, Games, PairingRow, Phase, Score, TallyRow};
@@ -31,11 +28,8 @@ pub fn run<S: Alter>(
     sql: &str,
     params: &[ValueRef<'_>],
 ) -> Result<(), Error>
-    ensures same_reference { tx.new.conn.ghost_name ≡ tx.old.conn.ghost_name }
-    ensures ran { HasCleanDisk (state S.Store tx.new.conn.now)
-        → OnOk result (Ran sql.now (bound params.now) (state S.Store tx.old.conn.now)
-        (state S.Store tx.new.conn.now)) }
-    ensures stays { Stays (state S.Store tx.old.conn.now) (state S.Store tx.new.conn.now) }
+    ensures lends { Lends S.Store tx.old tx.new }
+    ensures ran { Achieves S.Store (Ran sql.now (bound params.now)) tx.old result tx.new }
 {
     tx.execute(sql, params)?;
     Ok(())
@@ -50,12 +44,10 @@ pub fn insert_player<S: Alter>(
     name: &str,
     dropped: bool,
 ) -> Result<(), Error>
-    ensures same_reference { tx.new.conn.ghost_name ≡ tx.old.conn.ghost_name }
-    ensures puts { HasCleanDisk (state S.Store tx.new.conn.now) → (at tree : ℕ)
-        → IsFound (state S.Store tx.old.conn.now).now.schema at (ours.player tree)
-        → OnOk result (Puts tree (stored_player number name.now dropped)
-        (state S.Store tx.old.conn.now) (state S.Store tx.new.conn.now)) }
-    ensures stays { Stays (state S.Store tx.old.conn.now) (state S.Store tx.new.conn.now) }
+    ensures lends { Lends S.Store tx.old tx.new }
+    ensures puts { (at tree : ℕ)
+        → IsFound (shown S.Store tx.old).now.schema at (ours.player tree)
+        → Achieves S.Store (Puts tree (stored_player number name.now dropped)) tx.old result tx.new }
 {
     run(tx, INSERT_PLAYER, params![number, name, dropped])
 }
@@ -71,12 +63,10 @@ pub fn insert_player2<S: Alter>(
     dropped: bool,
     joined: u32,
 ) -> Result<(), Error>
-    ensures same_reference { tx.new.conn.ghost_name ≡ tx.old.conn.ghost_name }
-    ensures puts { HasCleanDisk (state S.Store tx.new.conn.now) → (l : Layout)
-        → version_of l ≡ 2 → HasTablesAt l (state S.Store tx.old.conn.now).now.schema
-        → OnOk result (Puts (players_tree l) (stored_player2 number name.now dropped joined)
-        (state S.Store tx.old.conn.now) (state S.Store tx.new.conn.now)) }
-    ensures stays { Stays (state S.Store tx.old.conn.now) (state S.Store tx.new.conn.now) }
+    ensures lends { Lends S.Store tx.old tx.new }
+    ensures puts { (l : Layout) → version_of l ≡ 2 → HasTablesAt l (shown S.Store tx.old).now.schema
+        → Achieves S.Store (Puts (players_tree l) (stored_player2 number name.now dropped joined))
+        tx.old result tx.new }
 {
     run(tx, INSERT_PLAYER2, params![number, name, dropped, joined])
 }
@@ -91,14 +81,11 @@ pub fn insert_event<S: Alter>(
     event: &Event,
     serial: u32,
 ) -> Result<(), Error>
-    ensures same_reference { tx.new.conn.ghost_name ≡ tx.old.conn.ghost_name }
-    ensures puts { HasCleanDisk (state S.Store tx.new.conn.now) → (at tree : ℕ)
-        → IsFound (state S.Store tx.old.conn.now).now.schema at (ours.event tree)
-        → OnOk result (Puts tree (stored_event version event.now serial)
-        (state S.Store tx.old.conn.now) (state S.Store tx.new.conn.now)) }
-    ensures inside { HasCleanDisk (state S.Store tx.new.conn.now)
-        → OnOk result (IsTrue (state S.Store tx.new.conn.now).in_transaction) }
-    ensures stays { Stays (state S.Store tx.old.conn.now) (state S.Store tx.new.conn.now) }
+    ensures lends { Lends S.Store tx.old tx.new }
+    ensures puts { (at tree : ℕ)
+        → IsFound (shown S.Store tx.old).now.schema at (ours.event tree)
+        → Achieves S.Store (Puts tree (stored_event version event.now serial)) tx.old result tx.new }
+    ensures inside { Achieves S.Store Inside tx.old result tx.new }
 {
     let version = u32::from(version);
     let rounds = u32::from(event.rounds());
@@ -116,15 +103,11 @@ pub const SET_SERIAL: &str = "UPDATE event SET serial = ?1";
 /// Sets the serial of the event's row.
 pub fn set_serial<S: Alter>(tx: &mut Transaction<'_, S>, serial: u32) -> Result<(), Error>
     requires { serial ≤ MAX_SERIAL }
-    ensures same_reference { tx.new.conn.ghost_name ≡ tx.old.conn.ghost_name }
-    ensures makes { HasCleanDisk (state S.Store tx.new.conn.now)
-        → (l : Layout) (e : EventValue) (s : ℕ) (t : List TallyRow)
-        → RepresentsWith l (state S.Store tx.old.conn.now).now e s t
-        → OnOk result (BringsToWith l (state S.Store tx.old.conn.now)
-        (state S.Store tx.new.conn.now) e serial t) }
-    ensures inside { HasCleanDisk (state S.Store tx.new.conn.now)
-        → OnOk result (IsTrue (state S.Store tx.new.conn.now).in_transaction) }
-    ensures stays { Stays (state S.Store tx.old.conn.now) (state S.Store tx.new.conn.now) }
+    ensures lends { Lends S.Store tx.old tx.new }
+    ensures makes { (l : Layout) (e : EventValue) (s : ℕ) (t : List TallyRow)
+        → RepresentsWith l (shown S.Store tx.old).now e s t
+        → Achieves S.Store (λ a b. BringsToWith l a b e serial t) tx.old result tx.new }
+    ensures inside { Achieves S.Store Inside tx.old result tx.new }
 {
     run(tx, SET_SERIAL, params![serial])
 }
@@ -133,13 +116,9 @@ pub const SET_PHASE: &str = "UPDATE event SET phase = ?1";
 
 /// Sets the phase of the event's row.
 pub fn set_phase<S: Alter>(tx: &mut Transaction<'_, S>, phase: Phase) -> Result<(), Error>
-    ensures same_reference { tx.new.conn.ghost_name ≡ tx.old.conn.ghost_name }
-    ensures makes { HasCleanDisk (state S.Store tx.new.conn.now)
-        → (l : Layout) (e : EventValue) (s : ℕ) (t : List TallyRow)
-        → RepresentsWith l (state S.Store tx.old.conn.now).now e s t
-        → OnOk result (BringsToWith l (state S.Store tx.old.conn.now)
-        (state S.Store tx.new.conn.now) (with_phase e phase) s t) }
-    ensures stays { Stays (state S.Store tx.old.conn.now) (state S.Store tx.new.conn.now) }
+    ensures lends { Lends S.Store tx.old tx.new }
+    ensures makes { (l : Layout) (e : EventValue)
+        → Brings S.Store l e (with_phase e phase) tx.old result tx.new }
 {
     run(tx, SET_PHASE, params![u32::from(phase.code())])
 }
@@ -148,15 +127,9 @@ pub const SET_DROPPED: &str = "UPDATE player SET dropped = 1 WHERE no = ?1";
 
 /// Drops the player of this number in the table of version 1.
 pub fn set_dropped<S: Alter>(tx: &mut Transaction<'_, S>, number: u32) -> Result<(), Error>
-    ensures same_reference { tx.new.conn.ghost_name ≡ tx.old.conn.ghost_name }
-    ensures makes { HasCleanDisk (state S.Store tx.new.conn.now)
-        → (e : EventValue) (s : ℕ) (t : List TallyRow)
-        → RepresentsWith Old (state S.Store tx.old.conn.now).now e s t
-        → numbers e.players ≡ range_with_len 1 (length e.players)
-        → Contains (numbers e.players) number
-        → OnOk result (BringsToWith Old (state S.Store tx.old.conn.now)
-        (state S.Store tx.new.conn.now) (with_dropped e number) s t) }
-    ensures stays { Stays (state S.Store tx.old.conn.now) (state S.Store tx.new.conn.now) }
+    ensures lends { Lends S.Store tx.old tx.new }
+    ensures makes { (e : EventValue) → HasPlayer e number
+        → Brings S.Store Old e (with_dropped e number) tx.old result tx.new }
 {
     run(tx, SET_DROPPED, params![number])
 }
@@ -165,15 +138,9 @@ pub const SET_DROPPED2: &str = "UPDATE player2 SET dropped = 1 WHERE no = ?1";
 
 /// Drops the player of this number in the table of version 2.
 pub fn set_dropped2<S: Alter>(tx: &mut Transaction<'_, S>, number: u32) -> Result<(), Error>
-    ensures same_reference { tx.new.conn.ghost_name ≡ tx.old.conn.ghost_name }
-    ensures makes { HasCleanDisk (state S.Store tx.new.conn.now)
-        → (l : Layout) → version_of l ≡ 2 → (e : EventValue) (s : ℕ) (t : List TallyRow)
-        → RepresentsWith l (state S.Store tx.old.conn.now).now e s t
-        → numbers e.players ≡ range_with_len 1 (length e.players)
-        → Contains (numbers e.players) number
-        → OnOk result (BringsToWith l (state S.Store tx.old.conn.now)
-        (state S.Store tx.new.conn.now) (with_dropped e number) s t) }
-    ensures stays { Stays (state S.Store tx.old.conn.now) (state S.Store tx.new.conn.now) }
+    ensures lends { Lends S.Store tx.old tx.new }
+    ensures makes { (l : Layout) (e : EventValue) → version_of l ≡ 2 → HasPlayer e number
+        → Brings S.Store l e (with_dropped e number) tx.old result tx.new }
 {
     run(tx, SET_DROPPED2, params![number])
 }
@@ -188,14 +155,10 @@ pub fn set_score<S: Alter>(
     table: u32,
     score: Score,
 ) -> Result<(), Error>
-    ensures same_reference { tx.new.conn.ghost_name ≡ tx.old.conn.ghost_name }
-    ensures makes { HasCleanDisk (state S.Store tx.new.conn.now)
-        → (l : Layout) (e : EventValue) (s : ℕ) (t : List TallyRow)
-        → RepresentsWith l (state S.Store tx.old.conn.now).now e s t → (m : Match)
-        → match_at e round table ≡ Some m → IsFalse (is_bye m)
-        → OnOk result (BringsToWith l (state S.Store tx.old.conn.now)
-        (state S.Store tx.new.conn.now) (with_score e round table score) s t) }
-    ensures stays { Stays (state S.Store tx.old.conn.now) (state S.Store tx.new.conn.now) }
+    ensures lends { Lends S.Store tx.old tx.new }
+    ensures makes { (l : Layout) (e : EventValue) (m : Match) → match_at e round table ≡ Some m
+        → IsFalse (is_bye m)
+        → Brings S.Store l e (with_score e round table score) tx.old result tx.new }
 {
     let Games { x, y, d } = score.games();
     run(
@@ -210,15 +173,11 @@ pub const INSERT_PAIRING: &str =
 
 /// Inserts the row of the next match of a round that is being stored.
 pub fn insert_pairing<S: Alter>(tx: &mut Transaction<'_, S>, row: &PairingRow) -> Result<(), Error>
-    ensures same_reference { tx.new.conn.ghost_name ≡ tx.old.conn.ghost_name }
-    ensures makes { HasCleanDisk (state S.Store tx.new.conn.now)
-        → (l : Layout) (e : EventValue) (before : List Match) (m : Match) (s : ℕ)
-        (t : List TallyRow)
-        → RepresentsWith l (state S.Store tx.old.conn.now).now (with_round e before) s t
+    ensures lends { Lends S.Store tx.old tx.new }
+    ensures makes { (l : Layout) (e : EventValue) (before : List Match) (m : Match)
         → row.now ≡ pairing_row (length e.stored + 1) (length before + 1, m)
-        → OnOk result (BringsToWith l (state S.Store tx.old.conn.now)
-        (state S.Store tx.new.conn.now) (with_round e (before ++ m ∷ [])) s t) }
-    ensures stays { Stays (state S.Store tx.old.conn.now) (state S.Store tx.new.conn.now) }
+        → Brings S.Store l (with_round e before) (with_round e (before ++ m ∷ []))
+        tx.old result tx.new }
 {
     run(
         tx,
@@ -242,15 +201,11 @@ pub const INSERT_SLOT: &str =
 
 /// Inserts the row of the next match of a stage that is being stored.
 pub fn insert_slot<S: Alter>(tx: &mut Transaction<'_, S>, row: &BracketRow) -> Result<(), Error>
-    ensures same_reference { tx.new.conn.ghost_name ≡ tx.old.conn.ghost_name }
-    ensures makes { HasCleanDisk (state S.Store tx.new.conn.now)
-        → (l : Layout) (e : EventValue) (before : List Match) (m : Match) (s : ℕ)
-        (t : List TallyRow)
-        → RepresentsWith l (state S.Store tx.old.conn.now).now (with_stage e before) s t
+    ensures lends { Lends S.Store tx.old tx.new }
+    ensures makes { (l : Layout) (e : EventValue) (before : List Match) (m : Match)
         → row.now ≡ bracket_row (length e.bracket.stages + 1) (length before + 1, m)
-        → OnOk result (BringsToWith l (state S.Store tx.old.conn.now)
-        (state S.Store tx.new.conn.now) (with_stage e (before ++ m ∷ [])) s t) }
-    ensures stays { Stays (state S.Store tx.old.conn.now) (state S.Store tx.new.conn.now) }
+        → Brings S.Store l (with_stage e before) (with_stage e (before ++ m ∷ []))
+        tx.old result tx.new }
 {
     run(
         tx,
@@ -271,14 +226,9 @@ pub fn set_slot_score<S: Alter>(
     slot: u32,
     score: Score,
 ) -> Result<(), Error>
-    ensures same_reference { tx.new.conn.ghost_name ≡ tx.old.conn.ghost_name }
-    ensures makes { HasCleanDisk (state S.Store tx.new.conn.now)
-        → (l : Layout) (e : EventValue) (s : ℕ) (t : List TallyRow)
-        → RepresentsWith l (state S.Store tx.old.conn.now).now e s t → (m : Match)
-        → slot_at e stage slot ≡ Some m
-        → OnOk result (BringsToWith l (state S.Store tx.old.conn.now)
-        (state S.Store tx.new.conn.now) (with_slot_score e stage slot score) s t) }
-    ensures stays { Stays (state S.Store tx.old.conn.now) (state S.Store tx.new.conn.now) }
+    ensures lends { Lends S.Store tx.old tx.new }
+    ensures makes { (l : Layout) (e : EventValue) (m : Match) → slot_at e stage slot ≡ Some m
+        → Brings S.Store l e (with_slot_score e stage slot score) tx.old result tx.new }
 {
     let Games { x, y, d } = score.games();
     run(
@@ -293,13 +243,9 @@ pub const INSERT_TALLY: &str =
 
 /// Inserts the row of a player's totals.
 pub fn insert_tally<S: Alter>(tx: &mut Transaction<'_, S>, row: &TallyRow) -> Result<(), Error>
-    ensures same_reference { tx.new.conn.ghost_name ≡ tx.old.conn.ghost_name }
-    ensures makes { HasCleanDisk (state S.Store tx.new.conn.now)
-        → (l : Layout) (e : EventValue) (s : ℕ) (t : List TallyRow)
-        → RepresentsWith l (state S.Store tx.old.conn.now).now e s t
-        → OnOk result (BringsToWith l (state S.Store tx.old.conn.now)
-        (state S.Store tx.new.conn.now) e s (t ++ row.now ∷ [])) }
-    ensures stays { Stays (state S.Store tx.old.conn.now) (state S.Store tx.new.conn.now) }
+    ensures lends { Lends S.Store tx.old tx.new }
+    ensures makes { (l : Layout) (e : EventValue) (t : List TallyRow)
+        → Counts S.Store l e t (t ++ row.now ∷ []) tx.old result tx.new }
 {
     run(
         tx,
@@ -319,18 +265,11 @@ pub const SET_TALLY: &str =
 
 /// Sets the totals of the player whose row this is.
 pub fn set_tally<S: Alter>(tx: &mut Transaction<'_, S>, row: &TallyRow) -> Result<(), Error>
-    ensures same_reference { tx.new.conn.ghost_name ≡ tx.old.conn.ghost_name }
-    ensures makes { HasCleanDisk (state S.Store tx.new.conn.now)
-        → (l : Layout) (e : EventValue) (s : ℕ) (come_to : ℕ → Totals) (number : ℕ)
-        (totals : Totals)
-        → RepresentsWith l (state S.Store tx.old.conn.now).now e s (tally_rows_by come_to e.players)
-        → row.now ≡ tally_row number totals
-        → numbers e.players ≡ range_with_len 1 (length e.players)
-        → Contains (numbers e.players) number
-        → OnOk result (BringsToWith l (state S.Store tx.old.conn.now)
-        (state S.Store tx.new.conn.now) e s
-        (tally_rows_by (set_for number totals come_to) e.players)) }
-    ensures stays { Stays (state S.Store tx.old.conn.now) (state S.Store tx.new.conn.now) }
+    ensures lends { Lends S.Store tx.old tx.new }
+    ensures makes { (l : Layout) (e : EventValue) (come_to : ℕ → Totals) (number : ℕ) (now : Totals)
+        → row.now ≡ tally_row number now → HasPlayer e number
+        → Counts S.Store l e (tally_rows_by come_to e.players)
+        (tally_rows_by (set_for number now come_to) e.players) tx.old result tx.new }
 {
     run(
         tx,

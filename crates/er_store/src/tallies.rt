@@ -1,6 +1,4 @@
-ghost use Rattle.std.specs.Prelude.{◌≡◌, ◌≤◌, ℕ, min, max, Bool, Option, Some, List, map, IfSome, IfOk, IfErr, OnOk, OnErr, MatchResult, false};
-ghost use Rattle.sqlite.specs.State.{HasCleanDisk, Survives, IsUnchanged};
-ghost use Rattle.sqlite.specs.Held.{state};
+ghost use Rattle.std.specs.Prelude.{◌≡◌, ◌≤◌, min, max, Option, Some, map, IfSome, IfOk, IfErr, MatchResult};
 ghost use Rattle.er_event.specs.declared.players.Player.{Player};
 ghost use Rattle.er_event.specs.declared.players.TheConstants.{MAX_PLAYERS};
 ghost use Rattle.er_event.specs.declared.matches.Match.{Match};
@@ -10,9 +8,9 @@ ghost use Rattle.er_event.specs.Rows.{flag, player_row, player_rows, tally_row, 
 ghost use Rattle.er_event.specs.Sound.{IsSoundButForSeeds};
 ghost use Rattle.er_event.specs.Tallies.{tally_by, tallies, meeting_by, meetings};
 ghost use Rattle.er_event.specs.Totals.{totals};
-ghost use Rattle.er_store.specs.Fault.{IsFault, IsReadFault, IsListFault};
+ghost use Rattle.er_store.specs.Fault.{IsReadFault, IsListFault};
 ghost use Rattle.er_store.specs.inside.Meetings.{meeting_rows, open_round, is_outside, counted_rows, sides_in, sides_of};
-ghost use Rattle.er_store.specs.Reading.{KeepsTables};
+ghost use Rattle.er_store.specs.{Calls.OrFails, inside.Looking.{OnlyLooks, FindsBy}};
 ghost use Rattle.er_store.specs.Representing.{Represents, RepresentsIn};
 
 use crate::faults::{BAD_ROW, refusal_of};
@@ -129,17 +127,10 @@ pub fn find_tallies<S: Alter>(
     conn: &mut Connection<S>,
     version: u8,
 ) -> Result<Vec<Tally>, Refusal>
-    ensures clean { HasCleanDisk (state S.Store conn.new) → HasCleanDisk (state S.Store conn.old) }
-    ensures mode { conn.old.in_transaction ≡ false → conn.new.in_transaction ≡ false }
-    ensures found { HasCleanDisk (state S.Store conn.new) → (e : EventValue) (s : ℕ)
-        → RepresentsIn version (state S.Store conn.old).now e s → IsSoundButForSeeds e
-        → MatchResult result (λ list. list.items ≡ tallies e) IsFault }
+    ensures looks { OnlyLooks S.Store conn.old result conn.new }
+    ensures found { FindsBy S.Store (RepresentsIn version)
+        (λ e s. OrFails (λ list. list.items ≡ tallies e)) conn.old result conn.new }
     ensures fault { IfErr result IsReadFault }
-    ensures same { HasCleanDisk (state S.Store conn.new)
-        → OnOk result (IsUnchanged (state S.Store conn.old) (state S.Store conn.new)) }
-    ensures kept { HasCleanDisk (state S.Store conn.new)
-        → OnErr result (KeepsTables (state S.Store conn.old) (state S.Store conn.new)) }
-    ensures survives { Survives (state S.Store conn.old) (state S.Store conn.new) (λ _. ⊥) }
 {
     let players = match read_table::<PlayerRow, S>(alloc, conn, version) {
         Ok(players) => players,
@@ -157,17 +148,10 @@ pub fn find_meetings<S: Alter>(
     alloc: Global,
     conn: &mut Connection<S>,
 ) -> Result<Vec<Meeting>, Refusal>
-    ensures clean { HasCleanDisk (state S.Store conn.new) → HasCleanDisk (state S.Store conn.old) }
-    ensures mode { conn.old.in_transaction ≡ false → conn.new.in_transaction ≡ false }
-    ensures found { HasCleanDisk (state S.Store conn.new) → (e : EventValue) (s : ℕ)
-        → Represents (state S.Store conn.old).now e s → IsSoundButForSeeds e
-        → MatchResult result (λ list. list.items ≡ meetings e) IsFault }
+    ensures looks { OnlyLooks S.Store conn.old result conn.new }
+    ensures found { FindsBy S.Store Represents (λ e s. OrFails (λ list. list.items ≡ meetings e))
+        conn.old result conn.new }
     ensures fault { IfErr result IsReadFault }
-    ensures same { HasCleanDisk (state S.Store conn.new)
-        → OnOk result (IsUnchanged (state S.Store conn.old) (state S.Store conn.new)) }
-    ensures kept { HasCleanDisk (state S.Store conn.new)
-        → OnErr result (KeepsTables (state S.Store conn.old) (state S.Store conn.new)) }
-    ensures survives { Survives (state S.Store conn.old) (state S.Store conn.new) (λ _. ⊥) }
 {
     match read_meetings(alloc, conn) {
         Ok(rows) => meetings_of(alloc, rows.as_slice()),

@@ -1,9 +1,8 @@
-ghost use Rattle.std.specs.Prelude.{◌≡◌, ◌+◌, ◌<◌, ◌≤◌, length, false, ℕ, List, [], ◌∷◌, ◌++◌, Contains, Some, option_map, OnOk, OnErr, IfOk, IsOk, IfSome, ◌↔◌, IsTrue, IsFalse};
-ghost use Rattle.std.specs.List.{range_with_len};
-ghost use Rattle.sqlite.specs.State.{HasCleanDisk, Survives, IsUnchanged};
+ghost use Rattle.std.specs.Prelude.{◌≡◌, ◌+◌, ◌<◌, length, false, ℕ, List, [], ◌∷◌, ◌++◌, Some, option_map, OnOk, IfOk, IsOk, IfSome, ◌↔◌};
+ghost use Rattle.std.specs.Prelude.{IsTrue, IsFalse};
+ghost use Rattle.sqlite.specs.State.{HasCleanDisk};
 ghost use Rattle.sqlite.specs.Held.{state};
 ghost use Rattle.sqlite.specs.Listing.{understood};
-ghost use Rattle.sqlite.specs.Tree.{Trees};
 ghost use Rattle.er_event.specs.declared.commands.TheConstants.{MAX_SERIAL};
 ghost use Rattle.er_event.specs.declared.rows.tally.TallyRow.{TallyRow};
 ghost use Rattle.er_event.specs.Event.{EventValue};
@@ -21,11 +20,12 @@ ghost use Rattle.er_event.specs.declared.matches.Match.{Match};
 ghost use Rattle.er_store.specs.inside.Steps.{IsStage};
 ghost use Rattle.er_store.specs.Tables.{no_schema, tally_schema};
 ghost use Rattle.er_store.specs.Layout.{Layout, version_of};
-ghost use Rattle.er_store.specs.Representing.{RepresentsAt, RepresentsWith, IsStored, IsStoredIn, IsNew, Shows, Leaves, Either, KeepsOthers, CanRead, ReadsEvent};
+ghost use Rattle.er_store.specs.Representing.{RepresentsAt, IsStoredIn, IsNew, Shows, Leaves, Either, KeepsOthers, CanRead, ReadsEvent};
 ghost use Rattle.er_store.specs.Beside.{ShowsBeside, IsStoredBeside};
 ghost use Rattle.er_store.specs.inside.Making.{IsReadyBeside};
-ghost use Rattle.er_store.specs.inside.Steps.{Stays, made_players, Moves, BringsTo, BringsToWith, IsReady};
-ghost use Rattle.er_store.specs.Reading.{KeepsTables};
+ghost use Rattle.er_store.specs.inside.Steps.{made_players, Moves, BringsTo, IsReady};
+ghost use Rattle.er_store.specs.inside.Within.{shown, Lends, Achieves, Brings, Counts, Inside, HasPlayer};
+ghost use Rattle.er_store.specs.inside.Looking.{OnlyLooks, Transacts};
 
 use crate::creation::create_all;
 use crate::statements::{
@@ -47,13 +47,9 @@ fn insert_round<S: Alter>(
     matches: &[Match],
 ) -> Result<(), Error>
     requires fits { Fits event.now (Change.AddRound matches.now) }
-    ensures same_reference { tx.new.conn.ghost_name ≡ tx.old.conn.ghost_name }
-    ensures makes { HasCleanDisk (state S.Store tx.new.conn.now)
-        → (l : Layout) (s : ℕ) (t : List TallyRow)
-        → RepresentsWith l (state S.Store tx.old.conn.now).now event.now s t
-        → OnOk result (BringsToWith l (state S.Store tx.old.conn.now)
-        (state S.Store tx.new.conn.now) (with_round event.now matches.now) s t) }
-    ensures stays { Stays (state S.Store tx.old.conn.now) (state S.Store tx.new.conn.now) }
+    ensures lends { Lends S.Store tx.old tx.new }
+    ensures makes { (l : Layout)
+        → Brings S.Store l event.now (with_round event.now matches.now) tx.old result tx.new }
 {
     let round = event.stored().len() as u8 + 1;
     for (place, played) in matches.iter().enumerate() {
@@ -70,14 +66,9 @@ fn insert_stage<S: Alter>(
     matches: &[Match],
 ) -> Result<(), Error>
     requires { IsStage matches.now }
-    ensures same_reference { tx.new.conn.ghost_name ≡ tx.old.conn.ghost_name }
-    ensures makes { HasCleanDisk (state S.Store tx.new.conn.now)
-        → (l : Layout) (e : EventValue) (s : ℕ) (t : List TallyRow)
-        → RepresentsWith l (state S.Store tx.old.conn.now).now e s t
-        → stage ≡ length e.bracket.stages + 1
-        → OnOk result (BringsToWith l (state S.Store tx.old.conn.now)
-        (state S.Store tx.new.conn.now) (with_stage e matches.now) s t) }
-    ensures stays { Stays (state S.Store tx.old.conn.now) (state S.Store tx.new.conn.now) }
+    ensures lends { Lends S.Store tx.old tx.new }
+    ensures makes { (l : Layout) (e : EventValue) → stage ≡ length e.bracket.stages + 1
+        → Brings S.Store l e (with_stage e matches.now) tx.old result tx.new }
 {
     for (place, played) in matches.iter().enumerate() {
         let row = BracketRow::of(stage, place + 1, played);
@@ -100,13 +91,9 @@ fn begin_playoff<S: Alter>(
     matches: &[Match],
 ) -> Result<(), Error>
     requires fits { Fits event.now (Change.AddBracket matches.now) }
-    ensures same_reference { tx.new.conn.ghost_name ≡ tx.old.conn.ghost_name }
-    ensures makes { HasCleanDisk (state S.Store tx.new.conn.now)
-        → (l : Layout) (s : ℕ) (t : List TallyRow)
-        → RepresentsWith l (state S.Store tx.old.conn.now).now event.now s t
-        → OnOk result (BringsToWith l (state S.Store tx.old.conn.now)
-        (state S.Store tx.new.conn.now) (with_bracket event.now matches.now) s t) }
-    ensures stays { Stays (state S.Store tx.old.conn.now) (state S.Store tx.new.conn.now) }
+    ensures lends { Lends S.Store tx.old tx.new }
+    ensures makes { (l : Layout)
+        → Brings S.Store l event.now (with_bracket event.now matches.now) tx.old result tx.new }
 {
     insert_stage(tx, next_number(event), matches)?;
     set_phase(tx, Phase::Playoff)
@@ -123,15 +110,10 @@ fn score_stages<S: Alter>(
 ) -> Result<(), Error>
     requires found { (m : Match) × (slot_at event.now stage slot ≡ Some m) }
     requires few { IfSome next (λ matches. IsStage matches.now) }
-    ensures same_reference { tx.new.conn.ghost_name ≡ tx.old.conn.ghost_name }
-    ensures makes { HasCleanDisk (state S.Store tx.new.conn.now)
-        → (l : Layout) (s : ℕ) (t : List TallyRow)
-        → RepresentsWith l (state S.Store tx.old.conn.now).now event.now s t
-        → OnOk result (BringsToWith l (state S.Store tx.old.conn.now)
-        (state S.Store tx.new.conn.now)
-        (with_bracket_score event.now stage slot score (option_map (λ m. m.now) next.entry) false) s
-        t) }
-    ensures stays { Stays (state S.Store tx.old.conn.now) (state S.Store tx.new.conn.now) }
+    ensures lends { Lends S.Store tx.old tx.new }
+    ensures makes { (l : Layout) → Brings S.Store l event.now
+        (with_bracket_score event.now stage slot score (option_map (λ m. m.now) next.entry) false)
+        tx.old result tx.new }
 {
     set_slot_score(tx, u32::from(stage), u32::from(slot), score)?;
     match next {
@@ -148,14 +130,10 @@ fn add_player<S: Alter>(
     name: &str,
     joined: u32,
 ) -> Result<(), Error>
-    ensures same_reference { tx.new.conn.ghost_name ≡ tx.old.conn.ghost_name }
-    ensures makes { HasCleanDisk (state S.Store tx.new.conn.now)
-        → (l : Layout) → version_of l ≡ version → (e : EventValue) (s : ℕ) (t : List TallyRow)
-        → RepresentsWith l (state S.Store tx.old.conn.now).now e s t
+    ensures lends { Lends S.Store tx.old tx.new }
+    ensures makes { (l : Layout) (e : EventValue) → version_of l ≡ version
         → number ≡ length e.players + 1 → joined ≡ length e.stored → (version ≡ 1 → joined ≡ 0)
-        → OnOk result (BringsToWith l (state S.Store tx.old.conn.now)
-        (state S.Store tx.new.conn.now) (with_player e name.now) s t) }
-    ensures stays { Stays (state S.Store tx.old.conn.now) (state S.Store tx.new.conn.now) }
+        → Brings S.Store l e (with_player e name.now) tx.old result tx.new }
 {
     if version == 1 {
         insert_player(tx, number, name, false)
@@ -166,15 +144,9 @@ fn add_player<S: Alter>(
 
 /// Drops the player of this number in the table of this version.
 fn drop_player<S: Alter>(tx: &mut Transaction<'_, S>, version: u8, number: u32) -> Result<(), Error>
-    ensures same_reference { tx.new.conn.ghost_name ≡ tx.old.conn.ghost_name }
-    ensures makes { HasCleanDisk (state S.Store tx.new.conn.now)
-        → (l : Layout) → version_of l ≡ version → (e : EventValue) (s : ℕ) (t : List TallyRow)
-        → RepresentsWith l (state S.Store tx.old.conn.now).now e s t
-        → numbers e.players ≡ range_with_len 1 (length e.players)
-        → Contains (numbers e.players) number
-        → OnOk result (BringsToWith l (state S.Store tx.old.conn.now)
-        (state S.Store tx.new.conn.now) (with_dropped e number) s t) }
-    ensures stays { Stays (state S.Store tx.old.conn.now) (state S.Store tx.new.conn.now) }
+    ensures lends { Lends S.Store tx.old tx.new }
+    ensures makes { (l : Layout) (e : EventValue) → version_of l ≡ version → HasPlayer e number
+        → Brings S.Store l e (with_dropped e number) tx.old result tx.new }
 {
     if version == 1 {
         set_dropped(tx, number)
@@ -192,13 +164,9 @@ fn change_rows<S: Alter>(
 ) -> Result<(), Error>
     requires fits { Fits event.now change.now }
     requires takes { CanTake version event.now change.now }
-    ensures same_reference { tx.new.conn.ghost_name ≡ tx.old.conn.ghost_name }
-    ensures makes { HasCleanDisk (state S.Store tx.new.conn.now)
-        → (l : Layout) → version_of l ≡ version → (s : ℕ) (t : List TallyRow)
-        → RepresentsWith l (state S.Store tx.old.conn.now).now event.now s t
-        → OnOk result (BringsToWith l (state S.Store tx.old.conn.now)
-        (state S.Store tx.new.conn.now) (after event.now change.now) s t) }
-    ensures stays { Stays (state S.Store tx.old.conn.now) (state S.Store tx.new.conn.now) }
+    ensures lends { Lends S.Store tx.old tx.new }
+    ensures makes { (l : Layout) → version_of l ≡ version
+        → Brings S.Store l event.now (after event.now change.now) tx.old result tx.new }
 {
     match change {
         Change::AddPlayer { name } => {
@@ -237,16 +205,10 @@ fn set_totals<S: Alter>(
     player: PlayerNo,
     now: Totals,
 ) -> Result<(), Error>
-    ensures same_reference { tx.new.conn.ghost_name ≡ tx.old.conn.ghost_name }
-    ensures makes { HasCleanDisk (state S.Store tx.new.conn.now)
-        → (l : Layout) (e : EventValue) (s : ℕ) (before : ℕ → Totals)
-        → RepresentsWith l (state S.Store tx.old.conn.now).now e s (tally_rows_by before e.players)
-        → numbers e.players ≡ range_with_len 1 (length e.players)
-        → Contains (numbers e.players) player
-        → OnOk result (BringsToWith l (state S.Store tx.old.conn.now)
-        (state S.Store tx.new.conn.now) e s
-        (tally_rows_by (set_for player now before) e.players)) }
-    ensures stays { Stays (state S.Store tx.old.conn.now) (state S.Store tx.new.conn.now) }
+    ensures lends { Lends S.Store tx.old tx.new }
+    ensures makes { (l : Layout) (e : EventValue) (before : ℕ → Totals) → HasPlayer e player
+        → Counts S.Store l e (tally_rows_by before e.players)
+        (tally_rows_by (set_for player now before) e.players) tx.old result tx.new }
 {
     let row = TallyRow::of(player, now);
     set_tally(tx, &row)
@@ -259,20 +221,15 @@ fn recount_one<S: Alter>(
     all: &AllTotals,
     player: &Player,
 ) -> Result<(), Error>
-    ensures same_reference { tx.new.conn.ghost_name ≡ tx.old.conn.ghost_name }
-    ensures makes { HasCleanDisk (state S.Store tx.new.conn.now)
-        → (l : Layout) (e : EventValue) (s : ℕ) (before : ℕ → Totals)
-        → numbers e.players ≡ range_with_len 1 (length e.players)
-        → Contains (numbers e.players) player.now.no
+    ensures lends { Lends S.Store tx.old tx.new }
+    ensures makes { (l : Layout) (e : EventValue) (before : ℕ → Totals)
+        → HasPlayer e player.now.no
         → (IsFalse (includes recount.now player.now)
         → before player.now.no ≡ gathered_of all.now player.now)
-        → Moves l (state S.Store tx.old.conn.now) (state S.Store tx.old.conn.now)
-        → RepresentsWith l (state S.Store tx.old.conn.now).now e s (tally_rows_by before e.players)
-        → OnOk result (BringsToWith l (state S.Store tx.old.conn.now)
-        (state S.Store tx.new.conn.now) e s
-        (tally_rows_by (set_for player.now.no (gathered_of all.now player.now) before)
-        e.players)) }
-    ensures stays { Stays (state S.Store tx.old.conn.now) (state S.Store tx.new.conn.now) }
+        → Moves l (shown S.Store tx.old) (shown S.Store tx.old)
+        → Counts S.Store l e (tally_rows_by before e.players)
+        (tally_rows_by (set_for player.now.no (gathered_of all.now player.now) before) e.players)
+        tx.old result tx.new }
 {
     if recount.includes(player) {
         set_totals(tx, player.no, all.of(player))?;
@@ -287,17 +244,11 @@ fn recount<S: Alter>(
     change: &Change,
 ) -> Result<(), Error>
     requires fits { Fits event.now change.now }
-    ensures same_reference { tx.new.conn.ghost_name ≡ tx.old.conn.ghost_name }
-    ensures makes { HasCleanDisk (state S.Store tx.new.conn.now)
-        → (l : Layout) (e : EventValue) (s : ℕ)
-        → numbers e.players ≡ numbers event.now.players
-        → Moves l (state S.Store tx.old.conn.now) (state S.Store tx.old.conn.now)
-        → RepresentsWith l (state S.Store tx.old.conn.now).now e s
-        (tally_rows_by (totals event.now) e.players)
-        → OnOk result (BringsToWith l (state S.Store tx.old.conn.now)
-        (state S.Store tx.new.conn.now) e s
-        (tally_rows_by (totals (after event.now change.now)) e.players)) }
-    ensures stays { Stays (state S.Store tx.old.conn.now) (state S.Store tx.new.conn.now) }
+    ensures lends { Lends S.Store tx.old tx.new }
+    ensures makes { (l : Layout) (e : EventValue) → numbers e.players ≡ numbers event.now.players
+        → Moves l (shown S.Store tx.old) (shown S.Store tx.old)
+        → Counts S.Store l e (tally_rows_by (totals event.now) e.players)
+        (tally_rows_by (totals (after event.now change.now)) e.players) tx.old result tx.new }
 {
     let players = event.players();
     let recount = event.recount_of(change);
@@ -319,15 +270,11 @@ fn insert_totals<S: Alter>(
 ) -> Result<(), Error>
     requires fits { Fits event.now change.now }
     requires few { length event.now.players < MAX_PLAYERS }
-    ensures same_reference { tx.new.conn.ghost_name ≡ tx.old.conn.ghost_name }
-    ensures makes { HasCleanDisk (state S.Store tx.new.conn.now)
-        → (l : Layout) (e : EventValue) (s : ℕ) (t : List TallyRow)
-        → RepresentsWith l (state S.Store tx.old.conn.now).now e s t
-        → OnOk result (BringsToWith l (state S.Store tx.old.conn.now)
-        (state S.Store tx.new.conn.now) e s (t
-        ++ tally_row (length event.now.players + 1)
-        (totals (after event.now change.now) (length event.now.players + 1)) ∷ [])) }
-    ensures stays { Stays (state S.Store tx.old.conn.now) (state S.Store tx.new.conn.now) }
+    ensures lends { Lends S.Store tx.old tx.new }
+    ensures makes { (l : Layout) (e : EventValue) (t : List TallyRow) → Counts S.Store l e t
+        (t ++ tally_row (length event.now.players + 1)
+        (totals (after event.now change.now) (length event.now.players + 1)) ∷ [])
+        tx.old result tx.new }
 {
     let number = event.players().len() as u16 + 1;
     let Some(player) = PlayerNo::try_new(number) else {
@@ -346,13 +293,11 @@ fn change_tables<S: Alter>(
 ) -> Result<(), Error>
     requires fits { Fits event.now change.now }
     requires takes { CanTake version event.now change.now }
-    ensures same_reference { tx.new.conn.ghost_name ≡ tx.old.conn.ghost_name }
-    ensures makes { HasCleanDisk (state S.Store tx.new.conn.now)
-        → (l : Layout) → version_of l ≡ version → (s : ℕ)
-        → RepresentsAt l (state S.Store tx.old.conn.now).now event.now s
-        → OnOk result (BringsTo l (state S.Store tx.old.conn.now) (state S.Store tx.new.conn.now)
-        (after event.now change.now) s) }
-    ensures stays { Stays (state S.Store tx.old.conn.now) (state S.Store tx.new.conn.now) }
+    ensures lends { Lends S.Store tx.old tx.new }
+    ensures makes { (l : Layout) → version_of l ≡ version → (s : ℕ)
+        → RepresentsAt l (shown S.Store tx.old).now event.now s
+        → Achieves S.Store (λ a b. BringsTo l a b (after event.now change.now) s)
+        tx.old result tx.new }
 {
     change_rows(tx, version, event, change)?;
     match change {
@@ -376,15 +321,12 @@ fn change_event<S: Alter>(
     requires fits { Fits event.now change.now }
     requires takes { CanTake version event.now change.now }
     requires low { serial < MAX_SERIAL }
-    ensures same_reference { tx.new.conn.ghost_name ≡ tx.old.conn.ghost_name }
-    ensures makes { HasCleanDisk (state S.Store tx.new.conn.now)
-        → (l : Layout) → version_of l ≡ version
-        → RepresentsAt l (state S.Store tx.old.conn.now).now event.now serial
-        → OnOk result (BringsTo l (state S.Store tx.old.conn.now) (state S.Store tx.new.conn.now)
-        (after event.now change.now) (serial + 1)) }
-    ensures inside { HasCleanDisk (state S.Store tx.new.conn.now)
-        → OnOk result (IsTrue (state S.Store tx.new.conn.now).in_transaction) }
-    ensures stays { Stays (state S.Store tx.old.conn.now) (state S.Store tx.new.conn.now) }
+    ensures lends { Lends S.Store tx.old tx.new }
+    ensures makes { (l : Layout) → version_of l ≡ version
+        → RepresentsAt l (shown S.Store tx.old).now event.now serial
+        → Achieves S.Store (λ a b. BringsTo l a b (after event.now change.now) (serial + 1))
+        tx.old result tx.new }
+    ensures inside { Achieves S.Store Inside tx.old result tx.new }
 {
     change_tables(tx, version, event, change)?;
     set_serial(tx, serial + 1)
@@ -402,22 +344,19 @@ pub fn write_tables<S: Alter>(
     requires takes { CanTake version event.now change.now }
     requires low { serial < MAX_SERIAL }
     requires mode { conn.old.in_transaction ≡ false }
-    ensures mode { conn.new.in_transaction ≡ false }
-    ensures clean { HasCleanDisk (state S.Store conn.new) → HasCleanDisk (state S.Store conn.old) }
-    ensures kept { HasCleanDisk (state S.Store conn.new)
-        → OnErr result (KeepsTables (state S.Store conn.old) (state S.Store conn.new)) }
+    ensures transacts { Transacts S.Store conn.old result conn.new }
     ensures written { HasCleanDisk (state S.Store conn.new)
         → Shows version (state S.Store conn.old) event.now serial
         → OnOk result (Shows version (state S.Store conn.new) (after event.now change.now)
         (serial + 1)
         × KeepsOthers version (state S.Store conn.old).now (state S.Store conn.new).now) }
-    ensures acknowledged { HasCleanDisk (state S.Store conn.new)
-        → Shows version (state S.Store conn.old) event.now serial
-        → OnOk result ((trees : Trees) → (state S.Store conn.new).may_leave trees
-        → IsStored (after event.now change.now) (serial + 1) trees) }
+    ensures acknowledged { Shows version (state S.Store conn.old) event.now serial
+        → OnOk result (Leaves (state S.Store conn.new)
+        (IsStoredIn version (after event.now change.now) (serial + 1))) }
     ensures crash { Shows version (state S.Store conn.old) event.now serial
         → Leaves (state S.Store conn.new)
-        (Either (IsStored event.now serial) (IsStored (after event.now change.now) (serial + 1))) }
+        (Either (IsStoredIn version event.now serial)
+        (IsStoredIn version (after event.now change.now) (serial + 1))) }
 {
     let mut tx = conn.transaction();
     change_event(&mut tx, version, event, change, serial)?;
@@ -433,17 +372,12 @@ fn make_event<S: Alter>(
     requires fresh { IsNew event.now }
     requires known { IsVersion version }
     requires keeps { Keeps version event.now }
-    ensures same_reference { tx.new.conn.ghost_name ≡ tx.old.conn.ghost_name }
-    ensures readies { HasCleanDisk (state S.Store tx.new.conn.now)
-        → (state S.Store tx.old.conn.now).now.schema ≡ no_schema
-        → OnOk result (IsReady version (state S.Store tx.new.conn.now) event.now 0
-        × ((state S.Store tx.new.conn.now).now.schema ≡ tally_schema (made_players version))) }
-    ensures beside { HasCleanDisk (state S.Store tx.new.conn.now)
-        → OnOk result (IsReadyBeside version event.now (state S.Store tx.old.conn.now)
-        (state S.Store tx.new.conn.now)) }
-    ensures inside { HasCleanDisk (state S.Store tx.new.conn.now)
-        → OnOk result (IsTrue (state S.Store tx.new.conn.now).in_transaction) }
-    ensures stays { Stays (state S.Store tx.old.conn.now) (state S.Store tx.new.conn.now) }
+    ensures lends { Lends S.Store tx.old tx.new }
+    ensures readies { (shown S.Store tx.old).now.schema ≡ no_schema
+        → Achieves S.Store (λ a b. IsReady version b event.now 0
+        × (b.now.schema ≡ tally_schema (made_players version))) tx.old result tx.new }
+    ensures beside { Achieves S.Store (IsReadyBeside version event.now) tx.old result tx.new }
+    ensures inside { Achieves S.Store Inside tx.old result tx.new }
 {
     create_all(tx, version)?;
     insert_event(tx, version, event, 0)
@@ -459,18 +393,13 @@ pub fn create_tables<S: Alter>(
     requires fresh { IsNew event.now }
     requires known { IsVersion version }
     requires keeps { Keeps version event.now }
-    ensures mode { conn.new.in_transaction ≡ false }
-    ensures clean { HasCleanDisk (state S.Store conn.new) → HasCleanDisk (state S.Store conn.old) }
-    ensures kept { HasCleanDisk (state S.Store conn.new)
-        → OnErr result (KeepsTables (state S.Store conn.old) (state S.Store conn.new)) }
+    ensures transacts { Transacts S.Store conn.old result conn.new }
     ensures created { HasCleanDisk (state S.Store conn.new)
         → (state S.Store conn.old).now.schema ≡ no_schema
         → OnOk result (Shows version (state S.Store conn.new) event.now 0
         × ((state S.Store conn.new).now.schema ≡ tally_schema (made_players version))) }
-    ensures acknowledged { HasCleanDisk (state S.Store conn.new)
-        → (state S.Store conn.old).now.schema ≡ no_schema
-        → OnOk result ((trees : Trees) → (state S.Store conn.new).may_leave trees
-        → IsStoredIn version event.now 0 trees) }
+    ensures acknowledged { (state S.Store conn.old).now.schema ≡ no_schema
+        → OnOk result (Leaves (state S.Store conn.new) (IsStoredIn version event.now 0)) }
     ensures crash { (state S.Store conn.old).now.schema ≡ no_schema
         → Leaves (state S.Store conn.new)
         (Either (state S.Store conn.old).may_leave (IsStoredIn version event.now 0)) }
@@ -488,14 +417,9 @@ pub fn create_tables<S: Alter>(
 
 /// Whether a statement with no parameters can be run. It is not.
 fn can_run<S: Alter>(conn: &mut Connection<S>, sql: &str) -> Result<bool, Error>
-    ensures mode { conn.old.in_transaction ≡ false → conn.new.in_transaction ≡ false }
-    ensures found { HasCleanDisk (state S.Store conn.new)
-        → IfOk result (λ found. (IsTrue found
-        ↔ IsOk (understood (state S.Store conn.old).now.schema sql.now))
-        × IsUnchanged (state S.Store conn.old) (state S.Store conn.new)) }
-    ensures kept { HasCleanDisk (state S.Store conn.new)
-        → OnErr result (KeepsTables (state S.Store conn.old) (state S.Store conn.new)) }
-    ensures survives { Survives (state S.Store conn.old) (state S.Store conn.new) (λ _. ⊥) }
+    ensures looks { OnlyLooks S.Store conn.old result conn.new }
+    ensures found { HasCleanDisk (state S.Store conn.new) → IfOk result
+        (λ found. IsTrue found ↔ IsOk (understood (state S.Store conn.old).now.schema sql.now)) }
 {
     match conn.prepare(sql) {
         Ok(_statement) => Ok(true),
@@ -506,13 +430,9 @@ fn can_run<S: Alter>(conn: &mut Connection<S>, sql: &str) -> Result<bool, Error>
 
 /// Whether the event's rows can be read.
 pub fn reads_event<S: Alter>(conn: &mut Connection<S>) -> Result<bool, Error>
-    ensures mode { conn.old.in_transaction ≡ false → conn.new.in_transaction ≡ false }
+    ensures looks { OnlyLooks S.Store conn.old result conn.new }
     ensures found { HasCleanDisk (state S.Store conn.new)
-        → IfOk result (λ found. (IsTrue found ↔ ReadsEvent (state S.Store conn.old).now.schema)
-        × IsUnchanged (state S.Store conn.old) (state S.Store conn.new)) }
-    ensures kept { HasCleanDisk (state S.Store conn.new)
-        → OnErr result (KeepsTables (state S.Store conn.old) (state S.Store conn.new)) }
-    ensures survives { Survives (state S.Store conn.old) (state S.Store conn.new) (λ _. ⊥) }
+        → IfOk result (λ found. IsTrue found ↔ ReadsEvent (state S.Store conn.old).now.schema) }
 {
     can_run(conn, EventRow::read(1))
 }
@@ -521,13 +441,9 @@ pub const FIND_EVENT: &str = "SELECT 1 FROM event";
 
 /// Whether a table or view `event` can be read. No row is.
 pub fn has_event<S: Alter>(conn: &mut Connection<S>) -> Result<bool, Error>
-    ensures mode { conn.old.in_transaction ≡ false → conn.new.in_transaction ≡ false }
+    ensures looks { OnlyLooks S.Store conn.old result conn.new }
     ensures found { HasCleanDisk (state S.Store conn.new)
-        → IfOk result (λ found. (IsTrue found ↔ CanRead (state S.Store conn.old).now.schema)
-        × IsUnchanged (state S.Store conn.old) (state S.Store conn.new)) }
-    ensures kept { HasCleanDisk (state S.Store conn.new)
-        → OnErr result (KeepsTables (state S.Store conn.old) (state S.Store conn.new)) }
-    ensures survives { Survives (state S.Store conn.old) (state S.Store conn.new) (λ _. ⊥) }
+        → IfOk result (λ found. IsTrue found ↔ CanRead (state S.Store conn.old).now.schema) }
 {
     can_run(conn, FIND_EVENT)
 }

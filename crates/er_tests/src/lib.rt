@@ -1,5 +1,5 @@
-//! Tests of a desk and of the crates below it, for what no clause of theirs says and no script shows. They stand here, since a crate with tests
-//! of its own is proved twice.
+//! Tests of a desk and of the crates below it, for what no clause of theirs says and no script shows. They stand here, since a crate with
+//! tests of its own is proved twice.
 #![tactic(auto)]
 
 #[cfg(test)]

@@ -1,5 +1,5 @@
-//! What a desk leaves in the tables, and what it makes of tables that another program has changed. Each event is a text of commands, and each
-//! expectation a text of statements with what they show.
+//! What a desk leaves in the tables, and what it makes of tables that another program has changed. Each event is a text of commands, and
+//! each expectation a text of statements with what they show.
 ghost use Rattle.std.specs.Prelude.{◌≡◌, false, IfSome};
 
 use er_desk::Desk;
@@ -358,8 +358,8 @@ UPDATE player2 SET joined = 3 WHERE no = 2
 
 const DROPPED: &str = "enrol Ana\nenrol Bo\nstart\ndrop 2";
 
-/// The first table whose rows no event has is named. Without the table of the event there is none. Players are looked for in the table of version 1 where
-/// no row says version 2, and it isn't there.
+/// The first table whose rows no event has is named. Without the table of the event there is none. Players are looked for in the table of
+/// version 1 where no row says version 2, and it isn't there.
 #[test]
 fn broken_events_and_players_are_damage(rt: HostRuntime) -> Result<(), Fail> {
     let alloc = rt.alloc();

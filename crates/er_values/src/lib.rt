@@ -1,4 +1,5 @@
-//! Takes words one after the other as what they have to be, numbers, seeds, lists, scores, or says what is wrong with the first that is not so.
+//! Takes words one after the other as what they have to be, numbers, seeds, lists, scores, or says what is wrong with the first that is not
+//! so.
 #![tactic(auto)]
 
 mod usage;

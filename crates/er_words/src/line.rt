@@ -423,8 +423,8 @@ fn read_by(alloc: Global, subcommand: Subcommand, words: &[&str]) -> Result<Line
     }
 }
 
-/// Reads the words of a command line, without the program's name, or says what is wrong with them first: that one begins with `-`, in any place,
-/// and else what is from the first word on.
+/// Reads the words of a command line, without the program's name, or says what is wrong with them first: that one begins with `-`, in any
+/// place, and else what is from the first word on.
 pub fn read_words(alloc: Global, words: &[String]) -> Result<Line, LineFault>
     ensures { ReadsWords (map string_bytes words.now) result }
 {

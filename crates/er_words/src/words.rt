@@ -23,8 +23,8 @@ pub fn option_at(words: &[String]) -> Option<usize>
     words.iter().position(|word| is_option(word.as_str()))
 }
 
-/// A parser that knows this subcommand alone, since one of all seventeen takes most of a line's time. It takes any number of words, which are
-/// counted and read elsewhere.
+/// A parser that knows this subcommand alone, since one of all seventeen takes most of a line's time. It takes any number of words, which
+/// are counted and read elsewhere.
 fn command<'a>(alloc: Global, name: &'a str) -> Result<Command<'a>, AllocError>
     ensures { IfOk result (λ made. app_of made ≡ program name.entry.now) }
 {

@@ -2,7 +2,6 @@ use Rattle.std.proofs.Common.{inl, inr, refl, map, Option, Some, None, IfSome, s
 use Rattle.er_words.specs.Line.{line_of}
 use Rattle.er_words.specs.Action.{action_of}
 use Rattle.er_event.specs.declared.refusals.Refusal.TheVariants.{Memory}
-use Rattle.er_cli.specs.declared.texts.Answer.TheVariants.{Refused}
 use Rattle.er_cli.proofs.GoingOn.{absent_goes_on}
 use Rattle.er_cli.proofs.run_from.Goals as goal
 
@@ -17,14 +16,14 @@ returns-clause-ends g c =
     record {
       asked = search rules;
       unread = search rules;
-      answered = λ asked. always (line_of (map string_bytes c.args.words.now)) (λ line. inr printed.ensures);
+      answered = λ asked. always (line_of (map string_bytes c.args.words.now)) (λ line. inr (refl, printed.ensures));
     }
 
 pub returns-clause-goes_on : goal.returns-clause-goes_on
 returns-clause-goes_on g c new first ends was asked =
     let printed = c.print in
     always (line_of (map string_bytes c.args.words.now)) (λ line.
-    absent_goes_on _ _ _ new ends first _ _ _ _ _ (Refused Memory) (inr (Memory, inl refl, refl)) printed.ensures (action_of line))
+    absent_goes_on _ _ _ new ends first _ _ _ _ _ _ Memory (inr (inl refl)) refl printed.ensures (action_of line))
 
 pub returns-in-Ok-clause-goes_on : goal.returns-in-Ok-clause-goes_on
 returns-in-Ok-clause-goes_on g c new first ends was asked = rw c.in-Ok.ensures.0 (c.run_line.ensures.goes_on new first ends was)

@@ -12,4 +12,4 @@ desk_state_of desk = option_map desk_state desk
 
 -- the tables in memory are of version 2, and represent the event, where no fault of the store is behind
 abbrev pub HasOwnTables : Option (Desk MemStore over_memory) → Type 0
-HasOwnTables desk = IfSome desk (λ d. (version_in d ≡ 2) × (IsFalse (desk_state d).stopped → ShowsOwn over_memory d))
+HasOwnTables desk = IfSome desk (λ d. (version_in d ≡ 2) × (IsFalse (desk_state d).needs_reopen → ShowsOwn over_memory d))

@@ -1,7 +1,9 @@
-ghost use Rattle.std.specs.Prelude.{◌≡◌, ◌≤◌, ◌<◌, ◌-◌, ◌++◌, Some, option_map, length, map, slice_get, slice_set, Contains, IsErr, IfOk, IfErr, OnOk};
+ghost use Rattle.std.specs.Prelude.{◌≡◌, ◌≤◌, ◌<◌, ◌-◌, ◌++◌, Some, option_map, length, map, slice_get, slice_set, Contains, IsErr, IfOk};
+ghost use Rattle.std.specs.Prelude.{IfErr, OnOk};
 ghost use Rattle.std.specs.List.{range_with_len};
 ghost use Rattle.er_event.specs.Bracket.{slot_in};
-ghost use Rattle.er_event.specs.Change.{after, with_player, with_dropped, with_phase, with_round, with_score, with_bracket, with_bracket_score, dropped_at, scored, stage_of, scored_slot, one_more, Fits, TakesMemory};
+ghost use Rattle.er_event.specs.Change.{after, with_player, with_dropped, with_phase, with_round, with_score, with_bracket};
+ghost use Rattle.er_event.specs.Change.{with_bracket_score, dropped_at, scored, stage_of, scored_slot, one_more, Fits, TakesMemory};
 ghost use Rattle.er_event.specs.Sound.{numbers, IsSoundButForSeeds};
 ghost use Rattle.er_event.specs.declared.changes.Change.{Change};
 ghost use Rattle.er_event.specs.declared.matches.Match.{Match};

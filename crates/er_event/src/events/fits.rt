@@ -110,12 +110,13 @@ impl Event {
         ensures { IsTrue result ↔ Fits self.now (Change.SetScore round table score) }
     {
         match self.match_at(round, table) {
-            Some(played) => played.b != 0 && is_swiss(score),
+            Some(played) => !played.is_bye() && is_swiss(score),
             None => false,
         }
     }
 
-    /// Whether the event is sound after the change, and has the player, or the match of two players, that the change names. It takes no memory.
+    /// Whether the event is sound after the change, and has the player, or the match of two players, that the change names. It takes no
+    /// memory.
     pub fn fits(&self, change: &Change) -> bool
         ensures { IsTrue result ↔ Fits self.now change.now }
     {

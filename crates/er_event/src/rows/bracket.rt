@@ -1,4 +1,5 @@
-ghost use Rattle.std.specs.Prelude.{◌≡◌, ◌≢◌, ◌↔◌, ◌+◌, ◌<◌, ◌≤◌, ℕ, List, ◌++◌, Some, Err, IsTrue, IfSome, IfOk, MatchResult, All, take, length};
+ghost use Rattle.std.specs.Prelude.{◌≡◌, ◌≢◌, ◌↔◌, ◌+◌, ◌<◌, ◌≤◌, ℕ, List, ◌++◌, Some, Err, IsTrue, IfSome, IfOk, MatchResult, All, take};
+ghost use Rattle.std.specs.Prelude.{length};
 ghost use Rattle.std.specs.List.{prefix_len, range_with_len};
 ghost use Rattle.er_event.specs.declared.players.TheConstants.{MAX_PLAYERS};
 ghost use Rattle.er_event.specs.Sound.{IsPlayoff, AreStages, is_lawful_cut};

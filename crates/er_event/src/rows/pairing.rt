@@ -1,4 +1,5 @@
-ghost use Rattle.std.specs.Prelude.{◌≡◌, ◌≢◌, ◌↔◌, ◌+◌, ◌<◌, ◌≤◌, ℕ, pos, List, [], ◌∷◌, ◌++◌, Some, None, Err, IsTrue, IsFalse, IfSome, IfOk, MatchResult, All, map, take, length};
+ghost use Rattle.std.specs.Prelude.{◌≡◌, ◌≢◌, ◌↔◌, ◌+◌, ◌<◌, ◌≤◌, ℕ, pos, List, [], ◌∷◌, ◌++◌, Some, None, Err, IsTrue, IsFalse, IfSome};
+ghost use Rattle.std.specs.Prelude.{IfOk, MatchResult, All, map, take, length};
 ghost use Rattle.std.specs.List.{prefix_len, range_with_len};
 ghost use Rattle.er_event.specs.declared.players.TheConstants.{MAX_PLAYERS};
 ghost use Rattle.er_event.specs.Sound.{AreRounds};
@@ -107,7 +108,7 @@ fn possible_match(row: &PairingRow) -> Option<Match>
 fn table_of(table: usize, played: &Match) -> usize
     ensures { result ≡ table_of (table, played.now) }
 {
-    if played.b == 0 { 0 } else { table }
+    if played.is_bye() { 0 } else { table }
 }
 
 /// The match that a row has at this table of a round.
@@ -149,7 +150,7 @@ fn read_table(round: u8, table: usize, row: &PairingRow) -> Option<Match>
         → row.now ≡ pairing_row round (table, m) → result ≡ Some m }
 {
     match read_match(round, table, row) {
-        Some(played) if played.b != 0 => Some(played),
+        Some(played) if !played.is_bye() => Some(played),
         _ => None,
     }
 }
@@ -180,7 +181,7 @@ fn read_bye(round: u8, row: &PairingRow) -> Option<Match>
         → result ≡ Some m }
 {
     match read_match(round, 0, row) {
-        Some(played) if played.b == 0 => Some(played),
+        Some(played) if played.is_bye() => Some(played),
         _ => None,
     }
 }

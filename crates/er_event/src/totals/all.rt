@@ -1,4 +1,5 @@
-ghost use Rattle.std.specs.Prelude.{◌≡◌, ◌≢◌, ℕ, List, [], ◌++◌, ◌∷◌, ◌+◌, ◌<◌, ◌≤◌, length, flat_map, option_map, slice_index_or, All, IfSome};
+ghost use Rattle.std.specs.Prelude.{◌≡◌, ◌≢◌, ℕ, List, [], ◌++◌, ◌∷◌, ◌+◌, ◌<◌, ◌≤◌, length, flat_map, option_map, slice_index_or, All};
+ghost use Rattle.std.specs.Prelude.{IfSome};
 ghost use Rattle.er_share.specs.declared.TheConstants.{MAX_ROUNDS};
 ghost use Rattle.er_event.specs.declared.matches.Match.{Match};
 ghost use Rattle.er_event.specs.declared.rounds.Round.{Round};
@@ -101,7 +102,7 @@ fn none_played() -> [Totals; NUMBERS]
 }
 
 /// What the matches of the complete rounds come to, by number.
-fn played_in(rounds: &[Round]) -> [Totals; NUMBERS]
+pub(crate) fn played_in(rounds: &[Round]) -> [Totals; NUMBERS]
     requires few { length rounds.now ≤ MAX_ROUNDS }
     requires seated { All (λ round. IsSeatedOnce round.matches) rounds.now }
     ensures played { ArePlayed (appearances_from 1 rounds.now) result }
@@ -235,7 +236,7 @@ impl Event {
     }
 
     /// What the matches of the complete rounds come to after a change, by number.
-    fn all_played_after(&self, change: &Change) -> [Totals; NUMBERS]
+    pub(crate) fn all_played_after(&self, change: &Change) -> [Totals; NUMBERS]
         requires { Fits self.now change.now }
         ensures played { ArePlayed (appearances_from 1 (after self.now change.now).stored) result }
         ensures over { All (AreOver MAX_ROUNDS) result }

@@ -1,6 +1,7 @@
 ghost use Rattle.std.specs.Prelude.{◌≡◌, ◌≤◌, ◌+◌, ◌++◌, None, false, length};
 ghost use Rattle.er_event.specs.Refusal.{entry_of};
-ghost use Rattle.er_slips.specs.Answer.{answer_value, answer_of, fault_answer, status_by, games_text, detail, refusal_body, refusal_answer, receipt_body, receipt_answer};
+ghost use Rattle.er_slips.specs.Answer.{answer_value, answer_of, fault_answer, status_of, games_text, detail, refusal_body, refusal_answer};
+ghost use Rattle.er_slips.specs.Answer.{receipt_body, receipt_answer};
 
 use crate::answer::Answer;
 use crate::answer::head::head_of;
@@ -34,12 +35,12 @@ pub fn fault_answer(fault: Fault) -> Answer
     }
 }
 
-fn status_of(number: u8) -> u16
-    ensures { result ≡ status_by number }
+fn status_of(refusal: &Refusal) -> u16
+    ensures { result ≡ status_of refusal.now }
 {
-    match number {
-        12 => 404,
-        24 | 25 | 26 => 503,
+    match refusal {
+        Refusal::NoSuchMatch => 404,
+        Refusal::Memory | Refusal::Store { .. } | Refusal::NeedsReopen => 503,
         _ => 409,
     }
 }
@@ -96,7 +97,7 @@ pub fn refusal_answer(refusal: &Refusal) -> Answer
     ensures { answer_value result ≡ refusal_answer refusal.now }
 {
     let body = refusal_body(refusal);
-    answer_of(status_of(refusal.number()), None, body.as_slice())
+    answer_of(status_of(refusal), None, body.as_slice())
 }
 
 fn receipt_body(receipt: Receipt) -> ShortText

@@ -1,5 +1,5 @@
--- What a look at the tables finds, and what it leaves.
-use Rattle.std.specs.Prelude.{◌≡◌, ◌≤◌, ℕ, Bool, true, false, List, [], map, Result, Ok, Err, IfOk, IfErr, OnOk, OnErr}
+-- What a look at the tables finds.
+use Rattle.std.specs.Prelude.{◌≡◌, ◌≤◌, ℕ, Bool, true, false, List, [], map, Result, Ok, Err, IfOk, IfErr}
 use Rattle.sqlite_ast.specs.declared.Statement.{Statement}
 use Rattle.sqlite_ast.specs.declared.Statement.TheVariants as written
 use Rattle.sqlite_syntax.specs.declared.statement.Parsed.{Parsed}
@@ -11,7 +11,9 @@ use Rattle.sqlite.specs.Tree.{Trees}
 use Rattle.sqlite.specs.Query.{IsAnswer}
 use Rattle.sqlite.specs.Program.{overlay}
 use Rattle.sqlite.specs.Effect.{Database}
-use Rattle.sqlite.specs.State.{State, HasCleanDisk, Survives, IsUnchanged}
+use Rattle.sqlite.specs.Held.{Held, state}
+use Rattle.sqlite.specs.State.{HasCleanDisk}
+use Rattle.sqlite_trees.specs.declared.store.Store.{Ghosts}
 use Rattle.er_event.specs.Event.{EventValue}
 use Rattle.er_event.specs.Parts.{parts_of}
 use Rattle.er_event.specs.Sound.{IsSoundButForSeeds}
@@ -25,13 +27,13 @@ use Rattle.er_event.specs.declared.rows.tally.TallyRow.{TallyRow}
 use Rattle.sqlite.specs.Term.{Term}
 use Rattle.er_store.specs.Layout.{Layout, version_of}
 use Rattle.er_store.specs.Shape.{Form, Shape, tally_form, tally_table}
-use Rattle.er_store.specs.Reading.{Lists, first_columns, KeepsTables}
+use Rattle.er_store.specs.Reading.{Lists, first_columns}
 use Rattle.er_store.specs.Representing.{HasTablesAt, RepresentsAt, Represents}
 use Rattle.er_store.specs.Loading.{IsListed, ListsParts}
 use Rattle.er_store.specs.Damage.{IsMisreadAs, MayRead, ReadsParts, IsFirstMisread, IfDamaged, said_version}
 use Rattle.er_store.specs.Tables.{read_tallies}
 use Rattle.er_store.specs.Fault.{IsFault, IsLoadFault}
-use Rattle.er_store.specs.inside.Queries.{table_query, Selects}
+use Rattle.er_store.specs.inside.{Queries.{table_query, Selects}, Looking.OnlyLooks}
 
 abbrev pub is_select_by : Statement → Bool
 is_select_by (written.Select s) = true
@@ -58,17 +60,14 @@ pub record IsOurs {R : Type 0} (form : Form R) (table : Shape R) : Type 0 where
       → Lists table.order (map (table.shown l) (db.trees (table.tree l))) rows → rows ≡ map form.columns (table.rows (version_of l) e s)
   pub same : (r s : R) → form.columns r ≡ form.columns s → r ≡ s
 
--- what is found is of the database before; whatever is answered, a crash leaves what it could before
-pub record LooksUp {A : Type 0} (Finds : Database → A → Type 0) (Misses : Database → Refusal → Type 0)
-    (old new : State) (result : Result A Refusal)
+-- It only looks, and what is found is of the database before.
+pub record LooksUp {S A : Type 0} (g : Ghosts S) (Finds : Database → A → Type 0) (Misses : Database → Refusal → Type 0)
+    (old : Held S) (result : Result A Refusal) (new : Held S)
     : Type 0 where
-  pub clean : HasCleanDisk new → HasCleanDisk old
-  pub finds : HasCleanDisk new → IfOk result (Finds old.now)
-  pub misses : HasCleanDisk new → IfErr result (Misses old.now)
+  pub looks : OnlyLooks g old result new
+  pub finds : HasCleanDisk (state g new) → IfOk result (Finds (state g old).now)
+  pub misses : HasCleanDisk (state g new) → IfErr result (Misses (state g old).now)
   pub fault : IfErr result IsLoadFault
-  pub same : HasCleanDisk new → OnOk result (IsUnchanged old new)
-  pub kept : HasCleanDisk new → OnErr result (KeepsTables old new)
-  pub survives : Survives old new (λ _. ⊥)
 
 -- The rows of a table, read by this statement: as SQL alone says, and where it is the statement of how the tables lie, as
 -- they list them, and as the event has them.

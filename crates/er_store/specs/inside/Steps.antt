@@ -72,7 +72,7 @@ abbrev pub made_players : ℕ → Table
 made_players version = players_of version player_tree
 
 -- A table was made, with no row. The rows of the other tables stay.
-pub record Creates (before after : Schema) (old new : State) : Type 0 where
+pub record CreatesNext (before after : Schema) (old new : State) : Type 0 where
   pub was : IsTrue old.in_transaction
   pub shows : Shows old new new.now old.committed true
   pub sound : IsDatabase new.now

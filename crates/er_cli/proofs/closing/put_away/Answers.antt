@@ -1,7 +1,5 @@
+use Rattle.er_cli.proofs.Leaving.{same_put_away}
 use Rattle.er_cli.proofs.closing.put_away.Goals as goal
 
-pub returns-in-Ok : goal.returns-in-Ok
-returns-in-Ok g c = (c.close_file.result, c.close_file.ensures)
-
-pub returns-in-Err : goal.returns-in-Err
-returns-in-Err g c = (c.close_file.result, c.close_file.ensures)
+pub returns : goal.returns
+returns g c = same_put_away c.close-conn.result _ c.close.result c.close-conn.ensures.same c.close.ensures

@@ -1,11 +1,8 @@
+use Rattle.er_cli.proofs.Making.{not_made}
 use Rattle.er_cli.proofs.files.create.Goals as goal
 
 pub returns : goal.returns
-returns g c = record {
-  cause = rw c.clear_fault.ensures c.in-Err.ensures.why;
-  fault = c.in-Err.fault;
-  is = c.clear_fault.ensures;
-  leaves = c.in-Err.ensures.crash;
-  beside = c.in-Err.ensures.beside_crash;
-  spared = c.in-Err.ensures.spared;
-}
+returns g c = not_made _ _ _ c.in-Err.fault c.clear_fault.result.why c.clear_fault.result.left c.clear_fault.ensures.why
+    c.clear_fault.ensures.left
+    c.in-Err.ensures.makes.why c.in-Err.ensures.makes.unopened c.in-Err.ensures.makes.crash c.in-Err.ensures.makes.beside_crash
+    c.in-Err.ensures.spared

@@ -1,10 +1,9 @@
 use Rattle.std.proofs.Common.{inl, inr, refl}
-use Rattle.er_cli.proofs.Connecting.{connects_up_to}
 use Rattle.er_cli.proofs.files.listen.Goals as goal
 
 pub returns-in-Ok-bind : goal.returns-in-Ok-bind
 returns-in-Ok-bind g c =
-    let it = c.serve_on.ensures.turns in (it.0, inl (c.serve_on.ensures.printed, refl, connects_up_to _ _ _ _ _ it.1), it.2)
+    let it = c.serve_on.ensures.turns in (it.0, inl (c.serve_on.ensures.printed, refl, it.1), it.2)
 
 pub returns : goal.returns
 returns g c = (_, inr (inl ((c.end_with.ensures, refl), refl, refl)), c.asks_nothing.ensures)

@@ -9,10 +9,10 @@ returns-in-Ok g c =
       c.init.ensures,
       rw c.in-Ok.is (
         told.put_away,
-        made_begins c.next_sessions.ensures _ _ _ _ _ c.in-Ok.desk it.0 it.1 told.asks told.put_away.0 told.put_away.1,
+        made_begins c.next_sessions.ensures _ _ _ _ _ c.in-Ok.desk it.0 it.1 told.asks c.print_made.result.left told.put_away,
         told.told,
       ),
     )
 
 pub returns-in-Err : goal.returns-in-Err
-returns-in-Err g c = (c.init.result, c.init.ensures, rw c.in-Err.is c.tell_refusal.ensures)
+returns-in-Err g c = (c.init.result, c.init.ensures, rw c.in-Err.is (c.tell_no_desk.ensures.left, c.tell_no_desk.ensures.told))

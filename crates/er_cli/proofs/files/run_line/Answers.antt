@@ -1,8 +1,8 @@
-use Rattle.std.proofs.Common.{sym, ap, inl, inr, ℕ, List}
+use Rattle.std.proofs.Common.{sym, ap, inl, inr, refl, ℕ, List}
 use Rattle.er_words.specs.declared.action.Action.{Action}
 use Rattle.er_words.specs.declared.action.Action.TheVariants.{Open}
 use Rattle.er_cli.specs.declared.texts.Answer.TheVariants.{Refused}
-use Rattle.er_cli.proofs.GoingOn.{absent_goes_on, is_absent, not_opened}
+use Rattle.er_cli.proofs.GoingOn.{absent_goes_on}
 use Rattle.er_cli.proofs.files.run_line.Goals as goal
 
 pub returns-in-Init-clause-ends : goal.returns-in-Init-clause-ends
@@ -12,16 +12,17 @@ returns-in-Init-clause-ends g c = rw (sym (ap (λ (parts : List ℕ × Action). 
 
 pub returns-in-Ok-clause-goes_on : goal.returns-in-Ok-clause-goes_on
 returns-in-Ok-clause-goes_on g c new first ends was =
-    rw (sym (ap (λ (parts : List ℕ × Action). parts.1) c.into_parts-file.ensures), c.in-Open.is) (inr (c.open.ensures.goes_on new first ends was))
+    rw (sym (ap (λ (parts : List ℕ × Action). parts.1) c.into_parts-file.ensures), c.in-Open.is)
+    (inr (c.open.ensures.goes_on new first ends was))
 
 pub returns-in-Err-clause-ends : goal.returns-in-Err-clause-ends
 returns-in-Err-clause-ends g c = rw (sym (ap (λ (parts : List ℕ × Action). parts.1) c.into_parts-file.ensures), c.in-Open.is) (
-    inl (Refused c.in-Err.why, not_opened c.in-Err.why c.in-Err.ensures, c.tell_refusal.ensures)
+    inl (Refused c.in-Err.why, (c.tell_unopened.ensures.left, c.in-Err.why, c.in-Err.ensures, refl), c.tell_unopened.ensures.told)
     )
 
 pub returns-in-Err-clause-goes_on : goal.returns-in-Err-clause-goes_on
 returns-in-Err-clause-goes_on g c new first ends was =
     rw (sym (ap (λ (parts : List ℕ × Action). parts.1) c.into_parts-file.ensures), c.in-Open.is) (
-    absent_goes_on _ _ _ new ends first _ _ _ _ _ (Refused c.in-Err.why) (is_absent c.in-Err.why c.in-Err.ensures) c.tell_refusal.ensures
+    absent_goes_on _ _ _ new ends first _ _ _ _ _ _ c.in-Err.why c.in-Err.ensures c.tell_unopened.ensures.left c.tell_unopened.ensures.told
     (Open c.in-Open.task)
     )

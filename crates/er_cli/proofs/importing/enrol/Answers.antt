@@ -12,7 +12,7 @@ pub returns-clause-asked : goal.returns-clause-asked
 returns-clause-asked g c =
     let new = c.submit.new.self in
     subst (λ (name : List ℕ).
-    Asks g.S.Store c.args.desk.now (session_of (Enrol name ∷ []) (c.submit.result ∷ []) (desk_state new).stopped) new)
+    Asks g.S.Store c.args.desk.now (session_of (Enrol name ∷ []) (c.submit.result ∷ []) (desk_state new).needs_reopen) new)
     (c.from-name.ensures ∙ (c.in-Ok.ensures.items ∙ c.as_bytes.ensures.value)) c.submit.ensures.submits.asked
 
 pub returns-in_default-clause-turn : goal.returns-in_default-clause-turn

@@ -9,5 +9,5 @@ invariant-loop-line g l = record {
   enrols : (session : Session)
       × Enrols (names_of (take l.line-index l.lines)) (desk_state l.fn.desk) l.additions None session (desk_state l.desk)
       × Asks g.S.Store l.fn.desk session l.desk;
-  runs : IsFalse (desk_state l.desk).stopped;
+  runs : IsFalse (desk_state l.desk).needs_reopen;
 }

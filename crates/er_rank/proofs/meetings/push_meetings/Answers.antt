@@ -1,5 +1,5 @@
 use Rattle.std.proofs.{Common.{arith, sym, append-nil}, lemmas.Grind.common_steps}
-use Rattle.er_rank.proofs.meetings.push_meetings.Goals.{then-played-ne0+in_ok-push, else-played-ne0}
+use Rattle.er_rank.proofs.meetings.push_meetings.Goals.{then-not-is_bye+in_ok-push, else-not-is_bye}
 use Rattle.er_rank.proofs.meetings.push_meetings.Goals as goal
 
 pub loop-played-init : goal.loop-played-init

@@ -11,4 +11,9 @@ pub returns-in-Report : goal.returns-in-Report
 returns-in-Report g c = rw c.in-Report.is c.report.ensures
 
 pub returns-in-Pairings : goal.returns-in-Pairings
-returns-in-Pairings g c = rw c.in-Pairings.is (record { session = _; answers = (c.pairings.ensures, refl, refl); asks = c.asks_nothing.ensures })
+returns-in-Pairings g c = rw c.in-Pairings.is (record {
+  session = _;
+  answers = (c.pairings.ensures, refl, refl);
+  asks =
+      c.asks_nothing.ensures;
+})

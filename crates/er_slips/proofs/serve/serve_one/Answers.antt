@@ -29,7 +29,8 @@ returns-in-Err-Refused-clause-written g c = let it = returns-in-Err-Refused-clau
 pub returns-in-Err-Memory-clause-serves : goal.returns-in-Err-Memory-clause-serves
 returns-in-Err-Memory-clause-serves g c = record {
   session = _;
-  ends = ends-unserved _ _ _ _ _ _ _ _ c.in-Err-Memory.field-0-is c.in-Err-Memory.ensures c.refusal_answer.ensures c.deliver-in-Err-Memory.ensures;
+  ends = ends-unserved _ _ _ _ _ _ _ _ c.in-Err-Memory.field-0-is c.in-Err-Memory.ensures c.refusal_answer.ensures
+      c.deliver-in-Err-Memory.ensures;
   asks = c.asks_nothing.ensures;
 }
 

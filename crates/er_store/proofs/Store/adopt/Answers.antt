@@ -1,12 +1,13 @@
-use Rattle.er_store.proofs.Prelude.{ℕ, List, Result, Ok, Err, IsOk, refl, sym, subst, ◌∙◌, true≢false, read_event, state}
+use Rattle.er_store.proofs.Prelude.{ℕ, List, Result, Ok, Err, IsOk, inl, inr, refl, sym, subst, ◌≡◌, ◌∙◌, true≢false, rules, read_event}
+use Rattle.er_store.proofs.Prelude.{state}
 use Rattle.er_store.proofs.Prelude.{Schema, Database, IsUnchanged, Compiled, CompileError, EventValue, HasCleanDisk, HasTablesAt, Layout}
-use Rattle.er_store.proofs.Prelude.{RepresentsAt, RepresentsIn}
+use Rattle.er_store.proofs.Prelude.{HasTables, Represents, RepresentsAt, RepresentsIn, IsSoundButForSeeds}
 use Rattle.er_store.proofs.Prelude.{Shows, Takes, unchanged_then}
 use Rattle.sqlite.specs.Effect.{IsDatabase}
 use Rattle.er_store.specs.{Loading.HoldsEvent, Representing.ReadsEvent}
 use Rattle.er_store.proofs.{Meaning.event_selected, Effects.at_ours}
-use Rattle.er_store.proofs.{LoadLemmas.{kept_tables, kept_represents, then_keeps, represents_where}}
-use Rattle.er_store.proofs.Crash.{shows_leaves, survives_both, only}
+use Rattle.er_store.proofs.{LoadLemmas.{kept_tables, kept_represents, then_keeps, unchanged_keeps, represents_where}}
+use Rattle.er_store.proofs.Crash.{shows_leaves_in, survives_both, only, was_clean}
 use Rattle.er_store.proofs.Store.adopt.Given as given
 use Rattle.er_store.proofs.Store.adopt.Goals as goal
 
@@ -21,7 +22,7 @@ reads_ours l schema has = at_ours schema has ReadsEvent
 -- the first look leaves what it saw
 same : (g : given.Over) (c : goal.After-result-1 g) → HasCleanDisk (state g.S.Store c.load_tables.new.conn)
     → IsUnchanged (state g.S.Store c.args.conn) (state g.S.Store c.reads_event.new.conn)
-same g c clean = (c.in-Ok-true.ensures.found (c.load_tables.ensures.clean clean)).1
+same g c clean = c.in-Ok-true.ensures.looks.same (c.load_tables.ensures.looks.clean clean)
 
 -- a connection that saw the last commit, and sees the same
 shown : (g : given.Over) (c : goal.After-result-1 g) → HasCleanDisk (state g.S.Store c.load_tables.new.conn)
@@ -38,74 +39,98 @@ shown g c clean second v e s represents =
       represents = subst (λ (d : Database). RepresentsIn v d e s) (sym nows) represents;
     }
 
-pub returns-in-Ok-false-clause-found : goal.returns-in-Ok-false-clause-found
-returns-in-Ok-false-clause-found g c e s represents sound clean =
-    let found = (c.in-Ok-false.ensures.found clean).0 in
-    let reads = reads_ours represents.0 (state g.S.Store c.args.conn).now.schema represents.1.has.tables in
-    absurd (true≢false (sym (found.1 reads) ∙ c.in-Ok-false.field-0-test))
+pub returns-in-Ok-false : goal.returns-in-Ok-false
+returns-in-Ok-false g c =
+    let look = c.in-Ok-false.ensures in
+    record {
+      mode = search rules;
+      clean = λ clean. was_clean look.looks.survives clean;
+      why = inl refl;
+      no_event = λ is clean reads. true≢false (sym ((look.found clean).1 reads) ∙ c.in-Ok-false.field-0-test);
+      first = λ clean. search rules;
+      readable = λ clean. search rules;
+      fails = λ clean e s represents sound.
+          let reads = reads_ours represents.0 (state g.S.Store c.args.conn).now.schema represents.1.has.tables in
+          absurd (true≢false (sym ((look.found clean).1 reads) ∙ c.in-Ok-false.field-0-test));
+      kept = λ clean. unchanged_keeps _ _ (look.looks.same clean);
+      crash = λ clean trees may. only (look.looks.survives.crash clean trees may);
+    }
 
-pub returns-in-Err-load_tables-clause-found : goal.returns-in-Err-load_tables-clause-found
-returns-in-Err-load_tables-clause-found g c e s represents sound clean =
-    let same = (c.in-Ok-true.ensures.found (c.load_tables.ensures.clean clean)).1 in
-    let here = kept_represents _ _ e s same represents in
-    c.in-Err-load_tables.ensures.found clean here.0 e s here.1 sound
+pub returns-in-Err : goal.returns-in-Err
+returns-in-Err g c =
+    let look = c.in-Err.ensures in
+    record {
+      mode = search rules;
+      clean = λ clean. was_clean look.looks.survives clean;
+      why = inr (inl c.refusal_of.ensures.fault);
+      no_event = search rules;
+      first = search rules;
+      readable = search rules;
+      fails = λ clean e s represents sound. c.refusal_of.ensures.fault;
+      kept = λ clean. look.looks.kept clean;
+      crash = λ clean trees may. only (look.looks.survives.crash clean trees may);
+    }
 
-pub returns-in-Ok-clause-found : goal.returns-in-Ok-clause-found
-returns-in-Ok-clause-found g c e s represents sound clean =
-    let at = subst (λ (d : Database). RepresentsAt represents.0 d e s) (sym (same g c clean).0.now_is) represents.1 in
-    let found = c.in-Ok.ensures.found clean represents.0 e s at sound in
-    let here : RepresentsIn c.in-Ok.version (state g.S.Store c.args.conn).now e s =
-    record { layout = represents.0; is = sym found.2; represents = represents.1 } in
-    (found.0, found.1, shown g c clean (c.in-Ok.ensures.same clean) c.in-Ok.version e s here)
+pub returns-in-Err-load_tables : goal.returns-in-Err-load_tables
+returns-in-Err-load_tables g c =
+    let early = c.in-Ok-true.ensures in
+    let before : HasCleanDisk (state g.S.Store c.load_tables.new.conn) → HasCleanDisk (state g.S.Store c.reads_event.new.conn) =
+    c.load_tables.ensures.looks.clean in
+    let same : HasCleanDisk (state g.S.Store c.load_tables.new.conn)
+    → IsUnchanged (state g.S.Store c.args.conn) (state g.S.Store c.reads_event.new.conn) =
+    λ clean. early.looks.same (before clean) in
+    let failed = c.in-Err-load_tables.ensures in
+    record {
+      mode = search rules;
+      clean = λ clean. was_clean c.reads_event.ensures.looks.survives (c.load_tables.ensures.looks.clean clean);
+      why = inr failed.fault;
+      no_event = search rules;
+      first = λ clean place is. rw (same clean).0.now_is at (failed.first clean place is);
+      readable = λ clean place is. (early.found (before clean)).0 c.in-Ok-true.field-0-test;
+      fails = λ clean e s represents sound.
+          let here = kept_represents _ _ e s (same clean) represents in
+          failed.found clean here.0 e s here.1 sound;
+      kept = λ clean. then_keeps (state g.S.Store c.args.conn) (state g.S.Store c.reads_event.new.conn)
+          (state g.S.Store c.load_tables.new.conn) (same clean) (failed.looks.kept clean);
+      crash = λ clean trees may.
+          only ((survives_both c.reads_event.ensures.looks.survives c.load_tables.ensures.looks.survives).crash clean trees may);
+    }
 
-pub returns-in-Ok-clause-version : goal.returns-in-Ok-clause-version
-returns-in-Ok-clause-version g c clean e s v represents sound =
-    let at = subst (λ (d : Database). RepresentsAt represents.layout d e s) (sym (same g c clean).0.now_is) represents.represents in
-    (c.in-Ok.ensures.found clean represents.layout e s at sound).2 ∙ represents.is
-
-pub returns-in-Ok-clause-represents : goal.returns-in-Ok-clause-represents
-returns-in-Ok-clause-represents g c clean has keyed =
-    let first = same g c clean in
-    let shows = subst (λ (db : Database). HoldsEvent c.in-Ok.version db c.in-Ok.event c.in-Ok.serial) first.0.now_is
-    (c.in-Ok.ensures.shows clean (kept_tables _ _ _ first has)) in
-    shown g c clean (c.in-Ok.ensures.same clean) _ _ _ (represents_where shows keyed)
-
-pub returns-in-Ok-clause-leaves : goal.returns-in-Ok-clause-leaves
-returns-in-Ok-clause-leaves g c clean e s represents sound =
-    shows_leaves c.in-Ok.version (state g.S.Store c.load_tables.new.conn) e s
-    (λ db is_open may. g.met.S.Store.settled c.load_tables.new.conn.store db is_open may)
-    (returns-in-Ok-clause-found g c e s represents sound clean).2
-
-pub returns-in-Err-load_tables-clause-first : goal.returns-in-Err-load_tables-clause-first
-returns-in-Err-load_tables-clause-first g c clean place is =
-    rw (c.in-Ok-true.ensures.found (c.load_tables.ensures.clean clean)).1.0.now_is at (c.in-Err-load_tables.ensures.first clean place is)
-
-pub returns-in-Err-load_tables-clause-readable : goal.returns-in-Err-load_tables-clause-readable
-returns-in-Err-load_tables-clause-readable g c clean place is =
-    (c.in-Ok-true.ensures.found (c.in-Err-load_tables.ensures.clean clean)).0.0 c.in-Ok-true.field-0-test
-
-pub returns-in-Ok-clause-reads : goal.returns-in-Ok-clause-reads
-returns-in-Ok-clause-reads g c clean = rw (same g c clean).0.now_is at (c.in-Ok.ensures.reads clean)
-
-pub returns-in-Ok-clause-shows : goal.returns-in-Ok-clause-shows
-returns-in-Ok-clause-shows g c clean has =
-    let first = same g c clean in
-    subst (λ (db : Database). HoldsEvent c.in-Ok.version db c.in-Ok.event c.in-Ok.serial) first.0.now_is
-    (c.in-Ok.ensures.shows clean (kept_tables _ _ _ first has))
-
-pub returns-in-Ok-clause-same : goal.returns-in-Ok-clause-same
-returns-in-Ok-clause-same g c clean = unchanged_then _ _ _ (same g c clean) (c.in-Ok.ensures.same clean)
-
-pub returns-in-Ok-clause-crash_ok : goal.returns-in-Ok-clause-crash_ok
-returns-in-Ok-clause-crash_ok g c clean trees may =
-    only ((survives_both c.reads_event.ensures.survives c.load_tables.ensures.survives).crash clean trees may)
-
-pub returns-in-Err-load_tables-clause-kept : goal.returns-in-Err-load_tables-clause-kept
-returns-in-Err-load_tables-clause-kept g c clean =
-    let same = (c.in-Ok-true.ensures.found (c.load_tables.ensures.clean clean)).1 in
-    then_keeps (state g.S.Store c.args.conn) (state g.S.Store c.reads_event.new.conn) (state g.S.Store c.load_tables.new.conn) same
-    (c.in-Err-load_tables.ensures.kept clean)
-
-pub returns-in-Err-load_tables-clause-crash : goal.returns-in-Err-load_tables-clause-crash
-returns-in-Err-load_tables-clause-crash g c clean trees may =
-    only ((survives_both c.reads_event.ensures.survives c.load_tables.ensures.survives).crash clean trees may)
+pub returns-in-Ok : goal.returns-in-Ok
+returns-in-Ok g c =
+    let loaded = c.in-Ok.ensures in
+    let db = (state g.S.Store c.args.conn).now in
+    let shows : (clean : HasCleanDisk (state g.S.Store c.load_tables.new.conn)) → HasTables c.in-Ok.version db.schema
+    → HoldsEvent c.in-Ok.version db c.in-Ok.event c.in-Ok.serial =
+    λ clean has. subst (λ (d : Database). HoldsEvent c.in-Ok.version d c.in-Ok.event c.in-Ok.serial) (same g c clean).0.now_is
+    (loaded.shows clean (kept_tables _ _ _ (same g c clean) has)) in
+    let at : (clean : HasCleanDisk (state g.S.Store c.load_tables.new.conn)) (l : Layout) (e : EventValue) (s : ℕ)
+    → RepresentsAt l db e s → RepresentsAt l (state g.S.Store c.reads_event.new.conn).now e s =
+    λ clean l e s represents. subst (λ (d : Database). RepresentsAt l d e s) (sym (same g c clean).0.now_is) represents in
+    let sees : (clean : HasCleanDisk (state g.S.Store c.load_tables.new.conn)) (e : EventValue) (s : ℕ) → Represents db e s
+    → IsSoundButForSeeds e → (c.in-Ok.event ≡ e) × (c.in-Ok.serial ≡ s)
+    × Shows c.in-Ok.version (state g.S.Store c.load_tables.new.conn) e s =
+    λ clean e s represents sound.
+    let is = loaded.found clean represents.0 e s (at clean represents.0 e s represents.1) sound in
+    let here : RepresentsIn c.in-Ok.version db e s =
+    record { layout = represents.0; is = sym is.2; represents = represents.1 } in
+    (is.0, is.1, shown g c clean (loaded.looks.same clean) c.in-Ok.version e s here) in
+    record {
+      ready = refl;
+      low = loaded.low;
+      sound = loaded.sound;
+      clean = λ clean. was_clean c.reads_event.ensures.looks.survives (c.load_tables.ensures.looks.clean clean);
+      same = λ clean. unchanged_then _ _ _ (same g c clean) (loaded.looks.same clean);
+      crash = λ clean trees may.
+          only ((survives_both c.reads_event.ensures.looks.survives c.load_tables.ensures.looks.survives).crash clean trees may);
+      reads = λ clean. rw (same g c clean).0.now_is at (loaded.reads clean);
+      shows = shows;
+      represents = λ clean has keyed. shown g c clean (loaded.looks.same clean) _ _ _ (represents_where (shows clean has) keyed);
+      found = sees;
+      version = λ clean e s v represents sound.
+          (loaded.found clean represents.layout e s (at clean represents.layout e s represents.represents) sound).2 ∙ represents.is;
+      leaves = λ e s represents sound clean trees may.
+          shows_leaves_in c.in-Ok.version (state g.S.Store c.load_tables.new.conn) e s
+          (λ db is_open may. g.met.S.Store.settled c.load_tables.new.conn.store db is_open may)
+          (sees clean e s represents sound).2 trees may;
+    }

@@ -12,10 +12,10 @@ returns-clause-found g c runs clean e s represents sound =
     let found = c.in_ok-event.ensures.found clean represents.0 e s represents.1 sound in
     (found.0, found.1)
 
-pub returns-clause-reads : goal.returns-clause-reads
-returns-clause-reads g c clean =
+pub returns-clause-shows : goal.returns-clause-shows
+returns-clause-shows g c clean =
     let found = c.in_ok-event.ensures in
-    let same = found.same clean in
+    let same = found.looks.same clean in
     let new = c.load_tables-read.new.conn in
     let mode : new.in_transaction ≡ false = search rules in
     let seen = c.sees_last_commit.ensures mode same.0.is_open in (

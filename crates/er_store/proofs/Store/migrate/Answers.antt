@@ -1,4 +1,14 @@
+use Rattle.er_store.proofs.Prelude.{rules}
 use Rattle.er_store.proofs.Store.migrate.Goals as goal
 
-pub returns-in-Ok-clause-migrated : goal.returns-in-Ok-clause-migrated
-returns-in-Ok-clause-migrated g c clean version may = c.in-Ok.ensures.migrated clean c.args.serial may
+pub returns-in-Ok : goal.returns-in-Ok
+returns-in-Ok g c = record {
+  turn = search rules;
+  waits = search rules;
+  clean = c.in-Ok.ensures.transacts.clean;
+  kept = λ clean. tt;
+  taken = search rules;
+  migrated = λ clean version may. c.in-Ok.ensures.migrated clean c.args.serial may;
+  acknowledged = λ version may. c.in-Ok.ensures.acknowledged c.args.serial may;
+  crash = λ runs version may. c.in-Ok.ensures.crash c.args.serial may;
+}

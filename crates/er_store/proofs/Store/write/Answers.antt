@@ -1,4 +1,12 @@
-use Rattle.er_store.proofs.Prelude.{◌≡◌, refl, List, [], ◌∷◌, Trees, Table, Database, KeepsOthers, IsOther, Layout, ℕ}
+use Rattle.er_store.proofs.Prelude.{◌≡◌, refl, rules, List, [], ◌∷◌, Trees, Table, Database, KeepsOthers, IsOther, Layout, ℕ}
+use Rattle.er_store.proofs.Prelude.{HasCleanDisk, KeepsTables, Err, EventValue, Ghosts, Held, IsFault, IsStoredIn, Shows, IsTrue, IsFalse}
+use Rattle.er_store.proofs.Prelude.{◌+◌, ◌∙◌, true≢false, sym, subst}
+use Rattle.er_event.specs.declared.refusals.Refusal.{Refusal}
+use Rattle.sqlite.specs.Held as sqlite
+use Rattle.sqlite.specs.declared.error.Error.{Error}
+use Rattle.er_store.specs.{Calls.WritesChange, Representing.{Either, Leaves}, inside.Looking.Transacts}
+use Rattle.er_store.specs.declared.Store.{Store}
+use Rattle.er_store.specs.Store as store
 use Rattle.std.specs.List.{AllByRecursion}
 use Rattle.er_store.proofs.Store.write.Goals as goal
 
@@ -13,17 +21,64 @@ keeps_same version old new is = rw is (record {
   rest = λ l of has. record { schema = refl; rows = same_rest l old.trees old.schema.tables };
 })
 
-pub returns-in-Ok-clause-others : goal.returns-in-Ok-clause-others
-returns-in-Ok-clause-others g c clean was is_open = (c.in-Ok.ensures.written clean was).1
+pub returns-in-Ok : goal.returns-in-Ok
+returns-in-Ok g c =
+    let made = c.in-Ok.ensures in
+    record {
+      waits = search rules;
+      stops = search rules;
+      version = refl;
+      clean = made.transacts.clean;
+      kept = λ clean. tt;
+      others = λ clean was is_open. (made.written clean was).1;
+      written = λ clean was. (made.written clean was).0;
+      acknowledged = made.acknowledged;
+      crash = λ runs was. made.crash was;
+    }
 
-pub returns-in-Err-clause-kept : goal.returns-in-Err-clause-kept
-returns-in-Err-clause-kept g c = rw c.stop.ensures.same c.in-Err.ensures.kept
+-- What it leaves where the transaction was refused. That the store has stopped then, and stays on its connection, is for `search`
+-- to find, so that a body that goes on is refused there.
+failed_writes : {S : Type 0} (g : Ghosts S) {e next : EventValue} {serial : ℕ} (old new : Store S g) (conn : Held S) {why : Refusal}
+    {error : Error}
+    → Transacts {A = Unit {0}} g (store.connection old) (Err error) conn
+    → (Shows (store.version_in old) (store.state g old) e serial → Leaves (sqlite.state g conn)
+    (Either (IsStoredIn (store.version_in old) e serial) (IsStoredIn (store.version_in old) next (serial + 1))))
+    → IsFalse (store.needs_reopen old) → store.connection new ≡ conn → IsFault why → IsTrue (store.needs_reopen new)
+    → store.version_in new ≡ store.version_in old
+    → WritesChange g e next serial old (Err why) new
+failed_writes g old new conn failed crash runs same fault stopped version =
+    let late : HasCleanDisk (store.state g new) → HasCleanDisk (sqlite.state g conn) =
+    subst (λ (h : Held _). HasCleanDisk (sqlite.state g h)) same in
+    let keeps : HasCleanDisk (store.state g new) → KeepsTables (store.state g old) (store.state g new) =
+    λ clean. subst (λ (h : Held _). KeepsTables (store.state g old) (sqlite.state g h)) (sym same) (failed.kept (late clean)) in
+    record {
+      waits = λ stopped. absurd (true≢false (sym stopped ∙ runs));
+      stops = λ runs. (fault, stopped);
+      version = version;
+      clean = λ now. failed.clean (late now);
+      kept = keeps;
+      others = λ now was is_open. keeps_same _ _ _ (keeps now was.settled is_open).0;
+      written = λ now was. tt;
+      acknowledged = λ was. tt;
+      crash = λ runs was now trees may.
+          crash was (late now) trees (subst (λ (h : Held _). (sqlite.state g h).may_leave trees) same may);
+    }
 
-pub returns-in-Err-clause-others : goal.returns-in-Err-clause-others
-returns-in-Err-clause-others g c clean was is_open = keeps_same _ _ _ (returns-in-Err-clause-kept g c clean was.settled is_open).0
+pub returns-in-Err : goal.returns-in-Err
+returns-in-Err g c =
+    let failed = c.in-Err.ensures in
+    failed_writes g.S.Store c.args.self.now _ _ failed.transacts failed.crash (search rules) (search rules) (search rules)
+    (search rules) (search rules)
 
-pub returns-in-Err-clause-crash : goal.returns-in-Err-clause-crash
-returns-in-Err-clause-crash g c runs = rw c.stop.ensures.same c.in-Err.ensures.crash
-
-pub returns-then-self-clause-others : goal.returns-then-self-clause-others
-returns-then-self-clause-others g c clean was is_open = keeps_same _ _ _ refl
+pub returns-then-self : goal.returns-then-self
+returns-then-self g c = record {
+  waits = search rules;
+  stops = search rules;
+  version = refl;
+  clean = λ clean. clean;
+  kept = search rules;
+  others = λ clean was is_open. keeps_same _ _ _ refl;
+  written = λ clean was. tt;
+  acknowledged = λ was. tt;
+  crash = search rules;
+}

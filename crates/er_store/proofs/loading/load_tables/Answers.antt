@@ -4,8 +4,9 @@ use Rattle.er_event.specs.Parts.{IsOf}
 use Rattle.er_store.specs.{Loading.{HoldsEvent, ListsTallies}, Damage.said_version, inside.Lookup.{IsWhole, FindsParts}}
 use Rattle.er_store.proofs.Layouts.{said_is, known_layout}
 use Rattle.std.proofs.lemmas.Result.{MatchResult-from_both}
+use Rattle.er_store.proofs.Lending.{looks_as, looks_fail}
 use Rattle.er_store.specs.{Damage.{IsAtFault, IfDamaged}, Fault.IsLoadFault}
-use Rattle.er_store.proofs.{Refusals.first_of, LoadLemmas.{unchanged_keeps, all_ok, all_err, told}, Loaded.{no_row_fault, shows_event}}
+use Rattle.er_store.proofs.{Refusals.first_of, LoadLemmas.told, Loaded.{no_row_fault, shows_event}}
 use Rattle.er_store.proofs.loading.load_tables.Goals as goal
 
 -- what is found, where the tables are of the version that their row says
@@ -25,39 +26,33 @@ holds {db} {parts} {rows} {e} {s} {v} (l, is, has) whole finds counted totals =
 
 pub returns-in_err-parts-clause-found : goal.returns-in_err-parts-clause-found
 returns-in_err-parts-clause-found g c clean l e s represents sound =
-    let why : IsFault c.in_err-parts.field-0.0 = (c.in_err-parts.ensures.looks.misses clean).refused e s (l, represents) sound in
+    let why : IsFault c.in_err-parts.field-0.0 = (c.in_err-parts.ensures.misses clean).refused e s (l, represents) sound in
     search (rules, why)
 
 pub returns-in_err-parts-clause-first : goal.returns-in_err-parts-clause-first
 returns-in_err-parts-clause-first g c clean =
     let why : IfDamaged (IsAtFault (state g.S.Store c.args.conn.now).now) c.in_err-parts.field-0.0 =
-    λ place h. inl ((c.in_err-parts.ensures.looks.misses clean).misread place h) in
+    λ place h. inl ((c.in_err-parts.ensures.misses clean).misread place h) in
     told c.from_residual.result _ _ (search rules) why
-
-pub returns-in_err-parts-clause-clean : goal.returns-in_err-parts-clause-clean
-returns-in_err-parts-clause-clean g c = c.in_err-parts.ensures.looks.clean
 
 pub returns-in_err-parts-clause-fault : goal.returns-in_err-parts-clause-fault
 returns-in_err-parts-clause-fault g c =
-    let why : IsLoadFault c.in_err-parts.field-0.0 = c.in_err-parts.ensures.looks.fault in
+    let why : IsLoadFault c.in_err-parts.field-0.0 = c.in_err-parts.ensures.fault in
     search (rules, why)
 
-pub returns-in_err-parts-clause-kept : goal.returns-in_err-parts-clause-kept
-returns-in_err-parts-clause-kept g c clean = all_err c.from_residual.result (c.in_err-parts.ensures.looks.kept clean)
-
-pub returns-in_err-parts-clause-survives : goal.returns-in_err-parts-clause-survives
-returns-in_err-parts-clause-survives g c = c.in_err-parts.ensures.looks.survives
+pub returns-in_err-parts-clause-looks : goal.returns-in_err-parts-clause-looks
+returns-in_err-parts-clause-looks g c =
+    looks_fail c.from_residual.result c.in_err-parts.field-0.0 (search rules) c.in_err-parts.ensures.looks
 
 pub returns : goal.returns
 returns g c =
     let db = (state g.S.Store c.args.conn.now).now in
     let parts = c.in_ok-parts.parts in
     let tallies = c.in_ok-parts.tallies in
-    let looks = c.in_ok-parts.ensures.looks in
+    let looks = c.in_ok-parts.ensures in
     let made = c.counted_event_of.ensures in
     record {
-      clean = looks.clean;
-      mode = search rules;
+      looks = looks_as c.counted_event_of.result looks.looks;
       low = IfOk-weaker c.counted_event_of.result _ _ (λ it read. read.0.low) made.value;
       sound = IfOk-weaker c.counted_event_of.result _ _ (λ it read. read.0.sound) made.value;
       known = IfOk-weaker c.counted_event_of.result _ _ (λ it read. read.0.known) made.value;
@@ -92,7 +87,4 @@ returns g c =
           IfErr-weaker c.counted_event_of.result _ _ (λ why refused place h.
           let fault = first_of parts tallies c.as_slice.result.now c.as_slice.ensures why refused place h in
           inr (parts, tallies, finds.0.reads, finds.1.reads, fault)) made.refused;
-      same = λ clean. all_ok c.counted_event_of.result (looks.same clean);
-      kept = λ clean. all_err c.counted_event_of.result (unchanged_keeps _ _ (looks.same clean));
-      survives = looks.survives;
     }

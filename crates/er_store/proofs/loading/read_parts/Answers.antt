@@ -26,34 +26,34 @@ said : {db : Database} {events : List EventRow} → FindsRows event_form event_t
 said {events = events} event l e s represents sound =
     ap said_version (event.exact l refl e s represents sound) ∙ said_is (version_of l) (known_layout l) e s
 
-pub returns-in_err-event-clause-looks : goal.returns-in_err-event-clause-looks
-returns-in_err-event-clause-looks g c =
-    let look = c.in_err-event.ensures.looks in
+pub returns-in_err-event : goal.returns-in_err-event
+returns-in_err-event g c =
+    let look = c.in_err-event.ensures in
     missed_as (search rules) (λ db miss. first_misread EventTable db c.in_err-event.field-0.0 (λ bad. bad) miss.misread
     (λ e s represents sound. miss.refused represents.0 refl e s represents.1 sound)) look
 
-pub returns-in_err-players-clause-looks : goal.returns-in_err-players-clause-looks
-returns-in_err-players-clause-looks g c =
-    let look = looks_then c.in_ok-event.ensures.looks
-    (rw (c.said_version-version.ensures, c.as_slice.ensures) at c.in_err-players.ensures.looks) in
+pub returns-in_err-players : goal.returns-in_err-players
+returns-in_err-players g c =
+    let look = looks_then c.in_ok-event.ensures
+    (rw (c.said_version-version.ensures, c.as_slice.ensures) at c.in_err-players.ensures) in
     missed_as (search rules) (λ db miss. first_misread PlayerTable db c.in_err-players.field-0.0
     (λ bad. (c.in_ok-event.event, miss.0.reads, tt, bad)) miss.1.misread
     (λ e s represents sound. miss.1.refused represents.0 (ap players_text (sym (said miss.0 represents.0 e s represents.1 sound))) e s
     represents.1 sound)) look
 
-pub returns-in_err-pairings-clause-looks : goal.returns-in_err-pairings-clause-looks
-returns-in_err-pairings-clause-looks g c =
-    let look = looks_then c.in_ok-event.ensures.looks (looks_then
-    (rw (c.said_version-version.ensures, c.as_slice.ensures) at c.in_ok-players.ensures.looks) c.in_err-pairings.ensures.looks) in
+pub returns-in_err-pairings : goal.returns-in_err-pairings
+returns-in_err-pairings g c =
+    let look = looks_then c.in_ok-event.ensures (looks_then
+    (rw (c.said_version-version.ensures, c.as_slice.ensures) at c.in_ok-players.ensures) c.in_err-pairings.ensures) in
     missed_as (search rules) (λ db miss. first_misread PairingTable db c.in_err-pairings.field-0.0
     (λ bad. (c.in_ok-event.event, miss.0.reads, (c.in_ok-players.players, miss.1.0.reads), bad)) miss.1.1.misread
     (λ e s represents sound. miss.1.1.refused represents.0 refl e s represents.1 sound)) look
 
-pub returns-in_err-bracket-clause-looks : goal.returns-in_err-bracket-clause-looks
-returns-in_err-bracket-clause-looks g c =
-    let look = looks_then c.in_ok-event.ensures.looks (looks_then
-    (rw (c.said_version-version.ensures, c.as_slice.ensures) at c.in_ok-players.ensures.looks)
-    (looks_then c.in_ok-pairings.ensures.looks c.in_err-bracket.ensures.looks)) in
+pub returns-in_err-bracket : goal.returns-in_err-bracket
+returns-in_err-bracket g c =
+    let look = looks_then c.in_ok-event.ensures (looks_then
+    (rw (c.said_version-version.ensures, c.as_slice.ensures) at c.in_ok-players.ensures)
+    (looks_then c.in_ok-pairings.ensures c.in_err-bracket.ensures)) in
     missed_as (search rules) (λ db miss. first_misread BracketTable db c.in_err-bracket.field-0.0
     (λ bad. (
       c.in_ok-event.event,
@@ -62,11 +62,11 @@ returns-in_err-bracket-clause-looks g c =
       bad,
     )) miss.1.1.1.misread (λ e s represents sound. miss.1.1.1.refused represents.0 refl e s represents.1 sound)) look
 
-pub returns-clause-looks : goal.returns-clause-looks
-returns-clause-looks g c =
-    let look = looks_then c.in_ok-event.ensures.looks (looks_then
-    (rw (c.said_version-version.ensures, c.as_slice.ensures) at c.in_ok-players.ensures.looks)
-    (looks_then c.in_ok-pairings.ensures.looks c.in_ok-bracket.ensures.looks)) in
+pub returns : goal.returns
+returns g c =
+    let look = looks_then c.in_ok-event.ensures (looks_then
+    (rw (c.said_version-version.ensures, c.as_slice.ensures) at c.in_ok-players.ensures)
+    (looks_then c.in_ok-pairings.ensures c.in_ok-bracket.ensures)) in
     found_as (λ db it. record {
       reads = record { event = it.0.reads; players = it.1.0.reads; pairings = it.1.1.0.reads; bracket = it.1.1.1.reads };
       lists = λ l is has. record {

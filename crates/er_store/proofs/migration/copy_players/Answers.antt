@@ -1,9 +1,9 @@
-use Rattle.er_store.proofs.Prelude.{◌≡◌, ◌+◌, [], ◌∷◌, ◌++◌, take, take_more, take_all, refl, sym, ap, ◌∙◌, state, Player, Moved}
-use Rattle.er_store.proofs.{Crash.{stays_self, stays_then, was_clean}, Migrating.{moving_then, moving_here, player2_added}}
+use Rattle.er_store.proofs.Prelude.{◌≡◌, ◌+◌, [], ◌∷◌, ◌++◌, take, take_more, take_all, refl, sym, ap, ◌∙◌, Player, Moved}
+use Rattle.er_store.proofs.{Lending.{lends_self, lends_then}, Crash.was_clean, Migrating.{moving_then, moving_here, player2_added}}
 use Rattle.er_store.proofs.migration.copy_players.Goals as goal
 
 pub loop-player-init : goal.loop-player-init
-loop-player-init g c = (refl, stays_self (state g.S.Store c.args.tx.now.conn.now), λ clean e s former here. here)
+loop-player-init g c = (lends_self g.S.Store c.args.tx.now, λ clean e s former here. here)
 
 pub loop-player-preserved : goal.loop-player-preserved
 loop-player-preserved g c =
@@ -13,17 +13,16 @@ loop-player-preserved g c =
     let so_far = c.loop-player.invariant in
     let more : take (at + 1) items ≡ take at items ++ p ∷ [] = take_more items at p c.loop-player-test.true
     ∙ ap (λ (x : Player). take at items ++ x ∷ []) (sym c.player-item.is) in (
-      c.insert_player2.ensures.same_reference ∙ so_far.0,
-      stays_then so_far.1 c.insert_player2.ensures.stays,
+      lends_then so_far.0 c.insert_player2.ensures.lends,
       λ clean e s former here.
-          let was = so_far.2 (was_clean c.insert_player2.ensures.stays.survives clean) e s former here in
+          let was = so_far.1 (was_clean c.insert_player2.ensures.lends.stays.survives clean) e s former here in
           let put = rw (c.from-number.ensures, c.from-joined.ensures, c.get.ensures.value, c.as_str.ensures.value) at
-          (c.in_ok-insert_player2.ensures.puts clean Moved refl was.has.tables) in
+          (c.in_ok-insert_player2.ensures.puts Moved refl was.has.tables clean) in
           rw more (moving_then was (player2_added p (moving_here was) put)),
     )
 
 pub returns-clause-copies : goal.returns-clause-copies
-returns-clause-copies g c clean e s former here =
+returns-clause-copies g c e s former here clean =
     rw (← c.players-player-items.ensures.value)
     (rw (take_all c.loop-player.player-index c.players-player-items.result.now c.loop-player-test.false) at
-    (c.loop-player.invariant.2 clean e s former here))
+    (c.loop-player.invariant.1 clean e s former here))

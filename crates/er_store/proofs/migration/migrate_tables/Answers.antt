@@ -1,5 +1,6 @@
-use Rattle.er_store.proofs.Prelude.{inl, rules, true, ◌≡◌, ℕ, on_ok_weaker, IfErr-weaker, HasCleanDisk, state, sym, true≢false}
-use Rattle.er_store.proofs.{LoadLemmas.all_err, Crash.{uncommitted_keeps, dropped_keeps, was_clean, survives_both}}
+use Rattle.er_store.proofs.Prelude.{inl, rules, true, ◌≡◌, ℕ, on_ok_weaker, HasCleanDisk, state, sym}
+use Rattle.er_store.proofs.Prelude.{true≢false}
+use Rattle.er_store.proofs.{Lending.{on_ok_later, dropped, committed}, Crash.{was_clean, survives_both}}
 use Rattle.er_store.proofs.{Crash.{shows_leaves_in, leaves_old}, MovedCrash.{moved_written, moved_leaves}, Layouts.in_first}
 use Rattle.er_store.specs.{Migrated.MayMigrate, inside.Moving.IsMoved}
 use Rattle.er_store.proofs.migration.migrate_tables.Given as given
@@ -10,8 +11,8 @@ moved : (g : given.Over) (c : goal.After-conn-2-1 g) → HasCleanDisk (state g.S
     → MayMigrate (state g.S.Store c.args.conn.now) c.args.event.now s
     → IsMoved (state g.S.Store c.move_players.new.tx.conn.now) c.args.event.now s
 moved g c late s may =
-    let moves = rw c.transaction-tx.ensures.begun at (c.in_ok-move_players.ensures.moves (was_clean c.commit.ensures.survives late)) in
-    moves s (record { alone = may.alone; represents = in_first may.shows.represents })
+    let moves = rw c.transaction-tx.ensures.begun at c.in_ok-move_players.ensures.moves in
+    moves s (record { alone = may.alone; represents = in_first may.shows.represents }) (was_clean c.commit.ensures.survives late)
 
 pub returns-clause-migrated : goal.returns-clause-migrated
 returns-clause-migrated g c clean s may =
@@ -21,9 +22,10 @@ returns-clause-migrated g c clean s may =
     rw (← same) (on_ok_weaker c.commit.result (λ done. moved_written it done.1) (c.commit.ensures.ok late))
 
 pub returns-clause-acknowledged : goal.returns-clause-acknowledged
-returns-clause-acknowledged g c clean s may =
+returns-clause-acknowledged g c s may = on_ok_later _ _ c.commit.result (λ clean.
     on_ok_weaker c.commit.result (λ shown. shows_leaves_in 2 (state g.S.Store c.conn-2-1.given.0) _ _
-    (λ db is_open may. g.met.S.Store.settled c.conn-2-1.given.0.store db is_open may) shown.shows) (returns-clause-migrated g c clean s may)
+    (λ db is_open may. g.met.S.Store.settled c.conn-2-1.given.0.store db is_open may) shown.shows)
+    (returns-clause-migrated g c clean s may))
 
 pub returns-clause-crash : goal.returns-clause-crash
 returns-clause-crash g c s may clean trees left =
@@ -32,7 +34,8 @@ returns-clause-crash g c s may clean trees left =
     let late = rw (← same) at clean in
     moved_leaves (moved g c late s may) (record old { in_transaction = true })
     (shows_leaves_in 1 old _ _ (λ db is_open left. g.met.S.Store.settled c.args.conn.now.store db is_open left) may.shows)
-    (rw c.transaction-tx.ensures.begun at c.move_players.ensures.stays.survives) c.commit.ensures.survives late trees (rw (← same) at left)
+    (rw c.transaction-tx.ensures.begun at c.move_players.ensures.lends.stays.survives)
+    c.commit.ensures.survives late trees (rw (← same) at left)
 
 -- where the move is refused, the transaction is dropped
 pub returns-in_err-move_players-clause-crash : goal.returns-in_err-move_players-clause-crash
@@ -40,7 +43,8 @@ returns-in_err-move_players-clause-crash g c s may clean trees left =
     let old = state g.S.Store c.args.conn.now in
     let end = c.drop-tx.new.self.0 in
     let same : end ≡ c.conn-1.given.0 = search rules in
-    let quiet = survives_both (rw c.transaction-tx.ensures.begun at c.move_players.ensures.stays.survives) c.drop-tx.ensures.survives in
+    let step = rw c.transaction-tx.ensures.begun at c.move_players.ensures.lends.stays.survives in
+    let quiet = survives_both step c.drop-tx.ensures.survives in
     inl (leaves_old 1 old (state g.S.Store end) _ _
     (λ db is_open left. g.met.S.Store.settled c.args.conn.now.store db is_open left) may.shows
     quiet (rw (← same) at clean) trees (rw (← same) at left))
@@ -51,7 +55,8 @@ returns-in_err-move_players-clause-taken g c clean used =
     let old = state g.S.Store c.args.conn.now in
     let end = c.drop-tx.new.self.0 in
     let same : end ≡ c.conn-1.given.0 = search rules in
-    let quiet = survives_both (rw c.transaction-tx.ensures.begun at c.move_players.ensures.stays.survives) c.drop-tx.ensures.survives in (
+    let step = rw c.transaction-tx.ensures.begun at c.move_players.ensures.lends.stays.survives in
+    let quiet = survives_both step c.drop-tx.ensures.survives in (
       search rules,
       λ s shows clean trees left. leaves_old 1 old (state g.S.Store end) _ _
           (λ db is_open left. g.met.S.Store.settled c.args.conn.now.store db is_open left) shows
@@ -66,20 +71,17 @@ returns-clause-taken g c clean used =
     absurd (true≢false (sym (taken used)))
 
 -- a refusal leaves the tables as they were
-pub returns-in_err-move_players-clause-kept : goal.returns-in_err-move_players-clause-kept
-returns-in_err-move_players-clause-kept g c clean =
-    let same : c.drop-tx.new.self.0 ≡ c.conn-1.given.0 = search rules in
-    let late = rw (← same) at clean in
-    let stays = rw c.transaction-tx.ensures.begun at c.move_players.ensures.stays in
-    rw (← same) (all_err c.from_residual.result
-    (dropped_keeps (state g.S.Store c.args.conn.now) stays c.drop-tx.ensures.survives c.drop-tx.ensures.undone late))
+pub returns-in_err-move_players-clause-transacts : goal.returns-in_err-move_players-clause-transacts
+returns-in_err-move_players-clause-transacts g c =
+    dropped g.S.Store c.args.conn.now c.transaction-tx.result.conn.now c.move_players.new.tx.conn.now c.drop-tx.new.self.0
+    c.conn-1.given.0 _
+    c.from_residual.result c.transaction-tx.ensures.begun c.move_players.ensures.lends.stays c.drop-tx.ensures.survives (search rules)
+    (search rules) c.drop-tx.ensures.undone
 
-pub returns-clause-kept : goal.returns-clause-kept
-returns-clause-kept g c clean =
-    let same : c.commit.new.self.0 ≡ c.conn-2-1.given.0 = search rules in
-    let late = rw (← same) at clean in
-    let clean_last = was_clean c.commit.ensures.survives late in
-    let kept = rw c.transaction-tx.ensures.begun at (c.move_players.ensures.stays.committed clean_last) in
-    rw (← same) (IfErr-weaker c.commit.result _ _
-    (λ e. uncommitted_keeps (state g.S.Store c.args.conn.now) _ e (c.in_ok-move_players.ensures.inside clean_last) kept)
-    (c.commit.ensures.err late))
+pub returns-clause-transacts : goal.returns-clause-transacts
+returns-clause-transacts g c =
+    committed g.S.Store c.args.conn.now c.transaction-tx.result.conn.now c.move_players.new.tx.conn.now c.commit.new.self.0
+    c.conn-2-1.given.0 _
+    c.commit.result c.transaction-tx.ensures.begun c.move_players.ensures.lends.stays c.commit.ensures.survives (search rules)
+    (search rules)
+    c.in_ok-move_players.ensures.inside c.commit.ensures.err

@@ -3,6 +3,7 @@ use Rattle.er_store.proofs.Prelude.{◌∙◌, arith, map-append, length-map, Ro
 use Rattle.er_store.proofs.Prelude.{survives_then, meeting_rows, IsReadRefused, first_columns, meeting_columns, FailsToQuery, Shown}
 use Rattle.er_store.proofs.Prelude.{Layout, HasTablesAt, Schema, Selects}
 use Rattle.std.proofs.Common.{length-append}
+use Rattle.er_store.proofs.Lending.{no_ok}
 use Rattle.er_store.proofs.{Meaning.{meeting_query, meetings_selected}, Refusals.meetings_refused, Crash.{survives_both, was_clean}}
 use Rattle.er_store.proofs.LoadLemmas.{all_err, kept_represents, told, then_keeps, unchanged_keeps}
 use Rattle.er_store.proofs.Selecting.{commits_nothing, fails_keeping, selects, begun-select, given-shown, row-among, refused-after}
@@ -19,14 +20,6 @@ pub returns-in_err-rows-clause-refused : goal.returns-in_err-rows-clause-refused
 returns-in_err-rows-clause-refused g c clean e s represents sound =
     told c.from_residual.result c.in_err-rows.field-0.0 _ c.from_residual.ensures.1 (inr (meetings_refused _ _ _
     (chosen represents.0 represents.1.has.tables) ((rw c.in_err-rows.was at c.query.follows.holds-at-none).err clean)))
-
-pub returns-in_err-rows-clause-kept : goal.returns-in_err-rows-clause-kept
-returns-in_err-rows-clause-kept g c clean =
-    all_err c.from_residual.result
-    (fails_keeping _ _ _ _ _ selects.meetings ((rw c.in_err-rows.was at c.query.follows.holds-at-none).err clean))
-
-pub returns-in_err-rows-clause-survives : goal.returns-in_err-rows-clause-survives
-returns-in_err-rows-clause-survives g c = commits_nothing sql.read_meetings [] selects.meetings (search rules)
 
 pub loop-rows-init : goal.loop-rows-init
 loop-rows-init g c =
@@ -128,37 +121,6 @@ returns-in_err-push_row-clause-refused g c clean e s represents sound =
     rw (back_unpushed g c) (told c.from_residual-in_err-push_row.result c.in_err-push_row.field-0.0 _
     c.from_residual-in_err-push_row.ensures.1 why)
 
-pub returns-in_err-row-clause-survives : goal.returns-in_err-row-clause-survives
-returns-in_err-row-clause-survives g c =
-    rw (back_unread g c) (survives_both c.loop-rows.invariant.1 c.next.follows.holds-at-none.survives)
-
-pub returns-in_err-push_row-clause-survives : goal.returns-in_err-push_row-clause-survives
-returns-in_err-push_row-clause-survives g c =
-    rw (back_unpushed g c) (survives_both c.loop-rows.invariant.1 c.next.follows.holds-at-none.survives)
-
-pub returns-in_err-row-clause-kept : goal.returns-in_err-row-clause-kept
-returns-in_err-row-clause-kept g c clean =
-    let moved = c.next.follows.holds-at-none in
-    let then = state g.S.Store c.next.follows.lender-at-none.conn.now in
-    let late : HasCleanDisk then = rw (back_unread g c) at clean in
-    let now = state g.S.Store c.loop-rows.rows.conn.now in
-    let was = c.loop-rows.invariant.3 (was_clean moved.survives late) in
-    let failed : FailsToQuery sql.read_meetings [] now then c.in_err-row.field-0.0 =
-    (rw c.in_err-row.was at (moved.err late)) sql.read_meetings [] was.0 was.1 in
-    rw (back_unread g c) (all_err c.from_residual-in_err-row.result
-    (then_keeps (state g.S.Store c.args.conn.now) now then was.3 (fails_keeping _ _ _ _ _ selects.meetings failed)))
-
-pub returns-in_err-push_row-clause-kept : goal.returns-in_err-push_row-clause-kept
-returns-in_err-push_row-clause-kept g c clean =
-    let moved = c.next.follows.holds-at-none in
-    let then = state g.S.Store c.next.follows.lender-at-none.conn.now in
-    let late : HasCleanDisk then = rw (back_unpushed g c) at clean in
-    let old = state g.S.Store c.args.conn.now in
-    let now = state g.S.Store c.loop-rows.rows.conn.now in
-    let was = c.loop-rows.invariant.3 (was_clean moved.survives late) in
-    let same : IsUnchanged old then = unchanged_then old now then was.3 (rw c.in_ok-row.was at (moved.same late)) in
-    rw (back_unpushed g c) (all_err c.from_residual-in_err-push_row.result (unchanged_keeps old then same))
-
 pub loop-rows-smaller : goal.loop-rows-smaller
 loop-rows-smaller g c =
     let old = c.loop-rows.meetings.items in
@@ -176,5 +138,61 @@ loop-rows-smaller g c =
       c.push_row.new.typed.small,
     )
 
-pub returns-clause-survives : goal.returns-clause-survives
-returns-clause-survives g c = rw (back g c) (survives_both c.loop-rows.invariant.1 c.next.follows.holds-at-none.survives)
+-- ---- what a look leaves, at each of the four ends
+
+pub returns-in_err-rows-clause-looks : goal.returns-in_err-rows-clause-looks
+returns-in_err-rows-clause-looks g c = record {
+  mode = search rules;
+  clean = search rules;
+  same = λ clean. no_ok _ c.from_residual.result c.in_err-rows.field-0.0 c.from_residual.ensures.1;
+  kept = λ clean.
+      all_err c.from_residual.result
+      (fails_keeping _ _ _ _ _ selects.meetings ((rw c.in_err-rows.was at c.query.follows.holds-at-none).err clean));
+  survives = commits_nothing sql.read_meetings [] selects.meetings (search rules);
+}
+
+pub returns-in_err-row-clause-looks : goal.returns-in_err-row-clause-looks
+returns-in_err-row-clause-looks g c = record {
+  mode = search rules;
+  clean = search rules;
+  same = λ clean. no_ok _ c.from_residual-in_err-row.result c.in_err-row.field-0.0 c.from_residual-in_err-row.ensures.1;
+  kept = λ clean.
+      let moved = c.next.follows.holds-at-none in
+      let then = state g.S.Store c.next.follows.lender-at-none.conn.now in
+      let late : HasCleanDisk then = rw (back_unread g c) at clean in
+      let now = state g.S.Store c.loop-rows.rows.conn.now in
+      let was = c.loop-rows.invariant.3 (was_clean moved.survives late) in
+      let failed : FailsToQuery sql.read_meetings [] now then c.in_err-row.field-0.0 =
+      (rw c.in_err-row.was at (moved.err late)) sql.read_meetings [] was.0 was.1 in
+      rw (back_unread g c) (all_err c.from_residual-in_err-row.result
+      (then_keeps (state g.S.Store c.args.conn.now) now then was.3 (fails_keeping _ _ _ _ _ selects.meetings failed)));
+  survives =
+      rw (back_unread g c) (survives_both c.loop-rows.invariant.1 c.next.follows.holds-at-none.survives);
+}
+
+pub returns-in_err-push_row-clause-looks : goal.returns-in_err-push_row-clause-looks
+returns-in_err-push_row-clause-looks g c = record {
+  mode = search rules;
+  clean = search rules;
+  same = λ clean. no_ok _ c.from_residual-in_err-push_row.result c.in_err-push_row.field-0.0 c.from_residual-in_err-push_row.ensures.1;
+  kept = λ clean.
+      let moved = c.next.follows.holds-at-none in
+      let then = state g.S.Store c.next.follows.lender-at-none.conn.now in
+      let late : HasCleanDisk then = rw (back_unpushed g c) at clean in
+      let old = state g.S.Store c.args.conn.now in
+      let now = state g.S.Store c.loop-rows.rows.conn.now in
+      let was = c.loop-rows.invariant.3 (was_clean moved.survives late) in
+      let same : IsUnchanged old then = unchanged_then old now then was.3 (rw c.in_ok-row.was at (moved.same late)) in
+      rw (back_unpushed g c) (all_err c.from_residual-in_err-push_row.result (unchanged_keeps old then same));
+  survives =
+      rw (back_unpushed g c) (survives_both c.loop-rows.invariant.1 c.next.follows.holds-at-none.survives);
+}
+
+pub returns-clause-looks : goal.returns-clause-looks
+returns-clause-looks g c = record {
+  mode = search rules;
+  clean = search rules;
+  same = search rules;
+  kept = λ clean. tt;
+  survives = rw (back g c) (survives_both c.loop-rows.invariant.1 c.next.follows.holds-at-none.survives);
+}

@@ -3,7 +3,7 @@ use Rattle.er_store.proofs.Prelude.{EventValue, IsSoundButForSeeds, number, name
 use Rattle.er_store.proofs.Prelude.{Shown, Layout, players_tree, HasTablesAt}
 use Rattle.er_store.proofs.Prelude.{Schema, SelectsWith}
 use Rattle.er_store.proofs.{Meaning.{slip_selected, slip_query}, Refusals.{slip_refused, answers}}
-use Rattle.er_store.proofs.{LoadLemmas.{unchanged_keeps, all_ok, all_err, told}}
+use Rattle.er_store.proofs.{Crash.was_clean, Lending.no_ok, LoadLemmas.{unchanged_keeps, all_ok, all_err, told}}
 use Rattle.er_store.proofs.{Selecting.{commits_nothing, shows_unchanged, fails_keeping, slip_selects}, Exact.is_memory, Joined.slip_exact}
 use Rattle.er_store.proofs.{Joined.named_typed, Effects.selected}
 use Rattle.er_store.proofs.Prelude.{RepresentsIn, Database, slip_text, version_of, subst}
@@ -27,14 +27,15 @@ exact k t v s e old new {rows} represents sound h =
     slip_exact represents.layout old.now e s k t rows represents.represents sound
     (answers old new (chosen_in k t v s e old.now represents) h)
 
-pub returns-in_err-rows-clause-kept : goal.returns-in_err-rows-clause-kept
-returns-in_err-rows-clause-kept g c clean =
-    all_err c.from_residual.result (fails_keeping _ _ _ _ _ (slip_selects c.args.version)
-    (rw c.slip_text.ensures at (c.in_err-rows.ensures.err clean)))
-
-pub returns-in_err-rows-clause-survives : goal.returns-in_err-rows-clause-survives
-returns-in_err-rows-clause-survives g c = commits_nothing _ _ (slip_selects c.args.version)
-    (rw c.slip_text.ensures at c.query_all.ensures.survives)
+pub returns-in_err-rows-clause-looks : goal.returns-in_err-rows-clause-looks
+returns-in_err-rows-clause-looks g c = record {
+  mode = search rules;
+  clean = λ clean. was_clean c.query_all.ensures.survives clean;
+  same = λ clean. no_ok _ c.from_residual.result c.in_err-rows.field-0.0 (search rules);
+  kept = λ clean. all_err c.from_residual.result (fails_keeping _ _ _ _ _ (slip_selects c.args.version)
+      (rw c.slip_text.ensures at (c.in_err-rows.ensures.err clean)));
+  survives = commits_nothing _ _ (slip_selects c.args.version) (rw c.slip_text.ensures at c.query_all.ensures.survives);
+}
 
 pub returns-in_err-rows-clause-refused : goal.returns-in_err-rows-clause-refused
 returns-in_err-rows-clause-refused g c clean e s represents sound =
@@ -49,8 +50,6 @@ returns g c =
     let k = c.args.round in
     let t = c.args.table in
     record {
-      clean = search rules;
-      mode = search rules;
       exact = λ clean e s represents sound.
           let named = named_pairings e k t in
           let are = exact k t c.args.version s e _ _ represents sound
@@ -64,10 +63,14 @@ returns g c =
           IfErr-weaker c.typed_rows.result _ _ (λ why never. inl (is_memory why
           (λ unless. never unless (named_pairings e k t) (c.deref.ensures.value ∙ are))))
           c.typed_rows.ensures.refused;
-      same = λ clean. all_ok c.typed_rows.result (shows_unchanged _ _ _ (slip_selects c.args.version)
-          (rw c.slip_text.ensures at (c.in_ok-rows.ensures.ok clean)));
-      kept = λ clean. all_err c.typed_rows.result
-          (unchanged_keeps _ _ (shows_unchanged _ _ _ (slip_selects c.args.version)
-          (rw c.slip_text.ensures at (c.in_ok-rows.ensures.ok clean))));
-      survives = commits_nothing _ _ (slip_selects c.args.version) (rw c.slip_text.ensures at c.query_all.ensures.survives);
+      looks = record {
+        mode = search rules;
+        clean = λ clean. was_clean c.query_all.ensures.survives clean;
+        same = λ clean. all_ok c.typed_rows.result (shows_unchanged _ _ _ (slip_selects c.args.version)
+            (rw c.slip_text.ensures at (c.in_ok-rows.ensures.ok clean)));
+        kept = λ clean. all_err c.typed_rows.result
+            (unchanged_keeps _ _ (shows_unchanged _ _ _ (slip_selects c.args.version)
+            (rw c.slip_text.ensures at (c.in_ok-rows.ensures.ok clean))));
+        survives = commits_nothing _ _ (slip_selects c.args.version) (rw c.slip_text.ensures at c.query_all.ensures.survives);
+      };
     }

@@ -1,7 +1,13 @@
-use Rattle.er_store.proofs.Prelude.{inr, refl, ◌∙◌, Store, slip_of, Result, Ok, Err, MatchResult}
+use Rattle.er_store.proofs.Prelude.{inr, refl, ◌∙◌, Store, slip_of, Result, Ok, Err, IfErr}
 use Rattle.er_event.specs.declared.refusals.Cause.TheVariants.{BadRow}
-use Rattle.er_store.proofs.{Joined.{no_slip, one_slip, few_slips, slip_found}, LoadLemmas.{all_err, unchanged_keeps}}
+use Rattle.er_store.proofs.{Joined.{no_slip, one_slip, few_slips, slip_found}}
+use Rattle.er_event.specs.declared.refusals.Refusal.TheVariants.{NoSuchMatch}
+use Rattle.er_store.proofs.Lending.{looks_as}
 use Rattle.er_store.proofs.slips.find_slip.Goals as goal
+
+never : {A E : Type 0} {P : E → Type 0} (r : Result A E) → ((e : E) → P e) → IfErr r P
+never (Ok a) p = tt
+never (Err e) p = p e
 
 pub returns-in-empty-clause-found : goal.returns-in-empty-clause-found
 returns-in-empty-clause-found g c clean e s represents sound =
@@ -21,21 +27,17 @@ returns-clause-found g c clean e s represents sound =
     let rows = c.as_slice.ensures.value ∙ (rw (c.from.ensures, c.from-2.ensures) at (c.in-Ok.ensures.exact clean e s represents sound)) in
     absurd (few_slips (slip_of e c.args.round c.args.table) c.as_slice.result.now rows c.in_default.len_at_least)
 
-both : {A E : Type 0} {P : Type 0} (Q : E → Type 0) (r : Result A E) → P → MatchResult r (λ _. P) (λ why. Q why → P)
-both Q (Ok a) p = p
-both Q (Err e) p = λ _. p
+pub returns-in-len1-clause-looks : goal.returns-in-len1-clause-looks
+returns-in-len1-clause-looks g c = looks_as c.ok_or.result c.in-Ok.ensures.looks
 
-pub returns-in-len1-clause-same : goal.returns-in-len1-clause-same
-returns-in-len1-clause-same g c clean = both _ c.ok_or.result (c.in-Ok.ensures.same clean)
+pub returns-in-len1-clause-missed : goal.returns-in-len1-clause-missed
+returns-in-len1-clause-missed g c clean = never c.ok_or.result (λ why is. (c.in-Ok.ensures.looks.same clean))
 
-pub returns-in-len1-clause-kept : goal.returns-in-len1-clause-kept
-returns-in-len1-clause-kept g c clean = all_err c.ok_or.result (unchanged_keeps _ _ (c.in-Ok.ensures.same clean))
+pub returns-in-empty-clause-looks : goal.returns-in-empty-clause-looks
+returns-in-empty-clause-looks g c = looks_as (Err NoSuchMatch) c.in-Ok.ensures.looks
 
-pub returns-in-empty-clause-same : goal.returns-in-empty-clause-same
-returns-in-empty-clause-same g c clean is = c.in-Ok.ensures.same clean
+pub returns-in-empty-clause-missed : goal.returns-in-empty-clause-missed
+returns-in-empty-clause-missed g c clean is = c.in-Ok.ensures.looks.same clean
 
-pub returns-in-empty-clause-kept : goal.returns-in-empty-clause-kept
-returns-in-empty-clause-kept g c clean = unchanged_keeps _ _ (c.in-Ok.ensures.same clean)
-
-pub returns-clause-kept : goal.returns-clause-kept
-returns-clause-kept g c clean = unchanged_keeps _ _ (c.in-Ok.ensures.same clean)
+pub returns-clause-looks : goal.returns-clause-looks
+returns-clause-looks g c = looks_as (Err (Store BadRow)) c.in-Ok.ensures.looks

@@ -3,7 +3,7 @@ use Rattle.er_store.proofs.Effects.{puts_event}
 use Rattle.er_store.proofs.statements.insert_event.Goals as goal
 
 pub returns-clause-puts : goal.returns-clause-puts
-returns-clause-puts g c clean at tree there =
+returns-clause-puts g c at tree there clean =
     on_ok_weaker c.run.result (puts_event c.args.version c.args.event.now c.args.serial there)
     (rw (c.from-cut.ensures, c.cut.ensures.value, c.from-phase.ensures, c.code.ensures, c.phase.ensures.value) at
     (rw (c.params-to_sql-6.ensures, c.as_str.ensures.value, c.name.ensures.value, c.from-rounds.ensures, c.rounds.ensures.value) at

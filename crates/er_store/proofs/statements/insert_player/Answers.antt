@@ -3,6 +3,6 @@ use Rattle.er_store.proofs.Effects.{puts_player}
 use Rattle.er_store.proofs.statements.insert_player.Goals as goal
 
 pub returns-clause-puts : goal.returns-clause-puts
-returns-clause-puts g c clean at tree there =
+returns-clause-puts g c at tree there clean =
     on_ok_weaker c.run.result (puts_player c.args.number c.args.name.now c.args.dropped there)
     (rw (c.params-to_sql.ensures, c.params-to_sql-2.ensures, c.params-to_sql-3.ensures) at (c.run.ensures.ran clean))

@@ -4,7 +4,7 @@ use Rattle.er_store.proofs.{Effects.puts_slot, Adding.slot_added}
 use Rattle.er_store.proofs.statements.insert_slot.Goals as goal
 
 pub returns-clause-makes : goal.returns-clause-makes
-returns-clause-makes g c clean l e before m s rows represents is =
+returns-clause-makes g c l e before m is s rows represents clean =
     let old = state g.S.Store c.args.tx.now.conn.now in
     let new = state g.S.Store c.run.new.tx.conn.now in
     let id = next_rowid (old.now.trees bracket_tree) in

@@ -3,6 +3,6 @@ use Rattle.er_store.proofs.Setting.{second_dropped}
 use Rattle.er_store.proofs.statements.set_dropped2.Goals as goal
 
 pub returns-clause-makes : goal.returns-clause-makes
-returns-clause-makes g c clean l is e s rows represents numbered known =
-    on_ok_weaker c.run.result (second_dropped c.args.number l is represents numbered known)
+returns-clause-makes g c l e is numbered s rows represents clean =
+    on_ok_weaker c.run.result (second_dropped c.args.number l is represents numbered.0 numbered.1)
     (rw c.params-to_sql.ensures at (c.run.ensures.ran clean))

@@ -3,7 +3,7 @@ use Rattle.er_store.proofs.Setting.{pairing_scored}
 use Rattle.er_store.proofs.statements.set_score.Goals as goal
 
 pub returns-clause-makes : goal.returns-clause-makes
-returns-clause-makes g c clean l e s rows represents m found seat =
+returns-clause-makes g c l e m found seat s rows represents clean =
     let x : c.from.result ≡ c.args.score.x = search rules in
     let y : c.from-2.result ≡ c.args.score.y = search rules in
     let d : c.from-3.result ≡ c.args.score.d = search rules in

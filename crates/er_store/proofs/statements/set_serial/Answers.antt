@@ -3,7 +3,7 @@ use Rattle.er_store.proofs.Effects.{serial_set}
 use Rattle.er_store.proofs.statements.set_serial.Goals as goal
 
 pub returns-clause-makes : goal.returns-clause-makes
-returns-clause-makes g c clean l e s rows represents =
+returns-clause-makes g c l e s rows represents clean =
     on_ok_weaker c.run.result (serial_set c.args.serial c.requires represents) (rw c.params-to_sql.ensures at (c.run.ensures.ran clean))
 
 pub returns-clause-inside : goal.returns-clause-inside

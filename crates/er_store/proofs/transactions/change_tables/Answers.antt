@@ -1,14 +1,14 @@
-use Rattle.er_store.proofs.Prelude.{sym, ◌∙◌, on_ok_weaker, after, tally_rows, totals}
-use Rattle.er_store.proofs.{Crash.{stays_then, was_clean}, Together.makes_then, Tallying.{moves_self, same_players, same_numbers}}
+use Rattle.er_store.proofs.Prelude.{sym, on_ok_weaker, after, tally_rows, totals}
+use Rattle.er_store.proofs.{Lending.lends_then, Crash.was_clean, Together.makes_then, Tallying.{moves_self, same_players, same_numbers}}
 use Rattle.er_store.proofs.Tallying.{one_more_player}
 use Rattle.er_store.proofs.transactions.change_tables.Goals as goal
 
 pub returns-in-AddPlayer-clause-makes : goal.returns-in-AddPlayer-clause-makes
-returns-in-AddPlayer-clause-makes g c clean l version s represents =
+returns-in-AddPlayer-clause-makes g c l version s represents clean =
     let e = c.args.event.now in
-    let one = c.in_ok-change_rows.ensures.makes (was_clean c.insert_totals.ensures.stays.survives clean) l version s (tally_rows e)
-    represents in
-    let made = c.insert_totals.ensures.makes clean l (after e c.args.change.now) s (tally_rows e) one.represents in
+    let one = c.in_ok-change_rows.ensures.makes l version s (tally_rows e) represents
+    (was_clean c.insert_totals.ensures.lends.stays.survives clean) in
+    let made = c.insert_totals.ensures.makes l (after e c.args.change.now) (tally_rows e) s one.represents clean in
     let fits = rw c.in-AddPlayer.is at c.requires.fits in
     let sound = c.events_are_sound.ensures in
     rw (
@@ -25,10 +25,9 @@ returns-in_default g c =
     let same = same_numbers e c.args.change.now c.in_default.not-AddPlayer in
     let first = c.in_ok-change_rows.ensures in
     record {
-      same_reference = c.recount.ensures.same_reference ∙ first.same_reference;
-      makes = λ clean l version s represents.
-          let one = first.makes (was_clean c.recount.ensures.stays.survives clean) l version s (tally_rows e) represents in
-          on_ok_weaker c.recount.result (λ two. makes_then one two) (c.recount.ensures.makes clean l next s same (moves_self one.moves)
-          (rw (← same_players (totals e) e.players next.players (sym same)) one.represents));
-      stays = stays_then first.stays c.recount.ensures.stays;
+      lends = lends_then first.lends c.recount.ensures.lends;
+      makes = λ l version s represents clean.
+          let one = first.makes l version s (tally_rows e) represents (was_clean c.recount.ensures.lends.stays.survives clean) in
+          on_ok_weaker c.recount.result (λ two. makes_then one two) (c.recount.ensures.makes l next same (moves_self one.moves) s
+          (rw (← same_players (totals e) e.players next.players (sym same)) one.represents) clean);
     }

@@ -1,7 +1,8 @@
-use Rattle.er_store.proofs.Prelude.{rules, true, ◌≡◌, on_ok_weaker, IfErr-weaker, State, HasCleanDisk, state, no_schema, IsReady}
+use Rattle.er_store.proofs.Prelude.{rules, true, ◌≡◌, on_ok_weaker, State, HasCleanDisk, state}
+use Rattle.er_store.proofs.Prelude.{no_schema, IsReady}
 use Rattle.er_store.proofs.Prelude.{Database, tally_schema, made_players, ap, ◌∙◌}
-use Rattle.er_store.proofs.{LoadLemmas.all_err}
-use Rattle.er_store.proofs.{Crash.{uncommitted_keeps, dropped_keeps, was_clean, written, leaves_either, shows_leaves_in}}
+use Rattle.er_store.proofs.{Lending.{on_ok_later, dropped, committed}}
+use Rattle.er_store.proofs.{Crash.{was_clean, written, leaves_either, shows_leaves_in}}
 use Rattle.er_store.proofs.Beside.{written_beside, leaves_beside}
 use Rattle.er_store.specs.inside.Making.{IsReadyBeside}
 use Rattle.er_store.proofs.transactions.create_tables.Given as given
@@ -13,8 +14,8 @@ ready : (g : given.Over) (c : goal.After-conn-2-1 g) → HasCleanDisk (state g.S
     → IsReady c.args.version (state g.S.Store c.make_event.new.tx.conn.now) c.args.event.now 0
     × ((state g.S.Store c.make_event.new.tx.conn.now).now.schema ≡ tally_schema (made_players c.args.version))
 ready g c late none =
-    let readies = rw c.transaction-tx.ensures.begun at (c.in_ok-make_event.ensures.readies (was_clean c.commit.ensures.survives late)) in
-    readies none
+    let readies = rw c.transaction-tx.ensures.begun at (c.in_ok-make_event.ensures.readies) in
+    readies none (was_clean c.commit.ensures.survives late)
 
 pub returns-clause-created : goal.returns-clause-created
 returns-clause-created g c clean none =
@@ -26,9 +27,9 @@ returns-clause-created g c clean none =
     )) (c.commit.ensures.ok late))
 
 pub returns-clause-acknowledged : goal.returns-clause-acknowledged
-returns-clause-acknowledged g c clean none =
+returns-clause-acknowledged g c none = on_ok_later _ _ c.commit.result (λ clean.
     on_ok_weaker c.commit.result (λ shown. shows_leaves_in c.args.version (state g.S.Store c.conn-2-1.given.0) _ _
-    (λ db is_open may. g.met.S.Store.settled c.conn-2-1.given.0.store db is_open may) shown.0) (returns-clause-created g c clean none)
+    (λ db is_open may. g.met.S.Store.settled c.conn-2-1.given.0.store db is_open may) shown.0) (returns-clause-created g c clean none))
 
 pub returns-clause-crash : goal.returns-clause-crash
 returns-clause-crash g c none clean trees may =
@@ -36,7 +37,8 @@ returns-clause-crash g c none clean trees may =
     let same : c.commit.new.self.0 ≡ c.conn-2-1.given.0 = search rules in
     let late = rw (← same) at clean in
     leaves_either (ready g c late none).0 start start.may_leave (λ db left. left)
-    (rw c.transaction-tx.ensures.begun at c.make_event.ensures.stays.survives) c.commit.ensures.survives late trees (rw (← same) at may)
+    (rw c.transaction-tx.ensures.begun at c.make_event.ensures.lends.stays.survives)
+    c.commit.ensures.survives late trees (rw (← same) at may)
 
 -- ---- whatever stood before
 
@@ -58,24 +60,19 @@ pub returns-clause-beside_crash : goal.returns-clause-beside_crash
 returns-clause-beside_crash g c clean trees may =
     let same : c.commit.new.self.0 ≡ c.conn-2-1.given.0 = search rules in
     let late = rw (← same) at clean in
-    leaves_beside (ready_too g c late) (rw c.transaction-tx.ensures.begun at c.make_event.ensures.stays.survives)
+    leaves_beside (ready_too g c late) (rw c.transaction-tx.ensures.begun at c.make_event.ensures.lends.stays.survives)
     c.commit.ensures.survives late trees (rw (← same) at may)
 
 -- a refusal leaves the tables as they were
-pub returns-in_err-make_event-clause-kept : goal.returns-in_err-make_event-clause-kept
-returns-in_err-make_event-clause-kept g c clean =
-    let same : c.drop-tx.new.self.0 ≡ c.conn-1.given.0 = search rules in
-    let late = rw (← same) at clean in
-    let stays = rw c.transaction-tx.ensures.begun at c.make_event.ensures.stays in
-    rw (← same) (all_err c.from_residual.result
-    (dropped_keeps (state g.S.Store c.args.conn.now) stays c.drop-tx.ensures.survives c.drop-tx.ensures.undone late))
+pub returns-in_err-make_event-clause-transacts : goal.returns-in_err-make_event-clause-transacts
+returns-in_err-make_event-clause-transacts g c =
+    dropped g.S.Store c.args.conn.now c.transaction-tx.result.conn.now c.make_event.new.tx.conn.now c.drop-tx.new.self.0 c.conn-1.given.0 _
+    c.from_residual.result c.transaction-tx.ensures.begun c.make_event.ensures.lends.stays c.drop-tx.ensures.survives (search rules)
+    (search rules) c.drop-tx.ensures.undone
 
-pub returns-clause-kept : goal.returns-clause-kept
-returns-clause-kept g c clean =
-    let same : c.commit.new.self.0 ≡ c.conn-2-1.given.0 = search rules in
-    let late = rw (← same) at clean in
-    let clean_last = was_clean c.commit.ensures.survives late in
-    let kept = rw c.transaction-tx.ensures.begun at (c.make_event.ensures.stays.committed clean_last) in
-    rw (← same) (IfErr-weaker c.commit.result _ _
-    (λ e. uncommitted_keeps (state g.S.Store c.args.conn.now) _ e (c.in_ok-make_event.ensures.inside clean_last) kept)
-    (c.commit.ensures.err late))
+pub returns-clause-transacts : goal.returns-clause-transacts
+returns-clause-transacts g c =
+    committed g.S.Store c.args.conn.now c.transaction-tx.result.conn.now c.make_event.new.tx.conn.now c.commit.new.self.0
+    c.conn-2-1.given.0 _
+    c.commit.result c.transaction-tx.ensures.begun c.make_event.ensures.lends.stays c.commit.ensures.survives (search rules) (search rules)
+    c.in_ok-make_event.ensures.inside c.commit.ensures.err

@@ -3,10 +3,10 @@ use Rattle.er_store.proofs.Layouts.{is_old, is_second}
 use Rattle.er_store.proofs.transactions.drop_player.Goals as goal
 
 pub returns-then-version-eq1-clause-makes : goal.returns-then-version-eq1-clause-makes
-returns-then-version-eq1-clause-makes g c clean l is e s rows =
+returns-then-version-eq1-clause-makes g c l e is numbered s rows =
     let first = is_old l (is ∙ c.if-version-eq1.true) in
-    rw first (c.set_dropped.ensures.makes clean e s rows)
+    rw first (c.set_dropped.ensures.makes e numbered s rows)
 
 pub returns-else-version-eq1-clause-makes : goal.returns-else-version-eq1-clause-makes
-returns-else-version-eq1-clause-makes g c clean l is e s rows represents =
-    c.set_dropped2.ensures.makes clean l (is_second l c.args.version is c.if-version-eq1.false) e s rows represents
+returns-else-version-eq1-clause-makes g c l e is numbered s rows represents =
+    c.set_dropped2.ensures.makes l e (is_second l c.args.version is c.if-version-eq1.false) numbered s rows represents

@@ -1,6 +1,7 @@
-use Rattle.er_store.proofs.Prelude.{◌≡◌, ◌+◌, ◌<◌, length, refl, ap, ◌∙◌, state, Player, after, totals, set_for, set_up_to, arith}
-use Rattle.er_store.proofs.{Crash.{stays_self, stays_then, was_clean}, Together.makes_then}
-use Rattle.er_store.proofs.Tallying.{numbered_too, rows_agree, none_set, not_yet, set_more, all_set, moves_self, contains_numbered, number-at}
+use Rattle.er_store.proofs.Prelude.{◌≡◌, ◌+◌, ◌<◌, length, ap, ◌∙◌, state, Player, after, totals, set_for, set_up_to, arith}
+use Rattle.er_store.proofs.{Lending.{lends_self, lends_then}, Crash.was_clean, Together.makes_then}
+use Rattle.er_store.proofs.Tallying.{numbered_too, rows_agree, none_set, not_yet, set_more, all_set, moves_self, contains_numbered}
+use Rattle.er_store.proofs.Tallying.{number-at}
 use Rattle.er_store.proofs.Tallying.{length-numbers}
 use Rattle.er_store.proofs.Tallying.{none-set, others-at, totals-at}
 use Rattle.er_store.proofs.Prelude.{get_or, sym}
@@ -12,19 +13,15 @@ loop-player-init g c =
     let old = state g.S.Store c.args.tx.now.conn.now in
     let now = totals (after c.args.event.now c.args.change.now) in
     let before = totals c.args.event.now in (
-      refl,
-      stays_self old,
+      lends_self g.S.Store c.args.tx.now,
       λ clean l e s same moves represents.
           let numbered = numbered_too e.players c.args.event.now.players same c.players-players.ensures.sound.players.numbered in
           rw (← rows_agree before (set_up_to 0 now before) e.players numbered (λ q low high. none_set now before q low))
           (record { moves = moves; represents = represents }),
     )
 
-pub returns-in_err-recount_one-clause-same_reference : goal.returns-in_err-recount_one-clause-same_reference
-returns-in_err-recount_one-clause-same_reference g c = c.recount_one.ensures.same_reference ∙ c.loop-player.invariant.0
-
-pub returns-in_err-recount_one-clause-stays : goal.returns-in_err-recount_one-clause-stays
-returns-in_err-recount_one-clause-stays g c = stays_then c.loop-player.invariant.1 c.recount_one.ensures.stays
+pub returns-in_err-recount_one-clause-lends : goal.returns-in_err-recount_one-clause-lends
+returns-in_err-recount_one-clause-lends g c = lends_then c.loop-player.invariant.0 c.recount_one.ensures.lends
 
 pub loop-player-preserved : goal.loop-player-preserved
 loop-player-preserved g c =
@@ -41,28 +38,25 @@ loop-player-preserved g c =
     let others = c.recount_of-recount.ensures.others in
     let due : gathered_of c.all_totals_after-all.result it ≡ now it.no =
     totals-at (after event c.args.change.now) event.players c.all_totals_after-all.result c.all_totals_after-all.ensures k it below is in
-    let no : it.no ≡ k + 1 = ap (λ (p : Player). p.no) (rw value at c.player-item.is) ∙ (number-at event sound k it below ∙ omega arith) in (
-      c.recount_one.ensures.same_reference ∙ so_far.0,
-      stays_then so_far.1 c.recount_one.ensures.stays,
+    let no : it.no ≡ k + 1 = ap (λ (p : Player). p.no) (rw value at c.player-item.is) ∙ (number-at event sound k it below ∙ omega arith)
+    in (
+      lends_then so_far.0 c.recount_one.ensures.lends,
       λ clean l e s same moves represents.
-          let was = so_far.2 (was_clean c.recount_one.ensures.stays.survives clean) l e s same moves represents in
+          let was = so_far.1 (was_clean c.recount_one.ensures.lends.stays.survives clean) l e s same moves represents in
           let numbered = numbered_too e.players event.players same sound.players.numbered in
           let many = length-numbers e.players event.players same in
           let known = contains_numbered e.players it.no numbered (omega (arith, no)) (omega (arith, no, many, below)) in
-          let made = c.in_ok-recount_one.ensures.makes clean l e s (set_up_to k now before) numbered known
+          let made = c.in_ok-recount_one.ensures.makes l e (set_up_to k now before) (numbered, known)
           (λ left. not_yet now before k it.no no
           ∙ (sym (others-at event now before c.recount_of-recount.result others k it below is left) ∙ sym due))
-          (moves_self was.moves) was.represents in
+          (moves_self was.moves) s was.represents clean in
           rw (← rows_agree (set_for it.no (now it.no) (set_up_to k now before)) (set_up_to (k + 1) now before) e.players numbered
           (λ q low high. set_more now before k it.no q no))
           (makes_then was (rw due at made)),
     )
 
-pub returns-clause-same_reference : goal.returns-clause-same_reference
-returns-clause-same_reference g c = c.loop-player.invariant.0
-
 pub returns-clause-makes : goal.returns-clause-makes
-returns-clause-makes g c clean l e s same moves represents =
+returns-clause-makes g c l e same moves s represents clean =
     let event = c.args.event.now in
     let now = totals (after event c.args.change.now) in
     let before = totals event in
@@ -71,13 +65,13 @@ returns-clause-makes g c clean l e s same moves represents =
     let many = length-numbers e.players event.players same in
     rw (← rows_agree (set_up_to k now before) now e.players numbered
     (λ q low high. all_set now before k q (omega (arith, many, high, ap length c.players-players.ensures.value, c.loop-player-test.false))))
-    (c.loop-player.invariant.2 clean l e s same moves represents)
+    (c.loop-player.invariant.1 clean l e s same moves represents)
 
-pub returns-clause-stays : goal.returns-clause-stays
-returns-clause-stays g c = c.loop-player.invariant.1
+pub returns-clause-lends : goal.returns-clause-lends
+returns-clause-lends g c = c.loop-player.invariant.0
 
 pub returns-then-is_empty-clause-makes : goal.returns-then-is_empty-clause-makes
-returns-then-is_empty-clause-makes g c clean l e s same moves represents =
+returns-then-is_empty-clause-makes g c l e same moves s represents clean =
     let event = c.args.event.now in
     let now = totals (after event c.args.change.now) in
     let before = totals event in

@@ -1,12 +1,13 @@
-use Rattle.er_store.proofs.Prelude.{◌≡◌, ℕ, HasCleanDisk, state, EventValue, after, tally_rows_by, numbers, totals, RepresentsWith, Stays}
+use Rattle.er_store.proofs.Prelude.{◌≡◌, ℕ, HasCleanDisk, state, EventValue, after, tally_rows_by, numbers, totals, RepresentsWith}
 use Rattle.er_store.proofs.Prelude.{Moves, BringsToWith, set_up_to, Layout}
+use Rattle.er_store.specs.inside.Within.{Lends}
 use Rattle.er_store.proofs.transactions.recount.Given as goal
 
 abbrev pub invariant-loop-player : goal.invariant-loop-player
 invariant-loop-player g l =
     let old = state g.S.Store l.fn.tx.conn.now in
     let now = state g.S.Store l.tx.conn.now in
-    (l.tx.conn.ghost_name ≡ l.fn.tx.conn.ghost_name) × Stays old now
+    Lends g.S.Store l.fn.tx l.tx
     × (HasCleanDisk now → (at : Layout) (e : EventValue) (s : ℕ) → numbers e.players ≡ numbers l.event.players → Moves at old old
     → RepresentsWith at old.now e s (tally_rows_by (totals l.event) e.players) → BringsToWith at old now e s (tally_rows_by
     (set_up_to l.player-index (totals (after l.event l.change)) (totals l.event)) e.players))

@@ -1,9 +1,9 @@
-use Rattle.er_store.proofs.Prelude.{inl, rules, subst, sym, true, ◌+◌, ◌≡◌, on_ok_weaker, IfErr-weaker, HasCleanDisk, state, after, Shows}
-use Rattle.er_store.proofs.Prelude.{KeepsOthers, KeepsRest, IsReady, Layout, version_of, HasTablesAt, Database, inr, ◌⊎◌, ℕ, EventValue}
-use Rattle.er_store.proofs.Prelude.{Trees, IsStored, IsStoredIn}
+use Rattle.er_store.proofs.Prelude.{inl, rules, subst, sym, true, ◌+◌, ◌≡◌, on_ok_weaker, HasCleanDisk}
+use Rattle.er_store.proofs.Prelude.{state, after, Shows}
+use Rattle.er_store.proofs.Prelude.{KeepsOthers, KeepsRest, IsReady, Layout, version_of, HasTablesAt, Database}
 use Rattle.er_store.proofs.Layouts.{one_layout}
-use Rattle.er_store.proofs.{LoadLemmas.all_err, Crash.{uncommitted_keeps, dropped_keeps, was_clean, survives_both, leaves_old, written}}
-use Rattle.er_store.proofs.Crash.{leaves_either, shows_leaves, stored_either}
+use Rattle.er_store.proofs.{Lending.{on_ok_later, dropped, committed}, Crash.{was_clean, survives_both, leaves_old, written}}
+use Rattle.er_store.proofs.Crash.{leaves_either, shows_leaves_in}
 use Rattle.er_store.proofs.transactions.write_tables.Given as given
 use Rattle.er_store.proofs.transactions.write_tables.Goals as goal
 
@@ -20,11 +20,11 @@ ready : (g : given.Over) (c : goal.After-conn-2-1 g) → HasCleanDisk (state g.S
     → IsReady c.args.version (state g.S.Store c.change_event.new.tx.conn.now) (after c.args.event.now c.args.change.now) (c.args.serial + 1)
     × KeepsOthers c.args.version (state g.S.Store c.args.conn.now).now (state g.S.Store c.change_event.new.tx.conn.now).now
 ready g c late was =
-    let begins = rw c.transaction-tx.ensures.begun at (c.in_ok-change_event.ensures.makes (was_clean c.commit.ensures.survives late)) in
+    let begins = rw c.transaction-tx.ensures.begun at c.in_ok-change_event.ensures.makes in
     let old = (state g.S.Store c.args.conn.now).now in
     let new = (state g.S.Store c.change_event.new.tx.conn.now).now in
     let at = was.represents in
-    let made = begins at.layout at.is at.represents in (
+    let made = begins at.layout at.is at.represents (was_clean c.commit.ensures.survives late) in (
       record { sound = made.moves.sound; represents = record { layout = at.layout; is = at.is; represents = made.represents } },
       subst (λ v. KeepsOthers v old new) at.is (rest_kept at.layout at.represents.has.tables made.moves.keeps),
     )
@@ -43,23 +43,19 @@ returns-clause-written g c clean was =
     (c.commit.ensures.ok late))
 
 pub returns-clause-acknowledged : goal.returns-clause-acknowledged
-returns-clause-acknowledged g c clean was =
-    on_ok_weaker c.commit.result (λ shown. shows_leaves c.args.version (state g.S.Store c.conn-2-1.given.0) _ _
-    (λ db is_open may. g.met.S.Store.settled c.conn-2-1.given.0.store db is_open may) shown.0) (returns-clause-written g c clean was)
-
-in_either : {v : ℕ} {P : Type 0} {e : EventValue} {serial : ℕ} {trees : Trees} → P ⊎ IsStoredIn v e serial trees
-    → P ⊎ IsStored e serial trees
-in_either (inl before) = inl before
-in_either (inr after) = inr (stored_either after)
+returns-clause-acknowledged g c was = on_ok_later _ _ c.commit.result (λ clean.
+    on_ok_weaker c.commit.result (λ shown. shows_leaves_in c.args.version (state g.S.Store c.conn-2-1.given.0) _ _
+    (λ db is_open may. g.met.S.Store.settled c.conn-2-1.given.0.store db is_open may) shown.0) (returns-clause-written g c clean was))
 
 pub returns-clause-crash : goal.returns-clause-crash
 returns-clause-crash g c was clean trees may =
     let old = state g.S.Store c.args.conn.now in
     let same : c.commit.new.self.0 ≡ c.conn-2-1.given.0 = search rules in
     let late = rw (← same) at clean in
-    in_either (leaves_either (ready g c late was).0 (record old { in_transaction = true }) _
-    (shows_leaves c.args.version old _ _ (λ db is_open left. g.met.S.Store.settled c.args.conn.now.store db is_open left) was)
-    (rw c.transaction-tx.ensures.begun at c.change_event.ensures.stays.survives) c.commit.ensures.survives late trees (rw (← same) at may))
+    leaves_either (ready g c late was).0 (record old { in_transaction = true }) _
+    (shows_leaves_in c.args.version old _ _ (λ db is_open left. g.met.S.Store.settled c.args.conn.now.store db is_open left) was)
+    (rw c.transaction-tx.ensures.begun at c.change_event.ensures.lends.stays.survives)
+    c.commit.ensures.survives late trees (rw (← same) at may)
 
 -- where the change is refused, the transaction is dropped
 pub returns-in_err-change_event-clause-crash : goal.returns-in_err-change_event-clause-crash
@@ -67,26 +63,24 @@ returns-in_err-change_event-clause-crash g c was clean trees may =
     let old = state g.S.Store c.args.conn.now in
     let end = c.drop-tx.new.self.0 in
     let same : end ≡ c.conn-1.given.0 = search rules in
-    let quiet = survives_both (rw c.transaction-tx.ensures.begun at c.change_event.ensures.stays.survives) c.drop-tx.ensures.survives in
-    inl (stored_either (leaves_old c.args.version old (state g.S.Store end) _ _
+    let step = rw c.transaction-tx.ensures.begun at c.change_event.ensures.lends.stays.survives in
+    let quiet = survives_both step c.drop-tx.ensures.survives in
+    inl (leaves_old c.args.version old (state g.S.Store end) _ _
     (λ db is_open left. g.met.S.Store.settled c.args.conn.now.store db is_open left) was
-    quiet (rw (← same) at clean) trees (rw (← same) at may)))
+    quiet (rw (← same) at clean) trees (rw (← same) at may))
 
 -- a refusal leaves the tables as they were
-pub returns-in_err-change_event-clause-kept : goal.returns-in_err-change_event-clause-kept
-returns-in_err-change_event-clause-kept g c clean =
-    let same : c.drop-tx.new.self.0 ≡ c.conn-1.given.0 = search rules in
-    let late = rw (← same) at clean in
-    let stays = rw c.transaction-tx.ensures.begun at c.change_event.ensures.stays in
-    rw (← same) (all_err c.from_residual.result
-    (dropped_keeps (state g.S.Store c.args.conn.now) stays c.drop-tx.ensures.survives c.drop-tx.ensures.undone late))
+pub returns-in_err-change_event-clause-transacts : goal.returns-in_err-change_event-clause-transacts
+returns-in_err-change_event-clause-transacts g c =
+    dropped g.S.Store c.args.conn.now c.transaction-tx.result.conn.now c.change_event.new.tx.conn.now c.drop-tx.new.self.0
+    c.conn-1.given.0 _
+    c.from_residual.result c.transaction-tx.ensures.begun c.change_event.ensures.lends.stays c.drop-tx.ensures.survives (search rules)
+    (search rules) c.drop-tx.ensures.undone
 
-pub returns-clause-kept : goal.returns-clause-kept
-returns-clause-kept g c clean =
-    let same : c.commit.new.self.0 ≡ c.conn-2-1.given.0 = search rules in
-    let late = rw (← same) at clean in
-    let clean_last = was_clean c.commit.ensures.survives late in
-    let kept = rw c.transaction-tx.ensures.begun at (c.change_event.ensures.stays.committed clean_last) in
-    rw (← same) (IfErr-weaker c.commit.result _ _
-    (λ e. uncommitted_keeps (state g.S.Store c.args.conn.now) _ e (c.in_ok-change_event.ensures.inside clean_last) kept)
-    (c.commit.ensures.err late))
+pub returns-clause-transacts : goal.returns-clause-transacts
+returns-clause-transacts g c =
+    committed g.S.Store c.args.conn.now c.transaction-tx.result.conn.now c.change_event.new.tx.conn.now c.commit.new.self.0
+    c.conn-2-1.given.0 _
+    c.commit.result c.transaction-tx.ensures.begun c.change_event.ensures.lends.stays c.commit.ensures.survives (search rules)
+    (search rules)
+    c.in_ok-change_event.ensures.inside c.commit.ensures.err

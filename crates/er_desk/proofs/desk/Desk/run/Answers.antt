@@ -16,9 +16,10 @@ loop-command-init g c = record {
       refl;
   count = c.in_ok-replies.ensures.len;
   room = omega (arith, c.in_ok-replies.ensures.capacity, c.len.ensures, c.deref-command-items.ensures.len);
-  asked = subst (λ (rs : List Reply). Asks g.S.Store c.args.self.now (session_of [] rs (desk_state c.args.self.now).stopped)
+  asked = subst (λ (rs : List Reply). Asks g.S.Store c.args.self.now (session_of [] rs (desk_state c.args.self.now).needs_reopen)
       c.args.self.now)
-      (sym c.in_ok-replies.ensures.items) (empty_asks g.S.Store c.args.self.now (c.shown_is_stored.ensures _ _ _));
+      (sym c.in_ok-replies.ensures.items) (empty_asks g.S.Store c.args.self.now
+      (c.shown_is_stored.ensures _ _ _));
 }
 
 pub loop-command-preserved : goal.loop-command-preserved
@@ -48,7 +49,8 @@ loop-command-preserved g c =
 
 pub returns-in_err-replies-clause-asked : goal.returns-in_err-replies-clause-asked
 returns-in_err-replies-clause-asked g c =
-    refused c.from_residual.result _ _ c.from_residual.ensures.1 (same_asks g.S.Store c.args.self.now (c.shown_is_stored.ensures _ _ _))
+    refused c.from_residual.result _ _ c.from_residual.ensures.1 (same_asks g.S.Store c.args.self.now
+    (c.shown_is_stored.ensures _ _ _))
 
 pub returns : goal.returns
 returns g c =
@@ -64,5 +66,5 @@ returns g c =
       ran = ran;
       lawful = runs_plain (desk_state first) (desk_state now) c.args.commands.items rs ran;
       untouched = tt;
-      asked = subst (λ (cs : List Command). Asks g.S.Store first (session_of cs rs (desk_state now).stopped) now) all inv.asked;
+      asked = subst (λ (cs : List Command). Asks g.S.Store first (session_of cs rs (desk_state now).needs_reopen) now) all inv.asked;
     }

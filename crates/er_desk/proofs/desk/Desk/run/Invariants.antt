@@ -9,5 +9,5 @@ invariant-loop-command g l = record {
   count : vec_len l.replies ≡ l.command-index;
   room : length l.command-items ≤ vec_capacity l.replies;
   asked : Asks g.S.Store l.fn.self
-      (session_of (take l.command-index l.command-items) l.replies.items (desk_state l.self).stopped) l.self;
+      (session_of (take l.command-index l.command-items) l.replies.items (desk_state l.self).needs_reopen) l.self;
 }

@@ -1,5 +1,5 @@
 use Rattle.std.proofs.Common.{◌≡◌, ◌<◌, ◌∙◌, inl, inr, IfErr, IsFalse, refl, sym, ap, arith, true≢false}
-use Rattle.er_desk.specs.{Desk.{ShowsOwn, Turn, point_of, desk_state, state}, Headline.{LeavesJust, LeavesEither}}
+use Rattle.er_desk.specs.{Desk.{ShowsOwn, Turn, placed_of, desk_state, state}, Headline.{LeavesJust, LeavesEither}}
 use Rattle.er_desk.proofs.{Asking.{command_asks, refused_submits}, Turns.{declined, full, too_late, written, turn_fault, turn_asks}}
 use Rattle.er_desk.proofs.Turns.{waits_of, stops_of, stopped_of, same_unless, represents_after, leaves_refused}
 use Rattle.er_desk.proofs.desk.Desk.take.Goals as goal
@@ -7,7 +7,7 @@ use Rattle.er_desk.proofs.desk.Desk.take.Goals as goal
 -- the desk was stopped
 pub returns-then-needs_reopen : goal.returns-then-needs_reopen
 returns-then-needs_reopen g c = refused_submits g.S.Store c.args.self.now c.args.command.now _
-    (inr (inr (inr (record { was_stopped = sym c.needs_reopen.ensures ∙ c.if-needs_reopen.true; same = refl; answered = refl }))))
+    (inr (inr (inr (record { needed_reopen = sym c.needs_reopen.ensures ∙ c.if-needs_reopen.true; same = refl; answered = refl }))))
     (c.shown_is_stored.ensures _ _ _)
 
 -- the step refuses the command
@@ -17,7 +17,8 @@ returns-in_err-change g c =
     refused_submits g.S.Store desk c.args.command.now c.from_residual.result
     (declined (desk_state desk) (sym c.needs_reopen.ensures ∙ c.if-needs_reopen.false) c.args.command.now c.from_residual.result _
     c.from_residual.ensures.1
-    c.in_err-change.ensures.refused c.in_err-change.ensures.named) (c.shown_is_stored.ensures _ _ _)
+    c.in_err-change.ensures.refused c.in_err-change.ensures.named)
+    (c.shown_is_stored.ensures _ _ _)
 
 -- all serials are given
 pub returns-then-self-eq-MAX_SERIAL : goal.returns-then-self-eq-MAX_SERIAL
@@ -25,7 +26,8 @@ returns-then-self-eq-MAX_SERIAL g c =
     let desk = c.args.self.now in
     refused_submits g.S.Store desk c.args.command.now _
     (full (desk_state desk) (sym c.needs_reopen.ensures ∙ c.if-needs_reopen.false) c.args.command.now _ c.in_ok-change.ensures.taken.1
-    (omega (arith, c.if-self-eq-MAX_SERIAL.true))) (c.shown_is_stored.ensures _ _ _)
+    (omega (arith, c.if-self-eq-MAX_SERIAL.true)))
+    (c.shown_is_stored.ensures _ _ _)
 
 -- the tables have no place for who comes late
 pub returns-then-is_late : goal.returns-then-is_late
@@ -35,7 +37,8 @@ returns-then-is_late g c =
     refused_submits g.S.Store desk c.args.command.now _
     (too_late (desk_state desk) (sym c.needs_reopen.ensures ∙ c.if-needs_reopen.false) c.args.command.now _
     c.in_ok-change.ensures.taken.1 room
-    (rw c.version.ensures.value at (sym c.is_late.ensures ∙ c.if-is_late.true))) (c.shown_is_stored.ensures _ _ _)
+    (rw c.version.ensures.value at (sym c.is_late.ensures ∙ c.if-is_late.true)))
+    (c.shown_is_stored.ensures _ _ _)
 
 -- ---- the change is written, or not
 
@@ -55,15 +58,16 @@ returns g c =
     let runs = sym c.needs_reopen.ensures ∙ c.if-needs_reopen.false in
     let room : desk.serial < 999999 = omega (arith, desk.low, c.if-self-eq-MAX_SERIAL.false) in
     let taken = c.in_ok-change.ensures.taken.1 in
-    let left : ShowsOwn g.S.Store desk → LeavesJust (state g.S.Store desk) (point_of (desk_state desk)) = c.shown_is_stored.ensures _ _ _ in
+    let left : ShowsOwn g.S.Store desk → LeavesJust (state g.S.Store desk) (placed_of (desk_state desk)) =
+    c.shown_is_stored.ensures _ _ _ in
     let turn : Turn (desk_state desk) command c.write.result (desk_state new) =
     written (desk_state desk) runs command (desk_state new) c.write.result _ (new ≡ desk) (λ same. ap desk_state same) taken
     room (rw c.version.ensures.value at (sym c.is_late.ensures ∙ c.if-is_late.false)) wrote.taken wrote.refused in
-    let undecided : IsFalse (desk_state desk).stopped → ShowsOwn g.S.Store desk
-    → LeavesEither (state g.S.Store new) (point_of (desk_state desk)) command =
+    let undecided : IsFalse (desk_state desk).needs_reopen → ShowsOwn g.S.Store desk
+    → LeavesEither (state g.S.Store new) (placed_of (desk_state desk)) command =
     λ runs shows clean trees may. elim (wrote.crash shows clean trees may) [ inl old ↦ inl old | inr new ↦ inr (_, taken, new) ] in
     let refused : ShowsOwn g.S.Store desk
-    → IfErr c.write.result (λ _. IsFalse (desk_state new).stopped → LeavesJust (state g.S.Store new) (point_of (desk_state desk))) =
+    → IfErr c.write.result (λ _. IsFalse (desk_state new).needs_reopen → LeavesJust (state g.S.Store new) (placed_of (desk_state desk))) =
     λ shows. leaves_refused g.S.Store desk new c.write.result (left shows) wrote.refused in
     record {
       turn = turn;

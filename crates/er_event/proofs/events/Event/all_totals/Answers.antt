@@ -20,4 +20,5 @@ returns c =
     subst (λ (rounds : List Round). ArePlayed (appearances_from 1 rounds) c.played_in.result) value c.played_in.ensures.played in
     let count : c.complete_of.result ≡ complete (length e.stored) e.stored =
     c.complete_of.ensures ∙ ap (λ (rounds : List Round). complete (length rounds) rounds) value in
-    gathered-now e c.stored-stored.ensures.sound (record { played = c.played_in.result; complete = c.complete_of.result }) played c.played_in.ensures.long count
+    gathered-now e c.stored-stored.ensures.sound (record { played = c.played_in.result; complete = c.complete_of.result }) played
+    c.played_in.ensures.long count

@@ -19,7 +19,8 @@ loop-at-preserved c =
     let due : Player → TallyRow = λ p. tally_row p.no (totals event p.no) in
     let listed : AreTotals event players c.all_totals-all.result = rw c.players-players.ensures.value c.all_totals-all.ensures in
     let here = c.is_row_of.ensures.0 c.if-not-is_row_of.false
-    ∙ (ap (tally_row player.no) (c.of.ensures ∙ totals-at event players c.all_totals-all.result listed at player below c.index-players-at.is)
+    ∙ (ap (tally_row player.no) (c.of.ensures ∙ totals-at event players c.all_totals-all.result listed at player below
+    c.index-players-at.is)
     ∙ ap due c.index-players-at.is) in
     let is = moved rows at _ (due (get_or players at player)) (omega (arith, below, c.if-rows-players.false)) here in
     take_more rows at (due (get_or players at player)) (omega (arith, below, c.if-rows-players.false))

@@ -1,6 +1,6 @@
-use Rattle.er_event.proofs.Prelude.{List, Player, arith, ap, ap₂, length, sym, ◌∙◌, ◌≡◌}
+use Rattle.er_event.proofs.Prelude.{List, [], Player, arith, ap, ap₂, length, sym, ◌∙◌, ◌≡◌}
 use Rattle.er_event.proofs.MissedLemmas.{complete, joined-stored, missed-few, totals-split}
-use Rattle.er_event.specs.{inside.Joined.joined_of, Totals.{missed_totals, plus}}
+use Rattle.er_event.specs.{inside.Joined.joined_of, Appearances.{own, appearances_from}, Totals.{missed_totals, plus, totals_of}}
 use Rattle.er_event.proofs.events.Event.totals.Goals as goal
 
 pub complete_of-missed-requires : goal.complete_of-missed-requires
@@ -17,10 +17,13 @@ with_missed-requires c =
     let missed = missed-few e c.get.result in
     let is : c.complete_of-missed.result ≡ complete (joined_of e.players c.get.result) e.stored =
     c.complete_of-missed.ensures ∙ ap₂ complete joined c.stored.ensures.value in
-    let over = c.totals_in.ensures.over.rounds_are in
+    let number = c.from.ensures ∙ c.get-2.ensures.value in
+    let within = c.get-2.ensures.within in
+    let long = c.played_in.ensures.long in
+    let over = (c.played_in.ensures.over c.from.result (totals_of []) (omega (arith, c.from.ensures, within, long))).rounds_are in
     let same = ap length c.stored-2.ensures.value in
     let sound = c.players.ensures.sound in
-    omega (arith, sound.rounds.few, sound.set_up.rounds.1)
+    omega (arith, over, same, sound.rounds.few, sound.set_up.rounds.1)
 
 pub returns : goal.returns
 returns c =
@@ -29,6 +32,11 @@ returns c =
     c.joined_of-joined.ensures ∙ ap₂ joined_of c.players.ensures.value c.get.ensures.value in
     let is : c.complete_of-missed.result ≡ complete (joined_of e.players c.args.player) e.stored =
     c.complete_of-missed.ensures ∙ ap₂ complete joined c.stored.ensures.value in
-    let played = rw (c.get-2.ensures.value, c.stored-2.ensures.value) at c.totals_in.ensures.value in
+    let within = c.get-2.ensures.within in
+    let long = c.played_in.ensures.long in
+    let read = rw c.stored-2.ensures.value at
+    (c.played_in.ensures.played c.from.result (omega (arith, c.from.ensures, within)) (omega (arith, c.from.ensures, within, long))) in
+    let number = c.from.ensures ∙ c.get-2.ensures.value in
+    let played = read ∙ ap (λ n. totals_of (own n (appearances_from 1 e.stored))) number in
     c.with_missed.ensures ∙ (ap₂ plus played (ap missed_totals is)
     ∙ sym (totals-split e c.args.player c.players.ensures.sound.players.numbered))

@@ -5,10 +5,12 @@ use Rattle.er_event.proofs.totals.all.add_round.Given as goal
 
 abbrev pub invariant-loop-number : goal.invariant-loop-number
 invariant-loop-number l = record {
-  value : (player : ℕ) → 0 < player → player < l.number → (matches : List Match) → IsRescored l.seats (option_map (λ m. m.now) l.new) matches
+  value : (player : ℕ) → 0 < player → player < l.number → (matches : List Match) → IsRescored l.seats (option_map (λ m. m.now) l.new)
+      matches
       → (round : ℕ) → get_or l.played player (totals_of [])
       ≡ plus (get_or l.fn.played player (totals_of [])) (totals_of (own player (flat_map (appearances_of_match round) matches)));
-  over : (rounds : ℕ) → All (AreOver rounds) l.fn.played → (player : ℕ) → player < l.number → AreOver (rounds + 1) (get_or l.played player (totals_of []));
+  over : (rounds : ℕ) → All (AreOver rounds) l.fn.played → (player : ℕ) → player < l.number
+      → AreOver (rounds + 1) (get_or l.played player (totals_of []));
   long : length l.played ≡ 513;
   long_before : length l.fn.played ≡ 513;
   rest : (player : ℕ) → l.number ≤ player → get_or l.played player (totals_of []) ≡ get_or l.fn.played player (totals_of []);

@@ -12,7 +12,8 @@ loop-round-preserved c =
     record {
       played = λ player low within.
           let more = rw c.as_slice.ensures at (c.count_round.ensures.value n player low (omega arith)) in
-          more ∙ (ap (λ (t : Totals). plus t (totals_of (own player (counted_appearances n r)))) (c.loop-round.invariant.played player low (omega arith))
+          more ∙ (ap (λ (t : Totals). plus t (totals_of (own player (counted_appearances n r))))
+          (c.loop-round.invariant.played player low (omega arith))
           ∙ appearances-more player rounds i r c.loop-round-test.true c.round-item.is);
       over = λ k d below. c.count_round.ensures.over i c.loop-round.invariant.over k d below;
       long = omega arith;

@@ -1,4 +1,5 @@
-use Rattle.er_event.proofs.Prelude.{counted_appearances, own, totals_of, rescored, Round, [], arith, ap, get_or, get_or_default, length, take, ◌+◌, ◌<◌, ◌∙◌, ◌≡◌}
+use Rattle.er_event.proofs.Prelude.{counted_appearances, own, totals_of, rescored, Round, [], arith, ap, get_or, get_or_default, length}
+use Rattle.er_event.proofs.Prelude.{take, ◌+◌, ◌<◌, ◌∙◌, ◌≡◌}
 use Rattle.er_event.proofs.{PlayedLemmas.appearances-more, TotalLemmas.rescored-length}
 use Rattle.er_event.specs.{Totals.plus, declared.totals.Totals.Totals}
 use Rattle.er_event.proofs.totals.all.played_with.Goals as goal
@@ -15,7 +16,8 @@ loop-at-preserved c =
     let n = 1 + length (take i rounds) in
     record {
       played = λ player low within. c.count_at.ensures.value r is n player low (omega arith)
-          ∙ (ap (λ (t : Totals). plus t (totals_of (own player (counted_appearances n r)))) (c.loop-at.invariant.played player low (omega arith))
+          ∙ (ap (λ (t : Totals). plus t (totals_of (own player (counted_appearances n r))))
+          (c.loop-at.invariant.played player low (omega arith))
           ∙ appearances-more player rounds i r below is);
       over = λ k d below. c.count_at.ensures.over i c.loop-at.invariant.over k d below;
       long = omega arith;

@@ -9,7 +9,8 @@ returns-clause-played c = λ player low within.
     let r : Round = record { matches = c.args.matches.now } in
     let n = 1 + length rounds in
     c.count_round.ensures.value n player low (omega arith)
-    ∙ (ap (λ (t : Totals). plus t (totals_of (own player (counted_appearances n r)))) (c.played_in-played.ensures.played player low (omega arith))
+    ∙ (ap (λ (t : Totals). plus t (totals_of (own player (counted_appearances n r))))
+    (c.played_in-played.ensures.played player low (omega arith))
     ∙ appearances-push player rounds r)
 
 pub returns-clause-over : goal.returns-clause-over

@@ -1,0 +1,78 @@
+-- What a call of a store does: how it ends, what it finds, and what it leaves of the tables.
+use Rattle.std.specs.Prelude.{◌≡◌, ◌+◌, ◌⊎◌, ℕ, Bool, Result, Err, OnOk, OnErr, MatchResult, IsTrue, IsFalse}
+use Rattle.sqlite.specs.Effect.{Database}
+use Rattle.sqlite.specs.State.{HasCleanDisk, IsUnchanged}
+use Rattle.sqlite_trees.specs.declared.store.Store.{Ghosts}
+use Rattle.er_event.specs.Event.{EventValue}
+use Rattle.er_event.specs.Sound.{IsSoundButForSeeds}
+use Rattle.er_event.specs.declared.refusals.Refusal.{Refusal}
+use Rattle.er_event.specs.declared.refusals.Refusal.TheVariants.{NeedsReopen}
+use Rattle.er_store.specs.declared.Store.{Store}
+use Rattle.er_store.specs.Fault.{IsFault, IsReadFault}
+use Rattle.er_store.specs.Reading.{KeepsTables}
+use Rattle.er_store.specs.Representing.{IsStoredIn, Shows, Leaves, Either, KeepsOthers}
+use Rattle.er_store.specs.Store.{state, version_in, needs_reopen}
+
+-- Which refusals a call has, and whether the store has stopped with them:
+
+-- each is a fault, and stops the store
+abbrev pub StopsByFault : (why : Refusal) → (needs_reopen : Bool) → Type 0
+StopsByFault why needs_reopen = IsFault why × IsTrue needs_reopen
+
+-- and so does a row that the formats don't allow
+abbrev pub StopsByReadFault : (why : Refusal) → (needs_reopen : Bool) → Type 0
+StopsByReadFault why needs_reopen = IsReadFault why × IsTrue needs_reopen
+
+-- but for one refusal, which leaves it running
+abbrev pub StopsUnless : (passing : Refusal) → (why : Refusal) → (needs_reopen : Bool) → Type 0
+StopsUnless passing why needs_reopen = ((why ≡ passing) × IsFalse needs_reopen) ⊎ (IsReadFault why × IsTrue needs_reopen)
+
+-- A call that only reads. A store that has stopped asks for reopening, and stays as it is. Of one that runs, an answer leaves
+-- it running, and a refusal is one of these. Whatever the tables hold, nothing is written.
+pub record OnlyReads {S A : Type 0} (g : Ghosts S) (Stops : Refusal → Bool → Type 0)
+    (old : Store S g) (result : Result A Refusal) (new : Store S g)
+    : Type 0 where
+  pub waits : IsTrue (needs_reopen old) → (result ≡ Err NeedsReopen) × (new ≡ old)
+  pub stops : IsFalse (needs_reopen old)
+      → MatchResult result (λ _. IsFalse (needs_reopen new)) (λ why. Stops why (needs_reopen new))
+  pub version : version_in new ≡ version_in old
+  -- the disk was clean if it is
+  pub clean : HasCleanDisk (state g new) → HasCleanDisk (state g old)
+  -- what is answered changes nothing, and a refusal no table
+  pub same : HasCleanDisk (state g new) → OnOk result (IsUnchanged (state g old) (state g new))
+  pub kept : HasCleanDisk (state g new) → OnErr result (KeepsTables (state g old) (state g new))
+  pub crash : Leaves (state g new) (state g old).may_leave
+
+-- this is found, or memory or the store fails
+abbrev pub OrFails : {A : Type 0} → (A → Type 0) → Result A Refusal → Type 0
+OrFails Is result = MatchResult result Is IsFault
+
+-- What a store that runs answers where its tables, seen in this way, represent a sound event.
+abbrev pub Finds : {S A : Type 0} (g : Ghosts S) → (Database → EventValue → ℕ → Type 0) → (EventValue → ℕ → Result A Refusal → Type 0)
+    → Store S g → Result A Refusal → Store S g → Type 0
+Finds g See Answers old result new =
+    IsFalse (needs_reopen old) → HasCleanDisk (state g new) → (e : EventValue) (s : ℕ) → See (state g old).now e s
+    → IsSoundButForSeeds e → Answers e s result
+
+-- A change of the event is written with the next serial, in one transaction: it is there whole, or not at all.
+pub record WritesChange {S : Type 0} (g : Ghosts S) (e next : EventValue) (serial : ℕ)
+    (old : Store S g) (result : Result (Unit {0}) Refusal) (new : Store S g)
+    : Type 0 where
+  pub waits : IsTrue (needs_reopen old) → (result ≡ Err NeedsReopen) × (new ≡ old)
+  pub stops : IsFalse (needs_reopen old)
+      → MatchResult result (λ _. IsFalse (needs_reopen new)) (λ why. StopsByFault why (needs_reopen new))
+  pub version : version_in new ≡ version_in old
+  pub clean : HasCleanDisk (state g new) → HasCleanDisk (state g old)
+  -- a refusal changes no table, whatever the tables hold
+  pub kept : HasCleanDisk (state g new) → OnErr result (KeepsTables (state g old) (state g new))
+  -- at every exit the other tables stay, as long as the connection shows any
+  pub others : HasCleanDisk (state g new) → Shows (version_in old) (state g old) e serial → IsTrue (state g new).is_open
+      → KeepsOthers (version_in old) (state g old).now (state g new).now
+  -- what was acknowledged is there, also after a crash, and what was cut off is there whole or not at all
+  pub written : HasCleanDisk (state g new) → Shows (version_in old) (state g old) e serial
+      → OnOk result (Shows (version_in old) (state g new) next (serial + 1))
+  pub acknowledged : Shows (version_in old) (state g old) e serial
+      → OnOk result (Leaves (state g new) (IsStoredIn (version_in old) next (serial + 1)))
+  pub crash : IsFalse (needs_reopen old) → Shows (version_in old) (state g old) e serial
+      → Leaves (state g new)
+      (Either (IsStoredIn (version_in old) e serial) (IsStoredIn (version_in old) next (serial + 1)))
