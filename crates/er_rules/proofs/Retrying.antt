@@ -1,7 +1,7 @@
 -- A command that was taken once is refused at every later point: enrolment, start, pairing, drop and cut.
 use Rattle.std.proofs.{lemmas.Grind.common_steps, Common.{◌≡◌, inl, inr, ℕ, ◌+◌, ◌≤◌, ◌==◌, Bool, true, false, cond, not, List, [], ◌∷◌}}
 use Rattle.std.proofs.Common.{◌++◌, ◌&&◌, ◌||◌, length, map, find, Option, Some, None, Result, Ok, Err, refl, sym, ap, subst, ◌∙◌, arith}
-use Rattle.std.proofs.Common.{length-append}
+use Rattle.std.proofs.Common.{length-append, true≢false}
 use Rattle.std.proofs.{lemmas.Slice.Eq.bytes_eq-Decides, lemmas.Bool.{not-false, eqb-true, ne_eqb, cases_Bool, cond_both, or_left}}
 use Rattle.std.proofs.{lemmas.Bool.or_right, lemmas.List.Folds.{find-append, list_any-append}}
 use Rattle.std.specs.Str.{bytes_eq}
@@ -12,7 +12,7 @@ use Rattle.er_event.specs.{declared.refusals.Refusal.TheVariants.{WrongRound, Al
 use Rattle.er_event.specs.Name.{is_lawful_name}
 use Rattle.er_event.specs.Change.{has_name, dropped_at, new_player}
 use Rattle.er_rules.specs.{Commands.{first_refusal, is_enrolling, is_swiss, of_player}, Step.{Steps, Makes, checks}, Fold.Folds}
-use Rattle.er_rules.specs.Retry.{IsRetryRefusal}
+use Rattle.er_rules.specs.Retry.{IsRetryRefusal, NamesStay}
 use Rattle.er_rules.proofs.{Found.{find_mapped, find_passes}, Keeping.{is_taken, same_Ok, AllPass, passes}}
 use Rattle.er_event.specs.declared.commands.Command.TheVariants.{Playoff as PlayOff}
 
@@ -105,6 +105,13 @@ name_kept name e next c steps has = made c (is_taken e next c steps).1
     made (Drop player) is = ap (named name) (same_Ok next _ is) ∙ (names_stay player name e.players ∙ has)
     made Cut is = ap (named name) (same_Ok next _ is.2) ∙ has
     made c is = ap (named name) (same_Ok next _ is) ∙ has
+
+-- and is enrolled no second time
+pub enrolled_once : NamesStay
+enrolled_once e later next name more has folds steps =
+    let now = kept_on (λ (x : EventValue). named name x ≡ true) (name_kept name) e later more folds has in
+    let free = (passes (checks later (Enrol name)) (is_taken later next (Enrol name) steps).0).1.1.1.0 in
+    true≢false (sym now ∙ free)
 
 -- ---- drop: a player who dropped stays so
 

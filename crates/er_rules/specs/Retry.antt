@@ -1,5 +1,5 @@
 -- A command that is sent again does nothing a second time.
-use Rattle.std.specs.Prelude.{◌≡◌, ◌⊎◌, ℕ, List, Result, Ok, Err}
+use Rattle.std.specs.Prelude.{◌≡◌, ◌⊎◌, ℕ, IsTrue, List, Result, Ok, Err}
 use Rattle.er_event.specs.declared.scores.Games.{Games}
 use Rattle.er_event.specs.declared.commands.Command.{Command}
 use Rattle.er_event.specs.declared.commands.Command.TheVariants.{Enrol, Start, Pair, Result as Report, Correct, Drop, Cut}
@@ -9,6 +9,7 @@ use Rattle.er_event.specs.declared.refusals.Refusal.TheVariants.{NameTaken, AllR
 use Rattle.er_event.specs.declared.refusals.Refusal.TheVariants.{AlreadyReported}
 use Rattle.er_event.specs.declared.refusals.Refusal.TheVariants.{AlreadyDropped, NotPlayoff}
 use Rattle.er_event.specs.Event.{EventValue}
+use Rattle.er_event.specs.Change.{has_name}
 use Rattle.er_rules.specs.Step.{Steps}
 use Rattle.er_rules.specs.Fold.{Folds}
 
@@ -41,3 +42,8 @@ RepeatsCorrection = (event next : EventValue) (round table : ℕ) (score : Games
 
 abbrev pub NoDoubleEffect : Type 0
 NoDoubleEffect = IsRefusedLater × RepeatsCorrection
+
+-- a name is enrolled once: at no later point of a run does the step take it again
+abbrev pub NamesStay : Type 0
+NamesStay = (event later next : EventValue) (name : List ℕ) (more : List Command) → IsTrue (has_name event.players name)
+    → Folds event more later → Steps later (Enrol name) (Ok next) → ⊥

@@ -8,7 +8,7 @@ ghost use Rattle.er_event.specs.Event.{EventValue};
 ghost use Rattle.er_event.specs.Sound.{IsSoundButForSeeds};
 ghost use Rattle.er_rules.specs.Sound.{IsSound};
 ghost use Rattle.er_rules.specs.Step.{Steps, Answers, NeedsMoreSteps};
-ghost use Rattle.er_rules.specs.Retry.{NoDoubleEffect};
+ghost use Rattle.er_rules.specs.Retry.{NamesStay, NoDoubleEffect};
 ghost use Rattle.er_rules.specs.Late.{StepsAreTaken};
 
 use er_event::laws::changes_keep_sound;
@@ -46,6 +46,11 @@ pub fn budget_searches()
 /// same event.
 pub fn no_double_effect()
     ensures { NoDoubleEffect }
+{}
+
+/// A name that is enrolled is taken at every later point of a run.
+pub fn names_stay()
+    ensures { NamesStay }
 {}
 
 /// The tables of a version can take what a command makes of an event, unless it enrols somebody too late for them.
