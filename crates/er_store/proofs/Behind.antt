@@ -1,6 +1,6 @@
 -- The five tables behind those that stand.
 use Rattle.er_store.proofs.Prelude.{◌≡◌, ◌≢◌, ◌+◌, ℕ, Bool, true, false, List, [], ◌∷◌, ◌++◌, length, cond, ◌==◌, arith}
-use Rattle.er_store.proofs.Prelude.{Some, None, refl, sym, ap, subst, ◌∙◌, true≢false, AllByRecursion, Table, Database}
+use Rattle.er_store.proofs.Prelude.{inl, inr, Some, None, refl, sym, ap, subst, ◌∙◌, true≢false, AllByRecursion, Table, Database}
 use Rattle.er_store.proofs.Prelude.{State, Row, event, player, player2, pairing, bracket, tally, ne_eqb, if◌then◌else◌, slice_get}
 use Rattle.std.proofs.lemmas.Bool.{lt-leb, eq-eqb}
 use Rattle.std.proofs.lemmas.Option.{slice_get-get_or}
@@ -14,9 +14,9 @@ use Rattle.sqlite_rules.proofs.ListLemmas.{all_has, all_from, has_left}
 use Rattle.sqlite_rules.specs.Lists.{Has}
 use Rattle.sqlite_schema.specs.Names.{same_name}
 use Rattle.sqlite.specs.Effect.{IsDatabase}
-use Rattle.er_store.proofs.Made.{IsAnywhere, grown, grows_then, keeps_then, is_free}
+use Rattle.er_store.proofs.Made.{IsAnywhere, grown, grows_then, keeps_then, is_free, has_either}
 use Rattle.er_store.proofs.Named.{IsRead}
-use Rattle.er_store.specs.Beside.{KeepsFirst, HasTable}
+use Rattle.er_store.specs.Beside.{KeepsFirst, HasTable, names_taken}
 use Rattle.er_store.specs.inside.Making.{Grows, GoesOn, MakesTable, IsEmptyAfter, MakesFive, IsFound}
 use Rattle.er_store.specs.Tables.{players_of}
 
@@ -128,8 +128,29 @@ goes_then p q = record {
   sound = q.sound;
 }
 
+-- no name but those of the five, and that of SQLite's own table of counts
+just_five : (version : ℕ) {a b c d e f : State} (one : MakesTable event a b) (two : MakesTable (players_of version) b c)
+    (three : MakesTable pairing c d) (four : MakesTable bracket d e) (five : MakesTable tally e f) (made : Table)
+    → Has (one.grows.keeps.more
+    ++ (((two.grows.keeps.more ++ three.grows.keeps.more) ++ four.grows.keeps.more) ++ five.grows.keeps.more)) made
+    → Has (names_taken version) made.name
+just_five version one two three four five made has = elim (has_either one.grows.keeps.more _ made has) [
+  | inl it ↦ elim (one.just made it) [ inl is ↦ inl is | inr own ↦ inr (inr (inr (inr (inr own)))) ]
+  | inr later ↦ elim (has_either ((two.grows.keeps.more ++ three.grows.keeps.more) ++ four.grows.keeps.more) _ made later) [
+    | inr it ↦ elim (five.just made it) [ inl is ↦ inr (inr (inr (inr (inl is)))) | inr own ↦ inr (inr (inr (inr (inr own)))) ]
+    | inl before ↦ elim (has_either (two.grows.keeps.more ++ three.grows.keeps.more) _ made before) [
+      | inr it ↦ elim (four.just made it) [ inl is ↦ inr (inr (inr (inl is))) | inr own ↦ inr (inr (inr (inr (inr own)))) ]
+      | inl first ↦ elim (has_either two.grows.keeps.more _ made first) [
+        | inr it ↦ elim (three.just made it) [ inl is ↦ inr (inr (inl is)) | inr own ↦ inr (inr (inr (inr (inr own)))) ]
+        | inl it ↦ elim (two.just made it) [ inl is ↦ inr (inl is) | inr own ↦ inr (inr (inr (inr (inr own)))) ]
+      ]
+    ]
+  ]
+]
+
 pub five_made : (version : ℕ) {a b c d e f : State} → MakesTable event a b → MakesTable (players_of version) b c → MakesTable pairing c d
     → MakesTable bracket d e → MakesTable tally e f → MakesFive version a f
+unfolding grows_then keeps_then
 five_made version {a} {b} {c} {d} {e} {f} one two three four five =
     let to_c = two.grows.keeps in
     let to_d = keeps_then to_c three.grows.keeps in
@@ -140,6 +161,7 @@ five_made version {a} {b} {c} {d} {e} {f} one two three four five =
     record {
       goes = goes_then one.goes (goes_then two.goes (goes_then three.goes (goes_then four.goes five.goes)));
       free = one.free;
+      just = just_five version one two three four five;
       event = grows_then (λ tree. refl) one.grows (keeps_then to_e five.grows.keeps);
       players = empty_then from_c (made_after (event (next_tree a.now.schema)) (players_anywhere version) first.listed two.grows);
       pairing = empty_then from_d (made_after (event (next_tree a.now.schema)) (λ tree. refl) (has_then to_c first).listed three.grows);

@@ -65,10 +65,12 @@ module _ {version : ℕ} {old mid : State} (made : MakesFive version old mid) wh
 
 pub ready_beside : {version : ℕ} {e : EventValue} {old mid new : State} (made : MakesFive version old mid)
     → Puts (next_tree old.now.schema) (stored_event version e 0) mid new → IsReadyBeside version e old new
+unfolding all_kept
 ready_beside {version} {e} {old} made put = record {
   sound = put.goes.sound;
   makes = record {
     keeps = all_kept made put;
+    just = made.just;
     readable = subst CanRead (sym put.goes.schema) (event_readable made);
     event = (
       next_tree old.now.schema,

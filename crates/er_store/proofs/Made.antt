@@ -1,10 +1,10 @@
 -- What a text that defines a table makes of any schema.
-use Rattle.er_store.proofs.Prelude.{◌≡◌, inl, ℕ, Bool, true, false, List, [], ◌∷◌, ◌++◌, length, not, ◌&&◌, ◌||◌, ◌==◌}
-use Rattle.er_store.proofs.Prelude.{Option, Some, None, Ok, refl, sym, ap, subst, ◌∙◌, true≢false, AllByRecursion, Schema, Table}
+use Rattle.er_store.proofs.Prelude.{◌≡◌, ◌⊎◌, inl, inr, ℕ, Bool, true, false, List, [], ◌∷◌, ◌++◌, length, not, ◌&&◌, ◌||◌, ◌==◌}
+use Rattle.er_store.proofs.Prelude.{Option, Some, None, Result, Ok, refl, sym, ap, subst, ◌∙◌, true≢false, AllByRecursion, Schema, Table}
 use Rattle.er_store.proofs.Prelude.{Database, State, Ran, IsPlain, command_of, runs_as, understood, everything, event, player, player2}
 use Rattle.er_store.proofs.Prelude.{pairing, bracket, tally}
 use Rattle.std.proofs.lemmas.List.{append_assoc}
-use Rattle.std.specs.{Fmt.digits, Option.option_or, Prelude.{is_some, slice_range, MatchBool}}
+use Rattle.std.specs.{Fmt.digits, Option.option_or, Prelude.{codes, is_some, slice_range, MatchBool}}
 use Rattle.sqlite_ast.specs.declared.CreateTable.{CreateTable}
 use Rattle.sqlite_ast.specs.declared.Statement.TheVariants as written
 use Rattle.sqlite_syntax.specs.declared.statement.Parsed.{Parsed}
@@ -94,12 +94,12 @@ module _ {sql : List ℕ} {p : Parsed} {def : CreateTable} {table : Table} (d : 
 
 -- ---- what is kept
 
-all_front : {X : Type 0} (P : X → Type 0) (xs ys : List X) → AllByRecursion P (xs ++ ys) → AllByRecursion P xs
+pub all_front : {X : Type 0} (P : X → Type 0) (xs ys : List X) → AllByRecursion P (xs ++ ys) → AllByRecursion P xs
 all_front P [] ys all = tt
 all_front P (x ∷ xs) ys all = (all.0, all_front P xs ys all.1)
 
 -- what is kept by one after another
-pub keeps_then : {a b c : Database} → KeepsFirst a b → KeepsFirst b c → KeepsFirst a c
+unfoldable pub keeps_then : {a b c : Database} → KeepsFirst a b → KeepsFirst b c → KeepsFirst a c
 keeps_then {a} {b} {c} p q = record {
   more = p.more ++ q.more;
   tables = q.tables ∙ ap (λ ts. ts ++ q.more) p.tables ∙ append_assoc a.schema.tables p.more q.more;
@@ -137,7 +137,7 @@ grown {table} {a} g =
     (has_right a.schema.tables (table tree ∷ g.rest) (table tree) (inl refl))
 
 -- and stays where more is made
-pub grows_then : {table : ℕ → Table} {a b c : Database} → IsAnywhere table → Grows table a b → KeepsFirst b c → Grows table a c
+unfoldable pub grows_then : {table : ℕ → Table} {a b c : Database} → IsAnywhere table → Grows table a b → KeepsFirst b c → Grows table a c
 unfolding keeps_then
 grows_then {table} {a} {b} {c} anywhere g q =
     let tree = next_tree a.schema in
@@ -165,11 +165,68 @@ first_grows {sql} {table} {old} {new} anywhere defined c =
       empty = c.empty;
     }
 
+-- ---- and nothing else
+
+pub has_either : {X : Type 0} (xs ys : List X) (x : X) → Has (xs ++ ys) x → Has xs x ⊎ Has ys x
+has_either [] ys x has = inr has
+has_either (y ∷ xs) ys x (inl is) = inl (inl is)
+has_either (y ∷ xs) ys x (inr has) = elim (has_either xs ys x has) [ inl one ↦ inl (inr one) | inr other ↦ inr other ]
+
+-- a table of this name, or SQLite's own of counts
+abbrev IsNamed : List ℕ → Table → Type 0
+IsNamed name made = Has (name ∷ codes "sqlite_sequence" ∷ []) made.name
+
+-- the table comes, and no other but SQLite's own of counts
+record Adds (table : ℕ → Table) (old new : Database) : Type 0 where
+  grows : Grows table old new
+  just : (made : Table) → Has grows.keeps.more made → IsNamed (table 0).name made
+
+name_in : Table → List ℕ
+name_in table = table.name
+
+first_adds : {sql : List ℕ} {table : ℕ → Table} {old new : Database} → IsAnywhere table → table_defined_by sql ≡ Ok (table 0)
+    → CreatesTable old.schema sql old.trees new.schema new.trees → Adds table old new
+unfolding first_grows one_more name_in
+first_adds {sql} {table} {old} {new} anywhere defined c =
+    let both : Ok c.table ≡ Ok (table 0) = sym c.defined ∙ defined in
+    let same : c.table ≡ table 0 = cc in
+    record {
+      grows = first_grows {sql = sql} {table = table} {old = old} {new = new} anywhere defined c;
+      just = λ made has. elim has [ inl is ↦ inl (ap name_in is ∙ ap name_in same) | inr none ↦ absurd none ];
+    }
+
+defined_from : (sql : List ℕ) (p : Parsed) (def : CreateTable) (table : Table) → first sql ≡ Ok p → p.statement ≡ written.CreateTable def
+    → p.formats ≡ [] → define.table [] def ≡ Ok table → table_defined_by sql ≡ Ok table
+unfolding table_defined_by table_in
+defined_from sql p def table reads is formats defined = rw (reads, is, formats) defined
+
+sequence_defined : (table : Table) × (table_defined_by sequence_text ≡ Ok table) × (table.name ≡ codes "sqlite_sequence")
+unfolding everything digits
+sequence_defined = (_, defined_from sequence_text _ _ _ refl refl refl refl, refl)
+
+sequence_named : {old new : Database} → (c : CreatesTable old.schema sequence_text old.trees new.schema new.trees)
+    → c.table.name ≡ codes "sqlite_sequence"
+unfolding name_in
+sequence_named c =
+    let both : Ok c.table ≡ Ok sequence_defined.0 = sym c.defined ∙ sequence_defined.1 in
+    let same : c.table ≡ sequence_defined.0 = cc in
+    ap name_in same ∙ sequence_defined.2
+
 -- SQLite's own table of counts is made too, where some table needs it and it is not there
-sequenced : (b : Bool) {table : ℕ → Table} {old mid new : Database} → IsAnywhere table → Grows table old mid
-    → MatchBool b (Makes sequence_text mid (Ok new)) (Gives mid (Ok new)) → Grows table old new
-sequenced true {mid = mid} {new} anywhere g h = grows_then anywhere g (one_more {sql = sequence_text} {old = mid} {new = new} h)
-sequenced false {table} {old} anywhere g h = subst (Grows table old) (sym (same_value h)) g
+sequenced : (b : Bool) {table : ℕ → Table} {old mid new : Database} → IsAnywhere table → Adds table old mid
+    → MatchBool b (Makes sequence_text mid (Ok new)) (Gives mid (Ok new)) → Adds table old new
+unfolding grows_then keeps_then one_more name_in
+sequenced true {table} {old} {mid} {new} anywhere a h =
+    let own = sequence_named {old = mid} {new = new} h in
+    record {
+      grows = grows_then anywhere a.grows (one_more {sql = sequence_text} {old = mid} {new = new} h);
+      just = λ made has. elim (has_either a.grows.keeps.more _ made has) [
+        | inl before ↦ a.just made before
+        | inr (inl is) ↦ inr (inl (ap name_in is ∙ own))
+        | inr (inr none) ↦ absurd none
+      ];
+    }
+sequenced false {table} {old} anywhere a h = subst (Adds table old) (sym (same_value h)) a
 
 -- ---- the texts
 
@@ -184,11 +241,13 @@ module _ {sql : List ℕ} {p : Parsed} {def : CreateTable} {table : ℕ → Tabl
       let all = went w.changed in
       let one = went all.1 in
       let now : new.now ≡ all.0 = ap (λ (p : Tally × Database). p.1) (same_value all.2) in
+      let adds : Adds table old.now new.now = subst (Adds table old.now) (sym now)
+      (sequenced (lacks_sequence one.0.schema) anywhere (first_adds {sql = sql} anywhere (defined_by d) one.1) one.2) in
       record {
         goes = record { was = ran.was; shows = h.1; sound = w.sound };
         free = rw d.named free;
-        grows = subst (Grows table old.now) (sym now)
-            (sequenced (lacks_sequence one.0.schema) anywhere (first_grows {sql = sql} anywhere (defined_by d) one.1) one.2);
+        grows = adds.grows;
+        just = adds.just;
       }
 
   -- where such a text ran, its name was free, and it has made its table

@@ -1,5 +1,5 @@
 -- What creation leaves beside tables of others: theirs as they were, and behind them the five.
-use Rattle.std.specs.Prelude.{◌≡◌, ℕ, List, [], ◌∷◌, ◌++◌, IsTrue}
+use Rattle.std.specs.Prelude.{◌≡◌, ℕ, List, [], ◌∷◌, ◌++◌, IsTrue, codes}
 use Rattle.sqlite_catalog.specs.Change.{KeepsRows}
 use Rattle.sqlite_catalog.specs.Listing.{IsSound}
 use Rattle.sqlite_rules.specs.Lists.{Has}
@@ -33,10 +33,17 @@ pub record HasTable (db : Database) (table : Table) (rows : List Row) : Type 0 w
 abbrev pub IsMade : (ℕ → Table) → List Row → Database → Type 0
 IsMade table rows db = (tree : ℕ) × HasTable db (table tree) rows
 
--- What stood stays, and the five tables of this version are there: `event` can be read and has the event's row, and the
+-- The names that a creation takes: those of its five tables, and that of SQLite's own table of counts, which comes too where a table of
+-- others asks for it.
+abbrev pub names_taken : ℕ → List (List ℕ)
+names_taken version =
+    codes "event" ∷ (players_of version 0).name ∷ codes "pairing" ∷ codes "bracket" ∷ codes "tally" ∷ codes "sqlite_sequence" ∷ []
+
+-- What stood stays, and the five tables of this version are there, and no other: `event` can be read and has the event's row, and the
 -- others have none.
 pub record MakesBeside (version : ℕ) (e : EventValue) (old new : Database) : Type 0 where
   pub keeps : KeepsFirst old new
+  pub just : (table : Table) → Has keeps.more table → Has (names_taken version) table.name
   pub readable : CanRead new.schema
   pub event : IsMade event (stored_event version e 0 ∷ []) new
   pub players : IsMade (players_of version) [] new

@@ -8,7 +8,8 @@ use Rattle.sqlite.specs.Effect.{Database, IsDatabase}
 use Rattle.sqlite.specs.State.{State, Shows}
 use Rattle.er_event.specs.Event.{EventValue}
 use Rattle.er_store.specs.Tables.{event, players_of, pairing, bracket, tally}
-use Rattle.er_store.specs.Beside.{KeepsFirst, HasTable, MakesBeside}
+use Rattle.sqlite_rules.specs.Lists.{Has}
+use Rattle.er_store.specs.Beside.{KeepsFirst, HasTable, MakesBeside, names_taken}
 
 -- where a schema has the table of this name
 pub record IsFound (schema : Schema) (at : ℕ) (table : Table) : Type 0 where
@@ -28,11 +29,12 @@ pub record GoesOn (old new : State) : Type 0 where
   pub shows : Shows old new new.now old.committed true
   pub sound : IsDatabase new.now
 
--- a table of this name was made
+-- a table of this name was made, and no other but SQLite's own of counts
 pub record MakesTable (table : ℕ → Table) (old new : State) : Type 0 where
   pub goes : GoesOn old new
   pub free : is_used old.now.schema (table 0).name ≡ false
   pub grows : Grows table old.now new.now
+  pub just : (made : Table) → Has grows.keeps.more made → Has ((table 0).name ∷ codes "sqlite_sequence" ∷ []) made.name
 
 -- the table has no row, and its tree comes after this one
 pub record IsEmptyAfter (tree : ℕ) (table : ℕ → Table) (db : Database) : Type 0 where
@@ -40,11 +42,12 @@ pub record IsEmptyAfter (tree : ℕ) (table : ℕ → Table) (db : Database) : T
   pub later : tree < at
   pub has : HasTable db (table at) []
 
--- the five tables were made, `event` first
+-- the five tables were made and no other, `event` first
 pub record MakesFive (version : ℕ) (old new : State) : Type 0 where
   pub goes : GoesOn old new
   pub free : is_used old.now.schema (codes "event") ≡ false
   pub event : Grows event old.now new.now
+  pub just : (made : Table) → Has event.keeps.more made → Has (names_taken version) made.name
   pub players : IsEmptyAfter (next_tree old.now.schema) (players_of version) new.now
   pub pairing : IsEmptyAfter (next_tree old.now.schema) pairing new.now
   pub bracket : IsEmptyAfter (next_tree old.now.schema) bracket new.now
