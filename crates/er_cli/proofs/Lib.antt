@@ -5,6 +5,7 @@ mod Turns
 mod Sending
 mod Connecting
 mod Enrolling
+mod Repeating
 mod Examples
 mod GoingOn
 mod Leaving

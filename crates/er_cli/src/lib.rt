@@ -28,6 +28,7 @@ mod files;
 mod help;
 mod importing;
 mod input;
+pub mod laws;
 mod left;
 mod script;
 mod serving;
