@@ -4,6 +4,7 @@ mod Runs
 mod Turns
 mod Sending
 mod Connecting
+mod Visiting
 mod Enrolling
 mod Repeating
 mod Examples

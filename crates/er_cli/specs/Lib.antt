@@ -20,6 +20,7 @@ pub mod Status
 pub mod Help
 pub mod Complaints
 pub mod Serving
+pub mod Clients
 pub mod Importing
 pub mod Again
 pub mod Words

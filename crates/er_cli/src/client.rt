@@ -9,25 +9,25 @@ const WRITE_SECONDS: u64 = 10;
 /// How long it may take in all.
 const CLIENT_SECONDS: u64 = 30;
 
-/// A client's connection, which reads and writes while the client's time lasts.
-#[derive(Clone, Copy)]
+/// One side of a client's connection, which reads or writes while the client's time lasts.
+#[derive(Drop)]
 pub struct Client<'a> {
     rt: &'a HostRuntime,
-    stream: &'a TcpStream,
+    stream: TcpStream,
     begun: Instant,
     /// A write took all its time.
     is_late: bool,
 }
 
 impl Client<'_> {
-    /// The client's time begins. Fails where the clock can't be read.
-    pub fn new<'a>(rt: &'a HostRuntime, stream: &'a TcpStream) -> io::Result<Client<'a>> {
-        Ok(Client {
+    /// The client's time began then.
+    pub fn new(rt: &HostRuntime, stream: TcpStream, begun: Instant) -> Client<'_> {
+        Client {
             rt,
             stream,
-            begun: Instant::now(rt)?,
+            begun,
             is_late: false,
-        })
+        }
     }
 
     /// How long the next call may take: so many seconds, or what is left of all.

@@ -22,6 +22,7 @@ ghost use Rattle.er_cli.specs.inside.Unread.{EndsUnread, UnreadPart};
 
 mod answers;
 mod client;
+mod clients;
 mod closing;
 mod complaints;
 mod files;
@@ -36,6 +37,7 @@ mod sessions;
 mod setup;
 mod texts;
 
+pub use clients::{AcceptFault, Clients, Side, Visit};
 use complaints::complaint;
 use er_event::Refusal;
 pub use er_words::{
@@ -46,7 +48,7 @@ use help::{AWAITING, print_text, text_for};
 use input::{InputFault, lines_of, read_script};
 pub use left::{Left, Ran};
 use script::run_lines;
-pub use serving::serve_on;
+pub use serving::{serve_clients, serve_on};
 pub use sessions::{Held, Sessions, hold_sessions, next_session};
 use sqlite::{FileFrom, Start, Wary};
 use sqlite_disk::Disk;

@@ -1,16 +1,18 @@
-ghost use Rattle.std.specs.Prelude.{◌≡◌, MatchResult};
+ghost use Rattle.std.specs.Prelude.{◌≡◌, MatchResult, OnOk};
 ghost use Rattle.er_desk.specs.Asking.{AsksSome};
+ghost use Rattle.er_cli.specs.Clients.{KnewBefore, ServesKnown};
 ghost use Rattle.er_cli.specs.Serving.{Connects, ConnectsAll, ConnectsUpTo, PrintsServed, ServesAll, listening, served};
 
-use crate::client::Client;
+use crate::clients::{AcceptFault, Clients, Listening};
 use crate::texts::{WriteFault, print_line};
 use crate::{DEVICE, DONE};
 use er_desk::Desk;
 use er_paper::ShortText;
 use er_slips::{Routes, serve_one};
 use sqlite::Alter;
+use std::alloc::Global;
 use std::io::Write;
-use std::net::{TcpListener, TcpStream};
+use std::net::TcpListener;
 
 fn listening_line(port: u16) -> ShortText
     ensures { result ≡ listening port }
@@ -32,42 +34,51 @@ fn served_line(count: u32) -> ShortText
     line
 }
 
-/// Serves the request of one client. One that goes away, or whose time is over, counts as served.
-fn serve_client<S: Alter>(rt: &HostRuntime, routes: &Routes, desk: &mut Desk<S>, stream: &TcpStream)
-    ensures { AsksSome S.Store desk.old Connects desk.new }
+/// Serves the request of the next client. One that goes away, or whose time is over, counts as served.
+fn serve_next<S: Alter, C: Clients>(
+    alloc: Global,
+    routes: &Routes,
+    desk: &mut Desk<S>,
+    clients: &mut C,
+) -> Result<(), AcceptFault>
+    ensures turns { AsksSome S.Store desk.old Connects desk.new }
+    ensures served { OnOk result (ServesKnown S.Store 1 (C.coming clients.old) (C.got clients.old)
+        desk.old (C.coming clients.new) (C.got clients.new) desk.new) }
+    ensures knew { KnewBefore (C.got clients.old) (C.got clients.new) }
 {
     // A client without a connection asks nothing of the file: this tells the proof.
     desk.asks_nothing();
-    let Ok(client) = Client::new(rt, stream) else {
-        return;
+    let Some(mut visit) = clients.accept()? else {
+        return Ok(());
     };
-    let (mut reader, mut writer) = (client, client);
-    let _served = serve_one(rt.alloc(), routes, desk, &mut reader, &mut writer);
+    let served = serve_one(alloc, routes, desk, &mut visit.reader, &mut visit.writer);
+    let is_told = visit.tells(served);
+    clients.let_go(visit);
+    if is_told { Ok(()) } else { Err(AcceptFault) }
 }
 
-/// The listener gave no connection.
-#[derive(Clone, Copy)]
-struct AcceptFault;
-
 /// Serves so many clients, one after the other.
-fn serve_clients<S: Alter>(
-    rt: &HostRuntime,
+pub fn serve_clients<S: Alter, C: Clients>(
+    alloc: Global,
     routes: &Routes,
     desk: &mut Desk<S>,
-    listener: &TcpListener,
+    clients: &mut C,
     count: u32,
 ) -> Result<(), AcceptFault>
-    ensures { MatchResult result (λ _. AsksSome S.Store desk.old (ConnectsAll count) desk.new)
+    ensures turns { MatchResult result (λ _. AsksSome S.Store desk.old (ConnectsAll count) desk.new)
         (λ _. AsksSome S.Store desk.old (ConnectsUpTo count) desk.new) }
+    // Of clients of whom it is known what they send, each got its answer, on the event that those before it left.
+    ensures served { OnOk result (ServesKnown S.Store count (C.coming clients.old)
+        (C.got clients.old) desk.old (C.coming clients.new) (C.got clients.new) desk.new) }
+    ensures knew { KnewBefore (C.got clients.old) (C.got clients.new) }
 {
     // The session grows client by client, from nothing: these tell the proof.
     desk.asks_then();
     desk.asks_nothing();
     for _ in 0..count {
-        let Ok((stream, _address)) = listener.accept() else {
+        let Ok(()) = serve_next(alloc, routes, desk, clients) else {
             return Err(AcceptFault);
         };
-        serve_client(rt, routes, desk, &stream);
     }
     Ok(())
 }
@@ -95,7 +106,8 @@ pub fn serve_on<S: Alter, W: Write>(
     let Ok(()) = print_line(out, &listening_line(address.port())) else {
         return DEVICE;
     };
-    let Ok(()) = serve_clients(rt, routes, desk, listener, count) else {
+    let mut clients = Listening::new(rt, listener);
+    let Ok(()) = serve_clients(rt.alloc(), routes, desk, &mut clients, count) else {
         return DEVICE;
     };
     match print_line(out, &served_line(count)) {

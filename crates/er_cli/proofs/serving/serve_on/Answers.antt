@@ -23,10 +23,10 @@ pub returns-in_default-print_line-clause-turns : goal.returns-in_default-print_l
 returns-in_default-print_line-clause-turns g c = (_, inr (refl, (0, omega arith, (refl, refl))), c.asks_nothing.ensures)
 
 pub returns-in_default-serve_clients-clause-turns : goal.returns-in_default-serve_clients-clause-turns
-returns-in_default-serve_clients-clause-turns g c = let it = c.in_default-serve_clients.ensures in (it.0, inr (refl, it.1), it.2)
+returns-in_default-serve_clients-clause-turns g c = let it = c.in_default-serve_clients.ensures.turns in (it.0, inr (refl, it.1), it.2)
 
 pub returns-in-Ok-print_line-2-clause-turns : goal.returns-in-Ok-print_line-2-clause-turns
-returns-in-Ok-print_line-2-clause-turns g c = let it = c.in-Ok-serve_clients.ensures in (it.0, inl (refl, it.1), it.2)
+returns-in-Ok-print_line-2-clause-turns g c = let it = c.in-Ok-serve_clients.ensures.turns in (it.0, inl (refl, it.1), it.2)
 
 pub returns-in-Err-clause-turns : goal.returns-in-Err-clause-turns
-returns-in-Err-clause-turns g c = let it = c.in-Ok-serve_clients.ensures in (it.0, inr (refl, (c.args.count, omega arith, it.1)), it.2)
+returns-in-Err-clause-turns g c = let it = c.in-Ok-serve_clients.ensures.turns in (it.0, inr (refl, (c.args.count, omega arith, it.1)), it.2)

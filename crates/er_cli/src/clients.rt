@@ -1,0 +1,195 @@
+ghost use Rattle.std.specs.Prelude.{◌≡◌, ◌||◌, List, ℕ, Option, None, Some, false, IfOk, IfSome, MatchOption, MatchResult, is_err};
+ghost use Rattle.std.specs.Io.{ReadsAtMost, WritesAtMost};
+ghost use Rattle.std.specs.Io.KnownBytes.{ReadConsumes, WriteAppends, Keeps};
+ghost use Rattle.er_cli.specs.Clients.{Got, IsNext, GetsLast, tells};
+
+use crate::client::Client;
+use er_slips::Served;
+use std::io::{self, Read, Write};
+use std::net::{TcpListener, TcpStream};
+use std::time::Instant;
+
+/// The listener gave no connection.
+#[derive(Clone, Copy)]
+pub struct AcceptFault;
+
+/// One side of a connection, and whether a call of it has failed.
+#[derive(Drop)]
+pub struct Side<T> {
+    stream: T,
+    has_failed: bool,
+}
+
+impl<T: Drop> Side<T> {
+    fn new(stream: T) -> Side<T>
+        ensures stream { result.stream ≡ stream }
+        ensures failed { result.has_failed ≡ false }
+    {
+        Side {
+            stream,
+            has_failed: false,
+        }
+    }
+
+    /// What it has read from, or written to.
+    pub fn into_stream(self) -> T
+        ensures { result ≡ self.stream }
+    {
+        let Side {
+            stream,
+            has_failed: _,
+        } = self;
+        stream
+    }
+
+    /// Whether a call of it has failed.
+    pub fn has_failed(&self) -> bool
+        ensures { result ≡ self.now.has_failed }
+    {
+        self.has_failed
+    }
+}
+
+impl<R: Read + Drop> Read for Side<R> {
+    ghost remaining = { λ side. R.remaining side.stream };
+
+    fn read(&mut self, buf: &mut [u8]) -> io::Result<usize>
+        ensures bound { ReadsAtMost result buf.new }
+        ensures bytes { ReadConsumes (R.remaining self.old.stream) (R.remaining self.new.stream)
+            result buf.new }
+        ensures failed { self.new.has_failed ≡ (self.old.has_failed || is_err result) }
+    {
+        let result = self.stream.read(buf);
+        self.has_failed |= result.is_err();
+        result
+    }
+}
+
+impl<W: Write + Drop> Write for Side<W> {
+    ghost contents = { λ side. W.contents side.stream };
+
+    fn write(&mut self, bytes: &[u8]) -> io::Result<usize>
+        ensures bound { WritesAtMost result bytes.now }
+        ensures bytes { WriteAppends (W.contents self.old.stream) (W.contents self.new.stream)
+            result bytes.now }
+        ensures failed { self.new.has_failed ≡ (self.old.has_failed || is_err result) }
+    {
+        let result = self.stream.write(bytes);
+        self.has_failed |= result.is_err();
+        result
+    }
+
+    fn flush(&mut self) -> io::Result<()>
+        ensures bytes { Keeps (W.contents self.old.stream) (W.contents self.new.stream) }
+        ensures failed { self.new.has_failed ≡ (self.old.has_failed || is_err result) }
+    {
+        let result = self.stream.flush();
+        self.has_failed |= result.is_err();
+        result
+    }
+}
+
+/// A client's connection, which is served once.
+#[derive(Drop)]
+pub struct Visit<R, W> {
+    pub reader: Side<R>,
+    pub writer: Side<W>,
+}
+
+impl<R: Read + Drop, W: Write + Drop> Visit<R, W> {
+    pub fn new(reader: R, writer: W) -> Visit<R, W>
+        ensures reader { R.remaining result.reader.stream ≡ R.remaining reader }
+        ensures writer { W.contents result.writer.stream ≡ W.contents writer }
+        ensures failed { (result.reader.has_failed || result.writer.has_failed) ≡ false }
+    {
+        Visit {
+            reader: Side::new(reader),
+            writer: Side::new(writer),
+        }
+    }
+
+    /// Whether its connection tells the same of how it was served: where that broke off, a call of it has failed.
+    pub fn tells(&self, served: Served) -> bool
+        ensures { result ≡ tells self.now.reader.has_failed self.now.writer.has_failed served }
+    {
+        match served {
+            Served::Answered { .. } => true,
+            Served::ReadFault => self.reader.has_failed,
+            Served::WriteFault { .. } => self.writer.has_failed,
+        }
+    }
+}
+
+/// Where clients come from, one after the other. Where it is known what they send, it is known what they got.
+pub trait Clients {
+    type Reader: Read + Drop;
+
+    type Writer: Write + Drop;
+
+    /// What those will send who are still to come, in their order.
+    ghost coming: { Self → Option (List (List ℕ)) } = { λ _. None };
+
+    /// What those got who went away, in their order.
+    ghost got: { Self → Option (List Got) } = { λ _. None };
+
+    /// Takes the next client. None where nothing can be done with its connection, so that it counts as gone.
+    fn accept(&mut self) -> Result<Option<Visit<Self::Reader, Self::Writer>>, AcceptFault>
+        ensures comes { IfSome (coming self.old) (λ inputs. MatchResult result
+            (λ given. MatchOption given ⊥ (λ visit. IsNext inputs (Self.Reader.remaining visit.reader.stream)
+            (Self.Writer.contents visit.writer.stream) (visit.reader.has_failed || visit.writer.has_failed)
+            (coming self.new)))
+            (λ _. coming self.new ≡ coming self.old)) }
+        ensures got { got self.new ≡ got self.old };
+
+    /// Lets a client go.
+    fn let_go(&mut self, visit: Visit<Self::Reader, Self::Writer>)
+        ensures coming { coming self.new ≡ coming self.old }
+        ensures got { GetsLast (got self.old) (Self.Writer.contents visit.writer.stream)
+            (visit.reader.has_failed || visit.writer.has_failed) (got self.new) };
+}
+
+/// The clients of a listener. Nothing is known of them.
+#[derive(Drop)]
+pub struct Listening<'a> {
+    rt: &'a HostRuntime,
+    listener: &'a TcpListener,
+}
+
+impl<'a> Listening<'a> {
+    pub fn new(rt: &'a HostRuntime, listener: &'a TcpListener) -> Listening<'a> {
+        Listening { rt, listener }
+    }
+
+    /// The two sides of a client's connection, whose time begins.
+    fn sides(&self, stream: TcpStream) -> io::Result<Visit<Client<'a>, Client<'a>>>
+        ensures { IfOk result (λ visit. (visit.reader.has_failed || visit.writer.has_failed) ≡ false) }
+    {
+        let begun = Instant::now(self.rt)?;
+        let other = stream.try_clone()?;
+        Ok(Visit::new(
+            Client::new(self.rt, stream, begun),
+            Client::new(self.rt, other, begun),
+        ))
+    }
+}
+
+impl<'a> Clients for Listening<'a> {
+    type Reader = Client<'a>;
+
+    type Writer = Client<'a>;
+
+    fn accept(&mut self) -> Result<Option<Visit<Client<'a>, Client<'a>>>, AcceptFault>
+        ensures { IfOk result (λ given. IfSome given (λ visit. (visit.reader.has_failed || visit.writer.has_failed) ≡ false)) }
+    {
+        match self.listener.accept() {
+            Ok((stream, _address)) => Ok(self.sides(stream).ok()),
+            Err(_error) => Err(AcceptFault),
+        }
+    }
+
+    fn let_go(&mut self, visit: Visit<Client<'a>, Client<'a>>)
+        ensures { self.new ≡ self.old }
+    {
+        drop(visit);
+    }
+}
