@@ -1389,7 +1389,7 @@ def run_words(room):
     for word in ("--help", "--version"):
         ran = subprocess.run([*PYTHON, desk, word], capture_output=True, timeout=60, env={**LETTERS, "COLUMNS": "80"})
         text = ran.stdout.decode()
-        check(word, (ran.returncode, ran.stderr, text.startswith(("usage: ", "desk.py "))), (0, b"", True))
+        check(word, (ran.returncode, ran.stderr, text.startswith(("usage: ", "event-desk (event_reporter) "))), (0, b"", True))
         check(f"{word} fits 80 columns", [it for it in text.split("\n") if len(it) > 80], [])
     for words in ([], ["e.event", "more"], ["e.event", "--port", "0"]):
         ran = subprocess.run([*PYTHON, desk, *words], capture_output=True, timeout=60, env=LETTERS)

@@ -117,7 +117,7 @@ REFUSALS = {
     "again if it is not there.",
     25: "The file was not read or written. Most often another program has it open: end\n"
     "it, see: where, and type the line again if it is not there. Where `serve` holds\n"
-    "the file: end this with Ctrl-D, and run desk.py FILE --port 8080, with its port.",
+    "the file, end this with Ctrl-D and give its port: event-desk FILE --port 8080",
     26: "A write failed before. End `serve` by Ctrl-C in its window, serve again, and\ntype the line again.",
     27: "There is no event in the file. Look at the path, or make one:\ninit Friday Night 3 0",
     28: "The file has an event already. Take another FILE: end this with Ctrl-D.",
