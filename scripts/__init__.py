@@ -1,4 +1,11 @@
 """The Python of the scripts. Each module is run from the top of the repository by its whole name: `python3 -B -m scripts.clients.run_http`."""
 import os
+import re
 
 TOP = os.path.dirname(os.path.dirname(os.path.abspath(__file__)))
+
+
+def version():
+    """The version, from the one place that has it."""
+    with open(f"{TOP}/crates/er_cli/src/help.rt", encoding="utf-8") as source:
+        return re.search(r'^pub const VERSION: &str = "event_reporter (\d+\.\d+\.\d+)\\n";$', source.read(), re.M)[1]

@@ -4,5 +4,3 @@ the wall.
 Each companion calls the program for what is done or shown, works out no rule of its own, and touches the
 event's file through the program alone, copies apart.
 """
-
-VERSION = "0.1.0"

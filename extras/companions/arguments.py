@@ -3,9 +3,42 @@ from __future__ import annotations
 
 import argparse
 import re
+import subprocess
+from typing import Any
+
+from companions.program import program_beside
 
 
 def port_word(text: str) -> int:
     if not re.fullmatch("[0-9]{1,5}", text) or not 1 <= int(text) <= 65535:
         raise argparse.ArgumentTypeError(f"{text!r} is no port from 1 to 65535")
     return int(text)
+
+
+class Version(argparse.Action):
+    """Prints the version of the program that is called. A companion has none of its own: it comes with it."""
+
+    def __call__(self, parser: argparse.ArgumentParser, words: argparse.Namespace, *_rest: Any) -> None:
+        try:
+            asked = subprocess.run(
+                [words.program, "--version"], stdin=subprocess.DEVNULL, stdout=subprocess.PIPE, text=True
+            )
+        except OSError as fault:
+            why = f"{words.program} does not run: {fault.strerror}. Name the program by --program PATH."
+            parser.exit(3, f"{parser.prog}: {why}\n")
+        package, _, number = asked.stdout.strip().partition(" ")
+        if asked.returncode or not number:
+            # it has said why
+            parser.exit(3)
+        print(f"{parser.prog} ({package}) {number}")
+        parser.exit()
+
+
+def add_program(parser: argparse.ArgumentParser) -> None:
+    """The words about the program that is called, the last ones of each companion."""
+    parser.add_argument(
+        "--program", metavar="PATH", default=program_beside(), help="the event_reporter to call"
+    )
+    parser.add_argument(
+        "--version", action=Version, nargs=0, help="print the version of the event_reporter that is called"
+    )

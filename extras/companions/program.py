@@ -126,24 +126,39 @@ def serial_in(answer: str) -> int:
 
 
 def checkout() -> str:
-    return os.path.dirname(os.path.dirname(os.path.dirname(os.path.abspath(__file__))))
+    return os.path.dirname(os.path.dirname(os.path.dirname(os.path.realpath(__file__))))
+
+
+def built() -> str:
+    return os.path.join(checkout(), "crates", "event_reporter", "out", "event_reporter")
+
+
+def installed() -> str:
+    """Where the program is if this was installed: below PREFIX the companions are in share/event-reporter."""
+    return os.path.join(os.path.dirname(checkout()), "bin", "event_reporter")
 
 
 def program_beside() -> str:
-    """The program of this checkout, or the one on the path."""
-    beside = os.path.join(checkout(), "event_reporter")
-    return os.environ.get("EVENT_REPORTER") or (beside if os.path.isfile(beside) else "event_reporter")
+    """The program that is built in this checkout, or the script that builds it; or the one that was installed
+    with this; or the one on the PATH.
+    """
+    places = built(), os.path.join(checkout(), "event_reporter"), installed()
+    beside = next((path for path in places if runs(path)), "event_reporter")
+    return os.environ.get("EVENT_REPORTER") or beside
+
+
+def runs(path: str) -> bool:
+    return os.path.isfile(path) and os.access(path, os.X_OK)
 
 
 def ready(program: str) -> str:
     """What is to be called. The script of a checkout may build the program first, and says so; from then on
-    the built one is called, since the script looks through all sources each time.
+    the built one is called.
     """
-    built = os.path.join(checkout(), "crates", "event_reporter", "out", "event_reporter")
     if os.path.abspath(program) == os.path.join(checkout(), "event_reporter"):
         version = [program, "--version"]
         if subprocess.run(version, stdin=subprocess.DEVNULL, stdout=subprocess.DEVNULL).returncode == 0:
-            return built if os.path.isfile(built) else program
+            return built() if runs(built()) else program
     elif shutil.which(program):
         return program
     raise Declined(f"{program} does not run. Name the program by --program PATH.")
@@ -440,7 +455,7 @@ class OverPort(Source):
     def ask(self, name: str, *_words: str) -> str:
         raise Declined(
             f"`serve` holds the file, and takes no {name}. End it by Ctrl-C in its window, end\n"
-            "this by Ctrl-D, and run desk.py FILE without --port."
+            "this by Ctrl-D, and run event-desk FILE without --port."
         )
 
     def text(self, name: str, *words: str) -> str:

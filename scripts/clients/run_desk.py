@@ -582,10 +582,10 @@ def run_refusals_of_rounds(room):
     said(file, "pair", "1 2 0", "pair", "1 2 0")
     run_refusals_of_phases(f"{room}/other")
     refused_by(file, 9, "AllRoundsPaired", ["pair"], "standings, or cut")
-    refused_by(file, 21, "TooFewForCut", ["cut"], "The standings stand")
+    refused_by(file, 21, "TooFewForCut", ["cut"], "The standings are final")
     _, two = started(f"{room}/two", ["Ana", "Bo"])
     refused_by(two, 20, "NoCut", ["pair", "1 2 0", "cut"], "with no cut")
-    refused_by(two, 10, "NoPairing", ["pair"], "The standings stand")
+    refused_by(two, 10, "NoPairing", ["pair"], "The standings are final")
     check("refusal 10, no copy is left", sorted(it[-18:] for it in os.listdir(f"{two}.copies")), ["before-pair-1.event"[-18:]])
     hurried = stand_in(room, f'[ "$1" = pair ] && "$REAL" pair "$2" "$3" {"0" * 64} > "$2.other"\nexec "$REAL" "$@"')
     _, paired = started(f"{room}/paired", ["Ana", "Bo", "Cy", "Di"])
@@ -999,9 +999,9 @@ def run_check(room):
     check_said("check by another key", said(file, "check 1", "check 2"), "Round 1 is not what the copy", "differ", ".keys has no key of it")
     status, text = checked(file)
     check_said("scripts/check by another key", text, "round 1: not as the rules pair it from the scores", "round 2: its key is not in the list")
-    for paths in ([], ["/none"], [f"{file}.players.csv", f"{file}.keys", f"{file}.keys"]):
+    for paths, due in (([], 2), (["/none"], 2), ([f"{file}.players.csv", f"{file}.keys", f"{file}.keys"], 1)):
         ran = subprocess.run(["bash", f"{TOP}/scripts/check", *paths], capture_output=True, timeout=60)
-        check(f"scripts/check {len(paths)}", (ran.returncode, b"Traceback" in ran.stderr, ran.stdout), (1, False, b""))
+        check(f"scripts/check {len(paths)}", (ran.returncode, b"Traceback" in ran.stderr, ran.stdout), (due, False, b""))
 
 
 def run_key_first(room):
@@ -1389,7 +1389,7 @@ def run_words(room):
     for word in ("--help", "--version"):
         ran = subprocess.run([*PYTHON, desk, word], capture_output=True, timeout=60, env={**LETTERS, "COLUMNS": "80"})
         text = ran.stdout.decode()
-        check(word, (ran.returncode, ran.stderr, text.startswith(("usage: ", "desk.py "))), (0, b"", True))
+        check(word, (ran.returncode, ran.stderr, text.startswith(("usage: ", "event-desk (event_reporter) "))), (0, b"", True))
         check(f"{word} fits 80 columns", [it for it in text.split("\n") if len(it) > 80], [])
     for words in ([], ["e.event", "more"], ["e.event", "--port", "0"]):
         ran = subprocess.run([*PYTHON, desk, *words], capture_output=True, timeout=60, env=LETTERS)

@@ -12,12 +12,14 @@ import sys
 import tempfile
 import time
 
+from scripts import version
 from scripts.clients import subcommands
 from scripts.clients.tally import check, end
 from scripts.clients.transcripts import parts_of
 from scripts.models.chacha20 import words_of
 
 program, folder = sys.argv[1:]
+VERSION = f"event_reporter {version()}\n".encode()
 
 
 def run(script, words=(), out=subprocess.PIPE):
@@ -89,7 +91,7 @@ def run_words():
     check("-h", run(b"", ["-h"]), (0, help_text, b""))
     check("--help fits 80 columns", wide_lines(help_text), [])
     for word in ("--version", "-V"):
-        check(word, run(b"", [word]), (0, b"event_reporter 0.1.0\n", b""))
+        check(word, run(b"", [word]), (0, VERSION, b""))
     listed = [name for name, _words in subcommands.listed(help_text.decode())]
     check("--help lists what is read", sorted(listed), sorted(subcommands.read()))
     for name in listed:
@@ -98,7 +100,7 @@ def run_words():
         check(f"{name} -h", run(b"", [name, "-h"]), (0, text, b""))
         check(f"{name} --help fits 80 columns", wide_lines(text), [])
         for word in ("--version", "-V"):
-            check(f"{name} {word}", run(b"", [name, word]), (0, b"event_reporter 0.1.0\n", b""))
+            check(f"{name} {word}", run(b"", [name, word]), (0, VERSION, b""))
         missing = b"event_reporter: a word is missing at the end\n" + text
         check(f"{name} alone", run(b"", [name]), (2, b"", missing))
     for number, name in enumerate(NAMES, 1):

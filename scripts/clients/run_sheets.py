@@ -222,7 +222,7 @@ def run_refused(room, dice):
         check(f"refused, {name}", (got[0], got[1], said in got[2]), (status, "", True))
     for name in ("--help", "--version"):
         status, text, errors = printed(file, name, env={**os.environ, "COLUMNS": "80"})
-        check(f"{name}", (status, errors, text.startswith(("usage: ", "sheets.py "))), (0, "", True))
+        check(f"{name}", (status, errors, text.startswith(("usage: ", "event-sheets (event_reporter) "))), (0, "", True))
         check(f"{name} fits 80 columns", [it for it in text.split("\n") if len(it) > 80], [])
 
 

@@ -10,6 +10,7 @@ import dataclasses
 import glob
 import os
 import re
+import subprocess
 
 from scripts import TOP
 
@@ -17,6 +18,7 @@ MOST_LINES, MOST_COPIES, MOST_CHARACTERS = 20, 4, 140
 HEAD = re.compile(r"^( *)(?:pub(?:\([^)]*\))? )?(?:const )?fn (\w+)")
 CLAUSE = re.compile(r"^ *(?:ensures|requires|decreases)\b")
 LABEL = re.compile(r"^(ensures|requires|decreases) \w+ \{")
+LABEL_OF = re.compile(r"^(ensures|requires|decreases)(?: (\w+) \{)?")
 
 
 @dataclasses.dataclass
@@ -69,18 +71,50 @@ def end_of_body(lines, at, indent):
     return next(end for end in range(at + 1, len(lines)) if lines[end].startswith(indent + "}"))
 
 
+def functions_in(crate, file, lines):
+    at = 0
+    while at < len(lines):
+        head = HEAD.match(lines[at])
+        if head:
+            clauses, count, opened = read_contract(lines, at, head[1])
+            closed = end_of_body(lines, opened, head[1])
+            body = [it for it in lines[opened + 1 : closed] if it.strip() and not it.strip().startswith("//")]
+            yield Function(crate, f"{file}:{at + 1} {head[2]}", clauses, count, len(body))
+            at = closed
+        at += 1
+
+
 def functions_of(crate):
     for file, lines in files_of(crate, ".rt"):
-        at = 0
-        while at < len(lines):
-            head = HEAD.match(lines[at])
-            if head:
-                clauses, count, opened = read_contract(lines, at, head[1])
-                closed = end_of_body(lines, opened, head[1])
-                body = [it for it in lines[opened + 1 : closed] if it.strip() and not it.strip().startswith("//")]
-                yield Function(crate, f"{file}:{at + 1} {head[2]}", clauses, count, len(body))
-                at = closed
-            at += 1
+        yield from functions_in(crate, file, lines)
+
+
+def output(*words):
+    return subprocess.run(words, cwd=TOP, stdout=subprocess.PIPE, stderr=subprocess.DEVNULL, encoding="utf-8").stdout
+
+
+def clauses_of(file, lines):
+    """Each clause by its function and its label, or its place where it has no label."""
+    found = {}
+    for function in functions_in("", file, lines):
+        name = function.place.split(" ")[1]
+        for at, clause in enumerate(function.clauses, 1):
+            kind, label = LABEL_OF.match(clause).groups()
+            key = f"{name}: {kind} {label or at}"
+            # two types of a file may have functions of one name
+            found[key if key not in found else f"{key}, another {name}"] = clause
+    return found
+
+
+def print_changed(commit):
+    """The clauses that are new, gone or other than in the commit, as a message of the next one names them."""
+    paths = output("git", "diff", "--name-only", commit, "--", "crates/*.rt").split()
+    for path in (it for it in paths if it.endswith(".rt")):
+        now = open(f"{TOP}/{path}", encoding="utf-8").read() if os.path.exists(f"{TOP}/{path}") else ""
+        old, new = (clauses_of(path, text.split("\n")) for text in (output("git", "show", f"{commit}:{path}"), now))
+        changed = [name for name in sorted(old.keys() | new.keys()) if old.get(name) != new.get(name)]
+        for name in changed:
+            print(f"{path}  {name} {'is new' if name not in old else 'is gone' if name not in new else 'changed'}")
 
 
 def long_lines(crate):
@@ -112,10 +146,14 @@ def print_recurring(functions):
 
 
 def main():
-    words = argparse.ArgumentParser(description="Reports how long the contracts of all crates are, or of those that are named, and which clauses recur.")
+    words = argparse.ArgumentParser(prog="scripts/contracts", description="Reports how long the contracts of all crates are, or of those that are named, and which clauses recur.")
     words.add_argument("names", nargs="*", metavar="NAME", help="a crate")
     words.add_argument("--places", action="store_true", help=f"name each line of more than {MOST_CHARACTERS} characters, and nothing else")
+    words.add_argument("--changed", metavar="COMMIT", help="name the clauses that are not as in this commit, and nothing else, as: --changed HEAD")
     given = words.parse_args()
+    if given.changed:
+        print_changed(given.changed)
+        return
     crates = given.names or sorted(os.listdir(f"{TOP}/crates"))
     if given.places:
         print("\n".join(it for crate in crates for it in long_lines(crate)))

@@ -4,6 +4,7 @@ fails. With no wrong body the same tests pass in the gate. There a wrong body ca
 Those of wrong-bodies are refused by the proof too, and here by the tests on stopped disks. Those of refused-by-tests meet every contract: a call may
 always answer that memory is wanting, and a writer may always break, so that tests alone refuse them.
 """
+import argparse
 import concurrent.futures
 import os
 import re
@@ -119,10 +120,14 @@ def tried(body):
     return [f"{body}: {test} {outcome}" for test, outcome in found.items()], sum(it != "FAILED" for it in found.values())
 
 
-def main(jobs, *names):
-    bodies = [it for it in BODIES if not names or it.split("/")[-1] in names]
+def main():
+    words = argparse.ArgumentParser(prog="scripts/refused_by_tests", description="Builds tests with a wrong body in place and no proof, and asks that they fail.")
+    words.add_argument("jobs", type=int, nargs="?", default=1, metavar="JOBS", help="how many are built at once; without it, 1")
+    words.add_argument("names", nargs="*", metavar="NAME", help="a wrong body, such as refuses_without_cause; without one, all are tried")
+    given = words.parse_args()
+    bodies = [it for it in BODIES if not given.names or it.split("/")[-1] in given.names]
     wrong = 0
-    with concurrent.futures.ThreadPoolExecutor(int(jobs)) as pool:
+    with concurrent.futures.ThreadPoolExecutor(given.jobs) as pool:
         for lines, count in pool.map(tried, bodies):
             print("\n".join(lines), flush=True)
             wrong += count
@@ -130,4 +135,4 @@ def main(jobs, *names):
     return 1 if wrong else 0
 
 
-sys.exit(main(*sys.argv[1:]))
+sys.exit(main())

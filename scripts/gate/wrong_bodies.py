@@ -504,7 +504,7 @@ def try_now(work, shows):
 
 
 def main():
-    words = argparse.ArgumentParser(description="Tries the wrong bodies of each crate, or of those that are named.")
+    words = argparse.ArgumentParser(prog="scripts/wrong_bodies", description="Tries the wrong bodies of each crate, or of those that are named.")
     words.add_argument("names", nargs="*", metavar="NAME")
     words.add_argument("--beside-gate", metavar="LOG", help="begin with each crate once rt ci, whose output goes to LOG, has proved it")
     words.add_argument("--turn", metavar="NUMBER", type=int, help="try what is tried each time, and of the others those whose turn this is")

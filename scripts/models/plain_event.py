@@ -180,6 +180,8 @@ class Event:
     def start(self):
         if self.phase != ENROLLING:
             return ["refused 4 NotEnrolling"]
+        if len(self.names) < 2:
+            return ["refused 5 TooFewPlayers"]
         self.phase = SWISS
         return self.taken()
 

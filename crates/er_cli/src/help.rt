@@ -67,7 +67,9 @@ drop and migrate: there is no other way back from one.
 
 With no words the same commands are read as a script from standard input,
 without FILE, a line each, their words separated by one TAB. A script keeps its
-event in memory alone. Try it: ./event_reporter < examples/friday.txt
+event in memory alone. Try it:
+
+  printf 'init\\tFriday\\t3\\t0\\nplayers\\n' | event_reporter
 
 A command that is taken is answered `ok` and how many were taken so far. Another
 is answered `refused`, a number and a name, and has changed nothing; an import

@@ -7,12 +7,14 @@ import os
 import sys
 from typing import Optional
 
-from companions import VERSION
-from companions.arguments import port_word
-from companions.program import Declined, OverFile, OverPort, Source, program_beside, ready
+from companions.arguments import add_program, port_word
+from companions.program import Declined, OverFile, OverPort, Source, ready
 from companions.prompt.desk import Desk
 from companions.prompt.texts import ALL_COMMANDS
 from companions.turn import Turn
+
+COMMAND = "event-desk"
+PURPOSE = "a prompt for the scorekeeper of a Magic Swiss tournament"
 
 DESCRIPTION = """\
 A prompt for the scorekeeper: an evening from the first player to the champion,
@@ -23,7 +25,7 @@ line what the pipe says; a question is answered there by a line y or n.
 
 EXAMPLE = """\
 example:
-  python3 extras/desk.py friday.event
+  event-desk friday.event
   desk> init Friday Night 3 0
   desk> import names.csv
   desk> start
@@ -36,19 +38,18 @@ that it makes before what can't be taken back, and FILE.title, the event's name.
 """
 
 
-def parsed(arguments: Optional[list[str]]) -> argparse.Namespace:
+def parser() -> argparse.ArgumentParser:
     below = f"at the prompt:\n{ALL_COMMANDS}\n{EXAMPLE}"
     as_it_is = argparse.RawDescriptionHelpFormatter
-    parser = argparse.ArgumentParser(
-        prog="desk.py", description=DESCRIPTION, epilog=below, formatter_class=as_it_is
+    words = argparse.ArgumentParser(
+        prog=COMMAND, description=DESCRIPTION, epilog=below, formatter_class=as_it_is
     )
-    add = parser.add_argument
+    add = words.add_argument
     add("file", metavar="FILE", help="the event's file")
     over_http = "hand in over HTTP, to `event_reporter serve FILE N COUNT`"
     add("--port", type=port_word, metavar="N", help=over_http)
-    add("--program", metavar="PATH", default=program_beside(), help="the event_reporter to call")
-    add("--version", action="version", version=f"desk.py {VERSION}")
-    return parser.parse_args(arguments)
+    add_program(words)
+    return words
 
 
 def prepare_streams() -> None:
@@ -67,12 +68,12 @@ def source_for(words: argparse.Namespace) -> Source:
 
 
 def main(arguments: Optional[list[str]] = None) -> int:
-    words = parsed(arguments)
+    words = parser().parse_args(arguments)
     prepare_streams()
     try:
         return Desk(source_for(words), words.file).go()
     except Declined as fault:
-        print(f"desk.py: {fault}", file=sys.stderr)
+        print(f"{COMMAND}: {fault}", file=sys.stderr)
         return 3
     except KeyboardInterrupt:
         return 130

@@ -102,7 +102,7 @@ class Rounds:
                 f"or program: tables {ranges(differing)} differ. That one has the key of the round.\n"
                 f"The key that was made here is marked as unused in {session.file}.keys."
             )
-        session.say(f"Its key stands in {session.file}.keys. Show it to the players now:", f"  {key}")
+        session.say(f"Its key is in {session.file}.keys. Show it to the players now:", f"  {key}")
 
     def check(self, rest: str) -> None:
         """Whether a round is the one that its key gives: the program pairs the copy that was made before it.

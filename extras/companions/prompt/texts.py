@@ -21,8 +21,8 @@ COMMANDS = """\
   cut, bracket       seeds the playoff by the standings; shows it
   play 1 2 2 1       a score of the playoff: stage 1, slot 2, won by 2 to 1
   enrol Ana Lima     enrols a player, also as a latecomer after the start
-  back, undo         the copies, to go on from one; what there is for an undo
-  help all, quit     all that there is, for the beginning of an evening too
+  back, undo         copies to go on from; what to do instead of an undo
+  help all, quit     all commands, also those for the beginning of an evening
 """
 
 MORE_COMMANDS = """\
@@ -39,13 +39,13 @@ MORE_COMMANDS = """\
   export standings     players, results, standings or playoff as CSV
   export playoff p.csv the same into a new file
   final                the final ranking, once there is a champion
-  title Friday Night   what the sheets are headed with
+  title Friday Night   the heading of the sheets
   clock 50, clock off  starts the clock on the board for 50 minutes; stops it
   migrate              moves the file of an older program to newer tables
 
 The command line's words are taken too, without FILE: result 3 17 2 1 0,
-correct, slips 3, playoff. Numbers may stand with spaces, commas, colons,
-hyphens or TABs between them.
+correct, slips 3, playoff. Between numbers you may type spaces, commas, colons,
+hyphens or TABs.
 """
 
 ALL_COMMANDS = COMMANDS + MORE_COMMANDS
@@ -98,7 +98,7 @@ REFUSALS = {
     9: "All rounds are paired, and nobody enrols any more.\n"
     "Enter what is missing, and then: standings, or cut",
     10: "The players who are left have met, so no further round can be paired.\n"
-    "The standings stand: standings",
+    "The standings are final: standings",
     11: "No pairing was found in a million steps. Take another key: pair new",
     12: "No such match is stored. See: round, or bracket",
     13: "No match ends so. Each player wins 2 games at most, and not both 2; at most 3\n"
@@ -109,15 +109,15 @@ REFUSALS = {
     17: "No player has this number. See: players",
     18: "The player has dropped already. See: players",
     19: "A round is not paired yet, or a table has no score. See: where",
-    20: "The event was made with no cut. The standings stand: standings",
-    21: "Fewer players are left than the cut takes. The standings stand: standings",
+    20: "The event was made with no cut. The standings are final: standings",
+    21: "Fewer players are left than the cut takes. The standings are final: standings",
     22: "The playoff has not begun, or has its champion. Next: cut, or bracket",
     23: "The event has taken 999,999 commands, and takes no more.",
     24: "The machine had no memory left. Close something, see: where, and type the line\n"
     "again if it is not there.",
     25: "The file was not read or written. Most often another program has it open: end\n"
     "it, see: where, and type the line again if it is not there. Where `serve` holds\n"
-    "the file: end this with Ctrl-D, and run desk.py FILE --port 8080, with its port.",
+    "the file, end this with Ctrl-D and give its port: event-desk FILE --port 8080",
     26: "A write failed before. End `serve` by Ctrl-C in its window, serve again, and\ntype the line again.",
     27: "There is no event in the file. Look at the path, or make one:\ninit Friday Night 3 0",
     28: "The file has an event already. Take another FILE: end this with Ctrl-D.",

@@ -9,15 +9,17 @@ import tempfile
 import time
 from typing import Callable, Optional
 
-from companions import VERSION
-from companions.arguments import port_word
+from companions.arguments import add_program, port_word
 from companions.clock import kept_clock
 from companions.event import Event
-from companions.program import Declined, OverFile, OverPort, Source, program_beside, ready
+from companions.program import Declined, OverFile, OverPort, Source, ready
 from companions.sheets.parts import DEFAULT_PARTS, PARTS, SECONDS_TO_RELOAD
 from companions.sheets.reading import NoRound, Unread, read_whole
 from companions.title import kept_title
 from companions.turn import Turn
+
+COMMAND = "event-sheets"
+PURPOSE = "sheets for the wall and a board for the screen, of an event of event_reporter"
 
 SECONDS_BETWEEN_LOOKS = 1.0
 # what lies beside FILE and shows on a page
@@ -35,17 +37,17 @@ bracket. All that there are, unless --parts names some. One more, seats, is made
 where it is named: two players a table by name, for the players' meeting.
 
 examples:
-  python3 extras/sheets.py friday.event > page.html
-  python3 extras/sheets.py friday.event --parts slips > slips.html
-  python3 extras/sheets.py friday.event --board --watch board.html
+  event-sheets friday.event > page.html
+  event-sheets friday.event --parts slips > slips.html
+  event-sheets friday.event --board --watch board.html
       the board for the screen: open board.html in a browser and leave it open.
       Ctrl-C ends the watching
-  python3 extras/sheets.py friday.event --port 8080 > page.html
+  event-sheets friday.event --port 8080 > page.html
       while `event_reporter serve friday.event 8080 1000000` holds the file
 """
 
-NO_JINJA = """\
-sheets.py: its pages are made by Jinja2, which is not installed here.
+NO_JINJA = f"""\
+{COMMAND}: its pages are made by Jinja2, which is not installed here.
 On Debian: sudo apt-get install python3-jinja2"""
 
 
@@ -152,7 +154,7 @@ class Watch:
     def say_once(self, text: str) -> None:
         if text != self.said:
             self.said = text
-            print(f"sheets.py: {text}\nThe page stays as it is. It goes on looking.", file=sys.stderr)
+            print(f"{COMMAND}: {text}\nThe page stays as it is. It goes on looking.", file=sys.stderr)
 
 
 def parts_word(text: str) -> list[str]:
@@ -163,12 +165,12 @@ def parts_word(text: str) -> list[str]:
     return parts
 
 
-def parsed(arguments: Optional[list[str]]) -> argparse.Namespace:
+def parser() -> argparse.ArgumentParser:
     as_it_is = argparse.RawDescriptionHelpFormatter
-    parser = argparse.ArgumentParser(
-        prog="sheets.py", description=HELP, epilog=EXAMPLES, formatter_class=as_it_is
+    words = argparse.ArgumentParser(
+        prog=COMMAND, description=HELP, epilog=EXAMPLES, formatter_class=as_it_is
     )
-    add = parser.add_argument
+    add = words.add_argument
     add("file", metavar="FILE", help="the event's file")
     add("--round", type=int, metavar="N", help="the round of the pairings and slips; without it the newest")
     add(
@@ -187,9 +189,8 @@ def parsed(arguments: Optional[list[str]]) -> argparse.Namespace:
     add(
         "--port", type=port_word, metavar="N", help="read over HTTP, from `event_reporter serve FILE N COUNT`"
     )
-    add("--program", metavar="PATH", default=program_beside(), help="the event_reporter to call")
-    add("--version", action="version", version=f"sheets.py {VERSION}")
-    return parser.parse_args(arguments)
+    add_program(words)
+    return words
 
 
 def write_out(text: str) -> None:
@@ -218,14 +219,14 @@ def run(words: argparse.Namespace) -> int:
 
 
 def main(arguments: Optional[list[str]] = None) -> int:
-    words = parsed(arguments)
+    words = parser().parse_args(arguments)
     try:
         return run(words)
     except Unread as fault:
-        print(f"sheets.py: {fault}", file=sys.stderr)
+        print(f"{COMMAND}: {fault}", file=sys.stderr)
         return fault.status
     except Declined as fault:
-        print(f"sheets.py: {fault}", file=sys.stderr)
+        print(f"{COMMAND}: {fault}", file=sys.stderr)
         return 3
     except KeyboardInterrupt:
         return 0
@@ -233,5 +234,5 @@ def main(arguments: Optional[list[str]] = None) -> int:
         os.dup2(os.open(os.devnull, os.O_WRONLY), 1)
         return 3
     except OSError as fault:
-        print(f"sheets.py: the page was not written: {fault.strerror}", file=sys.stderr)
+        print(f"{COMMAND}: the page was not written: {fault.strerror}", file=sys.stderr)
         return 3

@@ -1,0 +1,10 @@
+# Completes the words of event-sheets in fish.
+complete -c event-sheets -s h -l help -d 'what there is'
+complete -c event-sheets -l version -d 'the version of the program that is called'
+complete -c event-sheets -l port -x -d 'over HTTP, from event_reporter serve'
+complete -c event-sheets -l program -r -F -d 'the event_reporter to call'
+complete -c event-sheets -l round -x -d 'the round whose pairings and slips are shown'
+complete -c event-sheets -l board -d 'for a screen'
+complete -c event-sheets -l watch -r -F -d 'write the page to this file'
+complete -c event-sheets -l parts -x -a 'players tables names slips standings bracket seats' -d 'these parts alone'
+complete -c event-sheets -l title -x -d 'what to head the sheets with'

@@ -1,0 +1,57 @@
+"""Types the lines that a document shows behind `$`, in blocks of kind `console`, one after the other in one new folder, in which the examples are and a
+program of the caller's choice is called `event_reporter`. A line that ends with `&` goes on behind the ones that follow; what stands beneath it is what it
+prints at once, and beneath `wait` stands the rest. The port that is shown stands for one that is free.
+"""
+import os
+import re
+import shutil
+import subprocess
+
+from scripts import TOP
+from scripts.clients.serving import free_port
+
+PORT = "8080"
+BLOCK = re.compile(r"(?<=^```console\n)(.*?)(?=^```)", re.M | re.S)
+
+
+def steps_of(block):
+    """Each line that is typed, and what is shown beneath it."""
+    for step in re.split(r"^\$ ", block, flags=re.M)[1:]:
+        typed, _, shown = step.partition("\n")
+        yield typed, shown
+
+
+class Tour:
+    """One document, in its folder."""
+
+    def __init__(self, room, program):
+        os.mkdir(f"{room}/commands")
+        os.symlink(os.path.abspath(program), f"{room}/commands/event_reporter")
+        shutil.copytree(f"{TOP}/examples", f"{room}/examples")
+        path = ":".join((f"{room}/commands", f"{TOP}/extras", os.environ["PATH"]))
+        env = {**os.environ, "PATH": path, "EVENT_REPORTER": f"{room}/commands/event_reporter", "PYTHONDONTWRITEBYTECODE": "1"}
+        self.port, self.behind = str(free_port()), None
+        self.how = {"shell": True, "cwd": room, "env": env, "stdout": subprocess.PIPE, "stderr": subprocess.STDOUT, "stdin": subprocess.DEVNULL}
+
+    def printed(self, typed, lines):
+        """What the line prints; of one that goes on behind the others, so many lines."""
+        if typed == "wait":
+            return self.behind.communicate(timeout=60)[0]
+        if typed.endswith(" &"):
+            self.behind = subprocess.Popen("exec " + typed[: -len(" &")], bufsize=0, **self.how)
+            return b"".join(self.behind.stdout.readline() for _ in range(lines))
+        return subprocess.run(typed, timeout=60, **self.how).stdout
+
+    def run(self, typed, shown):
+        printed = self.printed(typed.replace(PORT, self.port), shown.count("\n"))
+        return printed.decode().replace(self.port, PORT)
+
+    def end(self):
+        if self.behind and self.behind.poll() is None:
+            self.behind.kill()
+            self.behind.wait()
+
+
+def is_left_out(typed):
+    """What goes on behind is asked by curl. Where that isn't installed, a document ends there."""
+    return typed.endswith(" &") and not shutil.which("curl")

@@ -1,0 +1,93 @@
+"""Makes the man pages of the companions from what they say with --help, or says which page is not as it would be made.
+
+    python3 -B -m scripts.package.manuals           compares
+    python3 -B -m scripts.package.manuals --write   writes extras/event-desk.1 and extras/event-sheets.1
+"""
+import argparse
+import importlib
+import os
+import re
+import sys
+
+from scripts import TOP
+
+sys.path.insert(0, f"{TOP}/extras")
+# the module of each companion that reads its command line
+COMPANIONS = ("companions.prompt.main", "companions.sheets.main")
+
+
+def escaped(text):
+    """As roff reads it: no hyphen that it makes longer, no letter at the beginning of a line that it takes for a request."""
+    text = text.replace("\\", "\\e").replace("-", "\\-")
+    return re.sub(r"^([.'])", r"\\&\1", text, flags=re.M)
+
+
+def option(action):
+    names = ", ".join(f"\\fB{escaped(name)}\\fR" for name in action.option_strings)
+    return f"{names} \\fI{escaped(action.metavar)}\\fR" if action.metavar else names
+
+
+def synopsis(actions):
+    for action in actions:
+        yield f"[{option(action)}]".replace(", ", " | ") if action.option_strings else f"\\fI{escaped(action.metavar)}\\fR"
+
+
+def described(actions):
+    for action in actions:
+        head = option(action) if action.option_strings else f"\\fI{escaped(action.metavar)}\\fR"
+        yield f".TP\n{head}\n{escaped(action.help % {'prog': ''})}"
+
+
+def sections(text):
+    """What stands below the options: a line that ends with a colon heads a section, whose lines stay as they are."""
+    for block in re.split(r"\n\n(?! )", text.strip("\n")):
+        head, _, rest = block.partition("\n")
+        if re.fullmatch(r"[a-z ]+:", head):
+            yield f".SH {head[:-1].upper()}\n.nf\n{escaped(rest)}\n.fi"
+        else:
+            yield f".PP\n{escaped(block)}"
+
+
+def page(module, others):
+    parser = module.parser()
+    actions = sorted(parser._actions, key=lambda action: not action.option_strings)
+    see = " ,\n".join(f".BR {name} (1)" for name in ("event_reporter", *others))
+    return "\n".join((
+        f'.TH {module.COMMAND.upper()} 1 "" "event_reporter" "User Commands"',
+        f".SH NAME\n{module.COMMAND} \\- {escaped(module.PURPOSE)}",
+        f".SH SYNOPSIS\n\\fB{escaped(module.COMMAND)}\\fR " + " ".join(synopsis(actions)),
+        f".SH DESCRIPTION\n{escaped(parser.description.strip())}",
+        ".SH OPTIONS\n" + "\n".join(described(actions)),
+        *sections(parser.epilog),
+        f".SH SEE ALSO\n{see}",
+    )) + "\n"
+
+
+def pages():
+    """Each page by its path in the checkout."""
+    modules = [importlib.import_module(name) for name in COMPANIONS]
+    names = [module.COMMAND for module in modules]
+    return {f"extras/{it.COMMAND}.1": page(it, [name for name in names if name != it.COMMAND]) for it in modules}
+
+
+def read(path):
+    return open(path, encoding="utf-8").read() if os.path.exists(path) else ""
+
+
+def main():
+    words = argparse.ArgumentParser(prog="scripts.package.manuals", description=__doc__.split("\n")[0])
+    words.add_argument("--write", action="store_true", help="write the pages")
+    is_written = words.parse_args().write
+    status = 0
+    for path, made in pages().items():
+        if is_written:
+            with open(f"{TOP}/{path}", "w", encoding="utf-8") as file:
+                file.write(made)
+        elif read(f"{TOP}/{path}") != made:
+            status = 1
+            print(f"{path} is not what --help says. Make it: python3 -B -m scripts.package.manuals --write", file=sys.stderr)
+    return status
+
+
+if __name__ == "__main__":
+    sys.exit(main())
