@@ -1,10 +1,11 @@
-# Completes the words of event-desk and event-sheets in bash.
+# Completes the words of event-desk, event-sheets and event-phones in bash.
 _event_companions() {
     local word=${COMP_WORDS[COMP_CWORD]} before=${COMP_WORDS[COMP_CWORD-1]} options
     COMPREPLY=()
     case ${COMP_WORDS[0]##*/} in
         event-desk) options='--help --port --program --version' ;;
-        event-sheets) options='--help --round --board --watch --parts --title --port --program --version' ;;
+        event-phones) options='--help --at --listen --behind-proxy --both --one --from-one --desk --clock --title --program --version' ;;
+        event-sheets) options='--help --round --board --watch --parts --tables --title --port --program --version' ;;
     esac
     case $before,$word in
         --port,* | --round,* | --title,*) ;;
@@ -13,4 +14,4 @@ _event_companions() {
         *) mapfile -t COMPREPLY < <(compgen -f -- "$word") ;;
     esac
 }
-complete -o filenames -F _event_companions event-desk event-sheets
+complete -o filenames -F _event_companions event-desk event-sheets event-phones

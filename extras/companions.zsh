@@ -1,14 +1,26 @@
-#compdef event-desk event-sheets
-# Completes the words of event-desk and event-sheets in zsh.
+#compdef event-desk event-sheets event-phones
+# Completes the words of event-desk, event-sheets and event-phones in zsh.
 local -a given
 given=(
     '(- *)'{-h,--help}'[what there is]'
     '(- *)--version[the version of the program that is called]'
-    '--port[over HTTP, to event_reporter serve]:port:'
     '--program[the event_reporter to call]:program:_files'
     ':event:_files'
 )
+[[ $service != event-phones ]] && given+=('--port[over HTTP, to event_reporter serve]:port:')
+[[ $service == event-phones ]] && given+=(
+    '--at[the address on the slips]:address:'
+    '--listen[where to listen]:address:'
+    '--behind-proxy[a proxy on this machine hands requests on]'
+    '(--one)--both[a score is stored once both seats say it]'
+    '(--both)--one[a score is stored once a phone says it]'
+    '--from-one[connections of one address]:count:'
+    '--desk[the port of the page of the scorekeeper]:port:'
+    '--clock[start a clock of so many minutes]:minutes:'
+    '--title[the heading]:text:'
+)
 [[ $service == event-sheets ]] && given+=(
+    '--tables[the slips of these tables alone]:tables:'
     '--round[the round whose pairings and slips are shown]:round:'
     '--board[for a screen]'
     '--watch[write the page to this file]:page:_files'

@@ -7,4 +7,5 @@ complete -c event-sheets -l round -x -d 'the round whose pairings and slips are 
 complete -c event-sheets -l board -d 'for a screen'
 complete -c event-sheets -l watch -r -F -d 'write the page to this file'
 complete -c event-sheets -l parts -x -a 'players tables names slips standings bracket seats' -d 'these parts alone'
+complete -c event-sheets -l tables -x -d 'the slips of these tables alone'
 complete -c event-sheets -l title -x -d 'what to head the sheets with'

@@ -4,8 +4,9 @@ from __future__ import annotations
 import argparse
 import re
 import subprocess
-from typing import Any
+from typing import Any, FrozenSet
 
+from companions.clock import MOST_MINUTES
 from companions.program import program_beside
 
 
@@ -42,3 +43,32 @@ def add_program(parser: argparse.ArgumentParser) -> None:
     parser.add_argument(
         "--version", action=Version, nargs=0, help="print the version of the event_reporter that is called"
     )
+
+
+def count_word(text: str) -> int:
+    if not re.fullmatch("[1-9][0-9]{0,5}", text):
+        raise argparse.ArgumentTypeError(f"{text!r} is no count from 1 to 999999")
+    return int(text)
+
+
+def minutes_word(text: str) -> int:
+    if not re.fullmatch("[0-9]{1,3}", text) or not 1 <= int(text) <= MOST_MINUTES:
+        raise argparse.ArgumentTypeError(f"{text!r} are no minutes from 1 to {MOST_MINUTES}")
+    return int(text)
+
+
+def address_word(text: str) -> str:
+    """An address as it stands on the slips: http:// is put before it where no scheme is named."""
+    address = text if "://" in text else f"http://{text}"
+    found = re.fullmatch(r"(https?://([A-Za-z0-9.-]+|\[[0-9A-Fa-f:.]+\])(:[0-9]{1,5})?)/?", address)
+    if not found:
+        raise argparse.ArgumentTypeError(
+            f"{text!r} is no address, as http://192.168.1.10:8080 or https://scores.example.org"
+        )
+    return found[1]
+
+
+def tables_word(text: str) -> FrozenSet[int]:
+    if not re.fullmatch("[0-9]{1,3}(,[0-9]{1,3})*", text):
+        raise argparse.ArgumentTypeError(f"{text!r} are no tables, as 4 or 4,17")
+    return frozenset(map(int, text.split(",")))

@@ -8,6 +8,8 @@ import time
 from dataclasses import dataclass
 from typing import Optional
 
+MOST_MINUTES = 600
+
 
 @dataclass(frozen=True)
 class Clock:

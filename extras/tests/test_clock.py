@@ -37,3 +37,23 @@ def test_a_clock_that_is_none(tmp_path):
         with open(f"{file}.clock", "w") as written:
             written.write(text)
         assert kept_clock(file) is None
+
+
+def test_the_hour_of_the_end_is_that_of_the_day_it_ends_in(monkeypatch):
+    """Clocks were set forward by an hour at 01:00 UTC on 29 March 2026: 50 minutes stay 50 minutes."""
+    monkeypatch.setenv("TZ", "Europe/Berlin")
+    time.tzset()
+    before = 1774745400
+    assert time.strftime("%H:%M", time.localtime(before)) == "01:50"
+    clock = Clock(before + 50 * 60, 50)
+    assert clock.shown(before) == "50 min, until 03:40"
+    assert clock.left(before + 20 * 60) == 30
+    monkeypatch.setenv("TZ", "UTC")
+    time.tzset()
+
+
+def test_over_midnight(monkeypatch):
+    monkeypatch.setenv("TZ", "UTC")
+    time.tzset()
+    clock = Clock(86400 + 20 * 60, 50)
+    assert clock.shown(86400 - 30 * 60) == "50 min, until 00:20"

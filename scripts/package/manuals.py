@@ -1,7 +1,7 @@
 """Makes the man pages of the companions from what they say with --help, or says which page is not as it would be made.
 
     python3 -B -m scripts.package.manuals           compares
-    python3 -B -m scripts.package.manuals --write   writes extras/event-desk.1 and extras/event-sheets.1
+    python3 -B -m scripts.package.manuals --write   writes extras/event-desk.1, event-sheets.1 and event-phones.1
 """
 import argparse
 import importlib
@@ -13,7 +13,7 @@ from scripts import TOP
 
 sys.path.insert(0, f"{TOP}/extras")
 # the module of each companion that reads its command line
-COMPANIONS = ("companions.prompt.main", "companions.sheets.main")
+COMPANIONS = ("companions.prompt.main", "companions.sheets.main", "companions.phones.main")
 
 
 def escaped(text):

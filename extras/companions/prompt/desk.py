@@ -5,6 +5,7 @@ import cmd
 import difflib
 import os
 import re
+import threading
 import traceback
 from typing import Optional
 
@@ -14,6 +15,7 @@ from companions.prompt.evening import Evening
 from companions.prompt.lines import Input, OutOfStep
 from companions.prompt.listing import Listing
 from companions.prompt.offers import OF_PLAYERS, Offer, offers_of_files, offers_of_players, offers_of_words
+from companions.prompt.phones import News, Phones
 from companions.prompt.players import Players
 from companions.prompt.results import Results
 from companions.prompt.rounds import Rounds
@@ -50,7 +52,8 @@ class Desk(cmd.Cmd):
         self.session = Session(source, file, self.lines)
         self.results, self.rounds = Results(self.session), Rounds(self.session)
         self.players, self.evening = Players(self.session), Evening(self.session)
-        self.listing = Listing(self.session)
+        self.listing, self.phones = Listing(self.session), Phones(self.session)
+        self.news = News(self.session)
         names = self.get_names()
         self.words = sorted(name[3:] for name in names if name.startswith("do_"))
 
@@ -85,6 +88,9 @@ class Desk(cmd.Cmd):
 
     def do_open(self, rest: str) -> None:
         self.results.list_open(rest)
+
+    def do_phones(self, rest: str) -> None:
+        self.phones.list_open(rest)
 
     # ---- rounds and the playoff
 
@@ -215,8 +221,12 @@ class Desk(cmd.Cmd):
         """Reads lines until they end. The status to end with."""
         self.begin()
         is_terminal = self.lines.is_terminal
+        if is_terminal:
+            threading.Thread(target=self.news.go_on, daemon=True).start()
         while True:
             try:
+                for line in self.news.lines():
+                    self.session.say_filled(visible(line))
                 if self.done(self.lines.line(self.prompt)):
                     break
             except KeyboardInterrupt:

@@ -7,20 +7,19 @@ import time
 from typing import Iterator, Optional
 
 from companions.checking import opened
-from companions.clock import Clock, keep_clock, kept_clock, stop_clock
+from companions.clock import MOST_MINUTES, Clock, keep_clock, kept_clock, stop_clock
 from companions.copies import Copy
 from companions.event import Event, Phase, read_or_none
 from companions.files import move, time_stamp
 from companions.keys import Keys
 from companions.lists import Players
 from companions.names import visible
+from companions.phones.codes import path_of as path_of_secret
 from companions.program import FAULTS, Declined
 from companions.prompt.lines import numbers_in, unbroken
 from companions.prompt.session import Command, Session
 from companions.prompt.texts import UNDO
 from companions.title import keep_title
-
-MOST_MINUTES = 600
 
 
 class Evening:
@@ -40,8 +39,8 @@ class Evening:
             )
         with unbroken():
             session.send(Command(("init", *found.groups()), lambda event: not event.players))
-            stop_clock(session.file)
-            for path in (session.keys.path, session.copies.folder, session.doubts.path, session.names.path):
+            kept = (session.keys.path, session.copies.folder, session.doubts.path, session.names.path)
+            for path in (*kept, path_of_secret(session.file), session.reports.path, f"{session.file}.clock"):
                 self.put_aside(path)
             keep_title(session.file, found[1])
         session.say_where()

@@ -6,7 +6,8 @@ import os
 import re
 import signal
 import sys
-from typing import Callable, Iterator, Optional, Protocol
+import threading
+from typing import Callable, Iterator, List, Optional, Protocol
 
 from companions.names import visible
 from companions.program import Declined, Score
@@ -16,6 +17,11 @@ try:
     import readline
 except ImportError:
     readline = None  # type: ignore[assignment]
+
+
+# terminals that can't move the cursor
+PLAIN_TERMINALS = ("dumb", "unknown", "")
+NEW_LINE, LINE_AWAY = "\n", "\r\x1b[K"
 
 
 @contextlib.contextmanager
@@ -38,6 +44,9 @@ class Typing(Protocol):
     def line(self, prompt: str) -> str: ...
 
     def answer(self, question: str) -> str: ...
+
+    def say_above(self, prompt: str, text: str) -> None:
+        """Says what came in above the line that is being typed, which stays as it is."""
 
 
 class Readline:
@@ -66,10 +75,16 @@ class Readline:
     def answer(self, question: str) -> str:
         return input(question)
 
+    def say_above(self, prompt: str, text: str) -> None:
+        typed = readline.get_line_buffer() if readline else ""
+        is_plain = os.environ.get("TERM", "dumb") in PLAIN_TERMINALS
+        # the line is taken away and comes again; where a terminal can't take it away, a new one is begun
+        print(f"{NEW_LINE if is_plain else LINE_AWAY}{text}\n{prompt}{typed}", end="", flush=True)
+
 
 def typing_at_terminal(offers: Offers) -> Typing:
     """By prompt_toolkit, where it is installed and the terminal can show menus."""
-    if os.environ.get("TERM", "dumb") not in ("dumb", "unknown", ""):
+    if os.environ.get("TERM", "dumb") not in PLAIN_TERMINALS:
         with contextlib.suppress(ImportError):
             from companions.prompt.menus import Menus
 
@@ -85,6 +100,18 @@ class Input:
         self.typing = typing_at_terminal(offers) if sys.stdin.isatty() else None
         # lines that came with one that was asked for, as they do when several are pasted
         self.ahead: list[str] = []
+        # the prompt at which a line is being typed
+        self.asking: Optional[str] = None
+        self.screen = threading.Lock()
+
+    @property
+    def is_asking(self) -> bool:
+        return self.asking is not None
+
+    def say_above(self, lines: List[str]) -> None:
+        with self.screen:
+            if lines and self.typing and self.asking is not None:
+                self.typing.say_above(self.asking, visible("\n".join(lines)))
 
     @property
     def is_terminal(self) -> bool:
@@ -92,11 +119,19 @@ class Input:
 
     def line(self, prompt: str) -> str:
         if self.typing:
-            return self.first_of(self.typing.line, prompt)
+            return self.typed_line(self.typing, prompt)
         line = sys.stdin.readline()
         if not line:
             raise EOFError
         return line.rstrip("\r\n")
+
+    def typed_line(self, typing: Typing, prompt: str) -> str:
+        self.asking = prompt
+        try:
+            return self.first_of(typing.line, prompt)
+        finally:
+            with self.screen:
+                self.asking = None
 
     def first_of(self, typed: Callable[[str], str], prompt: str) -> str:
         """The next line: one that came before, or else what is typed now."""

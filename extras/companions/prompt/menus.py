@@ -6,6 +6,7 @@ from typing import Iterable
 from prompt_toolkit import PromptSession
 from prompt_toolkit.completion import CompleteEvent, Completer, Completion
 from prompt_toolkit.document import Document
+from prompt_toolkit.patch_stdout import patch_stdout
 
 from companions.prompt.offers import Offers
 
@@ -27,7 +28,12 @@ class Menus:
         self.answers: PromptSession[str] = PromptSession()
 
     def line(self, prompt: str) -> str:
-        return str(self.lines.prompt(prompt))
+        # what is printed meanwhile stands above the line
+        with patch_stdout():
+            return str(self.lines.prompt(prompt))
+
+    def say_above(self, _prompt: str, text: str) -> None:
+        print(text, flush=True)
 
     def answer(self, question: str) -> str:
         return str(self.answers.prompt(question))

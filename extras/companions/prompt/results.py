@@ -50,6 +50,7 @@ class Results:
             raise refused.with_more(self.advice(refused, number, table, shown)) from None
         session.look_again()
         session.doubts.end(number, int(table))
+        session.settle(number, table)
         session.say_filled(f"{answer.rstrip()}: {session.next_step()}")
 
     def advice(self, refused: Refused, number: int, table: str, shown: str) -> str:
@@ -77,6 +78,7 @@ class Results:
         with unbroken():
             session.send(Command(words, lambda event: event.score_at(number, table) == shown))
             session.doubts.end(number, int(table))
+            session.settle(number, table)
 
     def doubt(self, rest: str) -> None:
         """Keeps in mind that a score is wrong, since no command withdraws one."""

@@ -33,6 +33,7 @@ from companions.prompt.texts import (
     NOT_SWISS,
     REFUSALS,
 )
+from companions.reports import Reports, TwoScores, settle, shown_score, two_scores
 from companions.shown_names import ShownNames, with_shown_names
 from companions.title import kept_title
 
@@ -51,7 +52,7 @@ class Session:
     def __init__(self, source: Source, file: str, lines: Input):
         self.source, self.file, self.lines = source, file, lines
         self.keys, self.copies, self.doubts = Keys(file), Copies(file, source.turn), Doubts(file)
-        self.names = ShownNames(file)
+        self.names, self.reports = ShownNames(file), Reports(file)
         self.event = Event(source, file)
         self.has_failed = False
 
@@ -140,13 +141,30 @@ class Session:
         doubted = f". In doubt by round and table: {', '.join(doubts)}. See: doubt" if doubts else ""
         return next_step(self.event) + doubted
 
+    def two_scores(self) -> list[TwoScores]:
+        """The tables of the newest round at which a phone says what isn't stored."""
+        self.reports.more()
+        return two_scores(self.reports, len(self.event.rounds), self.event.newest())
+
+    def settle(self, number: int, table: str) -> None:
+        """What the phones said at the table counts no longer: a score was entered here since."""
+        match = self.event.match(number, table)
+        self.reports.more()
+        if match:
+            settle(self.reports, number, match)
+
     def goes_on_in_doubt(self, what: str) -> bool:
-        """Whether to pair or to cut while a score is in doubt."""
-        doubts = self.standing_doubts()
-        if not doubts:
+        """Whether to pair or to cut while a score is in doubt, or a table has two."""
+        doubts, twice = self.standing_doubts(), self.two_scores()
+        if not doubts and not twice:
             return True
-        tables = ", ".join(f"table {doubt.table} of round {doubt.number} ({doubt.score})" for doubt in doubts)
-        self.say_filled(f"In doubt: {tables}.")
+        if doubts:
+            in_doubt = [f"table {doubt.table} of round {doubt.number} ({doubt.score})" for doubt in doubts]
+            self.say_filled(f"In doubt: {', '.join(in_doubt)}.")
+        for found in twice:
+            said = shown_score(found.said[-1].score)
+            shown = f"stored is {shown_score(found.match.score)}, and a phone says {said}"
+            self.say_filled(f"Two scores at table {found.match.place}: {shown}. See: phones")
         return self.lines.says_yes(f"{what} all the same?")
 
     # ---- sending

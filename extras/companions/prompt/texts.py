@@ -39,6 +39,7 @@ MORE_COMMANDS = """\
   export standings     players, results, standings or playoff as CSV
   export playoff p.csv the same into a new file
   final                the final ranking, once there is a champion
+  phones               what phones handed in that has to be looked at
   title Friday Night   the heading of the sheets
   clock 50, clock off  starts the clock on the board for 50 minutes; stops it
   migrate              moves the file of an older program to newer tables

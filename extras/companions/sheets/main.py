@@ -9,9 +9,10 @@ import tempfile
 import time
 from typing import Callable, Optional
 
-from companions.arguments import add_program, port_word
+from companions.arguments import add_program, port_word, tables_word
 from companions.clock import kept_clock
 from companions.event import Event
+from companions.phones.codes import kept_secret
 from companions.program import Declined, OverFile, OverPort, Source, ready
 from companions.sheets.parts import DEFAULT_PARTS, PARTS, SECONDS_TO_RELOAD
 from companions.sheets.reading import NoRound, Unread, read_whole
@@ -23,12 +24,13 @@ PURPOSE = "sheets for the wall and a board for the screen, of an event of event_
 
 SECONDS_BETWEEN_LOOKS = 1.0
 # what lies beside FILE and shows on a page
-BESIDE = (".doubts", ".title", ".clock", ".names")
+BESIDE = (".doubts", ".title", ".clock", ".names", ".phones")
 
 HELP = """\
 Writes one HTML page with the sheets of an event: pairings by table and by name,
 result slips to cut for the tables that have no score yet, standings, and the
 bracket. Open it in a browser and print it: each part begins a page of its own.
+Where phones hand in (event-phones), each slip of the newest round has its code.
 """
 
 EXAMPLES = """\
@@ -66,16 +68,17 @@ def title_of(file: str, given: Optional[str]) -> str:
 
 def page_maker(words: argparse.Namespace) -> Callable[[Event], str]:
     """What makes the page of an event as it is. Jinja2 is loaded here, so that all else goes without."""
-    from companions.sheets.page import Board, page_of, parts_of_board, turn_now
+    from companions.sheets.page import Board, open_tables_of, page_of, parts_of_board, turn_now
+    from companions.sheets.parts import SlipsFor
 
-    def board() -> Optional[Board]:
+    def board(event: Event) -> Optional[Board]:
         """A page that is written again and again shows its parts in turn, and the minutes that are left."""
         clock, now = kept_clock(words.file), time.time()
         if not words.board:
             return None
         if not words.watch:
             return Board(None, f"until {clock.ends_at()}" if clock else "")
-        return Board(turn_now(now), clock.shown(now) if clock else "")
+        return Board(turn_now(now), clock.shown(now) if clock else "", open_tables_of(event))
 
     def make(event: Event) -> str:
         newest = len(event.rounds)
@@ -84,7 +87,8 @@ def page_maker(words: argparse.Namespace) -> Callable[[Event], str]:
             there = f"Round {number} is not paired. The newest round is {newest}."
             raise NoRound(there if newest else "No round is paired yet.")
         kinds = words.parts or (parts_of_board(event) if words.board else DEFAULT_PARTS)
-        return page_of(event, title_of(words.file, words.title), number, kinds, board())
+        slips = SlipsFor(words.tables, kept_secret(words.file))
+        return page_of(event, title_of(words.file, words.title), number, kinds, board(event), slips)
 
     return make
 
@@ -184,6 +188,7 @@ def parser() -> argparse.ArgumentParser:
         help="write the page to this file, again whenever the event has taken a command",
     )
     add("--parts", type=parts_word, metavar="LIST", help="these parts alone, with commas between them")
+    add("--tables", type=tables_word, metavar="LIST", help="slips of these tables alone, as 4 or 4,17")
     title = "the heading; without it FILE.title, which the prompt writes, or else the file's name"
     add("--title", metavar="TEXT", help=title)
     add(

@@ -11,7 +11,14 @@ from jinja2 import Environment, FileSystemLoader, StrictUndefined
 from companions.event import Event
 from companions.sheets.board import layout_of
 from companions.sheets.bracket import BOX_WIDTH
-from companions.sheets.parts import SECONDS_TO_RELOAD, SLIP_LETTERS, Part, letters_of_slip, part_of
+from companions.sheets.parts import (
+    SECONDS_TO_RELOAD,
+    SLIP_LETTERS,
+    Part,
+    SlipsFor,
+    letters_of_slip,
+    part_of,
+)
 
 # the letters of the clock and of the bracket's heading, in hundredths of the screen's width
 BOARD_LETTERS = 1.5
@@ -42,12 +49,27 @@ def parts_of_board(event: Event) -> tuple[str, ...]:
 
 @dataclass(frozen=True)
 class Board:
-    """How a page is shown on a screen: which part is shown now, one after the other, or all of them; and the
-    clock.
+    """How a page is shown on a screen: which part is shown now, one after the other, or all of them; the
+    clock; and how many tables are open, once there is a round.
     """
 
     turn: Optional[int] = None
     clock: str = ""
+    still_open: Optional[int] = None
+
+    @property
+    def shown_open(self) -> str:
+        count = self.still_open
+        if count is None:
+            return ""
+        return f"{count} table{'' if count == 1 else 's'} open" if count else "all scores are in"
+
+
+def open_tables_of(event: Event) -> Optional[int]:
+    """How many tables of the newest round have no score, until the playoff begins."""
+    if not event.rounds or event.stages:
+        return None
+    return sum(match.is_open for match in event.shown_rounds[-1])
 
 
 def turn_now(now: float) -> int:
@@ -56,9 +78,14 @@ def turn_now(now: float) -> int:
 
 
 def page_of(
-    event: Event, title: str, number: int, kinds: Iterable[str], board: Optional[Board] = None
+    event: Event,
+    title: str,
+    number: int,
+    kinds: Iterable[str],
+    board: Optional[Board] = None,
+    slips: SlipsFor = SlipsFor(),
 ) -> str:
-    parts: List[Part] = [part for part in (part_of(kind, event, number) for kind in kinds) if part]
+    parts: List[Part] = [part for part in (part_of(kind, event, number, slips) for kind in kinds) if part]
     template = templates().get_template("page.html")
     text: str = template.render(
         title=title,

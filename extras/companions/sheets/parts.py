@@ -2,12 +2,14 @@
 from __future__ import annotations
 
 from dataclasses import dataclass
-from typing import Dict, List, Optional, Tuple
+from typing import Dict, FrozenSet, List, Optional, Tuple
 
 from companions.event import Event
 from companions.lists import Match, Matches, Player, Standing
 from companions.names import sort_key
+from companions.phones.codes import TABLE, Secret, shown_code
 from companions.sheets.bracket import Drawing, Tree
+from companions.sheets.squares import square_of
 from companions.sheets.widths import size_for
 
 DEFAULT_PARTS = ("players", "tables", "names", "slips", "standings", "bracket")
@@ -15,6 +17,8 @@ PARTS = (*DEFAULT_PARTS, "seats")
 SLIPS_A_SHEET = 5
 # the name on a slip: its size in points, and its room in millimetres
 SLIP_LETTERS, SLIP_ROOM, SLIP_LINES = 11.5, 66, 2
+# the same beside a code, which takes a part of the slip
+ROOM_BESIDE_A_CODE = 46
 # a board loads itself again so often, and shows its next part
 SECONDS_TO_RELOAD = 20
 
@@ -35,11 +39,36 @@ class NameRow:
 
 
 @dataclass(frozen=True)
+class Code:
+    """What a phone hands in by: what it scans, as SVG, or nothing; and what is typed. Of a seat: whose."""
+
+    square: str
+    at: str
+    table: int
+    code: str
+    who: str = ""
+
+
+@dataclass(frozen=True)
 class Slip:
     where: str
     table: str
     first: Player
     second: Player
+    codes: Tuple[Code, ...] = ()
+
+    @property
+    def room(self) -> float:
+        """For a name, in millimetres."""
+        return ROOM_BESIDE_A_CODE if self.codes else SLIP_ROOM
+
+
+@dataclass(frozen=True)
+class SlipsFor:
+    """Which tables have slips, or all of them; and of which their codes are made, where phones hand in."""
+
+    tables: Optional[FrozenSet[int]] = None
+    secret: Optional[Secret] = None
 
 
 @dataclass
@@ -101,14 +130,32 @@ def names_part(event: Event, number: int) -> Part:
     return Part("names", f"Round {number}, by name", names=tuple(rows))
 
 
-def slips_of(event: Event, number: int) -> List[Slip]:
+def codes_of(event: Event, number: int, match: Match, secret: Secret) -> Tuple[Code, ...]:
+    """One for the table, or one for each seat. Seats are named by their players' numbers."""
+    found = []
+    for seat in secret.seats:
+        who = "" if seat == TABLE else f"No {(match.first, match.second)[seat - 1]}"
+        square = square_of(secret.scanned(secret.target(number, match, seat)))
+        code = shown_code(secret.code(number, match, seat))
+        found.append(Code(square, secret.shown_address, match.place, code, who))
+    return tuple(found)
+
+
+def slips_of(event: Event, number: int, wanted: SlipsFor) -> List[Slip]:
     """A slip for each match that has no score: of the round, and of the playoff."""
     players = event.players
     matches = event.shown_rounds[number - 1] if number else []
+    is_newest, secret = number == len(event.rounds), wanted.secret
     slips = [
-        Slip(f"Round {number}", f"Table {match.place}", players[match.first], players[match.second])
+        Slip(
+            f"Round {number}",
+            f"Table {match.place}",
+            players[match.first],
+            players[match.second],
+            codes_of(event, number, match, secret) if secret and is_newest else (),
+        )
         for match in matches
-        if match.is_open
+        if match.is_open and (wanted.tables is None or match.place in wanted.tables)
     ]
     for stage, matches in enumerate(event.stages, 1):
         slips += [
@@ -116,7 +163,7 @@ def slips_of(event: Event, number: int) -> List[Slip]:
                 f"Playoff, stage {stage}", f"Slot {match.place}", players[match.first], players[match.second]
             )
             for match in matches
-            if match.is_open
+            if match.is_open and wanted.tables is None
         ]
     return slips
 
@@ -129,9 +176,9 @@ def stacks_of(slips: List[Slip]) -> Tuple[Tuple[Slip, ...], ...]:
     return tuple(tuple(slips[sheet::sheets]) for sheet in range(sheets))
 
 
-def letters_of_slip(name: str) -> float:
+def letters_of_slip(name: str, room: float = SLIP_ROOM) -> float:
     """The size at which the name takes two lines at most."""
-    return size_for(name, SLIP_LETTERS, SLIP_ROOM, SLIP_LINES)
+    return size_for(name, SLIP_LETTERS, room, SLIP_LINES)
 
 
 def seats_part(event: Event) -> Part:
@@ -152,7 +199,7 @@ def bracket_part(event: Event) -> Optional[Part]:
     return Part("bracket", "Playoff", drawing=Tree(event).drawn()) if event.stages else None
 
 
-def part_of(kind: str, event: Event, number: int) -> Optional[Part]:
+def part_of(kind: str, event: Event, number: int, wanted: SlipsFor = SlipsFor()) -> Optional[Part]:
     """A part of the event and of the round of this number, or nothing where there is nothing for it."""
     if kind == "players":
         return None if event.rounds else players_part(event)
@@ -161,7 +208,7 @@ def part_of(kind: str, event: Event, number: int) -> Optional[Part]:
     if kind == "names":
         return names_part(event, number) if number else None
     if kind == "slips":
-        slips = slips_of(event, number)
+        slips = slips_of(event, number, wanted)
         return Part("slips", "Result slips", stacks=stacks_of(slips)) if slips else None
     if kind == "seats":
         return seats_part(event)

@@ -1,0 +1,1 @@
+"""Scores from the players' phones."""

@@ -1,0 +1,129 @@
+"""The command line of the phones."""
+from __future__ import annotations
+
+import argparse
+import importlib.util
+import sys
+import time
+from typing import List, Optional, Tuple
+
+from companions.arguments import add_program, address_word, count_word, minutes_word, port_word
+from companions.clock import Clock, keep_clock
+from companions.phones.codes import secret_for
+from companions.program import Declined, ready
+
+COMMAND = "event-phones"
+PURPOSE = "scores from the players' phones, for an event of event_reporter"
+
+MOST_CONNECTIONS_OF_ONE = 24
+
+HELP = """\
+Takes scores from the players' phones. A player scans the code on the result
+slip, taps the score, and looks at it once more. The scorekeeper goes on at the
+prompt (event-desk) meanwhile, and sees there what came in. FILE is the event's
+file. It listens in the room's network, and needs no other.
+"""
+
+EXAMPLES = """\
+an evening:
+  event-phones friday.event --at http://192.168.1.10:8080
+      serves the phones at this machine's address (hostname -I says it), and the
+      scorekeeper's page on this machine alone. Ctrl-C ends it, and nothing that
+      was answered is lost. The next time: event-phones friday.event
+  event-sheets friday.event --parts slips > slips.html
+      the slips of the open tables, with their codes: print them
+  event-phones friday.event --clock 50
+      starts a clock of 50 minutes on phones and board, as the prompt's clock 50
+
+Beside FILE it keeps FILE.phones, the address and the key of the codes, and
+FILE.reports, a line for each score that was handed in, with the phone's
+address: delete it after the event.
+"""
+
+# what it is served and shown by, and the packages that have them
+NEEDED = (("waitress", "python3-waitress"), ("jinja2", "python3-jinja2"))
+# what draws the codes on the slips; without it they are typed
+USEFUL = (("segno", "python3-segno"),)
+
+
+def parser() -> argparse.ArgumentParser:
+    as_it_is = argparse.RawDescriptionHelpFormatter
+    words = argparse.ArgumentParser(prog=COMMAND, description=HELP, epilog=EXAMPLES, formatter_class=as_it_is)
+    add = words.add_argument
+    add("file", metavar="FILE", help="the event's file")
+    at = "the address that stands on the slips, as http://192.168.1.10:8080; FILE.phones keeps it"
+    add("--at", type=address_word, metavar="ADDRESS", help=at)
+    listen = "where to listen, if that is another place, as behind a proxy: 127.0.0.1:8080"
+    add("--listen", metavar="HOST:PORT", help=listen)
+    add("--behind-proxy", action="store_true", help="a proxy on this machine hands requests on")
+    both = words.add_mutually_exclusive_group()
+    both.add_argument(
+        "--both",
+        action="store_true",
+        default=None,
+        help="a score is stored once both seats say it: a slip has a code for each; FILE.phones keeps it",
+    )
+    both.add_argument(
+        "--one", action="store_false", dest="both", help="a score is stored once a phone says it, as ever"
+    )
+    of_one = f"connections of one address ({MOST_CONNECTIONS_OF_ONE}); 500 where a router gives all the same"
+    add("--from-one", type=count_word, default=MOST_CONNECTIONS_OF_ONE, metavar="N", help=of_one)
+    add(
+        "--desk",
+        type=port_word,
+        default=8081,
+        metavar="PORT",
+        help="the port of the scorekeeper's page (8081)",
+    )
+    clock = "start a clock of so many minutes, and end"
+    add("--clock", type=minutes_word, metavar="MINUTES", help=clock)
+    title = "the heading; without it FILE.title, which the prompt writes, or else the file's name"
+    add("--title", metavar="TEXT", help=title)
+    add_program(words)
+    return words
+
+
+def start_clock(file: str, minutes: int) -> None:
+    clock = Clock(int(time.time()) + 60 * minutes, minutes)
+    keep_clock(file, clock)
+    print(clock.shown(time.time()))
+
+
+def missing_packages() -> List[str]:
+    """What has to be installed, with what is useful beside it; nothing where it goes on without."""
+
+    def missing(packages: Tuple[Tuple[str, str], ...]) -> List[str]:
+        return [package for module, package in packages if importlib.util.find_spec(module) is None]
+
+    return missing(NEEDED + USEFUL) if missing(NEEDED) else []
+
+
+def run(words: argparse.Namespace) -> int:
+    if words.clock:
+        start_clock(words.file, words.clock)
+        return 0
+    missing = missing_packages()
+    if missing:
+        raise Declined(
+            "It needs what is not installed here. On Debian:\n" f"sudo apt-get install {' '.join(missing)}"
+        )
+    from companions.phones.serving import must_be_alone, serve
+
+    program = ready(words.program)
+    # another one that serves would be ended by another address or switch
+    must_be_alone(words.file)
+    return serve(words, program, secret_for(words.file, words.at, words.both))
+
+
+def main(arguments: Optional[List[str]] = None) -> int:
+    words = parser().parse_args(arguments)
+    try:
+        return run(words)
+    except Declined as fault:
+        print(f"{COMMAND}: {fault}", file=sys.stderr)
+        return 3
+    except OSError as fault:
+        print(f"{COMMAND}: {fault.filename or words.file}: {fault.strerror}", file=sys.stderr)
+        return 3
+    except KeyboardInterrupt:
+        return 0

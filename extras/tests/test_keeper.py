@@ -1,0 +1,140 @@
+"""The keeper of what waits, with a program whose answers are ready."""
+import threading
+import time
+
+import pytest
+from companions.phones import keeper as module
+from companions.phones.keeper import Answer, Keeper, NotNow
+from companions.program import Declined, NoAnswer, Refused
+from companions.turn import Turn
+
+
+class Program:
+    """Answers each result with the next thing of a list."""
+
+    program, file = "none", "none"
+
+    def __init__(self, *answers):
+        self.answers, self.asked, self.turn = list(answers), [], Turn()
+
+    def ask(self, *words):
+        self.asked.append(words)
+        answer = self.answers.pop(0) if self.answers else f"ok {len(self.asked)}\n"
+        if isinstance(answer, Exception):
+            raise answer
+        return answer
+
+
+@pytest.fixture
+def kept(tmp_path, monkeypatch):
+    monkeypatch.setattr(module, "SECONDS_BETWEEN_TRIES", 0.01)
+    keeper = Keeper("none", f"{tmp_path}/e.event")
+    keeper.ends_with_us = []
+    return keeper
+
+
+def test_a_score_is_a_command_line(kept):
+    kept.source = Program()
+    assert kept.report(3, 17, (2, 1, 0)) == Answer(serial=1)
+    assert kept.source.asked == [("result", "3", "17", "2", "1", "0")]
+
+
+@pytest.mark.parametrize(
+    "fault",
+    [
+        Refused(24, "Memory"),
+        Refused(25, "Store"),
+        Refused(26, "NeedsReopen"),
+        NoAnswer(),
+        Declined("x"),
+        "",
+        "ok x\n",
+    ],
+)
+def test_what_has_no_answer_is_sent_again(kept, fault):
+    kept.source = Program(fault, fault, "ok 9\n")
+    assert kept.report(1, 1, (2, 0, 0)) == Answer(serial=9)
+    assert len(kept.source.asked) == 3
+
+
+@pytest.mark.parametrize("number", [6, 12, 13, 14, 16, 23])
+def test_what_is_refused_by_the_rules_is_answered(kept, number):
+    kept.source = Program(Refused(number, "x"))
+    assert kept.report(1, 1, (2, 0, 0)) == Answer(refused=number)
+
+
+def test_nothing_is_handed_in_where_another_file_lies(kept, tmp_path):
+    """After `back` others may sit at the table, and the phone's code was looked at before."""
+    file = tmp_path / "e.event"
+    file.write_text("")
+    kept.source = Program()
+    kept.source.file = str(file)
+    inode = file.stat().st_ino
+    assert kept.report(1, 1, (2, 0, 0), inode).is_taken
+    file.rename(tmp_path / "away")
+    file.write_text("")
+    with pytest.raises(NotNow):
+        kept.report(1, 1, (2, 0, 0), inode)
+    assert len(kept.source.asked) == 1
+
+
+def test_nobody_waits_for_ever(kept, monkeypatch):
+    monkeypatch.setattr(module, "SECONDS_FOR_A_SCORE", 0.2)
+    kept.source = Program(*[Refused(25, "Store")] * 1000)
+    begun = time.monotonic()
+    with pytest.raises(NotNow):
+        kept.report(1, 1, (2, 0, 0))
+    assert time.monotonic() - begun < 3
+    # the next one is taken all the same
+    kept.source = Program()
+    assert kept.report(1, 2, (2, 0, 0)).is_taken
+
+
+def test_so_many_wait_and_no_more(kept, monkeypatch):
+    monkeypatch.setattr(module, "MOST_AT_ONCE", 1)
+    is_free, kept.source = threading.Event(), Program()
+    ask = kept.source.ask
+    kept.source.ask = lambda *words: (is_free.wait(10), ask(*words))[1]
+    told = []
+
+    def hand_in(table):
+        try:
+            told.append(kept.report(1, table, (2, 0, 0)).is_taken)
+        except NotNow:
+            told.append(False)
+
+    threads = [threading.Thread(target=hand_in, args=(table,)) for table in range(module.MOST_WAITING + 20)]
+    for thread in threads:
+        thread.start()
+    until = time.monotonic() + 10
+    while len(told) < 10 and time.monotonic() < until:
+        time.sleep(0.01)
+    assert set(told) == {False}
+    is_free.set()
+    for thread in threads:
+        thread.join(30)
+    assert told.count(True) >= module.MOST_WAITING
+
+
+def test_they_go_in_the_order_in_which_they_come(kept):
+    is_free, kept.source = threading.Event(), Program()
+    ask = kept.source.ask
+    kept.source.ask = lambda *words: (is_free.wait(10), ask(*words))[1]
+    threads = []
+    for table in range(1, 9):
+        threads.append(threading.Thread(target=kept.report, args=(1, table, (2, 0, 0))))
+        threads[-1].start()
+        time.sleep(0.02)
+    is_free.set()
+    for thread in threads:
+        thread.join(10)
+    assert [int(words[2]) for words in kept.source.asked] == list(range(1, 9))
+
+
+def test_a_fault_of_its_own_does_not_end_it(kept, capsys):
+    kept.source = None
+    with pytest.raises(NotNow):
+        kept.report(1, 1, (2, 0, 0))
+    assert "event-phones: AttributeError" in capsys.readouterr().err
+    kept.source = Program()
+    assert kept.report(1, 1, (2, 0, 0)).is_taken

@@ -1,0 +1,114 @@
+"""How often somebody may ask, and who is let in."""
+import socket
+import threading
+import time
+
+import pytest
+from companions.phones.door import door_at
+from companions.phones.limits import MOST_KEYS, Buckets, Crowded, Lanes, origin_of
+from companions.program import Declined
+
+
+def test_so_many_at_once_and_then_one_in_so_many_seconds(monkeypatch):
+    now = [1000.0]
+    monkeypatch.setattr(time, "monotonic", lambda: now[0])
+    # the clock on the wall may be set back: nothing goes by it
+    monkeypatch.setattr(time, "time", lambda: 0.0)
+    buckets = Buckets(3, 10.0)
+    assert [buckets.take("a") for _ in range(5)] == [True, True, True, False, False]
+    assert buckets.is_empty("a") and not buckets.is_empty("b") and buckets.take("b")
+    now[0] += 10
+    assert [buckets.take("a") for _ in range(2)] == [True, False]
+    now[0] += 1000
+    assert [buckets.take("a") for _ in range(4)] == [True, True, True, False]
+
+
+def test_it_keeps_so_many_addresses_and_no_more():
+    buckets = Buckets(1, 10.0)
+    for number in range(MOST_KEYS + 10):
+        buckets.take(number)
+    assert len(buckets.used) == MOST_KEYS and buckets.is_empty(MOST_KEYS + 9)
+
+
+def test_what_one_guest_has():
+    assert origin_of("192.168.1.7") == "192.168.1.7"
+    assert origin_of("2001:db8:1:2:3:4:5:6") == origin_of("2001:db8:1:2:9:9:9:9") == "2001:db8:1:2"
+
+
+def test_a_lane_is_gone_through_one_after_the_other():
+    lanes, order = Lanes(0.02, 8), []
+
+    def go(name):
+        with lanes.entered("a"):
+            order.append((name, time.monotonic()))
+
+    threads = [threading.Thread(target=go, args=(name,)) for name in range(5)]
+    for thread in threads:
+        thread.start()
+    for thread in threads:
+        thread.join()
+    times = sorted(at for _, at in order)
+    assert len(order) == 5 and all(later - earlier >= 0.015 for earlier, later in zip(times, times[1:]))
+    assert not lanes.waiting and not lanes.turns
+
+
+def test_a_lane_that_is_full_turns_away_and_others_go_on():
+    lanes, is_free = Lanes(0.0, 2), threading.Event()
+
+    def stay():
+        with lanes.entered("a"):
+            is_free.wait(5)
+
+    threads = [threading.Thread(target=stay) for _ in range(2)]
+    for thread in threads:
+        thread.start()
+    until = time.monotonic() + 5
+    while lanes.waiting["a"] < 2 and time.monotonic() < until:
+        time.sleep(0.01)
+    with pytest.raises(Crowded):
+        with lanes.entered("a"):
+            pass
+    with lanes.entered("b"):
+        pass
+    is_free.set()
+    for thread in threads:
+        thread.join()
+    with lanes.entered("a"):
+        pass
+
+
+def connected(door, source):
+    return socket.create_connection(door.getsockname(), timeout=5, source_address=(source, 0))
+
+
+def test_so_many_connections_of_one_address():
+    with door_at("127.0.0.1", 0, 2, "") as door:
+        door.listen(8)
+        clients = [connected(door, "127.0.0.5") for _ in range(3)]
+        guests = [door.accept()[0] for _ in range(2)]
+        with pytest.raises(BlockingIOError):
+            door.accept()
+        assert clients[2].recv(1) == b""
+        clients.append(connected(door, "127.0.0.6"))
+        guests.append(door.accept()[0])
+        # who leaves makes room
+        guests[0].close()
+        clients.append(connected(door, "127.0.0.5"))
+        guests.append(door.accept()[0])
+        assert door.count == {"127.0.0.5": 2, "127.0.0.6": 1}
+        door.sweep(60)
+        assert len(door.inside) == 3
+        # a guest who came so long ago is shut out
+        door.sweep(-1)
+        clients[1].settimeout(5)
+        assert clients[1].recv(1) == b""
+        for one in (*clients, *guests):
+            one.close()
+        assert not door.count and not door.inside
+
+
+def test_a_port_that_is_held_is_named():
+    with door_at("127.0.0.1", 0, 2, "") as door:
+        door.listen(1)
+        with pytest.raises(Declined, match="can't be listened at.*\nTake another one"):
+            door_at("127.0.0.1", door.getsockname()[1], 2, "Take another one")
