@@ -13,7 +13,9 @@ PACKAGE = "event-reporter"
 DOC = f"usr/share/doc/{PACKAGE}"
 # the lowest glibc that has the program's symbols, and the lowest Python that the companions run on
 DEPENDS = "libc6 (>= {glibc}), python3 (>= 3.8)"
-RECOMMENDS = "python3-jinja2, python3-prompt-toolkit, python3-charset-normalizer, openssl"
+RECOMMENDS = (
+    "python3-jinja2, python3-waitress, python3-segno, python3-prompt-toolkit, python3-charset-normalizer, openssl"
+)
 SUGGESTS = "www-browser, bash-completion, man-db"
 DESCRIPTION = """\
 pairings, standings and playoff of a Magic Swiss tournament
