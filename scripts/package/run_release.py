@@ -22,7 +22,7 @@ from scripts.package import debian, manuals, release
 from scripts.package.listed import LINK, entries
 from scripts.package.made_from import PROGRAM
 
-COMPANIONS = sorted(os.path.basename(path) for path in glob.glob(f"{TOP}/extras/event-*") if os.path.islink(path))
+COMPANIONS = sorted(os.path.basename(path) for path in glob.glob(f"{TOP}/extras/event-*") if "." not in os.path.basename(path))
 COMMANDS = ["event_reporter", *COMPANIONS]
 # the oldest systems that have the glibc which the program needs, the newest Debian, and one that must refuse it
 SYSTEMS = {"bookworm": True, "trixie": True, "jammy": True, "bullseye": False}
@@ -172,7 +172,7 @@ def read_manuals(root):
 
 
 def options_of(help_text):
-    return sorted(set(re.findall(r"^  (?:-[a-z], )?(--[a-z]+)", help_text, re.M)))
+    return sorted(set(re.findall(r"^  (?:-[a-z], )?(--[a-z][a-z-]*)", help_text, re.M)))
 
 
 def complete(root):

@@ -12,7 +12,9 @@ from scripts import TOP
 from scripts.clients.tally import check, end
 
 program = sys.argv[1]
-COMPANIONS = sorted(os.path.basename(path) for path in glob.glob(f"{TOP}/extras/event-*") if os.path.islink(path))
+# a companion that is started here leaves no folder in the checkout
+os.environ["PYTHONDONTWRITEBYTECODE"] = "1"
+COMPANIONS = sorted(os.path.basename(path) for path in glob.glob(f"{TOP}/extras/event-*") if "." not in os.path.basename(path))
 
 
 def printed(*words):
@@ -23,7 +25,7 @@ def printed(*words):
 version = scripts.version()
 check("the program", printed(program, "--version"), (0, f"event_reporter {version}\n"))
 for name in COMPANIONS:
-    words = (sys.executable, "-B", f"extras/{name}", "--program", program, "--version")
+    words = (f"{TOP}/extras/{name}", "--program", program, "--version")
     check(name, printed(*words), (0, f"{name} (event_reporter) {version}\n"))
 changes = open(f"{TOP}/CHANGELOG.md", encoding="utf-8").read()
 check("the head of CHANGELOG", re.findall(r"^## (\d\S*)|Version (\d\S*) ", changes, re.M)[0], ("", version))
