@@ -189,7 +189,7 @@ def complete(root):
         asked = options_of(run(sys.executable, f"{root}/usr/bin/{name}", "--help").stdout)
         check(f"bash: options of {name}", sorted(offered(name, "-")), asked)
         with open(f"{root}/usr/share/fish/vendor_completions.d/{name}.fish", encoding="utf-8") as fish:
-            check(f"fish: options of {name}", sorted(f"--{it}" for it in re.findall(r" -l ([a-z]+)", fish.read())), asked)
+            check(f"fish: options of {name}", sorted(f"--{it}" for it in re.findall(r" -l ([a-z][a-z-]*)", fish.read())), asked)
 
 
 def ask_lintian(package):
