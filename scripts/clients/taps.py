@@ -7,8 +7,10 @@ import json
 import os
 import queue
 import shutil
+import signal
 import subprocess
 import threading
+import time
 
 BROWSERS = "chromium", "chromium-browser", "google-chrome"
 PATIENCE = 60
@@ -21,13 +23,19 @@ def found_browser():
 
 class Browser:
     def __init__(self, program, room):
+        self.profile = f"{room}/browser"
         to_browser, self.to_browser = os.pipe()
         self.from_browser, from_browser = os.pipe()
-        words = [program, "--headless", "--no-sandbox", "--disable-gpu", "--hide-scrollbars", f"--user-data-dir={room}/browser", "--remote-debugging-pipe", "about:blank"]
+        words = [program, "--headless", "--no-sandbox", "--disable-gpu", "--hide-scrollbars", f"--user-data-dir={self.profile}", "--remote-debugging-pipe", "about:blank"]
         # the browser reads at 3 and writes at 4
         line = ["sh", "-c", f'exec "$@" 3<&{to_browser} 4>&{from_browser}', "sh", *words]
         self.process = subprocess.Popen(
-            line, stdin=subprocess.DEVNULL, stdout=subprocess.DEVNULL, stderr=subprocess.DEVNULL, pass_fds=(to_browser, from_browser)
+            line,
+            stdin=subprocess.DEVNULL,
+            stdout=subprocess.DEVNULL,
+            stderr=subprocess.DEVNULL,
+            pass_fds=(to_browser, from_browser),
+            start_new_session=True,
         )
         os.close(to_browser)
         os.close(from_browser)
@@ -39,9 +47,13 @@ class Browser:
         return self
 
     def __exit__(self, *_):
-        self.process.kill()
+        os.killpg(self.process.pid, signal.SIGKILL)
         self.process.wait()
         os.close(self.to_browser)
+        # what it began goes on for a moment, and may still write there
+        begun = time.monotonic()
+        while os.path.isdir(self.profile) and time.monotonic() < begun + PATIENCE:
+            shutil.rmtree(self.profile, ignore_errors=True)
 
     def listen(self):
         kept = b""
