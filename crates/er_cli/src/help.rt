@@ -15,84 +15,86 @@ pub const HELP: &str = "\
 usage: event_reporter SUBCOMMAND FILE WORDS
        event_reporter < SCRIPT
 
-Keeps one event of a Magic Swiss tournament in FILE. What is answered `ok` is
-in the file, wherever the program is stopped.
+Keeps one event of a Magic Swiss tournament in FILE. Once a command is answered
+`ok`, it is in the file, even if the program is stopped right after.
 
   init FILE NAME ROUNDS CUT       creates the event: 1 to 12 rounds, and a cut
                                   to 0, 2, 4 or 8 players
   enrol FILE NAME                 enrols a player, who gets the next number
-  import FILE CSV                 enrols the players of a list: a CSV with the
-                                  heading name, and a name a line
+  import FILE CSV                 enrols the players in a list: a CSV with the
+                                  heading name, and one name per line
   start FILE                      begins the rounds, with two players or more
   pair FILE ROUND SEED            pairs the next round; SEED, 64 hexadecimal
-                                  digits, draws the order of equal points
+                                  digits, orders players with equal points
   result FILE ROUND TABLE X Y D   enters a score: games won by the player named
                                   first, by the second, and drawn
-  correct FILE ROUND TABLE X Y D  replaces a score, as often as it must be
-  drop FILE PLAYER                drops the player of this number, who stays
-                                  listed
+  correct FILE ROUND TABLE X Y D  replaces a score, as often as you need
+  drop FILE PLAYER                drops the player with this number, who stays
+                                  in the lists
   cut FILE                        once all rounds are complete, seeds the
-                                  playoff by the standings; who has dropped is
-                                  left out
-  playoff FILE STAGE SLOT X Y D   enters a score of the playoff, as for result;
-                                  one of the two must have won more games
-  players FILE                    lists the players by number, with a D at
+                                  playoff by the standings, without players who
+                                  have dropped
+  playoff FILE STAGE SLOT X Y D   enters a playoff score, as result does; one of
+                                  the two must have won more games
+  players FILE                    lists the players by number, with a D for
                                   those who have dropped
   standings FILE                  lists the players by rank, with their points
                                   and percentages
   slips FILE ROUND                lists the matches of a round, table by table
   bracket FILE                    lists the matches of the playoff, stage by
                                   stage, and then its champion
-  export FILE KIND                prints a CSV; KIND is players, or results for
-                                  those of the Swiss rounds
+  export FILE KIND                prints a CSV; KIND is players, or results,
+                                  which has the Swiss rounds
   serve FILE PORT COUNT           takes scores over HTTP from programs on this
-                                  machine, for so many connections
+                                  machine, for COUNT connections
   migrate FILE                    moves the file of an older program to the
-                                  tables of this one, and never back
+                                  tables of this one; there is no way back
 
-  SUBCOMMAND --help               says more of one of them
+  SUBCOMMAND --help               says more about one of them
   -h, --help                      prints this text
   -V, --version                   prints the version
 
-An evening: init, enrol each player or import a list, start. Then for each
-round pair, slips, and a result for each table; then the next pair. After the
-last round, standings, or cut and a playoff for each match. Try it:
+An evening: init, then enrol each player or import a list, then start. In each
+round: pair, slips, and a result for each table. After the last round:
+standings, or cut and a playoff for each match. Try it:
 
   event_reporter init friday.event 'Friday Night' 3 0
   event_reporter enrol friday.event Ana
   event_reporter players friday.event
 
-To keep a copy, copy FILE once nothing runs on it. Do so before each pair, cut,
-drop and migrate: there is no other way back from one.
+To keep a copy, copy FILE while nothing uses it. Do so before each pair, cut,
+drop and migrate: a copy is the only way back.
 
-With no words the same commands are read as a script from standard input,
-without FILE, a line each, their words separated by one TAB. A script keeps its
-event in memory alone. Try it:
+Without words, the program reads the same commands as a script from standard
+input: without FILE, one per line, the words separated by one TAB. A script
+keeps its event in memory only. Try it:
 
   printf 'init\\tFriday\\t3\\t0\\nplayers\\n' | event_reporter
 
-A command that is taken is answered `ok` and how many were taken so far. Another
-is answered `refused`, a number and a name, and has changed nothing; an import
-that is refused keeps the players who were enrolled before. The refusals:
+A command that is taken is answered `ok` and the number of commands taken so
+far. One that isn't is answered `refused`, a number and a name, and changes
+nothing; an import that is refused keeps the players it has enrolled by then.
+The refusals:
 
-   1 BadName          1 to 60 bytes, no control character, no space at either
-                      end: write the name anew
-   2 NameTaken        a player has this name: add what tells the two apart
+   1 BadName          a name has 1 to 60 bytes, no control character, and no
+                      space at either end: change it
+   2 NameTaken        a player has this name: add something that tells the two
+                      apart
    3 PlayersFull      512 players are enrolled: there is no room for more
-   4 NotEnrolling     the event has started; for enrol, the playoff has begun:
-                      nobody enrols any more
-   5 TooFewPlayers    two players who have not dropped are wanted: enrol them
+   4 NotEnrolling     the event has started; for enrol, the playoff has begun,
+                      and nobody can enrol now
+   5 TooFewPlayers    it takes two players who have not dropped: enrol them
    6 NotSwiss         the Swiss rounds have not begun, or the playoff has:
                       start, or playoff
-   7 WrongRound       another round is next: slips of the last one shows where
-                      the event is
+   7 WrongRound       another round is next: slips shows which rounds are
+                      paired
    8 RoundOpen        a match of the last round has no score: slips shows it
                       with a -
-   9 AllRoundsPaired  all rounds are paired, and nobody enrols any more: enter
-                      what is missing, then cut
-  10 NoPairing        whoever is left has met: no further round can be paired,
-                      and the standings stand
-  11 Budget           no pairing was found in a million steps: take another SEED
+   9 AllRoundsPaired  all rounds are paired, and nobody can enrol now: enter
+                      the missing scores, then cut
+  10 NoPairing        no round is left in which no two players meet again and
+                      nobody has a second bye: the standings are the result
+  11 Budget           no pairing was found in a million steps: try another SEED
   12 NoSuchMatch      no such match is stored: see slips and bracket
   13 BadScore         0 to 2 wins each and not both 2, in the playoff 0 to 3 and
                       not equal, and 0 to 3 draws
@@ -102,44 +104,47 @@ that is refused keeps the players who were enrolled before. The refusals:
   17 NoSuchPlayer     no player has this number: players lists them
   18 AlreadyDropped   the player has dropped already
   19 RoundsNotDone    a round is not paired yet, or has a match with no score
-  20 NoCut            the event was created with no cut: the standings stand
+  20 NoCut            the event was created without a cut: the standings are
+                      the result
   21 TooFewForCut     fewer players are left than the cut takes: the standings
-                      stand
+                      are the result
   22 NotPlayoff       the playoff has not begun, or has its champion: cut, or
                       bracket
   23 SerialFull       the event has taken 999,999 commands, and takes no more
-  24 Memory           the machine had no memory left: close something and try
+  24 Memory           the machine ran out of memory: close something and try
                       again
-  25 Store            the file was not read or written: see below
-  26 NeedsReopen      a write failed before: run the command anew
-  27 NoEvent          there is no such file, or no event in it: look at the
-                      path, or init
-  28 EventExists      the file has an event already: take another FILE
-  29 Damaged          the file holds what no event can be: go back to a copy
-  30 BadSetup         NAME is as a player's, ROUNDS 1 to 12, CUT 0, 2, 4 or 8;
-                      of enrol after the start: migrate FILE first
+  25 Store            the file could not be read or written: see below
+  26 NeedsReopen      a write failed before: run the command again
+  27 NoEvent          there is no such file, or no event in it: check the path,
+                      or init
+  28 EventExists      the file has an event already: use another FILE
+  29 Damaged          the file has contents that no event can have: go back to
+                      a copy
+  30 BadSetup         NAME must be as for a player, ROUNDS 1 to 12, CUT 0, 2, 4
+                      or 8; for enrol after the start: migrate FILE first
 
-After 25 Store the command is in the file whole or not at all. In this order:
-  1. End what has FILE open: serve, another command, an sqlite3.
-  2. ls -l FILE* : is it the event and no list, and may you write it and its
+After 25 Store the command is in the file as a whole or not at all. Then, in
+this order:
+  1. Stop what has FILE open: serve, another command, sqlite3.
+  2. ls -l FILE* : is it the event and not a list, and may you write it and its
      folder?
   3. df -h . : is there room on the disk?
-  4. Look with players or slips, and send the command again if it is not there.
+  4. Look with players or slips, and send the command again if it isn't there.
 
-The status is 0 where it was done, 1 refused or a faulty CSV, 2 not understood,
-3 Store, NeedsReopen, a CSV that can't be read, or another read or write that
-failed, 4 Memory.
+The status is 0 if it was done, 1 if it was refused or a CSV is faulty, 2 if the
+words were not understood, 3 for Store, NeedsReopen, a CSV that can't be read,
+or another read or write that failed, and 4 for Memory.
 ";
 
 pub const INIT: &str = "\
 usage: event_reporter init FILE NAME ROUNDS CUT
 
-Creates an event in FILE, and the file where it is not there yet. Other tables
-of the file stay.
+Creates an event in FILE, and FILE itself if it is not there yet. Other tables
+in the file stay.
 
-  NAME    1 to 60 bytes of text, in quotes where it has spaces
-  ROUNDS  the Swiss rounds: 1 to 12
-  CUT     the players who go on to the playoff: 0 for none, 2, 4 or 8
+  NAME    1 to 60 bytes of text, in quotes if it has spaces
+  ROUNDS  the number of Swiss rounds: 1 to 12
+  CUT     how many players go on to the playoff: 0 for none, 2, 4 or 8
 
 Example: event_reporter init friday.event 'Friday Night' 3 4
 Answers `ok 0`, or refuses: 24 Memory, 25 Store, 28 EventExists, 30 BadSetup.
@@ -148,46 +153,47 @@ Answers `ok 0`, or refuses: 24 Memory, 25 Store, 28 EventExists, 30 BadSetup.
 pub const ENROL: &str = "\
 usage: event_reporter enrol FILE NAME
 
-Enrols a player, who gets the next number. Before the start, or after it while a
-round is still to be paired: whoever comes then has lost the rounds that are
-there, with no opponent. No name is changed later.
+Enrols a player, who gets the next number: before the start, or after it as long
+as a round is still to be paired. A late player gets a loss for each round that
+is already paired, with no opponent. A name can't be changed later.
 
-  NAME    1 to 60 bytes of text, in quotes where it has spaces; nobody else's
+  NAME    1 to 60 bytes of text, in quotes if it has spaces; no other player
+          may have it
 
 Example: event_reporter enrol friday.event 'Ana Lima'
 Refuses: 1 BadName, 2 NameTaken, 3 PlayersFull, 4 NotEnrolling,
 9 AllRoundsPaired, 23 SerialFull, 24 Memory, 25 Store, 27 NoEvent, 29 Damaged;
-30 BadSetup after the start of a file of an older program: migrate it first.
+30 BadSetup after the start, if an older program made FILE: migrate it first.
 ";
 
 pub const IMPORT: &str = "\
 usage: event_reporter import FILE CSV
 
-Enrols the players of a list, in its order. A name that is enrolled already is
-counted and passed over, so a list that has grown can be imported again. Any
-other refusal stops it, and whoever was enrolled before it stays. After the
-start it is as with enrol.
+Enrols the players in a list, in its order. A name that is already enrolled is
+counted and skipped, so a list that has grown can be imported again. Any other
+refusal stops the import, and the players enrolled before it stay. After the
+start the same holds as for enrol.
 
-  CSV     a file of at most 131072 bytes: a line `name`, and then a name a line,
-          in double quotes where it has a comma; or what `export` gave of the
-          players, of which the names are taken. /dev/stdin reads a pipe
+  CSV     a file of at most 131072 bytes: a line `name`, and then one name per
+          line, in double quotes if it has a comma; or the players as `export`
+          prints them, of which only the names are used. /dev/stdin reads a pipe
 
 Example: event_reporter import friday.event names.csv
    then: printf 'name\\nAna\\nBo\\n' |
          event_reporter import friday.event /dev/stdin
 Answers `added` and `already`, each with its number. A faulty list is answered
 `bad csv heading`, or `bad csv row` and the number of the row, and nobody is
-enrolled; rows count from 1 behind the heading, up to 512. A list that can't be
-read or is too long is answered `cannot read`, with status 3.
+enrolled; rows are counted from 1 after the heading, up to 512. A list that
+can't be read or is too long is answered `cannot read`, with status 3.
 Refuses: 3 PlayersFull, 4 NotEnrolling, 9 AllRoundsPaired, 23 SerialFull,
-24 Memory, 25 Store, 27 NoEvent, 29 Damaged; 30 BadSetup as with enrol.
+24 Memory, 25 Store, 27 NoEvent, 29 Damaged; 30 BadSetup as for enrol.
 ";
 
 pub const START: &str = "\
 usage: event_reporter start FILE
 
-Begins the Swiss rounds, and from now on players can drop. Two players or more
-must have enrolled. Whoever enrols later comes late: enrol --help says how.
+Begins the Swiss rounds. Two players or more must have enrolled. From then on
+players can drop, and a player who enrols is late: see enrol --help.
 
 Example: event_reporter start friday.event
 Refuses: 4 NotEnrolling, 5 TooFewPlayers, 23 SerialFull, 24 Memory, 25 Store,
@@ -197,13 +203,13 @@ Refuses: 4 NotEnrolling, 5 TooFewPlayers, 23 SerialFull, 24 Memory, 25 Store,
 pub const PAIR: &str = "\
 usage: event_reporter pair FILE ROUND SEED
 
-Pairs the next round. The round before must have all its scores. A round is not
-paired anew: look at the players and drops first, and copy FILE.
+Pairs the next round. The round before it must have all its scores. A round
+can't be paired again: check the players and drops first, and copy FILE.
 
   ROUND   the number of the round, from 1
-  SEED    64 hexadecimal digits, which draw the order of players with equal
-          points: a new one for each round. Write it down first: the file does
-          not hold it, and with it anybody can work the round out again
+  SEED    64 hexadecimal digits, which decide the order of players with equal
+          points: use a new one for each round. Write it down first: it is not
+          kept in the file, and with it anybody can work out the same round
 
 A seed:  k=$(openssl rand -hex 32); echo \"round 1 $k\" >> friday.keys
 Example: event_reporter pair friday.event 1 $k
@@ -218,9 +224,9 @@ usage: event_reporter result FILE ROUND TABLE X Y D
 Enters the score of a match that has none.
 
   ROUND TABLE  as slips lists them
-  X Y          the games that the player named first has won, and the second:
+  X Y          games won by the player named first, and by the second:
                0 to 2, not both 2
-  D            the games that were drawn: 0 to 3
+  D            games drawn: 0 to 3
 
 Example: event_reporter result friday.event 1 2 2 1 0
 Refuses: 6 NotSwiss, 12 NoSuchMatch, 13 BadScore, 14 AlreadyReported, 16 IsBye,
@@ -230,12 +236,12 @@ Refuses: 6 NotSwiss, 12 NoSuchMatch, 13 BadScore, 14 AlreadyReported, 16 IsBye,
 pub const CORRECT: &str = "\
 usage: event_reporter correct FILE ROUND TABLE X Y D
 
-Replaces the score of a match. Rounds that were paired since stay as they are.
+Replaces the score of a match. Rounds paired since then stay as they are.
 
   ROUND TABLE  as slips lists them
-  X Y          the games that the player named first has won, and the second:
+  X Y          games won by the player named first, and by the second:
                0 to 2, not both 2
-  D            the games that were drawn: 0 to 3
+  D            games drawn: 0 to 3
 
 Example: event_reporter correct friday.event 1 2 0 2 0
 Refuses: 6 NotSwiss, 12 NoSuchMatch, 13 BadScore, 15 NotReported, 16 IsBye,
@@ -245,8 +251,8 @@ Refuses: 6 NotSwiss, 12 NoSuchMatch, 13 BadScore, 15 NotReported, 16 IsBye,
 pub const DROP: &str = "\
 usage: event_reporter drop FILE PLAYER
 
-Drops a player, who stays in the standings and is paired no more, and does not
-come back. An open match must still get its score.
+Drops a player, who stays in the standings, is not paired again and can't come
+back. An open match still needs its score.
 
   PLAYER  the player's number, as players lists it
 
@@ -258,9 +264,9 @@ Refuses: 6 NotSwiss, 17 NoSuchPlayer, 18 AlreadyDropped, 23 SerialFull,
 pub const CUT: &str = "\
 usage: event_reporter cut FILE
 
-Seeds the playoff with the first of the standings; who has dropped is left out.
-All rounds must be complete. From then on their scores are corrected no more:
-look at the standings first, and copy FILE.
+Seeds the playoff with the top players of the standings, without those who have
+dropped. All rounds must be complete. After the cut their scores can't be
+corrected: check the standings first, and copy FILE.
 
 Example: event_reporter cut friday.event
 Refuses: 6 NotSwiss, 19 RoundsNotDone, 20 NoCut, 21 TooFewForCut, 23 SerialFull,
@@ -270,12 +276,13 @@ Refuses: 6 NotSwiss, 19 RoundsNotDone, 20 NoCut, 21 TooFewForCut, 23 SerialFull,
 pub const PLAYOFF: &str = "\
 usage: event_reporter playoff FILE STAGE SLOT X Y D
 
-Enters the score of a playoff match. It is not corrected later: look twice.
+Enters the score of a playoff match. It can't be corrected later: check it
+twice.
 
   STAGE SLOT  as bracket lists them
-  X Y         the games that the player named first has won, and the second:
+  X Y         games won by the player named first, and by the second:
               0 to 3, not equal
-  D           the games that were drawn: 0 to 3
+  D           games drawn: 0 to 3
 
 Example: event_reporter playoff friday.event 1 1 2 0 0
 Refuses: 12 NoSuchMatch, 13 BadScore, 14 AlreadyReported, 22 NotPlayoff,
@@ -286,8 +293,8 @@ pub const STANDINGS: &str = "\
 usage: event_reporter standings FILE
 
 Lists the players by rank, with match points, the opponents' match-win
-percentage, the player's own game-win percentage and the opponents'. Only
-complete rounds count.
+percentage, the player's own game-win percentage and the opponents' game-win
+percentage. Only complete rounds count.
 
 Example: event_reporter standings friday.event
 Refuses: 24 Memory, 25 Store, 27 NoEvent, 29 Damaged.
@@ -296,7 +303,7 @@ Refuses: 24 Memory, 25 Store, 27 NoEvent, 29 Damaged.
 pub const PLAYERS: &str = "\
 usage: event_reporter players FILE
 
-Lists the players by number, with a D at those who have dropped.
+Lists the players by number, with a D for those who have dropped.
 
 Example: event_reporter players friday.event
 Refuses: 24 Memory, 25 Store, 27 NoEvent, 29 Damaged.
@@ -305,8 +312,8 @@ Refuses: 24 Memory, 25 Store, 27 NoEvent, 29 Damaged.
 pub const SLIPS: &str = "\
 usage: event_reporter slips FILE ROUND
 
-Lists the matches of a round that was paired: table, the two players' numbers,
-the score or a -, and their names. A bye comes last.
+Lists the matches of a round that was paired: the table, the numbers of the two
+players, the score or a -, and their names. A bye comes last.
 
   ROUND   the number of the round, from 1
 
@@ -328,10 +335,10 @@ Refuses: 24 Memory, 25 Store, 27 NoEvent, 29 Damaged.
 pub const EXPORT: &str = "\
 usage: event_reporter export FILE KIND
 
-Prints a CSV, for a spreadsheet or another program: a heading, and then a line
-each. The playoff is not in it; see bracket.
+Prints a CSV, for a spreadsheet or another program: a heading, and then one line
+per player or match. The playoff is not in it; see bracket.
 
-  KIND    players: their numbers and names, and a 1 at those who have dropped
+  KIND    players: their numbers and names, and a 1 for those who have dropped
           results: the matches of the rounds that were paired, with their
           scores; a bye has table 0 and b 0
 
@@ -343,14 +350,14 @@ Refuses: 24 Memory, 25 Store, 27 NoEvent, 29 Damaged.
 pub const SERVE: &str = "\
 usage: event_reporter serve FILE PORT COUNT
 
-Takes scores over HTTP from programs on this machine, as a script, a form or a
-second window with curl, so that they don't open FILE themselves. It listens on
-127.0.0.1: no phone and no other machine reaches it.
+Takes scores over HTTP from programs on this machine, such as a script, a form
+or curl in a second window, so that they don't open FILE themselves. It listens
+on 127.0.0.1: no phone and no other machine reaches it.
 
-It serves one connection after the other, each within 30 seconds, and prints
-`listening` and its port. While it serves, no other command opens FILE. Ctrl-C
-stops it, and what was answered with a serial is kept; after COUNT connections
-it ends.
+It serves one connection at a time, each for at most 30 seconds, and prints
+`listening` and its port. While it serves, no other command can open FILE. It
+ends after COUNT connections. Ctrl-C stops it, and a score that was answered
+with a serial is kept.
 
   PORT    0 to 65535; 0 takes any that is free
   COUNT   the connections to serve: 1 to 1000000
@@ -364,39 +371,39 @@ Example: event_reporter serve friday.event 8080 100
    then: curl http://127.0.0.1:8080/rounds/1/tables/1
    then: curl -d '{\"a\":2,\"b\":1,\"d\":0}' \\
          http://127.0.0.1:8080/rounds/1/tables/1
-Refuses: 24 Memory, 25 Store, 27 NoEvent, 29 Damaged. Where it can't listen the
+Refuses: 24 Memory, 25 Store, 27 NoEvent, 29 Damaged. If it can't listen, the
 status is 3.
 ";
 
 pub const MIGRATE: &str = "\
 usage: event_reporter migrate FILE
 
-Moves the event of an older program to tables of version 2, in which this
-program creates an event. It is wanted where such a file is to take what only
-the newer program can; for all else the file goes on as it is. A file of
-version 2 stays as it is.
+Moves the event of an older program to tables of version 2, which this program
+uses for new events. You need it only for what the older tables can't hold, such
+as a player who comes after the start; otherwise the file works as it is. A file
+of version 2 stays as it is.
 
 It can't be undone, and an older program then refuses the file. So copy FILE
-first, as by cp friday.event friday.copy. Wherever the command is stopped, the
-event is there whole, in the one version or in the other.
+first, for example by cp friday.event friday.copy. Whenever the command is
+stopped, the whole event is there, in one version or the other.
 
 Example: event_reporter migrate friday.event
-Answers `ok` and how many commands were taken so far, as before it.
-Refuses: 24 Memory, 25 Store, 27 NoEvent, 29 Damaged. 25 comes too where FILE
-has a table player2 that is not the event's, and nothing is changed then.
+Answers `ok` and the number of commands taken so far, which stays the same.
+Refuses: 24 Memory, 25 Store, 27 NoEvent, 29 Damaged. 25 also comes if FILE has
+a table player2 that is not the event's; then nothing changes.
 ";
 
 /// What a person is told where the port can't be had.
 pub const CANNOT_LISTEN: &str = "\
-event_reporter: cannot listen at this port: another program may have it, or it
-is below 1024. Try port 0, which takes any that is free.
+event_reporter: cannot listen on this port: another program may use it, or it is
+below 1024. Try port 0, which takes any that is free.
 ";
 
 /// What a terminal is told where there are no words, since a prompt that says nothing looks as if it hung.
 pub const AWAITING: &str = "\
-event_reporter: no words were given, so a script is read from this terminal:
-a line each, its words separated by one TAB. Ctrl-D ends it, Ctrl-C leaves it.
-For an event in a file, try: event_reporter --help
+event_reporter: no words were given, so it reads a script from this terminal:
+one command per line, the words separated by one TAB. Ctrl-D ends the script,
+Ctrl-C stops the program. For an event in a file, try: event_reporter --help
 ";
 
 /// Writes a text, and has the writer pass it on.
