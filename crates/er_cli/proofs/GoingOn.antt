@@ -217,7 +217,7 @@ pub ends_nowhere : (first : Placed) (trees : Trees) → IsStoredAt first trees �
 ends_nowhere first trees stored = (first.point, inl (record { event = refl; serial = omega arith; taken = tt }), stored)
 
 -- what is moved may be moved, as the file shows that was opened
-goes_moving : {S : Type 0} (g : Ghosts S) (old : Desk S g) (answer : Answer) (new : Desk S g) → Moves g old answer new
+pub goes_moving : {S : Type 0} (g : Ghosts S) (old : Desk S g) (answer : Answer) (new : Desk S g) → Moves g old answer new
     → (HasCleanDisk (state g old) → MayMigrate g old)
     → Goes g (LeadsToVersion Migrate answer) old no_session new
 goes_moving g old answer new it may = record {
@@ -282,7 +282,7 @@ pub record IsFound {D : Type 0} (d : disk.Ghosts D) (image : Image) (first : Pla
 module _ {D : Type 0} (d : disk.Ghosts D) (image : Image) (first : Placed) (desk : Desk (FileStore D d) over_files)
     (found : IsFound d image first desk) (clean : HasCleanDisk (state over_files desk)) where
   -- its tables may be migrated where those of the file may
-  may_migrate : MayMove image first.point → MayMigrate over_files desk
+  pub may_migrate : MayMove image first.point → MayMigrate over_files desk
   may_migrate may = by shows.represents.layout shows.represents.is shows.represents.represents
     where
       again : FindsAgain over_files desk first

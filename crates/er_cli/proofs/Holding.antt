@@ -1,7 +1,8 @@
--- A session over files that a history left.
-use Rattle.std.proofs.Common.{◌≡◌, ◌++◌, ◌∷◌, [], ℕ, IsTrue, List, MatchResult, inl, IsFalse, Result, Ok, Err, Vec, Global, refl, sym}
-use Rattle.std.proofs.Common.{ap, subst, append_assoc, ◌∙◌, arith}
+-- Sessions over files that a history left.
+use Rattle.std.proofs.Common.{◌≡◌, ◌++◌, ◌∷◌, [], ℕ, IsTrue, List, MatchResult, inl, IsFalse, Result, Ok, Err, Vec, Global}
+use Rattle.std.proofs.Common.{◌+◌, ◌<◌, length, take, drop, slice_index_or, map, map-id, append_assoc, refl, sym, ap, ap₂, subst, ◌∙◌, arith}
 use Rattle.std.proofs.Math.Logic.{∥∥₁_elim, ∥∥₁_map}
+use Rattle.std.proofs.lemmas.List.{take_more, take-append-drop}
 use Rattle.sqlite_trees.proofs.Doubt.{no_doubt}
 use Rattle.sqlite_trees.specs.View.{IsClean, IsQuiet}
 use Rattle.sqlite_pool.proofs.StateLemmas.{clean_is, may_leave_is}
@@ -11,34 +12,24 @@ use Rattle.sqlite_disk.specs.declared.Disk as disk
 use Rattle.sqlite_disk.specs.declared.Files.{Files}
 use Rattle.sqlite_trees.specs.Props.{Trees-set}
 use Rattle.sqlite_store.specs.declared.store.FileStore.{FileStore}
-use Rattle.sqlite.specs.{Tree.Trees, Effect.{Database, IsDatabase}, State.{State, HasCleanDisk}, Held.{AreDatabases, Held}}
+use Rattle.sqlite.specs.{Tree.Trees, Effect.{Database, IsDatabase}, State.{State, HasCleanDisk, IsUnchanged}, Held.{AreDatabases, Held}}
 use Rattle.sqlite.specs.Files.{Finds, HoldsDatabase, IsOpened, file_state, image_of, over_files}
-use Rattle.er_event.specs.{declared.commands.Command.Command, declared.refusals.Refusal.Refusal, Event.EventValue}
+use Rattle.sqlite_wal.specs.Recovery.{Image}
+use Rattle.er_event.specs.{declared.refusals.Refusal.Refusal, Event.EventValue}
 use Rattle.er_store.specs.{Fault.IsFault, Representing.{IsStoredIn, Leaves, Represents, RepresentsIn}}
-use Rattle.er_desk.specs.{declared.desk.Desk.Desk, Desk.{Point, Placed, DeskState, IsStoredAt, placed_at, running_at, desk_state, state}}
-use Rattle.er_desk.specs.{Reply.Reply, Run.{IsRun, Session, no_session, session_of}, History.Ended}
-use Rattle.er_desk.specs.{Headline.{FindsAgain, IsBeginning, WasLeftBy}, Asking.{NextSessions, GoesOnFrom}}
-use Rattle.er_cli.specs.declared.left.Left.{Left}
+use Rattle.er_desk.specs.{declared.desk.Desk.Desk, Desk.{Point, Placed, DeskState, IsStoredAt, placed_at, desk_state, state}}
+use Rattle.er_desk.specs.{Run.{Session, no_session}, History.Ended, Opening.SeesStill}
+use Rattle.er_desk.specs.{Headline.{IsBeginning, WasLeftBy, and_then}, Asking.{Asks, NextSessions, GoesOnFrom, SessionsJoin}}
+use Rattle.er_words.specs.declared.action.Request.{Request}
+use Rattle.er_cli.specs.declared.{left.Left.Left, texts.Answer.Answer}
 use Rattle.er_cli.specs.Next.{BeginsIn, WasLeftIn}
 use Rattle.sqlite_wal.specs.{Files.outcomes, Reads.AreClean}
-use Rattle.er_cli.specs.{Left.{AreClosed, IfUnopened}}
-use Rattle.er_cli.specs.Sessions.{AreCut, AreHeld, HoldsAll, HoldsNext, IfCleanFiles, IsHeld, IsLeftByNext, IsLeftOver, RunsOver}
-use Rattle.er_cli.specs.Sessions.{SparesFiles}
-use Rattle.er_cli.proofs.Leaving.{put_such, put_clean, put_sound, put_opened, left_by}
-use Rattle.er_cli.proofs.GoingOn.{Stays, ends_nowhere, goes_asking, leaves_next, runs_at}
-
-held_push : (version : ℕ) (first mid : Point) (held : List (Vec Command Global)) (rs : List (Result (Vec Reply Global) Refusal))
-    (more : List Ended) (commands : Vec Command Global) (replies : Result (Vec Reply Global) Refusal) (ended : Ended)
-    → AreHeld version first held rs more mid → IsHeld version mid commands.items replies ended.session
-    → AreHeld version first (held ++ commands ∷ []) (rs ++ replies ∷ []) (more ++ ended ∷ []) ended.last
-held_push version first mid [] [] [] commands replies ended all is =
-    (subst (λ (p : Point). IsHeld version p commands.items replies ended.session) all is, refl)
-held_push version first mid [] [] (e ∷ es) commands replies ended all is = absurd all
-held_push version first mid [] (r ∷ rs) more commands replies ended all is = absurd all
-held_push version first mid (c ∷ cs) [] more commands replies ended all is = absurd all
-held_push version first mid (c ∷ cs) (r ∷ rs) [] commands replies ended all is = absurd all
-held_push version first mid (c ∷ cs) (r ∷ rs) (e ∷ es) commands replies ended all is =
-    (all.0, held_push version e.last mid cs rs es commands replies ended all.1 is)
+use Rattle.er_cli.specs.{Left.{AreClosed, IfUnopened}, Next.WasPutAway}
+use Rattle.er_cli.specs.Sessions.{AnswersAll, AreCut, AsksMigration, AsksOver, HoldsNext, HoldsThen, IfCleanFiles}
+use Rattle.er_cli.specs.Sessions.{IsLeftByNext, IsLeftOver, LeadToVersion, MayMoveFor, SparesFiles, VersionLeft}
+use Rattle.er_cli.proofs.Leaving.{put_such, put_clean, put_sound, put_opened, was_put, left_by}
+use Rattle.er_cli.proofs.GoingOn.{IsFound, Stays, ends_nowhere, goes_asking, leaves_next, may_migrate, runs_at}
+use Rattle.er_cli.proofs.Asked.{MayIf, all_over}
 
 -- tables in a version are so in either
 pub in_either : {v : ℕ} {db : Database} {e : EventValue} {n : ℕ} → RepresentsIn v db e n → Represents db e n
@@ -90,6 +81,10 @@ module _ {D : Type 0} {d : disk.Ghosts D} where
   over_opened files why s (Ok left) over = tt
   over_opened files why s (Err what) over = put_opened (SparesFiles files) why s what over
 
+  over_put : (s : State) (now : Result (Files D) (Left D d)) → IsLeftOver s now → MatchResult now (λ _. Unit {0}) (λ what. WasPutAway what)
+  over_put s (Ok left) over = tt
+  over_put s (Err what) over = was_put s what over
+
   over_next : (In : ℕ → Type 0) (new : Point) (ends : List Ended) (session : Session) → IsBeginning new → (s : State)
       (now : Result (Files D) (Left D d)) → IsLeftOver s now → Leaves s (BeginsIn In new ends session) → IsLeftByNext d In new ends
       session now
@@ -105,14 +100,14 @@ module _ {D : Type 0} {d : disk.Ghosts D} where
   over_next In new ends session begins s (Err what) over leaves =
       left_by In new ends session begins what (put_sound s what over) (put_such (BeginsIn In new ends session) s what over leaves)
 
--- a disk that is clean after a run was clean before
-pub ran_clean : {D : Type 0} (d : disk.Ghosts D) (desk : Desk (FileStore D d) over_files) (commands : List Command)
-    (replies : Result (Vec Reply Global) Refusal) (now : Result (Files D) (Left D d)) → RunsOver desk commands replies now → {Is : Type 0}
+-- a disk that is clean after a session was clean before
+pub ran_clean : {D : Type 0} (d : disk.Ghosts D) (join : SessionsJoin) (desk : Desk (FileStore D d) over_files) (requests : List Request)
+    (answers : Result (Vec Answer Global) Refusal) (now : Result (Files D) (Left D d)) → AsksOver desk requests answers now → {Is : Type 0}
     → (HasCleanDisk (state over_files desk) → Is) → IfCleanFiles Is now
-ran_clean d desk commands (Ok rs) now it {Is} is = over_clean Is (state over_files it.last) now it.let_go
-    (λ clean. is (it.ran.0.clean clean))
-ran_clean d desk commands (Err why) now it {Is} is = over_clean Is (state over_files it.last) now it.let_go
-    (λ clean. is (it.ran.1.clean clean))
+ran_clean d join desk requests (Ok them) now it {Is} is = over_clean Is (state over_files it.last) now it.let_go
+    (λ clean. is ((all_over join over_files it.last it.rests requests them.items desk it.asked).1.went.clean clean))
+ran_clean {D} d join desk requests (Err why) now it {Is} is = over_clean Is (state over_files it.last) now it.let_go
+    (λ clean. is (subst (λ (k : Desk (FileStore D d) over_files). HasCleanDisk (state over_files k)) it.asked.1 clean))
 
 module _ {D : Type 0} (d : disk.Ghosts D) (law : NextSessions) (files : Files D) (new : Point) (first : Placed) (ends : List Ended)
     (was : WasLeftBy (image_of d files) new ends first) where
@@ -143,85 +138,126 @@ module _ {D : Type 0} (d : disk.Ghosts D) (law : NextSessions) (files : Files D)
           (ends_nowhere first trees (subst (IsStoredAt first) (sym (is ∙ committed_is)) was.left.2)),
     )
 
-  pub refused_holds : (commands : List Command) (back : Held (FileStore D d)) (why : Refusal) (now : Result (Files D) (Left D d))
+  -- the desk sees what the files hold
+  pub sees_still : (conn : Held (FileStore D d)) (desk : Desk (FileStore D d) over_files)
+      → (HasCleanDisk (state over_files desk) → HasCleanDisk (file_state conn))
+      → (HasCleanDisk (file_state conn) → IsOpened conn) → (HasCleanDisk (file_state conn) → Finds files conn)
+      → (HasCleanDisk (state over_files desk) → IsUnchanged (file_state conn) (state over_files desk))
+      → (db : Trees) → HoldsDatabase (image_of d files) db → SeesStill (state over_files desk) db
+  sees_still conn desk early opened found same db holds = λ clean is_open.
+      let it = same clean in
+      let was = (opened (early clean)).0.clean in (
+        ap (λ (b : Database). b.trees) (it.0.now_is ∙ was) ∙ (found (early clean)).holds db holds,
+        it.0.now_is ∙ was ∙ sym it.0.committed_is,
+      )
+
+  pub refused_holds : (requests : List Request) (back : Held (FileStore D d)) (why : Refusal) (now : Result (Files D) (Left D d))
       → IsLeftOver (file_state back) now
       → Leaves (file_state back) (BeginsIn (Stays first.version) new ends no_session)
       → (HasCleanDisk (file_state back) → IsFault why)
-      → HoldsNext d new ends first files commands (Err why) now
-  refused_holds commands back why now over leaves failed = record {
+      → HoldsNext d new ends first files requests (Err why) now
+  refused_holds requests back why now over leaves failed = record {
     session = no_session;
+    held = over_clean _ (file_state back) now over (λ clean. (refl, failed clean));
     leaves = over_next (Stays first.version) new ends no_session was.begins (file_state back) now over leaves;
-    ran = (refl, over_clean (IsFault why) (file_state back) now over failed, over_opened files why (file_state back) now over);
+    unopened = over_opened files why (file_state back) now over;
   }
 
-  pub ran_holds : (desk : Desk (FileStore D d) over_files) → IsFalse (desk_state desk).needs_reopen
-      → (HasCleanDisk (state over_files desk) → FindsAgain over_files desk first)
-      → (commands : List Command) (replies : Result (Vec Reply Global) Refusal) (now : Result (Files D) (Left D d))
-      → RunsOver desk commands replies now
-      → HoldsNext d new ends first files commands replies now
-  ran_holds desk runs found commands (Ok rs) now it =
-      let (asked, ran) = it.ran in
+  pub ran_holds : SessionsJoin → (desk : Desk (FileStore D d) over_files) → IsFalse (desk_state desk).needs_reopen
+      → IsFound d (image_of d files) first desk
+      → (requests : List Request) → MayMoveFor (image_of d files) first requests
+      → (answers : Result (Vec Answer Global) Refusal) (now : Result (Files D) (Left D d)) → AsksOver desk requests answers now
+      → HoldsNext d new ends first files requests answers now
+  ran_holds join desk runs found requests move (Ok them) now it =
+      let over = all_over join over_files it.last it.rests requests them.items desk it.asked in
+      let may : MayIf over_files (AsksMigration requests) desk =
+      λ asked clean. may_migrate d (image_of d files) first desk found clean (move asked) in
       record {
-        session = session_of commands rs.items (desk_state it.last).needs_reopen;
-        leaves = over_next (Stays first.version) new ends _ was.begins (state over_files it.last) now it.let_go
-            (leaves_next new first ends was.begins from d Stays desk it.last _ found (goes_asking _ _ _ _ asked));
-        ran = over_clean _ (state over_files it.last) now it.let_go (λ clean. (
+        session = over.0;
+        held = over_clean _ (state over_files it.last) now it.let_go (λ clean. (
           desk_state it.last,
-          refl,
-          subst (λ (s : DeskState). IsRun s commands rs.items (desk_state it.last))
-              (runs_at (desk_state desk) first runs (found (asked.clean clean)).found) ran,
+          subst (λ (s : DeskState). AnswersAll s requests them.items over.0 (desk_state it.last))
+              (runs_at (desk_state desk) first runs (found.finds (over.1.went.clean clean)).found)
+              (over.1.answered clean (λ _. (found.finds (over.1.went.clean clean)).shows) (λ _. may)),
         ));
+        leaves = over_next (VersionLeft requests (Ok them) first.version) new ends over.0 was.begins (state over_files it.last) now
+            it.let_go
+            (leaves_next new first ends was.begins from d (LeadToVersion requests them.items) desk it.last over.0 found.finds
+            (record { clean = over.1.went.clean; crash = over.1.went.crash may }));
+        unopened = over_put (state over_files it.last) now it.let_go;
       }
-  ran_holds desk runs found commands (Err why) now it =
-      let (is, asked) = it.ran in
+  ran_holds join desk runs found requests move (Err why) now it =
+      let (is, same) = it.asked in
+      let asked : Asks over_files desk no_session it.last =
+      subst (λ (k : Desk (FileStore D d) over_files). Asks over_files k no_session it.last) same it.rests in
       record {
         session = no_session;
+        held = over_clean _ (state over_files it.last) now it.let_go (λ clean. (refl, subst IsFault (sym is) (inl refl)));
         leaves = over_next (Stays first.version) new ends no_session was.begins (state over_files it.last) now it.let_go
-            (leaves_next new first ends was.begins from d Stays desk it.last no_session found (goes_asking _ _ _ _ asked));
-        ran = (
-          refl,
-          over_clean (IsFault why) (state over_files it.last) now it.let_go (λ clean. subst IsFault (sym is) (inl refl)),
-          over_opened files why (state over_files it.last) now it.let_go,
-        );
+            (leaves_next new first ends was.begins from d Stays desk it.last no_session found.finds (goes_asking _ _ _ _ asked));
+        unopened = over_opened files why (state over_files it.last) now it.let_go;
       }
 
--- ---- one session more, with a crash behind it
+-- ---- many, one after the other
 
-module _ {D : Type 0} (d : disk.Ghosts D) (new : Point) (ends : List Ended) (first : Placed) (sessions : List (Vec Command Global))
-    (answered : List (Result (Vec Reply Global) Refusal)) (files : Files D) (before : HoldsAll d new ends first sessions answered files)
-    (commands : Vec Command Global) (replies : Result (Vec Reply Global) Refusal) (left : Result (Files D) (Left D d)) (last now : Files D)
-    (is : left ≡ Ok last) where
-  held_so : (rs : Result (Vec Reply Global) Refusal) (mid : Point) (session : Session) → AreClean d last.log last.db
-      → MatchResult rs
-      (λ r. AreClean d last.log last.db
-      → (then : DeskState) × (session ≡ session_of commands.items r.items then.needs_reopen)
-      × IsRun (running_at mid first.version) commands.items r.items then)
-      (λ why. (session ≡ no_session) × (AreClean d last.log last.db → IsFault why) × Unit {0})
-      → IsHeld first.version mid commands.items rs session
-  held_so (Ok r) mid session clean ran = ran clean
-  held_so (Err why) mid session clean ran = (ran.0, ran.1 clean)
+-- what a `for` over a list has yielded, the item of this turn and those that come later make up the list
+pub so_far : {A : Type 0} (all seen : List A) (x : A) → map (λ (a : A). a) seen ≡ take (length seen) all
+    → (length seen < length all) × (x ≡ slice_index_or all (length seen) x) → all ≡ seen ++ x ∷ drop (length seen + 1) all
+so_far {A} all seen x first (few, is) =
+    let n = length seen in
+    sym (take-append-drop (n + 1) all)
+    ∙ ap (λ (l : List A). l ++ drop (n + 1) all) (take_more all n x few
+    ∙ ap₂ (λ (l : List A) (a : A). l ++ a ∷ []) (sym first ∙ map-id seen) (sym is))
+    ∙ append_assoc seen (x ∷ []) (drop (n + 1) all)
 
-  pub holds_more : (AreClean d now.log now.db → AreClean d last.log last.db)
-      → outcomes d last.log last.db (image_of d now)
-      → IfCleanFiles (AreClean d files.log files.db) left
-      → ((n : Point) (f : Placed) (es : List Ended) → WasLeftBy (image_of d files) n es f
-      → HoldsNext d n es f files commands.items replies left)
-      → HoldsAll d new ends first (sessions ++ commands ∷ []) (answered ++ replies ∷ []) now
-  holds_more clean may early holds now_clean =
-      let was_clean = clean now_clean in
-      let files_clean = (subst (IfCleanFiles (AreClean d files.log files.db)) is early) was_clean in
-      ∥∥₁_elim (before files_clean) squash₁ (λ held.
-      let mid = placed_at held.1 first.version in
-      let it = subst (HoldsNext d new (ends ++ held.0) mid files commands.items replies) is (holds new mid (ends ++ held.0) held.3) in
-      ∥∥₁_map (it.leaves was_clean (image_of d now) may) (λ next.
-      let ended : Ended = record { session = it.session; last = next.0.point } in
-      let all : (more : List Ended) × (p : Point)
-      × AreHeld first.version first.point (sessions ++ commands ∷ []) (answered ++ replies ∷ []) more p
-      × WasLeftBy (image_of d now) new (ends ++ more) (placed_at p first.version) = (
-        held.0 ++ ended ∷ [],
-        ended.last,
-        held_push first.version first.point held.1 sessions answered held.0 commands replies ended held.2
-            (held_so replies held.1 it.session was_clean it.ran),
-        subst (λ (v : ℕ). WasLeftBy (image_of d now) new (ends ++ (held.0 ++ ended ∷ [])) (placed_at ended.last v)) next.1
-            (subst (λ (es : List Ended). WasLeftBy (image_of d now) new es next.0) (append_assoc ends held.0 (ended ∷ [])) next.2),
-      ) in all))
+module _ (new : Point) (P Q : List Ended → Placed → Image → Type 0) (requests : Vec Request Global)
+    (answers : Result (Vec Answer Global) Refusal) where
+  abbrev Goes_on : Type 0
+  Goes_on = (ends : List Ended) (first : Placed) (image : Image) → P ends first image → WasLeftBy image new ends first
+      → HoldsThen new Q ends first image (requests ∷ []) (answers ∷ [])
+
+  -- one session more
+  pub then_push : Goes_on → (done : List (Vec Request Global)) (before : List (Result (Vec Answer Global) Refusal)) (ends : List Ended)
+      (first : Placed) (image : Image) → WasLeftBy image new ends first → HoldsThen new P ends first image done before
+      → HoldsThen new Q ends first image (done ++ requests ∷ []) (before ++ answers ∷ [])
+  then_push goes [] [] ends first image was holds = goes ends first image holds was
+  then_push goes [] (r ∷ before) ends first image was holds = absurd holds
+  then_push goes (c ∷ done) [] ends first image was holds = absurd holds
+  then_push goes (c ∷ done) (r ∷ before) ends first image was holds = λ may. ∥∥₁_map (holds may) (λ it. (
+    it.0,
+    it.1,
+    it.2,
+    it.3,
+    it.4,
+    it.5,
+    then_push goes done before (and_then ends it.0 it.1.point) it.1 it.2 it.5 it.6,
+  ))
+
+module _ {D : Type 0} (d : disk.Ghosts D) (new : Point) (requests : Vec Request Global) (answers : Result (Vec Answer Global) Refusal)
+    (files : Files D) (left : Result (Files D) (Left D d)) (last now : Files D) (is : left ≡ Ok last)
+    (clean : AreClean d now.log now.db) (last_clean : AreClean d last.log last.db) (may_leave : outcomes d last.log last.db (image_of d now))
+    (holds : (first : Placed) (ends : List Ended) → WasLeftBy (image_of d files) new ends first
+    → MayMoveFor (image_of d files) first requests.items → HoldsNext d new ends first files requests.items answers left) where
+  goes : (ends : List Ended) (first : Placed) (image : Image) → image ≡ image_of d files → WasLeftBy image new ends first
+      → HoldsThen new (λ _ _ then. then ≡ image_of d now) ends first image (requests ∷ []) (answers ∷ [])
+  goes ends first image same was = λ may.
+      let it = subst (HoldsNext d new ends first files requests.items answers) is
+      (holds first ends (subst (λ (i : Image). WasLeftBy i new ends first) same was)
+      (subst (λ (i : Image). MayMoveFor i first requests.items) same may)) in
+      ∥∥₁_map (it.leaves last_clean (image_of d now) may_leave) (λ next. (
+        it.session,
+        next.0,
+        image_of d now,
+        it.held last_clean,
+        next.1,
+        next.2,
+        refl,
+      ))
+
+  pub holds_more : (ends : List Ended) (first : Placed) (image : Image) → WasLeftBy image new ends first
+      → (done : List (Vec Request Global)) (before : List (Result (Vec Answer Global) Refusal))
+      → HoldsThen new (λ _ _ then. then ≡ image_of d files) ends first image done before
+      → HoldsThen new (λ _ _ then. then ≡ image_of d now) ends first image (done ++ requests ∷ []) (before ++ answers ∷ [])
+  holds_more ends first image was done before holds =
+      then_push new (λ _ _ then. then ≡ image_of d files) (λ _ _ then. then ≡ image_of d now) requests answers goes done before ends first
+      image was holds

@@ -12,4 +12,5 @@ mod GoingOn
 mod Leaving
 mod Outcomes
 mod Making
+mod Asked
 mod Holding

@@ -1,6 +1,7 @@
--- One session over the files of an event, after a history of others.
+-- Sessions over the files of an event, one after the other, after a history of others.
 use Rattle.std.specs.Global.{Global}
-use Rattle.std.specs.Prelude.{◌≡◌, ◌++◌, ℕ, List, [], ◌∷◌, Option, Some, None, Result, Ok, Err, MatchResult, Vec}
+use Rattle.std.specs.Prelude.{◌≡◌, ◌⊎◌, ◌++◌, ℕ, List, [], ◌∷◌, Option, Some, None, Result, Ok, Err, MatchResult, Vec}
+use Rattle.sqlite_trees.specs.declared.store.Store.{Ghosts}
 use Rattle.sqlite_disk.specs.declared.Disk as disk
 use Rattle.sqlite_disk.specs.declared.Files.{Files}
 use Rattle.sqlite_store.specs.declared.store.FileStore.{FileStore}
@@ -12,19 +13,22 @@ use Rattle.sqlite.specs.Tree.{Trees}
 use Rattle.sqlite.specs.State.{State, HasCleanDisk}
 use Rattle.sqlite.specs.Files.{FailsToOpenFiles, HoldsDatabase, IsCleanLeft, LeavesFiles, image_of, over_files}
 use Rattle.sqlite_wal.specs.Reads.{AreClean}
-use Rattle.er_desk.specs.Headline.{WasLeftBy}
-use Rattle.er_event.specs.declared.commands.Command.{Command}
+use Rattle.er_desk.specs.Headline.{WasLeftBy, and_then}
 use Rattle.er_event.specs.declared.refusals.Refusal.{Refusal}
 use Rattle.er_event.specs.declared.refusals.Refusal.TheVariants.{Memory}
 use Rattle.er_store.specs.Fault.{IsFault}
 use Rattle.er_desk.specs.declared.desk.Desk.{Desk}
-use Rattle.er_desk.specs.Asking.{Asks}
-use Rattle.er_desk.specs.Desk.{Point, Placed, DeskState, placed_at, running_at, desk_state, state}
-use Rattle.er_desk.specs.Reply.{Reply}
-use Rattle.er_desk.specs.Run.{IsRun, Session, no_session, session_of}
+use Rattle.er_desk.specs.Asking.{Asks, joined}
+use Rattle.er_desk.specs.Desk.{Point, Placed, DeskState, ShowsOwn, running_at, desk_state, state}
+use Rattle.er_desk.specs.Run.{Session, no_session}
 use Rattle.er_desk.specs.History.{Ended}
+use Rattle.er_words.specs.declared.action.Request.{Request}
+use Rattle.er_words.specs.declared.action.Request.TheVariants.{Migrate}
+use Rattle.er_cli.specs.declared.texts.Answer.{Answer}
+use Rattle.er_cli.specs.Answers.{AsksFor, DeskAnswers, session_at}
+use Rattle.er_cli.specs.GoingOn.{LeadsToVersion, MayMove}
 use Rattle.er_cli.specs.Left.{IfClean, IfUnopened, IsPutAway}
-use Rattle.er_cli.specs.Next.{IsLeftBy, WasLeftIn}
+use Rattle.er_cli.specs.Next.{IsLeftBy, WasLeftIn, WasPutAway}
 use Rattle.er_cli.specs.declared.left.Left.{Left}
 
 -- Files that were closed, or cut off. Each pair of bytes that a crash may leave holds a database that it could leave before.
@@ -50,55 +54,120 @@ IsLeftByNext d In new ends session (Ok files) =
     AreClean d files.log files.db → (image : Image) → outcomes d files.log files.db image → ∥ WasLeftIn In new ends session image ∥₁
 IsLeftByNext d In new ends session (Err what) = IsLeftBy d In new ends session what
 
--- The commands were handed to this desk, or memory was wanting for their replies, and its files were let go.
-pub record RunsOver {D : Type 0} {d : disk.Ghosts D} (desk : Desk (FileStore D d) over_files) (commands : List Command)
-    (replies : Result (Vec Reply Global) Refusal) (files : Result (Files D) (Left D d)) : Type 0 where
-  pub last : Desk (FileStore D d) over_files
-  pub let_go : IsLeftOver (state over_files last) files
-  pub ran : MatchResult replies
-      (λ rs. Asks over_files desk (session_of commands rs.items (desk_state last).needs_reopen) last
-      × IsRun (desk_state desk) commands rs.items (desk_state last))
-      (λ why. (why ≡ Memory) × Asks over_files desk no_session last)
-
 -- of files that were not opened: why, and what is left of them, as the storage crate has it
 abbrev pub SparesFiles : {D : Type 0} {d : disk.Ghosts D} → Files D → Error → Option (Leftover D d) → Type 0
 SparesFiles files error None = ⊥
 SparesFiles files error (Some rest) = IsCleanLeft rest → FailsToOpenFiles files rest error × LeavesFiles files rest
 
--- The history goes on with this session. Its replies are those of a run that began where the history ended; or nothing was asked, and
--- memory or the device was wanting.
+-- ---- what a session asks
+
+-- a migration is among these
+abbrev pub AsksMigration : List Request → Type 0
+AsksMigration [] = ⊥
+AsksMigration (request ∷ requests) = (request ≡ Migrate) ⊎ AsksMigration requests
+
+-- A desk was asked one thing after the other, over its file: these were its answers.
+abbrev pub AsksAll : {S : Type 0} (g : Ghosts S) → Desk S g → List Request → List Answer → Desk S g → Type 0
+AsksAll g old [] [] new = new ≡ old
+AsksAll {S} g old (request ∷ requests) (answer ∷ answers) new =
+    (mid : Desk S g) × AsksFor g old request answer mid
+    × DeskAnswers (HasCleanDisk (state g mid) × ShowsOwn g old) (desk_state old) request answer (desk_state mid)
+    × AsksAll g mid requests answers new
+AsksAll g old [] (answer ∷ answers) new = ⊥
+AsksAll g old (request ∷ requests) [] new = ⊥
+
+-- What a desk answers whose tables represent its event, and the session that the requests are together: each is answered on the event
+-- that those before it left.
+abbrev pub AnswersAll : DeskState → List Request → List Answer → Session → DeskState → Type 0
+AnswersAll old [] [] session new = (session ≡ no_session) × (new ≡ old)
+AnswersAll old (request ∷ requests) (answer ∷ answers) session new =
+    (mid : DeskState) × (later : Session) × DeskAnswers (Unit {0}) old request answer mid × AnswersAll mid requests answers later new
+    × (session ≡ joined (session_at request answer mid.needs_reopen) later)
+AnswersAll old [] (answer ∷ answers) session new = ⊥
+AnswersAll old (request ∷ requests) [] session new = ⊥
+
+-- the version of the tables that are left: each request leads from the one before it
+abbrev pub LeadToVersion : List Request → List Answer → (was now : ℕ) → Type 0
+LeadToVersion [] [] was now = now ≡ was
+LeadToVersion (request ∷ requests) (answer ∷ answers) was now =
+    (mid : ℕ) × LeadsToVersion request answer was mid × LeadToVersion requests answers mid now
+LeadToVersion [] (answer ∷ answers) was now = ⊥
+LeadToVersion (request ∷ requests) [] was now = ⊥
+
+-- where nothing was asked, the version stays
+abbrev pub VersionLeft : List Request → Result (Vec Answer Global) Refusal → (was now : ℕ) → Type 0
+VersionLeft requests (Ok answers) was now = LeadToVersion requests answers.items was now
+VersionLeft requests (Err why) was now = now ≡ was
+
+-- ---- one session
+
+-- This desk was asked all of it, or there was no memory for the answers, and its files were let go.
+pub record AsksOver {D : Type 0} {d : disk.Ghosts D} (desk : Desk (FileStore D d) over_files) (requests : List Request)
+    (answers : Result (Vec Answer Global) Refusal) (files : Result (Files D) (Left D d)) : Type 0 where
+  pub last : Desk (FileStore D d) over_files
+  pub let_go : IsLeftOver (state over_files last) files
+  pub rests : Asks over_files last no_session last
+  pub asked : MatchResult answers (λ them. AsksAll over_files desk requests them.items last) (λ why. (why ≡ Memory) × (last ≡ desk))
+
+-- What one session was that began here: its requests were answered so. Or nothing was asked, and memory or the device failed.
+abbrev pub IsHeld : Placed → List Request → Result (Vec Answer Global) Refusal → Session → Type 0
+IsHeld first requests (Ok answers) session =
+    (last : DeskState) × AnswersAll (running_at first.point first.version) requests answers.items session last
+IsHeld first requests (Err why) session = (session ≡ no_session) × IsFault why
+
+-- The history goes on with this session, which began where it ended.
 pub record HoldsNext {D : Type 0} (d : disk.Ghosts D) (new : Point) (ends : List Ended) (first : Placed) (files : Files D)
-    (commands : List Command) (replies : Result (Vec Reply Global) Refusal) (now : Result (Files D) (Left D d)) : Type 0 where
+    (requests : List Request) (answers : Result (Vec Answer Global) Refusal) (now : Result (Files D) (Left D d)) : Type 0 where
   pub session : Session
-  pub leaves : IsLeftByNext d (λ version. version ≡ first.version) new ends session now
-  pub ran : MatchResult replies
-      (λ rs. IfCleanFiles ((last : DeskState) × (session ≡ session_of commands rs.items last.needs_reopen)
-      × IsRun (running_at first.point first.version) commands rs.items last) now)
-      (λ why. (session ≡ no_session) × IfCleanFiles (IsFault why) now × MatchResult now (λ _. Unit {0})
-      (IfUnopened (SparesFiles files) why))
+  pub held : IfCleanFiles (IsHeld first requests answers session) now
+  pub leaves : IsLeftByNext d (VersionLeft requests answers first.version) new ends session now
+  -- of files that can't be opened nothing was asked
+  pub unopened : MatchResult now (λ _. Unit {0})
+      (λ what. MatchResult answers (λ _. WasPutAway what) (λ why. IfUnopened (SparesFiles files) why what))
 
--- What one session was that began at this point, in tables of this version: its commands were run, with these replies; or nothing was
--- asked, and memory or the device was wanting.
-abbrev pub IsHeld : (version : ℕ) → (first : Point) → List Command → Result (Vec Reply Global) Refusal → Session → Type 0
-IsHeld version first commands (Ok replies) session =
-    (last : DeskState) × (session ≡ session_of commands replies.items last.needs_reopen)
-    × IsRun (running_at first version) commands replies.items last
-IsHeld version first commands (Err why) session = (session ≡ no_session) × IsFault why
+-- where a migration is among the requests, the file's tables may be migrated
+abbrev pub MayMoveFor : Image → Placed → List Request → Type 0
+MayMoveFor image first requests = AsksMigration requests → MayMove image first.point
 
--- And what all were, each begun where the one before ended.
-abbrev pub AreHeld : (version : ℕ) → (first : Point) → List (Vec Command Global) → List (Result (Vec Reply Global) Refusal) → List Ended
-    → (last : Point) → Type 0
-AreHeld version first [] [] [] last = last ≡ first
-AreHeld version first (commands ∷ later) (replies ∷ answered) (ended ∷ more) last =
-    IsHeld version first commands.items replies ended.session × AreHeld version ended.last later answered more last
-AreHeld version first [] [] (ended ∷ more) last = ⊥
-AreHeld version first [] (replies ∷ answered) more last = ⊥
-AreHeld version first (commands ∷ later) [] more last = ⊥
-AreHeld version first (commands ∷ later) (replies ∷ answered) [] last = ⊥
+-- ---- many
 
--- The files after sessions with these commands and these replies: on a clean disk, the history with all of them left them, in this version.
-abbrev pub HoldsAll : {D : Type 0} (d : disk.Ghosts D) → Point → List Ended → (first : Placed) → List (Vec Command Global)
-    → List (Result (Vec Reply Global) Refusal) → Files D → Type 0
-HoldsAll d new ends first sessions replies now = AreClean d now.log now.db
-    → ∥ ((more : List Ended) × (last : Point) × AreHeld first.version first.point sessions replies more last
-    × WasLeftBy (image_of d now) new (ends ++ more) (placed_at last first.version)) ∥₁
+-- Sessions were held, each over the bytes that a crash left of the one before it: each goes on with the history. At their end this holds
+-- of the history, of the point where it ended, and of the bytes.
+abbrev pub HoldsThen : Point → (List Ended → Placed → Image → Type 0) → List Ended → Placed → Image → List (Vec Request Global)
+    → List (Result (Vec Answer Global) Refusal) → Type 0
+HoldsThen new Then ends first image [] [] = Then ends first image
+HoldsThen new Then ends first image (requests ∷ later) (answers ∷ more) =
+    MayMoveFor image first requests.items
+    → ∥ ((session : Session) × (last : Placed) × (left : Image) × IsHeld first requests.items answers session
+    × VersionLeft requests.items answers first.version last.version × WasLeftBy left new (and_then ends session last.point) last
+    × HoldsThen new Then (and_then ends session last.point) last left later more) ∥₁
+HoldsThen new Then ends first image [] (answers ∷ more) = ⊥
+HoldsThen new Then ends first image (requests ∷ later) [] = ⊥
+
+-- on a clean disk these files are what the last crash left
+abbrev pub HoldsEach : {D : Type 0} (d : disk.Ghosts D) → Point → List Ended → (first : Placed) → Image → List (Vec Request Global)
+    → List (Result (Vec Answer Global) Refusal) → Files D → Type 0
+HoldsEach d new ends first image sessions answers now =
+    AreClean d now.log now.db → HoldsThen new (λ _ _ left. left ≡ image_of d now) ends first image sessions answers
+
+-- The last of those that were begun could not open its files, or not close them. Those before it were held, and this is left of it.
+pub record HoldsSome {D : Type 0} (d : disk.Ghosts D) (new : Point) (ends : List Ended) (first : Placed) (image : Image)
+    (sessions : List (Vec Request Global)) (answers : List (Result (Vec Answer Global) Refusal)) (what : Left D d) : Type 0 where
+  pub done : List (Vec Request Global)
+  pub requests : Vec Request Global
+  pub later : List (Vec Request Global)
+  pub are : sessions ≡ done ++ requests ∷ later
+  pub before : List (Result (Vec Answer Global) Refusal)
+  pub answered : Result (Vec Answer Global) Refusal
+  pub were : answers ≡ before ++ answered ∷ []
+  pub files : Files D
+  pub held : HoldsEach d new ends first image done before files
+  pub clean : IfClean (AreClean d files.log files.db) what
+  pub goes_on : (so_far : List Ended) (mid : Placed) → WasLeftBy (image_of d files) new so_far mid
+      → MayMoveFor (image_of d files) mid requests.items → HoldsNext d new so_far mid files requests.items answered (Err what)
+
+-- all of them were held, or some
+abbrev pub HoldsAll : {D : Type 0} (d : disk.Ghosts D) → Point → List Ended → (first : Placed) → Image → List (Vec Request Global)
+    → List (Result (Vec Answer Global) Refusal) → Result (Files D) (Left D d) → Type 0
+HoldsAll d new ends first image sessions answers (Ok now) = HoldsEach d new ends first image sessions answers now
+HoldsAll d new ends first image sessions answers (Err what) = HoldsSome d new ends first image sessions answers what

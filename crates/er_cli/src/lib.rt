@@ -54,7 +54,8 @@ use sqlite::{FileFrom, Start, Wary};
 use sqlite_disk::Disk;
 use std::alloc::Global;
 use std::io::{Read, Write};
-use texts::{Answer, WriteFault, flush, print_answer};
+pub use texts::Answer;
+use texts::{WriteFault, flush, print_answer};
 
 /// It was done; of a script, to its end, whatever its lines were answered.
 const DONE: u8 = 0;

@@ -1,29 +1,31 @@
-ghost use Rattle.std.specs.Prelude.{◌≡◌, IsTrue, IsFalse, List, IfOk, MatchResult};
+ghost use Rattle.std.specs.Prelude.{◌≡◌, List, IsTrue, IfOk, IfErr, MatchResult};
 ghost use Rattle.sqlite.specs.Files.{file_state, image_of, over_files};
 ghost use Rattle.er_desk.specs.Desk.{Point, Placed, state};
 ghost use Rattle.er_desk.specs.History.{Ended};
 ghost use Rattle.er_desk.specs.Headline.{WasLeftBy};
 ghost use Rattle.sqlite_wal.specs.Files.{outcomes};
 ghost use Rattle.sqlite_wal.specs.Reads.{AreClean};
-ghost use Rattle.er_cli.specs.Left.{IsPutAway};
-ghost use Rattle.er_cli.specs.Sessions.{AreCut, HoldsAll, HoldsNext, IfCleanFiles, IsLeftOver, RunsOver};
+ghost use Rattle.er_cli.specs.Sessions.{AreCut, AsksAll, AsksOver, HoldsAll, HoldsNext, IfCleanFiles, IsLeftOver, MayMoveFor};
 
+use crate::answers::answer;
 use crate::closing::close;
 use crate::left::Left;
-use er_desk::laws::next_sessions;
-use er_desk::{Desk, Reply};
-use er_event::{Command, Refusal};
+use crate::texts::Answer;
+use er_desk::Desk;
+use er_desk::laws::{next_sessions, sessions_join};
+use er_event::Refusal;
 use er_store::laws::stored_represents;
 use er_store::refusal_of;
-use sqlite::{Connection, FileStore, Files, Options};
+use er_words::Request;
+use sqlite::{Alter, Connection, FileStore, Files, Options};
 use sqlite_disk::{Crash, Disk};
-use std::alloc::Global;
+use std::alloc::{AllocError, Global};
 
-/// A session over the files of an event: what its commands were answered, or why there was none, and the files, which the next session may
-/// open. Or they can't be opened, or closed, and what is left of them comes back.
+/// A session over the files of an event: what its requests were answered, or why there was none, and the files, which the next session
+/// may open. Or they can't be opened, or closed, and what is left of them comes back.
 #[derive(Drop)]
 pub struct Held<D: Disk + Drop> {
-    pub replies: Result<Vec<Reply>, Refusal>,
+    pub answers: Result<Vec<Answer>, Refusal>,
     pub files: Result<Files<D>, Left<D>>,
 }
 
@@ -50,56 +52,82 @@ fn let_go<D: Disk + Drop>(desk: Desk<FileStore<D>>) -> Result<Files<D>, Left<D>>
     }
 }
 
-/// Hands the commands to the desk, and lets its files go.
+/// Asks the desk one thing after the other. The answers are reserved first, so that want of memory for them leaves all as it was.
+fn ask_all<S: Alter>(
+    alloc: Global,
+    desk: &mut Desk<S>,
+    requests: Vec<Request>,
+) -> Result<Vec<Answer>, AllocError>
+    ensures { MatchResult result
+        (λ answers. AsksAll S.Store desk.old requests.items answers.items desk.new)
+        (λ _. desk.new ≡ desk.old) }
+{
+    let mut answers = Vec::with_capacity(alloc, requests.len())?;
+    for request in requests {
+        let told = answer(alloc, desk, request);
+        let Ok(()) = answers.push(told) else {
+            unreachable!()
+        };
+    }
+    Ok(answers)
+}
+
+/// Asks the desk all of it, and lets its files go.
 fn hold<D: Disk + Drop>(
     alloc: Global,
     mut desk: Desk<FileStore<D>>,
-    commands: Vec<Command>,
+    requests: Vec<Request>,
 ) -> Held<D>
-    ensures { RunsOver desk commands.items result.replies result.files }
+    ensures { AsksOver desk requests.items result.answers result.files }
 {
-    match desk.run(alloc, commands) {
-        Ok(replies) => Held {
-            replies: Ok(replies),
-            files: let_go(desk),
+    let asked = ask_all(alloc, &mut desk, requests);
+    // To look at a desk asks nothing of its file: this tells the proof.
+    desk.asks_nothing();
+    let files = let_go(desk);
+    match asked {
+        Ok(answers) => Held {
+            answers: Ok(answers),
+            files,
         },
         Err(_error) => Held {
-            replies: Err(Refusal::Memory),
-            files: let_go(desk),
+            answers: Err(Refusal::Memory),
+            files,
         },
     }
 }
 
-/// Opens the event in these files, hands it the commands, and lets the files go.
+/// Opens the event in these files, asks it all of this, and lets the files go.
 pub fn next_session<D: Disk + Drop>(
     alloc: Global,
     files: Files<D>,
     options: Options,
-    commands: Vec<Command>,
+    requests: Vec<Request>,
 ) -> Held<D>
     requires log { IsTrue (D.Disk.is_usable files.log) }
     requires db { IsTrue (D.Disk.is_usable files.db) }
     // Of files that a history left, the history goes on with this session.
     ensures holds { (new : Point) (first : Placed) (ends : List Ended)
         → WasLeftBy (image_of D.Disk files) new ends first
-        → HoldsNext D.Disk new ends first files commands.items result.replies result.files }
+        → MayMoveFor (image_of D.Disk files) first requests.items
+        → HoldsNext D.Disk new ends first files requests.items result.answers result.files }
     // On a disk that is clean then, it was clean before.
     ensures clean { IfCleanFiles (AreClean D.Disk files.log files.db) result.files }
 {
-    // What a session leaves is an end of the history with that session, and what a crash left represents the event again: these tell the
-    // proof.
+    // What a session leaves is an end of the history with that session, two sessions are one, and what a crash left represents the event
+    // again: these tell the proof.
     next_sessions();
+    sessions_join();
     stored_represents();
     match Connection::open_files(alloc, files, options) {
         Ok(conn) => match Desk::adopt(alloc, conn) {
-            Ok(desk) => hold(alloc, desk, commands),
+            Ok(desk) => hold(alloc, desk, requests),
             Err((back, why)) => Held {
-                replies: Err(why),
+                answers: Err(why),
                 files: Ok(cut(back)),
             },
         },
         Err((error, rest)) => Held {
-            replies: Err(refusal_of(error)),
+            answers: Err(refusal_of(error)),
             files: Err(Left::Unopened(rest)),
         },
     }
@@ -118,47 +146,58 @@ fn crash<D: Crash + Drop>(files: Files<D>) -> Files<D>
     Files { log, db }
 }
 
-/// Sessions that were held: what the commands of each were answered, and the files after the last.
+/// Sessions that were held: what the requests of each were answered, and the files after the last. Where it could not open them, or not
+/// close them, what is left of them.
 #[derive(Drop)]
 pub struct Sessions<D: Disk + Drop> {
-    pub replies: Vec<Result<Vec<Reply>, Refusal>>,
-    pub files: Files<D>,
+    pub answers: Vec<Result<Vec<Answer>, Refusal>>,
+    pub files: Result<Files<D>, Left<D>>,
 }
 
-/// Holds sessions over the same files, one after the other, each with a crash behind it: closed, or cut off by a fault of the disk. Where
-/// the files can't be opened, or closed with no fault before, or where there is no memory for the replies, the session is the last, and
-/// what is left comes back.
+/// Holds sessions over the same files, one after the other, each with a crash behind it: closed, or cut off by a fault of the disk. One
+/// that can't open the files, or can't close them with no fault before, is the last. Where there is no memory for the answers, the files
+/// come back as they are.
 pub fn hold_sessions<D: Crash + Drop>(
     alloc: Global,
     files: Files<D>,
     options: Options,
-    sessions: Vec<Vec<Command>>,
-) -> Result<Sessions<D>, Left<D>>
+    sessions: Vec<Vec<Request>>,
+) -> Result<Sessions<D>, Files<D>>
     requires log { IsTrue (D.Disk.is_usable files.log) }
     requires db { IsTrue (D.Disk.is_usable files.db) }
     // Files that a history left, are left by the longer history.
-    ensures { (new : Point) (first : Placed) (ends : List Ended)
+    ensures holds { (new : Point) (first : Placed) (ends : List Ended)
         → WasLeftBy (image_of D.Disk files) new ends first
-        → IfOk result (λ it. HoldsAll D.Disk new ends first sessions.items it.replies.items it.files) }
+        → IfOk result (λ it. HoldsAll D.Disk new ends first (image_of D.Disk files)
+        sessions.items it.answers.items it.files) }
+    ensures back { IfErr result (λ back. back ≡ files) }
 {
-    let mut replies = Vec::new(alloc);
+    let Ok(room) = Vec::with_capacity(alloc, sessions.len()) else {
+        return Err(files);
+    };
+    let mut answers = room;
     let mut now = files;
-    for commands in sessions {
-        let held = next_session(alloc, now, options, commands);
+    for requests in sessions {
+        let held = next_session(alloc, now, options, requests);
         let Held {
-            replies: answered,
+            answers: told,
             files,
         } = held;
+        let Ok(()) = answers.push(told) else {
+            unreachable!()
+        };
         match files {
-            Ok(last) => match replies.push(answered) {
-                Ok(()) => now = crash(last),
-                Err(_full) => return Err(Left::Closed(last)),
-            },
-            Err(left) => return Err(left),
+            Ok(last) => now = crash(last),
+            Err(left) => {
+                return Ok(Sessions {
+                    answers,
+                    files: Err(left),
+                });
+            }
         }
     }
     Ok(Sessions {
-        replies,
-        files: now,
+        answers,
+        files: Ok(now),
     })
 }

@@ -1,11 +1,13 @@
-//! Sessions over one disk, with a crash behind each: closed, or stopped at any call of the log.
-ghost use Rattle.std.specs.Prelude.{◌≡◌, false, IsTrue, IfSome};
+//! Sessions over one disk, each with a crash after it: closed, or stopped at any call of the log.
+ghost use Rattle.std.specs.Prelude.{◌≡◌, IsTrue, IfSome};
 ghost use Rattle.sqlite_disk.specs.Memory.{memory_is_usable};
 ghost use Rattle.sqlite_disk.specs.Fuse.{inner_of, IsFresh};
 
-use er_cli::hold_sessions;
+use er_cli::{Answer, hold_sessions};
 use er_desk::Desk;
-use er_testing::desks::{commands, new_desk};
+use er_event::Refusal;
+use er_testing::desks::old_desk;
+use er_words::{Action, Request, Task, read_line};
 use sqlite::{Connection, Files, Options};
 use sqlite_disk::{Disk, Fuse, Memory};
 use std::alloc::Global;
@@ -23,70 +25,111 @@ fn copied(alloc: Global, file: &Fuse<Memory>, calls: u64) -> Option<Fuse<Memory>
     Some(Fuse::new(copy, calls))
 }
 
-/// The files of a new event.
-fn new_files(alloc: Global) -> Option<Disks> {
+/// The files of a new event, in tables of version 1.
+fn old_files(alloc: Global) -> Option<Disks> {
     let files = Files {
         log: Fuse::new(Memory::new(alloc), u64::MAX),
         db: Fuse::new(Memory::new(alloc), u64::MAX),
     };
     match Connection::open_files(alloc, files, Options::new(7)) {
-        Ok(conn) => new_desk(alloc, conn, 1, 0)?.close().close_files().ok(),
+        Ok(conn) => old_desk(alloc, conn, 1, 0).ok()?.close().close_files().ok(),
         Err(_unopened) => None,
     }
 }
 
-/// The serial that these files hold.
-fn serial_in(alloc: Global, files: &Disks) -> Option<u32> {
+/// What a line of a script asks of its event.
+fn request(alloc: Global, line: &str) -> Option<Request> {
+    match read_line(alloc, line.as_bytes()).ok()?.into_parts() {
+        (
+            _file,
+            Action::Open {
+                task: Task::Ask { request },
+            },
+        ) => Some(request),
+        _ => None,
+    }
+}
+
+fn requests(alloc: Global, lines: &str) -> Option<Vec<Request>> {
+    let mut all = Vec::new(alloc);
+    for line in lines.lines() {
+        all.push(request(alloc, line)?).ok()?;
+    }
+    Some(all)
+}
+
+/// Two sessions: the first one moves the tables between two commands, the second shows the standings after two.
+fn two_sessions(alloc: Global) -> Option<Vec<Vec<Request>>> {
+    let mut sessions = Vec::new(alloc);
+    for lines in [
+        "enrol\tP1\nmigrate\nenrol\tP2\n",
+        "enrol\tP3\nenrol\tP4\nstandings\n",
+    ] {
+        sessions.push(requests(alloc, lines)?).ok()?;
+    }
+    Some(sessions)
+}
+
+/// The serial that these files hold, and the version of their tables.
+fn held_in(alloc: Global, files: &Disks) -> Option<(u32, u8)> {
     let files = Files {
         log: copied(alloc, &files.log, u64::MAX)?,
         db: copied(alloc, &files.db, u64::MAX)?,
     };
     match Connection::open_files(alloc, files, Options::new(7)) {
-        Ok(conn) => Desk::adopt(alloc, conn).ok()?.serial().ok(),
+        Ok(conn) => {
+            let desk = Desk::adopt(alloc, conn).ok()?;
+            Some((desk.serial().ok()?, desk.version().ok()?))
+        }
         Err(_unopened) => None,
     }
 }
 
-/// The serial after two sessions of two commands each, where the log stops after so many calls, and comes back. None where a session
+/// Whether a session showed something at its end.
+fn shows_last(answers: &Result<Vec<Answer>, Refusal>) -> bool {
+    match answers {
+        Ok(answers) => matches!(answers.as_slice(), [.., Answer::Text(_)]),
+        Err(_why) => false,
+    }
+}
+
+/// The serial and the version after both sessions, where the log stops after so many calls, and comes back. None within where a session
 /// can't be closed or opened.
-fn serial_after(alloc: Global, files: &Disks, calls: u64) -> Option<Option<u32>> {
+fn held_after(alloc: Global, files: &Disks, calls: u64) -> Option<Option<(u32, u8)>> {
     let files = Files {
         log: copied(alloc, &files.log, calls)?,
         db: copied(alloc, &files.db, u64::MAX)?,
     };
-    let mut sessions = Vec::new(alloc);
-    sessions
-        .push(commands(alloc, "enrol P1\nenrol P2\n")?)
-        .ok()?;
-    sessions
-        .push(commands(alloc, "enrol P3\nenrol P4\n")?)
-        .ok()?;
-    match hold_sessions(alloc, files, Options::new(7), sessions) {
-        Ok(held) if held.replies.len() == 2 => Some(Some(serial_in(alloc, &held.files)?)),
-        Ok(_held) => None,
-        Err(_left) => Some(None),
+    let held = hold_sessions(alloc, files, Options::new(7), two_sessions(alloc)?).ok()?;
+    match (held.answers.as_slice(), &held.files) {
+        ([_first, last], Ok(files)) if shows_last(last) => Some(Some(held_in(alloc, files)?)),
+        (_some, Err(_left)) => Some(None),
+        _ => None,
     }
 }
 
-/// Whether a stop cut off a session, and the next one went on. None where a stop leaves anything else.
+/// Whether a stop cut off the first session, before its migration and after it, and the second went on. None where a stop leaves anything
+/// else.
 fn are_cut_off(alloc: Global) -> Option<bool> {
-    let files = new_files(alloc)?;
-    let mut are_cut_off = false;
-    for step in 0..10 {
-        match serial_after(alloc, &files, 5 + 3 * step)? {
-            Some(2..=3) => are_cut_off = true,
-            Some(4) | None => {}
+    let files = old_files(alloc)?;
+    let mut before = false;
+    let mut after = false;
+    for calls in [29, 33, 37, 41, 45] {
+        match held_after(alloc, &files, calls)? {
+            Some((2 | 3, 1)) => before = true,
+            Some((3, 2)) => after = true,
+            Some((4, 2)) | None => {}
             Some(_) => return None,
         }
     }
-    Some(are_cut_off)
+    Some(before && after)
 }
 
 #[test]
 fn sessions_go_on(rt: HostRuntime) -> Result<(), Fail> {
     let alloc = rt.alloc();
-    let held = new_files(alloc).and_then(|files| serial_after(alloc, &files, u64::MAX));
-    assert_eq!(rt; held, Some(Some(4)));
+    let held = old_files(alloc).and_then(|files| held_after(alloc, &files, u64::MAX));
+    assert_eq!(rt; held, Some(Some((4, 2))));
     assert_eq!(rt; are_cut_off(alloc), Some(true));
     Ok(())
 }

@@ -112,7 +112,7 @@ module _ (first mid : Point) (s t : Session) (leads : LeadsTo first s.kept mid) 
   joined_doubt : (last : Point) (doubt : Command) → EndsWithDoubt mid t last doubt → EndsWithDoubt first (joined s t) last doubt
   joined_doubt last doubt it = record { mid = it.mid; kept = joined_kept it.mid it.kept; event = it.event; serial = it.serial }
 
-  joined_end : (version : ℕ) (trees : Trees) → IsStoredEnd (placed_at mid version) t trees
+  pub joined_end : (version : ℕ) (trees : Trees) → IsStoredEnd (placed_at mid version) t trees
       → IsStoredEnd (placed_at first version) (joined s t) trees
   joined_end version trees (last, inl kept, stored) = (last, inl (joined_kept last kept), stored)
   joined_end version trees (last, inr with_doubt, stored) = (

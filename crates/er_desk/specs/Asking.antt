@@ -74,6 +74,16 @@ pub record Submits {S : Type 0} (g : Ghosts S) (old : Desk S g) (command : Comma
 abbrev pub AsksThen : {S : Type 0} → Ghosts S → Type 0
 AsksThen {S} g = (old mid new : Desk S g) (one two : Session) → Asks g old one mid → Asks g mid two new → Asks g old (joined one two) new
 
+-- A first session has led to this point. Where the second leads from there, the two joined lead from where the first began; and where
+-- the first left nothing in doubt, they end where the second does.
+pub record JoinsOn (first mid : Point) (one two : Session) : Type 0 where
+  pub leads : (last : Point) → LeadsTo mid two.kept last → LeadsTo first (joined one two).kept last
+  pub ends : one.doubt ≡ None → (version : ℕ) (trees : Trees) → IsStoredEnd (placed_at mid version) two trees
+      → IsStoredEnd (placed_at first version) (joined one two) trees
+
+abbrev pub SessionsJoin : Type 0
+SessionsJoin = (first mid : Point) (one two : Session) → LeadsTo first one.kept mid → JoinsOn first mid one two
+
 -- the session of a list, and one command more behind it, are the session of the longer list
 abbrev pub ListsGrow : Type 0
 ListsGrow = (old mid new : DeskState) (commands : List Command) (replies : List Reply) (command : Command) (reply : Reply)

@@ -1,7 +1,7 @@
 //! Laws of runs and histories, over the definitions alone. A law is a function with no code of its own, whose contract is the law.
 
 ghost use Rattle.er_desk.specs.Headline.{Histories};
-ghost use Rattle.er_desk.specs.Asking.{ListsGrow, NextSessions};
+ghost use Rattle.er_desk.specs.Asking.{ListsGrow, NextSessions, SessionsJoin};
 ghost use Rattle.er_desk.specs.Doubt.{DoubtsAreAnswered};
 ghost use Rattle.er_desk.specs.Migrations.{MovingHistories};
 ghost use Rattle.er_desk.specs.Resuming.{Resuming};
@@ -22,6 +22,11 @@ pub fn next_sessions()
 {
     histories();
 }
+
+/// Two sessions, one after the other, lead and end where the two joined do.
+pub fn sessions_join()
+    ensures { SessionsJoin }
+{}
 
 /// A command that was in doubt when a session was stopped is found stored in the next one, or new.
 pub fn doubts()

@@ -1,40 +1,71 @@
-use Rattle.std.proofs.Common.{◌≡◌, List, [], refl, rules, sym, subst, append-nil, map-id}
+use Rattle.std.proofs.Common.{◌∷◌, [], length-append, refl, rules, subst, map-id, arith}
 use Rattle.std.proofs.lemmas.Iterator.Adapters.{YieldsList-from_vec}
-use Rattle.std.proofs.lemmas.Iterator.Consumers.{YieldsList-end}
+use Rattle.std.proofs.lemmas.Iterator.Consumers.{YieldsList-end, YieldsList-so_far, YieldsList-turn}
 use Rattle.sqlite.specs.Files.{image_of}
-use Rattle.er_desk.specs.{History.Ended, Headline.WasLeftBy}
-use Rattle.er_cli.proofs.Holding.{holds_more}
+use Rattle.sqlite_wal.specs.Reads.{AreClean}
+use Rattle.er_cli.specs.Sessions.{HoldsNext, IfCleanFiles}
+use Rattle.er_cli.proofs.Holding.{holds_more, so_far}
 use Rattle.er_cli.proofs.sessions.hold_sessions.Goals as goal
 
-pub loop-commands-init : goal.loop-commands-init
-loop-commands-init g c = (
+pub loop-requests-init : goal.loop-requests-init
+loop-requests-init g c = (
   tt,
   tt,
   (c.requires.log, c.requires.db),
-  λ new first ends was clean. ∣ (
-    [],
-    first.point,
-    (let none : c.new-replies.result.items ≡ [] = search rules in rw none refl),
-    subst (λ (es : List Ended). WasLeftBy (image_of g.D.Disk c.args.files) new es first) (sym (append-nil ends)) was,
-  ) ∣₁,
+  search rules,
+  search rules,
+  λ new first ends was clean. rw c.in-Ok.ensures.items refl,
 )
 
-pub loop-commands-preserved : goal.loop-commands-preserved
-loop-commands-preserved g c = (
-  tt,
-  tt,
-  c.crash-now.ensures.usable,
-  λ new first ends was. rw c.in-Ok-push.ensures.items
-      (holds_more g.D.Disk new ends first c.loop-commands.yielded c.loop-commands.replies.items
-      c.loop-commands.now (c.loop-commands.invariant.3 new first ends was) c.in-Some.commands c.next_session-held.result.replies
-      c.next_session-held.result.files c.in-Ok.last c.crash-now.result c.in-Ok.is c.crash-now.ensures.clean c.crash-now.ensures.left
-      c.next_session-held.ensures.clean c.next_session-held.ensures.holds),
-)
+pub loop-requests-preserved : goal.loop-requests-preserved
+loop-requests-preserved g c =
+    let inv = c.loop-requests.invariant in
+    let it = c.next_session-held in
+    let d = g.D.Disk in (
+      tt,
+      tt,
+      c.crash-now.ensures.usable,
+      omega (arith, inv.3, c.in-Ok-push.ensures.len, length-append c.loop-requests.yielded (c.in-Some.requests ∷ [])),
+      omega (arith, inv.4, c.in-Ok-push.ensures.capacity),
+      λ new first ends was clean.
+          let last_clean = c.crash-now.ensures.clean clean in
+          let was_clean = subst (IfCleanFiles (AreClean d c.loop-requests.now.log c.loop-requests.now.db)) c.in-Ok-files.is it.ensures.clean in
+          rw c.in-Ok-push.ensures.items
+          (holds_more d new c.in-Some.requests it.result.answers c.loop-requests.now it.result.files c.in-Ok-files.last c.crash-now.result
+          c.in-Ok-files.is clean last_clean c.crash-now.ensures.left (λ f es. it.ensures.holds new f es) ends first
+          (image_of d c.args.files) was c.loop-requests.yielded c.loop-requests.answers.items
+          (inv.5 new first ends was (was_clean last_clean))),
+    )
 
-pub returns : goal.returns
-returns g c new first ends was =
+pub returns-in-Err-clause-holds : goal.returns-in-Err-clause-holds
+returns-in-Err-clause-holds g c new first ends was =
+    let inv = c.loop-requests.invariant in
+    let it = c.next_session-held in
+    let d = g.D.Disk in
+    let all = YieldsList-from_vec {s = c.into_iter-requests-iterator.result} c.args.sessions.items (search rules) (search rules) in
+    let seen = c.loop-requests.yielded in
+    let at = c.loop-requests.requests-iterator in
+    let by = c.loop-requests.yielded_by in
+    record {
+      done = seen;
+      requests = c.in-Some.requests;
+      later = _;
+      are = so_far c.args.sessions.items seen c.in-Some.requests (YieldsList-so_far all seen at by)
+          (YieldsList-turn all seen at by c.next.result c.next.new.self c.in-Some.requests c.in-Some.is c.next.ensures.steps);
+      before = c.loop-requests.answers.items;
+      answered = it.result.answers;
+      were = c.in-Ok-push.ensures.items;
+      files = c.loop-requests.now;
+      held = inv.5 new first ends was;
+      clean = subst (IfCleanFiles (AreClean d c.loop-requests.now.log c.loop-requests.now.db)) c.in-Err.is it.ensures.clean;
+      goes_on = λ so mid left may. subst (HoldsNext d new so mid c.loop-requests.now c.in-Some.requests.items it.result.answers) c.in-Err.is
+          (it.ensures.holds new mid so left may);
+    }
+
+pub returns-clause-holds : goal.returns-clause-holds
+returns-clause-holds g c new first ends was =
     let seen = YieldsList-end
-    (YieldsList-from_vec {s = c.into_iter-commands-iterator.result} c.args.sessions.items (search rules) (search rules))
-    c.loop-commands.yielded c.loop-commands.commands-iterator c.loop-commands.yielded_by c.next.result c.next.new.self c.in-None.is
+    (YieldsList-from_vec {s = c.into_iter-requests-iterator.result} c.args.sessions.items (search rules) (search rules))
+    c.loop-requests.yielded c.loop-requests.requests-iterator c.loop-requests.yielded_by c.next.result c.next.new.self c.in-None.is
     c.next.ensures.steps in
-    rw (← seen.0, map-id) (c.loop-commands.invariant.3 new first ends was)
+    rw (← seen.0, map-id) (c.loop-requests.invariant.5 new first ends was)

@@ -1,50 +1,52 @@
-use Rattle.std.proofs.Common.{Ok, refl}
+use Rattle.std.proofs.Common.{Ok}
 use Rattle.er_desk.specs.Run.{no_session}
-use Rattle.er_cli.proofs.Holding.{in_either, ran_clean, ran_holds, refused_holds, represents_again, still_begins}
+use Rattle.er_cli.proofs.Holding.{in_either, ran_clean, ran_holds, refused_holds, represents_again, sees_still, still_begins}
 use Rattle.er_cli.proofs.sessions.next_session.Goals as goal
 
 pub returns-in-Ok-adopt-clause-holds : goal.returns-in-Ok-adopt-clause-holds
-returns-in-Ok-adopt-clause-holds g c new first ends was =
+returns-in-Ok-adopt-clause-holds g c new first ends was may =
     let law = c.next_sessions.ensures in
     let it = c.in-Ok-adopt.ensures in
     let conn = c.in-Ok.conn in
-    ran_holds g.D.Disk law c.args.files new first ends was c.in-Ok-adopt.desk it.ready
-    (λ clean. it.found first (represents_again g.D.Disk law c.args.files new first ends was conn c.in-Ok.ensures.opened
-    c.in-Ok.ensures.found
-    (it.left.clean clean) c.stored_represents.ensures) (law new first.point ends was.begins was.history).sound clean)
-    c.args.commands.items c.hold.result.replies c.hold.result.files c.hold.ensures
+    ran_holds g.D.Disk law c.args.files new first ends was c.sessions_join.ensures c.in-Ok-adopt.desk it.ready
+    (record {
+      finds = λ clean. it.found first (represents_again g.D.Disk law c.args.files new first ends was conn c.in-Ok.ensures.opened
+          c.in-Ok.ensures.found
+          (it.left.clean clean) c.stored_represents.ensures) (law new first.point ends was.begins was.history).sound clean;
+      sees = sees_still g.D.Disk law c.args.files new first ends was conn c.in-Ok-adopt.desk it.left.clean c.in-Ok.ensures.opened
+          c.in-Ok.ensures.found it.same;
+    })
+    c.args.requests.items may c.hold.result.answers c.hold.result.files c.hold.ensures
 
 pub returns-in-Err-adopt-clause-holds : goal.returns-in-Err-adopt-clause-holds
-returns-in-Err-adopt-clause-holds g c new first ends was =
+returns-in-Err-adopt-clause-holds g c new first ends was may =
     let law = c.next_sessions.ensures in
     let it = c.in-Err-adopt.ensures in
     let conn = c.in-Ok.conn in
-    refused_holds g.D.Disk law c.args.files new first ends was c.args.commands.items c.in-Err-adopt.back c.in-Err-adopt.why
+    refused_holds g.D.Disk law c.args.files new first ends was c.args.requests.items c.in-Err-adopt.back c.in-Err-adopt.why
     (Ok c.cut.result)
     c.cut.ensures
-    (λ clean trees may. still_begins g.D.Disk law c.args.files new first ends was conn c.in-Ok.ensures.opened c.in-Ok.ensures.found
-    (it.left.clean clean) trees (it.left.left (c.in-Ok.ensures.opened (it.left.clean clean)).0.is_open clean trees may))
+    (λ clean trees left. still_begins g.D.Disk law c.args.files new first ends was conn c.in-Ok.ensures.opened c.in-Ok.ensures.found
+    (it.left.clean clean) trees (it.left.left (c.in-Ok.ensures.opened (it.left.clean clean)).0.is_open clean trees left))
     (λ clean. it.found first.point (in_either (represents_again g.D.Disk law c.args.files new first ends was conn c.in-Ok.ensures.opened
     c.in-Ok.ensures.found (it.left.clean clean) c.stored_represents.ensures)) (law new first.point ends was.begins was.history).sound clean)
 
 pub returns-in-Err-clause-holds : goal.returns-in-Err-clause-holds
-returns-in-Err-clause-holds g c new first ends was = record {
+returns-in-Err-clause-holds g c new first ends was may = record {
   session = no_session;
+  held = tt;
   leaves = tt;
-  ran = (
-    refl,
-    tt,
-    (
-      c.in-Err.error,
-      c.refusal_of.ensures.value,
-      c.refusal_of.ensures.fault,
-      λ clean. (c.in-Err.ensures.cause clean, c.in-Err.ensures.unharmed clean),
-    ),
+  unopened = (
+    c.in-Err.error,
+    c.refusal_of.ensures.value,
+    c.refusal_of.ensures.fault,
+    λ clean. (c.in-Err.ensures.cause clean, c.in-Err.ensures.unharmed clean),
   );
 }
 
 pub returns-in-Ok-adopt-clause-clean : goal.returns-in-Ok-adopt-clause-clean
-returns-in-Ok-adopt-clause-clean g c = ran_clean g.D.Disk c.in-Ok-adopt.desk c.args.commands.items c.hold.result.replies
+returns-in-Ok-adopt-clause-clean g c = ran_clean g.D.Disk c.sessions_join.ensures c.in-Ok-adopt.desk c.args.requests.items
+    c.hold.result.answers
     c.hold.result.files c.hold.ensures
     (λ clean. (c.in-Ok.ensures.found (c.in-Ok-adopt.ensures.left.clean clean)).honest)
 

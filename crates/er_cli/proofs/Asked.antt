@@ -1,0 +1,270 @@
+-- A desk that is asked one thing after the other.
+use Rattle.std.proofs.Common.{◌≡◌, ◌⊎◌, ◌++◌, inl, inr, ℕ, Bool, true, false, IsTrue, IsFalse, List, [], ◌∷◌, Result, Ok, Err, None}
+use Rattle.std.proofs.Common.{Option, IfOk, Vec, Global, refl, sym, ap, subst, ◌∙◌, arith, append-nil, true≢false}
+use Rattle.sqlite_trees.specs.declared.store.Store.{Ghosts}
+use Rattle.sqlite.specs.{State.HasCleanDisk}
+use Rattle.er_event.specs.declared.{commands.Command.Command, refusals.Refusal.Refusal}
+use Rattle.er_event.specs.declared.refusals.Refusal.TheVariants.{NeedsReopen}
+use Rattle.er_rank.specs.declared.rows.Row.{Row}
+use Rattle.er_store.specs.{Representing.Leaves}
+use Rattle.er_desk.specs.{declared.desk.Desk.Desk, Desk.{DeskState, Reads, ShowsOwn, Point, placed_at, point_of, desk_state, state, version_in}}
+use Rattle.er_desk.specs.{Asking.{Asks, SessionsJoin, joined, later_doubt}, History.LeadsTo, Migrating.{MayMigrate, Migrates}}
+use Rattle.er_desk.specs.{Headline.AreTheStandings, Run.{Session, IsStoredEnd, no_session}}
+use Rattle.er_words.specs.declared.action.{Request.Request, Request.TheVariants.{Submit, Players, Standings, Slips, Bracket, Export, Migrate}}
+use Rattle.er_cli.specs.declared.texts.{Answer.Answer}
+use Rattle.er_cli.specs.Answers.{AsksFor, DeskAnswers, Moves, moved_answer, session_at}
+use Rattle.er_cli.specs.{GoingOn.LeadsToVersion, Sessions.{AnswersAll, AsksAll, AsksMigration, LeadToVersion}}
+use Rattle.er_cli.proofs.GoingOn.{Stays, goes_asking, goes_moving}
+
+-- one thing more
+pub asks_push : {S : Type 0} (g : Ghosts S) (first old new : Desk S g) (requests : List Request) (answers : List Answer)
+    (request : Request) (answer : Answer) → AsksAll g first requests answers old → AsksFor g old request answer new
+    → DeskAnswers (HasCleanDisk (state g new) × ShowsOwn g old) (desk_state old) request answer (desk_state new)
+    → AsksAll g first (requests ++ request ∷ []) (answers ++ answer ∷ []) new
+asks_push {S} g first old new [] [] request answer is asked told =
+    subst (λ (d : Desk S g). (mid : Desk S g) × AsksFor g d request answer mid
+    × DeskAnswers (HasCleanDisk (state g mid) × ShowsOwn g d) (desk_state d) request answer (desk_state mid) × (new ≡ mid)) is
+    (new, asked, told, refl)
+asks_push g first old new [] (a ∷ answers) request answer is asked told = absurd is
+asks_push g first old new (r ∷ requests) [] request answer is asked told = absurd is
+asks_push g first old new (r ∷ requests) (a ∷ answers) request answer is asked told =
+    (is.0, is.1, is.2, asks_push g is.0 old new requests answers request answer is.3 asked told)
+
+-- the tables may be migrated, where a migration is asked
+abbrev pub MayIf : {S : Type 0} (g : Ghosts S) → Type 0 → Desk S g → Type 0
+MayIf g Asked desk = Asked → HasCleanDisk (state g desk) → MayMigrate g desk
+
+-- What a request does to the file, or a list of them: this session is asked, and the tables are left in such a version.
+pub record Went {S : Type 0} (g : Ghosts S) (Asked : Type 0) (old : Desk S g) (session : Session) (In : (was now : ℕ) → Type 0)
+    (new : Desk S g) : Type 0 where
+  pub clean : HasCleanDisk (state g new) → HasCleanDisk (state g old)
+  pub waits : IsTrue (desk_state old).needs_reopen → (new ≡ old) × (session ≡ no_session) × ((v : ℕ) → In v v)
+  pub leads : LeadsTo (point_of (desk_state old)) session.kept (point_of (desk_state new))
+  pub sure : IsFalse (desk_state new).needs_reopen → session.doubt ≡ None
+  pub within : IsFalse (desk_state new).needs_reopen → In (version_in old) (version_in new)
+  pub represents : MayIf g Asked old → HasCleanDisk (state g new) → ShowsOwn g old → IsFalse (desk_state new).needs_reopen → ShowsOwn g new
+  pub migrates : HasCleanDisk (state g new) → ShowsOwn g old → MayMigrate g old → IsFalse (desk_state new).needs_reopen → MayMigrate g new
+  pub crash : MayIf g Asked old → ShowsOwn g old → Leaves (state g new)
+      (λ trees. (v : ℕ) × In (version_in old) v × IsStoredEnd (placed_at (point_of (desk_state old)) v) session trees)
+
+-- ---- one request
+
+module _ {S : Type 0} (g : Ghosts S) (Asked : Type 0) (old new : Desk S g) where
+  still_may : version_in new ≡ version_in old → (state g new).now.schema ≡ (state g old).now.schema → MayMigrate g old → MayMigrate g new
+  still_may same schema (inl second) = inl (same ∙ second)
+  still_may same schema (inr alone) = inr (schema ∙ alone)
+
+  pub went_asking : (session : Session) → Asks g old session new → Went g Asked old session Stays new
+  went_asking session it = record {
+    clean = it.clean;
+    waits = λ stopped. ((it.waits stopped).0, (it.waits stopped).1, λ v. refl);
+    leads = it.leads;
+    sure = it.sure;
+    within = λ runs. it.version;
+    represents = λ may. it.represents;
+    migrates = λ clean shows may runs.
+        still_may it.version (it.others clean shows (it.represents clean shows runs).is_open).schema may;
+    crash = λ may. (goes_asking g old session new it).crash;
+  }
+
+-- a migration: where the desk then runs, its tables are of version 2
+moved_second : (old new : DeskState) (moved : Result ℕ Refusal) → Migrates old moved new → IsFalse new.needs_reopen → new.version ≡ 2
+moved_second old new (Ok serial) it runs = ap (λ (s : DeskState). s.version) it.2
+moved_second old new (Err why) (inl it) runs =
+    absurd (true≢false (sym (ap (λ (s : DeskState). s.needs_reopen) it.2 ∙ it.0) ∙ runs))
+moved_second old new (Err why) (inr it) runs = absurd (true≢false (sym (ap (λ (s : DeskState). s.needs_reopen) it.3) ∙ runs))
+
+moved_point : (old new : DeskState) (moved : Result ℕ Refusal) → Migrates old moved new → point_of new ≡ point_of old
+moved_point old new (Ok serial) it = ap point_of it.2
+moved_point old new (Err why) (inl it) = ap point_of it.2
+moved_point old new (Err why) (inr it) = ap point_of it.3
+
+leads_second : (moved : Result ℕ Refusal) (was : ℕ) → LeadsToVersion Migrate (moved_answer moved) was 2
+leads_second (Ok serial) was = refl
+leads_second (Err why) was = inr refl
+
+leads_nowhere : (old new : DeskState) (moved : Result ℕ Refusal) → Migrates old moved new → IsTrue old.needs_reopen → (v : ℕ)
+    → LeadsToVersion Migrate (moved_answer moved) v v
+leads_nowhere old new (Ok serial) it stopped v = absurd (true≢false (sym stopped ∙ it.0))
+leads_nowhere old new (Err why) it stopped v = inl refl
+
+module _ {S : Type 0} (g : Ghosts S) (old new : Desk S g) where
+  went_moving : (answer : Answer) → Moves g old answer new → Went g (Migrate ≡ Migrate) old no_session (LeadsToVersion Migrate answer) new
+  went_moving answer it =
+      let does = it.does in
+      let same = moved_point (desk_state old) (desk_state new) it.moved does.turn in
+      record {
+        clean = does.clean;
+        waits = λ stopped. (
+          does.waits (inl stopped),
+          refl,
+          λ v. subst (λ (a : Answer). LeadsToVersion Migrate a v v) (sym it.told)
+              (leads_nowhere (desk_state old) (desk_state new) it.moved does.turn stopped v),
+        );
+        leads = record { event = ap (λ (p : Point). p.event) same; serial = ap (λ (p : Point). p.serial) same ∙ omega arith };
+        sure = λ runs. refl;
+        within = λ runs. subst (λ (a : Answer). LeadsToVersion Migrate a (version_in old) (version_in new)) (sym it.told)
+            (subst (λ (v : ℕ). LeadsToVersion Migrate (moved_answer it.moved) (version_in old) v)
+            (sym (moved_second (desk_state old) (desk_state new) it.moved does.turn runs)) (leads_second it.moved (version_in old)));
+        represents = λ may clean. does.represents (may refl (does.clean clean)) clean;
+        migrates = λ clean shows may runs. inl (moved_second (desk_state old) (desk_state new) it.moved does.turn runs);
+        crash = λ may. (goes_moving g old answer new it (may refl)).crash;
+      }
+
+  went_one : (request : Request) (answer : Answer) → AsksFor g old request answer new
+      → Went g (request ≡ Migrate) old (session_at request answer (desk_state new).needs_reopen) (LeadsToVersion request answer) new
+  went_one (Submit command) answer it = went_asking g _ old new _ it
+  went_one Players answer it = went_asking g _ old new _ it
+  went_one Standings answer it = went_asking g _ old new _ it
+  went_one (Slips round) answer it = went_asking g _ old new _ it
+  went_one Bracket answer it = went_asking g _ old new _ it
+  went_one (Export kind) answer it = went_asking g _ old new _ it
+  went_one Migrate answer it = went_moving answer it
+
+-- ---- one behind the other
+
+nothing_more : (s : Session) → joined s no_session ≡ s
+nothing_more s = ap (λ (kept : List Command). let it : Session = record { kept = kept; doubt = s.doubt } in it) (append-nil s.kept)
+
+module _ (join : SessionsJoin) {S : Type 0} (g : Ghosts S) (A B : Type 0) (old mid new : Desk S g) (s t : Session)
+    (In On : (was now : ℕ) → Type 0) (one : Went g A old s In mid) (two : Went g B mid t On new) where
+  abbrev Both : (was now : ℕ) → Type 0
+  Both was now = (between : ℕ) × In was between × On between now
+
+  -- a desk that runs has run before
+  ran : IsFalse (desk_state new).needs_reopen → IsFalse (desk_state mid).needs_reopen
+  ran runs = by (desk_state mid).needs_reopen refl
+    where
+      by : (b : Bool) → (desk_state mid).needs_reopen ≡ b → IsFalse (desk_state mid).needs_reopen
+      by true is = absurd (true≢false (sym (ap (λ (d : Desk S g). (desk_state d).needs_reopen) (two.waits is).0 ∙ is) ∙ runs))
+      by false is = is
+
+  both_wait : IsTrue (desk_state old).needs_reopen → (new ≡ old) × (joined s t ≡ no_session) × ((v : ℕ) → Both v v)
+  both_wait stopped =
+      let before = one.waits stopped in
+      let after = two.waits (ap (λ (d : Desk S g). (desk_state d).needs_reopen) before.0 ∙ stopped) in (
+        after.0 ∙ before.0,
+        subst (λ (a : Session). joined a t ≡ no_session) (sym before.1)
+            (subst (λ (b : Session). joined no_session b ≡ no_session) (sym after.1) refl),
+        λ v. (v, before.2 v, after.2 v),
+      )
+
+  may_later : MayIf g (A ⊎ B) old → ShowsOwn g old → IsFalse (desk_state mid).needs_reopen → MayIf g B mid
+  may_later may shows runs = λ asked clean. one.migrates clean shows (may (inr asked) (one.clean clean)) runs
+
+  both_crash : MayIf g (A ⊎ B) old → ShowsOwn g old → Leaves (state g new)
+      (λ trees. (v : ℕ) × Both (version_in old) v × IsStoredEnd (placed_at (point_of (desk_state old)) v) (joined s t) trees)
+  both_crash may shows clean trees left = by (desk_state mid).needs_reopen refl
+    where
+      Left : Type 0
+      Left = (v : ℕ) × Both (version_in old) v × IsStoredEnd (placed_at (point_of (desk_state old)) v) (joined s t) trees
+
+      by : (b : Bool) → (desk_state mid).needs_reopen ≡ b → Left
+      by true is =
+          let after = two.waits is in
+          let it = one.crash (λ asked. may (inl asked)) shows (two.clean clean) trees
+          (subst (λ (d : Desk S g). (state g d).may_leave trees) after.0 left) in (
+            it.0,
+            (it.0, it.1, after.2 it.0),
+            subst (λ (x : Session). IsStoredEnd (placed_at (point_of (desk_state old)) it.0) x trees)
+                (sym (subst (λ (b : Session). joined s b ≡ s) (sym after.1) (nothing_more s))) it.2,
+          )
+      by false is =
+          let here = one.represents (λ asked. may (inl asked)) (two.clean clean) shows is in
+          let it = two.crash (may_later may shows is) here clean trees left in (
+            it.0,
+            (version_in mid, one.within is, it.1),
+            (join (point_of (desk_state old)) (point_of (desk_state mid)) s t one.leads).ends (one.sure is) it.0 trees it.2,
+          )
+
+  pub went_then : Went g (A ⊎ B) old (joined s t) Both new
+  went_then = record {
+    clean = λ clean. one.clean (two.clean clean);
+    waits = both_wait;
+    leads = (join (point_of (desk_state old)) (point_of (desk_state mid)) s t one.leads).leads (point_of (desk_state new)) two.leads;
+    sure = λ runs. alone s.doubt t.doubt (one.sure (ran runs)) (two.sure runs);
+    within = λ runs. (version_in mid, one.within (ran runs), two.within runs);
+    represents = λ may clean shows runs. two.represents (may_later may shows (ran runs)) clean
+        (one.represents (λ asked. may (inl asked)) (two.clean clean) shows (ran runs)) runs;
+    migrates = λ clean shows may runs. two.migrates clean
+        (one.represents (λ asked _. may) (two.clean clean) shows (ran runs)) (one.migrates (two.clean clean) shows may (ran runs)) runs;
+    crash = both_crash;
+  }
+    where
+      alone : (one two : Option Command) → one ≡ None → two ≡ None → later_doubt one two ≡ None
+      alone one two first then = subst (λ (o : Option Command). later_doubt one o ≡ None) (sym then) first
+
+-- ---- all of it
+
+-- a desk that was stopped reads nothing, and one that runs reads tables that represent its event
+read_fully : (R : Type 0) (old new : DeskState) (read : Result (Vec Row Global) Refusal) → (IsFalse old.needs_reopen → R)
+    → (read ≡ Err NeedsReopen) ⊎ IsFalse old.needs_reopen → (R → IfOk read (λ rows. AreTheStandings old.event rows.items))
+    → IfOk read (λ rows. AreTheStandings old.event rows.items)
+read_fully R old new read given (inl is) are =
+    subst (λ (r : Result (Vec Row Global) Refusal). IfOk r (λ rows. AreTheStandings old.event rows.items)) (sym is) tt
+read_fully R old new read given (inr runs) are = are (given runs)
+
+which : {A : Type 0} (passing : Refusal) (old new : DeskState) (read : Result A Refusal) → Reads passing old read new
+    → (read ≡ Err NeedsReopen) ⊎ IsFalse old.needs_reopen
+which passing old new read (inl it) = inr it.0
+which passing old new read (inr (inl it)) = inr it.0
+which passing old new read (inr (inr it)) = inl it.2
+
+fully : (R : Type 0) (old new : DeskState) (request : Request) (answer : Answer) → (IsFalse old.needs_reopen → R)
+    → DeskAnswers R old request answer new → DeskAnswers (Unit {0}) old request answer new
+fully R old new (Submit command) answer given it = it
+fully R old new Players answer given it = it
+fully R old new Standings answer given (read, reads, are, is, fails) =
+    (read, reads, λ _. read_fully R old new read given (which _ old new read reads) are, is, λ _ runs. fails (given runs) runs)
+fully R old new (Slips round) answer given it = it
+fully R old new Bracket answer given it = it
+fully R old new (Export kind) answer given it = it
+fully R old new Migrate answer given it = it
+
+pub record Over {S : Type 0} (g : Ghosts S) (old : Desk S g) (requests : List Request) (answers : List Answer) (session : Session)
+    (new : Desk S g) : Type 0 where
+  pub went : Went g (AsksMigration requests) old session (LeadToVersion requests answers) new
+  pub answered : HasCleanDisk (state g new) → (IsFalse (desk_state old).needs_reopen → ShowsOwn g old)
+      → (IsFalse (desk_state old).needs_reopen → MayIf g (AsksMigration requests) old)
+      → AnswersAll (desk_state old) requests answers session (desk_state new)
+
+module _ (join : SessionsJoin) {S : Type 0} (g : Ghosts S) (new : Desk S g) (rests : Asks g new no_session new) where
+  pub all_over : (requests : List Request) (answers : List Answer) (old : Desk S g) → AsksAll g old requests answers new
+      → (session : Session) × Over g old requests answers session new
+  all_over [] [] old is = (
+    no_session,
+    record {
+      went = subst (λ (d : Desk S g). Went g ⊥ d no_session Stays new) is (went_asking g ⊥ new new no_session rests);
+      answered = λ clean shows may. (refl, ap desk_state is);
+    },
+  )
+  all_over [] (answer ∷ answers) old is = absurd is
+  all_over (request ∷ requests) [] old is = absurd is
+  all_over (request ∷ requests) (answer ∷ answers) old (mid, asked, told, rest) =
+      let one = went_one g old mid request answer asked in
+      let later = all_over requests answers mid rest in
+      let s = session_at request answer (desk_state mid).needs_reopen in
+      let was : IsFalse (desk_state mid).needs_reopen → IsFalse (desk_state old).needs_reopen = λ runs.
+      by one (desk_state old).needs_reopen refl runs in (
+        joined s later.0,
+        record {
+          went = went_then join g (request ≡ Migrate) (AsksMigration requests) old mid new s later.0 (LeadsToVersion request answer)
+              (LeadToVersion requests answers) one later.1.went;
+          answered = λ clean shows may.
+              let mid_clean = later.1.went.clean clean in (
+                desk_state mid,
+                later.0,
+                fully _ (desk_state old) (desk_state mid) request answer (λ runs. (mid_clean, shows runs)) told,
+                later.1.answered clean
+                    (λ runs. one.represents (λ a. may (was runs) (inl a)) mid_clean (shows (was runs)) runs)
+                    (λ runs a it. one.migrates it (shows (was runs)) (may (was runs) (inr a) (one.clean it)) runs),
+                refl,
+              );
+        },
+      )
+    where
+      by : Went g (request ≡ Migrate) old (session_at request answer (desk_state mid).needs_reopen) (LeadsToVersion request answer) mid
+          → (b : Bool) → (desk_state old).needs_reopen ≡ b → IsFalse (desk_state mid).needs_reopen → IsFalse (desk_state old).needs_reopen
+      by one true is runs =
+          absurd (true≢false (sym (ap (λ (d : Desk S g). (desk_state d).needs_reopen) (one.waits is).0 ∙ is) ∙ runs))
+      by one false is runs = is
