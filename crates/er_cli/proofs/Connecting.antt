@@ -1,5 +1,5 @@
 -- One connection after the other.
-use Rattle.std.proofs.Common.{◌≡◌, ◌⊎◌, inl, inr, ℕ, suc, ◌+◌, List, Option, Result, Ok, Err, refl, subst, ◌≤◌, arith}
+use Rattle.std.proofs.Common.{◌≡◌, ◌⊎◌, inl, inr, ℕ, suc, ◌+◌, List, Option, Result, Ok, Err, refl, subst, arith}
 use Rattle.std.proofs.Math.Nat.{le_refl}
 use Rattle.std.specs.Io.KnownBytes.{Appends}
 use Rattle.sqlite_trees.specs.declared.store.Store.{Ghosts}
@@ -58,29 +58,21 @@ connects_up_to count status old session new (inr (broke, some)) = some
 
 -- ---- what is printed where serving ends early
 
-module _ (count port : ℕ) (fits : port ≤ 65535) (before after : Option (List ℕ)) (line : List ℕ) (is : line ≡ listening port) where
-  pub port_in_part : AppendsPart before after line → PrintsServed count before after DEVICE
-  port_in_part part = (
-    port,
-    fits,
-    inr (
-      refl,
-      part_first before after (listening port) (served count)
-          (subst (λ t. AppendsPart before after t) is part),
-    ),
+module _ (port count : ℕ) (before after : Option (List ℕ)) (line : List ℕ) (is : line ≡ listening port) where
+  pub port_in_part : AppendsPart before after line → PrintsServed port count before after DEVICE
+  port_in_part part = inr (
+    refl,
+    part_first before after (listening port) (served count)
+        (subst (λ t. AppendsPart before after t) is part),
   )
 
-  pub port_alone : Appends before after line → PrintsServed count before after DEVICE
+  pub port_alone : Appends before after line → PrintsServed port count before after DEVICE
   port_alone whole = port_in_part (whole_part before after line whole)
 
   pub count_in_part : (mid : Option (List ℕ)) (last : List ℕ) → last ≡ served count → Appends before mid line → AppendsPart mid after last
-      → PrintsServed count before after DEVICE
-  count_in_part mid last ends whole part = (
-    port,
-    fits,
-    inr (
-      refl,
-      part_after before mid after (listening port) (served count) (subst (λ t. Appends before mid t) is whole)
-          (subst (λ t. AppendsPart mid after t) ends part),
-    ),
+      → PrintsServed port count before after DEVICE
+  count_in_part mid last ends whole part = inr (
+    refl,
+    part_after before mid after (listening port) (served count) (subst (λ t. Appends before mid t) is whole)
+        (subst (λ t. AppendsPart mid after t) ends part),
   )

@@ -37,7 +37,7 @@ use Rattle.er_cli.specs.declared.TheConstants.{DEVICE}
 use Rattle.er_cli.specs.declared.help.TheConstants.{CANNOT_LISTEN}
 use Rattle.er_cli.specs.Help.{Says, Tells}
 use Rattle.er_cli.specs.Importing.{Imports}
-use Rattle.er_cli.specs.Serving.{PrintsServed, ServesAll}
+use Rattle.er_cli.specs.Serving.{PrintsSome, ServesAll}
 use Rattle.er_cli.specs.Next.{GoesTo}
 use Rattle.er_cli.specs.Setup.{init_checks}
 use Rattle.er_cli.specs.Answers.{AsksFor, DeskAnswers}
@@ -109,7 +109,7 @@ module _ (out out_then err err_then : Option (List ℕ)) (status : ℕ) where
   -- clients were served, or the port can't be had, or memory was wanting before anybody was listened to
   abbrev pub ServesClients : ℕ → DeskState → Session → DeskState → Type 0
   ServesClients count old session new =
-      (PrintsServed count out out_then status × (err_then ≡ err) × ServesAll count status old session new)
+      (PrintsSome count out out_then status × (err_then ≡ err) × ServesAll count status old session new)
       ⊎ (Says CANNOT_LISTEN.now DEVICE (record { meant = err; other = out }) (record { meant = err_then; other = out_then }) status
       × (session ≡ no_session) × (new ≡ old))
       ⊎ (Tells (Refused Memory) out out_then err err_then status × (session ≡ no_session) × (new ≡ old))

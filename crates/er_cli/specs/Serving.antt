@@ -45,6 +45,9 @@ abbrev pub served : ℕ → List ℕ
 served count = codes "served " ++ (decimal count ++ (10 ∷ []))
 
 -- the port that is listened at, and at the end how many clients were served, or a beginning of this
-abbrev pub PrintsServed : ℕ → (before after : Option (List ℕ)) → ℕ → Type 0
-PrintsServed count before after status =
-    (port : ℕ) × (port ≤ 65535) × Puts (listening port ++ served count) DONE before after status
+abbrev pub PrintsServed : (port count : ℕ) → (before after : Option (List ℕ)) → ℕ → Type 0
+PrintsServed port count before after status = Puts (listening port ++ served count) DONE before after status
+
+-- at some port, or nothing where it can't be told
+abbrev pub PrintsSome : ℕ → (before after : Option (List ℕ)) → ℕ → Type 0
+PrintsSome count before after status = (port : ℕ) × (port ≤ 65535) × PrintsServed port count before after status

@@ -98,8 +98,8 @@ pub struct Visit<R, W> {
 
 impl<R: Read + Drop, W: Write + Drop> Visit<R, W> {
     pub fn new(reader: R, writer: W) -> Visit<R, W>
-        ensures reader { R.remaining result.reader.stream ≡ R.remaining reader }
-        ensures writer { W.contents result.writer.stream ≡ W.contents writer }
+        ensures reader { result.reader.stream ≡ reader }
+        ensures writer { result.writer.stream ≡ writer }
         ensures failed { (result.reader.has_failed || result.writer.has_failed) ≡ false }
     {
         Visit {

@@ -48,7 +48,7 @@ use help::{AWAITING, print_text, text_for};
 use input::{InputFault, lines_of, read_script};
 pub use left::{Left, Ran};
 use script::run_lines;
-pub use serving::{serve_clients, serve_on};
+pub use serving::{serve_all, serve_clients, serve_on};
 pub use sessions::{Held, Sessions, hold_sessions, next_session};
 use sqlite::{FileFrom, Start, Wary};
 use sqlite_disk::Disk;

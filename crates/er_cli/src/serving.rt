@@ -1,7 +1,8 @@
 ghost use Rattle.std.specs.Prelude.{◌≡◌, MatchResult, OnOk};
 ghost use Rattle.er_desk.specs.Asking.{AsksSome};
 ghost use Rattle.er_cli.specs.Clients.{KnewBefore, ServesKnown};
-ghost use Rattle.er_cli.specs.Serving.{Connects, ConnectsAll, ConnectsUpTo, PrintsServed, ServesAll, listening, served};
+ghost use Rattle.er_cli.specs.declared.TheConstants.{DONE};
+ghost use Rattle.er_cli.specs.Serving.{Connects, ConnectsAll, ConnectsUpTo, PrintsServed, PrintsSome, ServesAll, listening, served};
 
 use crate::clients::{AcceptFault, Clients, Listening};
 use crate::texts::{WriteFault, print_line};
@@ -83,9 +84,40 @@ pub fn serve_clients<S: Alter, C: Clients>(
     Ok(())
 }
 
-/// Serves so many clients of a listener, one after the other, and gives the status to end with: 3 where the listener or a print fails.
-/// Prints the port that it listens at, and at the end how many it has served. A client that goes away counts as served. Each has a second
-/// for each read, ten for each write, and thirty in all: then it counts as served too, and the next one is taken.
+/// Serves so many clients, one after the other, and gives the status to end with: 3 where no client can be had or a print fails. Prints the
+/// port that they come to, and at the end how many it has served. A client that goes away counts as served.
+pub fn serve_all<S: Alter, C: Clients, W: Write>(
+    alloc: Global,
+    routes: &Routes,
+    desk: &mut Desk<S>,
+    clients: &mut C,
+    port: u16,
+    count: u32,
+    out: &mut W,
+) -> u8
+    // Each client leaves the desk as it was, has it read its standings or a slip, or hands it one score: these scores are the session.
+    ensures turns { AsksSome S.Store desk.old (ServesAll count result) desk.new }
+    ensures printed { PrintsServed port count (W.contents out.old) (W.contents out.new) result }
+    // Where all are served, each of whom it is known what they send got its answer.
+    ensures served { result ≡ DONE → ServesKnown S.Store count (C.coming clients.old)
+        (C.got clients.old) desk.old (C.coming clients.new) (C.got clients.new) desk.new }
+{
+    // Where nobody is served, nothing is asked of the file: this tells the proof.
+    desk.asks_nothing();
+    let Ok(()) = print_line(out, &listening_line(port)) else {
+        return DEVICE;
+    };
+    let Ok(()) = serve_clients(alloc, routes, desk, clients, count) else {
+        return DEVICE;
+    };
+    match print_line(out, &served_line(count)) {
+        Ok(()) => DONE,
+        Err(WriteFault) => DEVICE,
+    }
+}
+
+/// Serves so many clients of a listener, as `serve_all` does. Each has a second for each read, five for its
+/// request, ten for each write, and thirty in all: then it counts as served too, and the next one is taken.
 pub fn serve_on<S: Alter, W: Write>(
     rt: &HostRuntime,
     routes: &Routes,
@@ -94,24 +126,22 @@ pub fn serve_on<S: Alter, W: Write>(
     count: u32,
     out: &mut W,
 ) -> u8
-    // Each client leaves the desk as it was, has it read its standings or a slip, or hands it one score: these scores are the session.
     ensures turns { AsksSome S.Store desk.old (ServesAll count result) desk.new }
-    ensures printed { PrintsServed count (W.contents out.old) (W.contents out.new) result }
+    ensures printed { PrintsSome count (W.contents out.old) (W.contents out.new) result }
 {
     // Where nobody is served, nothing is asked of the file: this tells the proof.
     desk.asks_nothing();
     let Ok(address) = listener.local_addr() else {
         return DEVICE;
     };
-    let Ok(()) = print_line(out, &listening_line(address.port())) else {
-        return DEVICE;
-    };
     let mut clients = Listening::new(rt, listener);
-    let Ok(()) = serve_clients(rt.alloc(), routes, desk, &mut clients, count) else {
-        return DEVICE;
-    };
-    match print_line(out, &served_line(count)) {
-        Ok(()) => DONE,
-        Err(WriteFault) => DEVICE,
-    }
+    serve_all(
+        rt.alloc(),
+        routes,
+        desk,
+        &mut clients,
+        address.port(),
+        count,
+        out,
+    )
 }

@@ -3,7 +3,7 @@ ghost use Rattle.std.specs.Prelude.{◌≡◌, ◌||◌, ◌∷◌, ◌++◌, []
 ghost use Rattle.std.specs.Option.{option_map};
 ghost use Rattle.er_cli.specs.Clients.{Got, IsNext, GetsLast};
 
-use er_cli::{AcceptFault, Clients, Visit, serve_clients};
+use er_cli::{AcceptFault, Clients, Visit, serve_all};
 use er_slips::Routes;
 use er_testing::desks::{FOUR, desk_after};
 use std::alloc::Global;
@@ -120,10 +120,12 @@ fn are_answered(alloc: Global) -> Option<bool> {
     let mut desk = desk_after(alloc, 3, 0, FOUR)?;
     let routes = Routes::new(alloc).ok()?;
     let mut clients = two_clients(alloc)?;
-    let served = serve_clients(alloc, &routes, &mut desk, &mut clients, 2);
+    let mut out = Vec::new(alloc);
+    let status = serve_all(alloc, &routes, &mut desk, &mut clients, 4000, 2, &mut out);
     let gone = clients.gone.as_ref()?;
     Some(
-        served.is_ok()
+        status == 0
+            && out.as_slice() == b"listening 4000\nserved 2\n".as_slice()
             && gone.len() == 2
             && gone.iter().zip([TAKEN, SCORED]).all(|(it, due)| !it.has_failed
                 && it.bytes.as_slice() == due.as_bytes()),

@@ -1,32 +1,8 @@
-use Rattle.std.proofs.Common.{inl, inr, refl, arith, rules}
-use Rattle.er_cli.proofs.Connecting.{count_in_part, port_alone, port_in_part}
+use Rattle.std.proofs.Common.{inr, refl, arith, rules}
 use Rattle.er_cli.proofs.serving.serve_on.Goals as goal
-
-pub returns-in_default-print_line-clause-printed : goal.returns-in_default-print_line-clause-printed
-returns-in_default-print_line-clause-printed g c =
-    port_in_part c.args.count c.port.result (search rules) _ _ _ c.listening_line.ensures c.in_default-print_line.ensures.part
-
-pub returns-in_default-serve_clients-clause-printed : goal.returns-in_default-serve_clients-clause-printed
-returns-in_default-serve_clients-clause-printed g c =
-    port_alone c.args.count c.port.result (search rules) _ _ _ c.listening_line.ensures c.in-Ok-print_line.ensures.sent
-
-pub returns-in-Err-clause-printed : goal.returns-in-Err-clause-printed
-returns-in-Err-clause-printed g c = count_in_part c.args.count c.port.result (search rules) _ _ _ c.listening_line.ensures _ _
-    c.served_line.ensures c.in-Ok-print_line.ensures.sent c.in-Err.ensures.part
-
--- ---- the clients
 
 pub returns-in_default-clause-turns : goal.returns-in_default-clause-turns
 returns-in_default-clause-turns g c = (_, inr (refl, (0, omega arith, (refl, refl))), c.asks_nothing.ensures)
 
-pub returns-in_default-print_line-clause-turns : goal.returns-in_default-print_line-clause-turns
-returns-in_default-print_line-clause-turns g c = (_, inr (refl, (0, omega arith, (refl, refl))), c.asks_nothing.ensures)
-
-pub returns-in_default-serve_clients-clause-turns : goal.returns-in_default-serve_clients-clause-turns
-returns-in_default-serve_clients-clause-turns g c = let it = c.in_default-serve_clients.ensures.turns in (it.0, inr (refl, it.1), it.2)
-
-pub returns-in-Ok-print_line-2-clause-turns : goal.returns-in-Ok-print_line-2-clause-turns
-returns-in-Ok-print_line-2-clause-turns g c = let it = c.in-Ok-serve_clients.ensures.turns in (it.0, inl (refl, it.1), it.2)
-
-pub returns-in-Err-clause-turns : goal.returns-in-Err-clause-turns
-returns-in-Err-clause-turns g c = let it = c.in-Ok-serve_clients.ensures.turns in (it.0, inr (refl, (c.args.count, omega arith, it.1)), it.2)
+pub returns-clause-printed : goal.returns-clause-printed
+returns-clause-printed g c = (c.port.result, search rules, c.serve_all.ensures.printed)
