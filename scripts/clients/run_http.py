@@ -458,6 +458,15 @@ def run_python(room):
             check(f"http.client, {method} {target}", [came.status, came.getheader("Content-Type"), came.read()], want)
             client.close()
         check("http.client, the end", serving.end(), served(len(cases)))
+    large, count = ["POST", "/rounds/1/tables/1", b" " * 1_000_000], 20
+    with Serving(program, file, count) as serving:
+        for it in range(1, count + 1):
+            client = http.client.HTTPConnection("127.0.0.1", serving.port, timeout=20)
+            client.request(*large)
+            came = client.getresponse()
+            check(f"http.client, a megabyte, {it}", [came.status, came.read()], [413, b'{"error":"body too large"}'])
+            client.close()
+        check("http.client, megabytes, the end", serving.end(), served(count))
 
 
 def curl(serving, target, *words):

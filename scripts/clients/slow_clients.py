@@ -1,6 +1,7 @@
 """Clients that are slow, that send nothing or that never read, before a score, on the program as it is built. `serve` gives each connection one second
-for each read, ten for each write, and thirty in all; then it counts as served, and the next one is taken. So the score is answered in the time
-that follows from these figures, and one that comes too slowly is not taken. Each kind of client has a program of its own over a copy of one file, and
+for each read, five for its request, ten for each write, and thirty in all; then it counts as served, and the next one is taken. So the score is
+answered in the time that follows from these figures, and one that comes too slowly is not taken. After its answer a connection is read on for half a
+second. Each kind of client has a program of its own over a copy of one file, and
 all run side by side.
 
 Where a browser and `curl` are installed, three tabs show the standings, anew every five seconds, while scores are handed in. Where one of the two isn't
@@ -26,8 +27,8 @@ from scripts.clients.tally import check, end, left_out
 from scripts.models.plain_event import Event
 from scripts.models.plain_http import served as served_plainly
 
-# the seconds that a read, an answer and a whole connection may take
-READ, WRITE, WHOLE = 1, 10, 30
+# the seconds that a read, a request, an answer and a whole connection may take, and those in which it is read on after its answer
+READ, REQUEST, WRITE, WHOLE, REST = 1, 5, 10, 30, 0.5
 # in which the scores of the other clients are answered while a browser looks on
 SOON = 5
 PLAYERS = 512
@@ -117,10 +118,10 @@ class Kinds:
         """One that sends a byte now and then, and never the last one, is let go."""
         with Serving(self.program, file, 2) as serving, serving.client() as client, concurrent.futures.ThreadPoolExecutor(1) as others:
             score = others.submit(asked, serving, POST)
-            drip(client, POST.replace(b"\r\n\r\n", b"\r\nX: " + b"a" * WHOLE * 2), 1, READ / 4, score.done)
+            drip(client, POST.replace(b"\r\n\r\n", b"\r\nX: " + b"a" * REQUEST * 8), 1, READ / 4, score.done)
             answer, taken = score.result()
             yield "behind one that drips", answer, self.accepted
-            yield within("behind one that drips", taken, WHOLE, WHOLE + READ)
+            yield within("behind one that drips", taken, REQUEST, REQUEST + READ)
             yield "one that drips", received(client), b""
             yield "one that drips, the end", serving.end(), served(2)
         yield "one that drips, the file", rows_alone(file), rows_of(self.after)
@@ -129,7 +130,7 @@ class Kinds:
         """One that is slow, and yet within each limit, is answered; so is the one behind it."""
         with Serving(self.program, file, 2) as serving, serving.client() as client, concurrent.futures.ThreadPoolExecutor(1) as others:
             slip = others.submit(asked, serving, GET_SLIP)
-            drip(client, POST, 2, 0.4 * READ, slip.done)
+            drip(client, POST, 8, 0.4 * READ, slip.done)
             yield "one that is slow", received(client), self.accepted
             yield "behind one that is slow", slip.result()[0], self.reported
             yield "one that is slow, the end", serving.end(), served(2)

@@ -1,31 +1,51 @@
 use std::io::{self, ErrorKind, Read, Write};
-use std::net::TcpStream;
+use std::net::{Shutdown, TcpStream};
 use std::time::{Duration, Instant};
 
 /// How long a client may take for each read. A program on this machine sends at once.
 const READ_SECONDS: u64 = 1;
 /// How long it may take for each write.
 const WRITE_SECONDS: u64 = 10;
+/// How long it may take until the last byte of its request.
+const REQUEST_SECONDS: u64 = 5;
 /// How long it may take in all.
 const CLIENT_SECONDS: u64 = 30;
+/// How long what it sends is read on after its answer.
+const REST_MILLISECONDS: u64 = 500;
+/// How much of it: so many reads of 16 KB, four megabytes in all.
+const REST_READS: u16 = 256;
 
-/// One side of a client's connection, which reads or writes while the client's time lasts.
+/// One side of a client's connection, which reads or writes while its time lasts.
 #[derive(Drop)]
 pub struct Client<'a> {
     rt: &'a HostRuntime,
     stream: TcpStream,
     begun: Instant,
+    /// How many seconds it may take in all.
+    limit: u64,
     /// A write took all its time.
     is_late: bool,
 }
 
 impl Client<'_> {
-    /// The client's time began then.
-    pub fn new(rt: &HostRuntime, stream: TcpStream, begun: Instant) -> Client<'_> {
+    /// The side that reads the request. The client's time began then.
+    pub fn reader(rt: &HostRuntime, stream: TcpStream, begun: Instant) -> Client<'_> {
         Client {
             rt,
             stream,
             begun,
+            limit: REQUEST_SECONDS,
+            is_late: false,
+        }
+    }
+
+    /// The side that writes the answer.
+    pub fn writer(rt: &HostRuntime, stream: TcpStream, begun: Instant) -> Client<'_> {
+        Client {
+            rt,
+            stream,
+            begun,
+            limit: CLIENT_SECONDS,
             is_late: false,
         }
     }
@@ -33,9 +53,35 @@ impl Client<'_> {
     /// How long the next call may take: so many seconds, or what is left of all.
     fn time_for(&self, seconds: u64) -> io::Result<Duration> {
         let taken = self.begun.elapsed(self.rt)?;
-        match Duration::from_secs(CLIENT_SECONDS).checked_sub(taken) {
+        match Duration::from_secs(self.limit).checked_sub(taken) {
             Some(left) if !self.is_late => Ok(left.min(Duration::from_secs(seconds))),
             _ => Err(ErrorKind::TimedOut.into()),
+        }
+    }
+
+    /// What a client still sends, after its answer.
+    fn read_rest(&self, begun: &Instant, buf: &mut [u8]) -> io::Result<usize> {
+        let taken = begun.elapsed(self.rt)?;
+        let left = Duration::from_millis(REST_MILLISECONDS).saturating_sub(taken);
+        self.stream.set_read_timeout(Some(left))?;
+        (&self.stream).read(buf)
+    }
+
+    /// Ends the answer, and reads on for a moment until the client ends too. If bytes of a request were left unread, the system would reset
+    /// the connection, and a client that is still sending would lose its answer (RFC 9112, section 9.6).
+    pub fn end(self) {
+        let Ok(()) = self.stream.shutdown(Shutdown::Write) else {
+            return;
+        };
+        let Ok(begun) = Instant::now(self.rt) else {
+            return;
+        };
+        let mut rest = [0; 16_384];
+        for _ in 0..REST_READS {
+            match self.read_rest(&begun, &mut rest) {
+                Ok(0) | Err(_) => return,
+                Ok(_more) => {}
+            }
         }
     }
 }

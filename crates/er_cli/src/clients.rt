@@ -167,8 +167,8 @@ impl<'a> Listening<'a> {
         let begun = Instant::now(self.rt)?;
         let other = stream.try_clone()?;
         Ok(Visit::new(
-            Client::new(self.rt, stream, begun),
-            Client::new(self.rt, other, begun),
+            Client::reader(self.rt, stream, begun),
+            Client::writer(self.rt, other, begun),
         ))
     }
 }
@@ -190,6 +190,10 @@ impl<'a> Clients for Listening<'a> {
     fn let_go(&mut self, visit: Visit<Client<'a>, Client<'a>>)
         ensures { self.new ≡ self.old }
     {
-        drop(visit);
+        let Visit { reader, writer } = visit;
+        // one that got no answer, or not all of it, is not waited for
+        if !reader.has_failed() && !writer.has_failed() {
+            reader.into_stream().end();
+        }
     }
 }
