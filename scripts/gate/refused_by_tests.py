@@ -20,6 +20,7 @@ TESTS, SLIPS_TESTS, CLI_TESTS = "er_tests", "er_slips_tests", "er_cli_tests"
 WHOLE_EVENT, PAIRING = "stops::a_whole_event_survives_each_stop", "stops::a_pairing_survives_each_stop"
 ADOPTED = "desks::a_desk_answers_and_is_adopted"
 SERVED, GOES_ON = "sockets::clients_are_served", "sessions::sessions_go_on"
+LINES = "lines::each_line_is_one_command"
 SCORE, SHORT = "requests::a_score_is_taken_once", "requests::requests_that_change_nothing_are_answered"
 # where a wrong body stands, and the tests of one crate each of which sees it
 BODIES = {
@@ -32,6 +33,7 @@ BODIES = {
     "er_slips/refused-by-tests/never_answers": (SLIPS_TESTS, [SCORE, SHORT]),
     "er_cli/refused-by-tests/waits_for_ever": (CLI_TESTS, [SERVED]),
     "er_cli/refused-by-tests/never_copies_the_log": (CLI_TESTS, [GOES_ON]),
+    "er_cli/refused-by-tests/opens_a_second_time": (CLI_TESTS, [LINES]),
 }
 # with this one the test does not end, so that the limit of so many seconds is its refusal, as it is of no other
 ENDLESS, ENDLESS_SECONDS = "er_cli/refused-by-tests/waits_for_ever", 60
