@@ -209,7 +209,7 @@ class Examples:
                 words = [self.program, "serve", file, "0", "1"]
                 ran = subprocess.run(words, stdin=subprocess.DEVNULL, capture_output=True, env=refusing(self.library, nth), timeout=60)
                 answers, end = [], (ran.returncode, ran.stdout, ran.stderr)
-                is_lawful = end in MEMORY
+                is_lawful = end == MEMORY
             return None if is_lawful and rows_of_copy(file) == rows else f"serve, growth {nth}: {answers}, {end}"
 
 

@@ -34,8 +34,7 @@ COMMANDS = [
 ]
 # two new names before one that is there, and one behind it
 NAMES = ["Q1", "Q2", "P1", "Q3"]
-# where the words themselves could not be kept, they don't tell a script from a command line
-MEMORY = (4, b"", b"refused 24 Memory\n"), (4, b"refused 24 Memory\n", b"")
+MEMORY = 4, b"", b"refused 24 Memory\n"
 
 
 def write_list(file, names, heading="name"):
@@ -109,7 +108,7 @@ class Line:
             at = self.copy(room)
             got, held = self.run(at, self.words, nth), self.seen_of(at)
             is_half = any(got == answer and held in lawful for answer, lawful in self.halves)
-            if got == self.due and held == self.after or got in MEMORY and held in (self.before, self.after) or is_half:
+            if got == self.due and held == self.after or got == MEMORY and held in (self.before, self.after) or is_half:
                 return None
             return f"{self.words}, growth {nth} of {self.count}: {got}, {held}"
 

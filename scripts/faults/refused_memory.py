@@ -46,8 +46,10 @@ class Script:
 
     def fault(self, nth):
         """What is wrong with the run in which this growth is refused, or None."""
-        status, output, _ = self.run(self.commands, nth)
-        if (status, output) in self.lawful(nth):
+        status, output, errors = self.run(self.commands, nth)
+        # with no words to tell a script from a command line, that is an error
+        is_wordless = self.command_of(nth) == 0 and (status, output, errors) == (4, b"", MEMORY)
+        if is_wordless or (status, output) in self.lawful(nth):
             return None
         return f"growth {nth} of {self.count}, in command {self.command_of(nth) + 1}: status {status}, {output}"
 

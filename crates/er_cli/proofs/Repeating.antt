@@ -1,9 +1,8 @@
 -- A list of players that is imported again.
-use Rattle.std.proofs.{lemmas.Grind.common_steps, Common.{◌≡◌, ◌⊎◌, inl, inr, ℕ, zero, suc, ◌+◌, Bool, true, false, IsTrue, IsFalse}}
-use Rattle.std.proofs.Common.{List, [], ◌∷◌, ◌++◌, length, map, take, Option, Some, None, Result, Ok, Err, is_ok, not, MatchOption, IfSome}
-use Rattle.std.proofs.Common.{refl, sym, ap, subst, ◌∙◌, arith, true≢false, append-nil, length-append}
+use Rattle.std.proofs.{lemmas.Grind.common_steps, Common.{◌≡◌, ◌⊎◌, inl, inr, ℕ, zero, suc, Bool, true, false}}
+use Rattle.std.proofs.Common.{List, [], ◌∷◌, ◌++◌, length, map, take, Option, Some, None, Result, Ok, Err, is_ok, not, MatchOption}
+use Rattle.std.proofs.Common.{refl, sym, ap, subst, ◌∙◌, arith, true≢false, append-nil}
 use Rattle.std.proofs.lemmas.{Slice.Eq.bytes_eq-Decides, Bool.{or_left, or_right, cases_Bool}, List.Folds.list_any-append, List.take_all}
-use Rattle.std.proofs.lemmas.List.Elements.{filter-append}
 use Rattle.std.specs.{Prelude.{◌==◌, ◌&&◌, ◌||◌, nat_le}, Str.bytes_eq, List.{filter, list_any}}
 use Rattle.er_event.specs.{declared.players.Player.Player, declared.commands.Command.Command}
 use Rattle.er_event.specs.{declared.commands.Command.TheVariants.Enrol, declared.commands.Receipt.Receipt}

@@ -1,6 +1,6 @@
 -- What clients get, one after the other.
-use Rattle.std.proofs.Common.{◌≡◌, inl, inr, ℕ, ◌+◌, Bool, true, false, IsTrue, IsFalse, List, [], ◌∷◌, ◌++◌, length, ◌||◌, Option, Some, None}
-use Rattle.std.proofs.Common.{IfSome, MatchOption, refl, sym, ap, subst, ◌∙◌, arith, true≢false, append-nil, length-append}
+use Rattle.std.proofs.Common.{◌≡◌, inl, inr, ℕ, ◌+◌, Bool, true, false, IsFalse, List, [], ◌∷◌, ◌++◌, length, ◌||◌, Option, Some, None}
+use Rattle.std.proofs.Common.{IfSome, MatchOption, refl, sym, ap, subst, ◌∙◌, true≢false, append-nil, length-append}
 use Rattle.std.proofs.lemmas.{Bool.cases_Bool, List.append_assoc}
 use Rattle.std.specs.Io.KnownBytes.{Appends}
 use Rattle.sqlite_trees.specs.declared.store.Store.{Ghosts}

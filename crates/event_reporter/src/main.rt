@@ -20,7 +20,7 @@ fn main(rt: HostRuntime) -> ExitCode {
             er_cli::run_script(&rt, &mut input, &mut out)
         }
         Ok(words) => er_cli::run(&rt, &words, &mut out, &mut err),
-        Err(error) if error.kind() == io::ErrorKind::OutOfMemory => er_cli::refuse_memory(&mut out),
+        Err(error) if error.kind() == io::ErrorKind::OutOfMemory => er_cli::refuse_memory(&mut err),
         Err(_not_text) => er_cli::run(&rt, &[], &mut out, &mut err),
     };
     ExitCode::from(status)
