@@ -211,7 +211,7 @@ can't be paired again: check the players and drops first, and copy FILE.
           points: use a new one for each round. Write it down first: it is not
           kept in the file, and with it anybody can work out the same round
 
-A seed:  k=$(openssl rand -hex 32); echo \"round 1 $k\" >> friday.keys
+A seed:  k=$(openssl rand -hex 32); echo \"round 1 $k\" >> friday.event.keys
 Example: event_reporter pair friday.event 1 $k
 Refuses: 5 TooFewPlayers, 6 NotSwiss, 7 WrongRound, 8 RoundOpen,
 9 AllRoundsPaired, 10 NoPairing, 11 Budget, 23 SerialFull, 24 Memory, 25 Store,
