@@ -99,7 +99,7 @@ class Kinds:
         self.accepted, self.reported = (served_plainly(self.after, it)[0] for it in (POST, GET_SLIP))
 
     def all(self):
-        return [self.silent, self.dripping, self.steady, self.stopping, self.unread, self.sipping, *([self.browsed] if self.browser else [])]
+        return [self.silent, self.dripping, self.steady, self.stopping, self.staying, self.unread, self.sipping, *([self.browsed] if self.browser else [])]
 
     def silent(self, file):
         """Twenty that send nothing are let go one after the other."""
@@ -149,6 +149,21 @@ class Kinds:
             yield "the score once more", asked(serving, POST)[0], self.accepted
             yield "ones that stop, the end", serving.end(), served(len(places) + 2)
         yield "ones that stop, the file", rows_alone(file), rows_of(self.after)
+
+    def staying(self, file):
+        """Twenty that get their answers, and never end their side, hold up the next one for half a second each."""
+        with Serving(self.program, file, 21) as serving:
+            clients = [serving.client() for _ in range(20)]
+            for it in clients:
+                sent_whole(it, GET_SLIP)
+            answer, taken = asked(serving, POST)
+            yield "behind twenty that stay", answer, self.accepted
+            yield within("behind twenty that stay", taken, 20 * REST, 20 * REST)
+            yield "twenty that stay", [received(it) for it in clients], [self.slip] * 20
+            yield "twenty that stay, the end", serving.end(), served(21)
+            for it in clients:
+                it.close()
+        yield "twenty that stay, the file", rows_alone(file), rows_of(self.after)
 
     def reader(self, serving):
         """A client that asks for the standings, and has room for few bytes of them, so that the writes that answer it have to wait for it."""
