@@ -1,34 +1,32 @@
 -- A desk that is asked one thing after the other.
 use Rattle.std.proofs.Common.{◌≡◌, ◌⊎◌, ◌++◌, inl, inr, ℕ, Bool, true, false, IsTrue, IsFalse, List, [], ◌∷◌, Result, Ok, Err, None}
-use Rattle.std.proofs.Common.{Option, IfOk, Vec, Global, refl, sym, ap, subst, ◌∙◌, arith, append-nil, true≢false}
+use Rattle.std.proofs.Common.{Option, refl, sym, ap, subst, ◌∙◌, arith, append-nil, true≢false}
 use Rattle.sqlite_trees.specs.declared.store.Store.{Ghosts}
 use Rattle.sqlite.specs.{State.HasCleanDisk}
 use Rattle.er_event.specs.declared.{commands.Command.Command, refusals.Refusal.Refusal}
-use Rattle.er_event.specs.declared.refusals.Refusal.TheVariants.{NeedsReopen}
-use Rattle.er_rank.specs.declared.rows.Row.{Row}
 use Rattle.er_store.specs.{Representing.Leaves}
-use Rattle.er_desk.specs.{declared.desk.Desk.Desk, Desk.{DeskState, Reads, ShowsOwn, Point, placed_at, point_of, desk_state, state, version_in}}
+use Rattle.er_desk.specs.{declared.desk.Desk.Desk, Desk.{DeskState, ShowsOwn, Point, placed_at, point_of, desk_state, state, version_in}}
 use Rattle.er_desk.specs.{Asking.{Asks, SessionsJoin, joined, later_doubt}, History.LeadsTo, Migrating.{MayMigrate, Migrates}}
-use Rattle.er_desk.specs.{Headline.AreTheStandings, Run.{Session, IsStoredEnd, no_session}}
-use Rattle.er_words.specs.declared.action.{Request.Request, Request.TheVariants.{Submit, Players, Standings, Slips, Bracket, Export, Migrate}}
-use Rattle.er_cli.specs.declared.texts.{Answer.Answer}
-use Rattle.er_cli.specs.Answers.{AsksFor, DeskAnswers, Moves, moved_answer, session_at}
+use Rattle.er_desk.specs.{Run.{Session, IsStoredEnd, no_session}}
+use Rattle.er_answers.specs.{Answers.{AnswersDesk, AsksFor, MovesFile, session_at}, Question.moved_told}
+use Rattle.er_answers.specs.declared.question.{Question.Question, Told.Told}
+use Rattle.er_answers.specs.declared.question.Question.TheVariants.{Submit, Standings, Show, Slip as SlipOf, Migrate}
 use Rattle.er_cli.specs.{GoingOn.LeadsToVersion, Sessions.{AnswersAll, AsksAll, AsksMigration, LeadToVersion}}
 use Rattle.er_cli.proofs.GoingOn.{Stays, goes_asking, goes_moving}
 
 -- one thing more
-pub asks_push : {S : Type 0} (g : Ghosts S) (first old new : Desk S g) (requests : List Request) (answers : List Answer)
-    (request : Request) (answer : Answer) → AsksAll g first requests answers old → AsksFor g old request answer new
-    → DeskAnswers (HasCleanDisk (state g new) × ShowsOwn g old) (desk_state old) request answer (desk_state new)
-    → AsksAll g first (requests ++ request ∷ []) (answers ++ answer ∷ []) new
-asks_push {S} g first old new [] [] request answer is asked told =
-    subst (λ (d : Desk S g). (mid : Desk S g) × AsksFor g d request answer mid
-    × DeskAnswers (HasCleanDisk (state g mid) × ShowsOwn g d) (desk_state d) request answer (desk_state mid) × (new ≡ mid)) is
-    (new, asked, told, refl)
-asks_push g first old new [] (a ∷ answers) request answer is asked told = absurd is
-asks_push g first old new (r ∷ requests) [] request answer is asked told = absurd is
-asks_push g first old new (r ∷ requests) (a ∷ answers) request answer is asked told =
-    (is.0, is.1, is.2, asks_push g is.0 old new requests answers request answer is.3 asked told)
+pub asks_push : {S : Type 0} (g : Ghosts S) (first old new : Desk S g) (questions : List Question) (answers : List Told)
+    (question : Question) (told : Told) → AsksAll g first questions answers old → AsksFor g old question told new
+    → AnswersDesk (HasCleanDisk (state g new) × ShowsOwn g old) (desk_state old) question told (desk_state new)
+    → AsksAll g first (questions ++ question ∷ []) (answers ++ told ∷ []) new
+asks_push {S} g first old new [] [] question told is asked answered =
+    subst (λ (d : Desk S g). (mid : Desk S g) × AsksFor g d question told mid
+    × AnswersDesk (HasCleanDisk (state g mid) × ShowsOwn g d) (desk_state d) question told (desk_state mid) × (new ≡ mid)) is
+    (new, asked, answered, refl)
+asks_push g first old new [] (a ∷ answers) question told is asked answered = absurd is
+asks_push g first old new (q ∷ questions) [] question told is asked answered = absurd is
+asks_push g first old new (q ∷ questions) (a ∷ answers) question told is asked answered =
+    (is.0, is.1, is.2, asks_push g is.0 old new questions answers question told is.3 asked answered)
 
 -- the tables may be migrated, where a migration is asked
 abbrev pub MayIf : {S : Type 0} (g : Ghosts S) → Type 0 → Desk S g → Type 0
@@ -79,18 +77,18 @@ moved_point old new (Ok serial) it = ap point_of it.2
 moved_point old new (Err why) (inl it) = ap point_of it.2
 moved_point old new (Err why) (inr it) = ap point_of it.3
 
-leads_second : (moved : Result ℕ Refusal) (was : ℕ) → LeadsToVersion Migrate (moved_answer moved) was 2
+leads_second : (moved : Result ℕ Refusal) (was : ℕ) → LeadsToVersion Migrate (moved_told moved) was 2
 leads_second (Ok serial) was = refl
 leads_second (Err why) was = inr refl
 
 leads_nowhere : (old new : DeskState) (moved : Result ℕ Refusal) → Migrates old moved new → IsTrue old.needs_reopen → (v : ℕ)
-    → LeadsToVersion Migrate (moved_answer moved) v v
+    → LeadsToVersion Migrate (moved_told moved) v v
 leads_nowhere old new (Ok serial) it stopped v = absurd (true≢false (sym stopped ∙ it.0))
 leads_nowhere old new (Err why) it stopped v = inl refl
 
 module _ {S : Type 0} (g : Ghosts S) (old new : Desk S g) where
-  went_moving : (answer : Answer) → Moves g old answer new → Went g (Migrate ≡ Migrate) old no_session (LeadsToVersion Migrate answer) new
-  went_moving answer it =
+  went_moving : (told : Told) → MovesFile g old told new → Went g (Migrate ≡ Migrate) old no_session (LeadsToVersion Migrate told) new
+  went_moving told it =
       let does = it.does in
       let same = moved_point (desk_state old) (desk_state new) it.moved does.turn in
       record {
@@ -98,28 +96,26 @@ module _ {S : Type 0} (g : Ghosts S) (old new : Desk S g) where
         waits = λ stopped. (
           does.waits (inl stopped),
           refl,
-          λ v. subst (λ (a : Answer). LeadsToVersion Migrate a v v) (sym it.told)
+          λ v. subst (λ (a : Told). LeadsToVersion Migrate a v v) (sym it.tells)
               (leads_nowhere (desk_state old) (desk_state new) it.moved does.turn stopped v),
         );
         leads = record { event = ap (λ (p : Point). p.event) same; serial = ap (λ (p : Point). p.serial) same ∙ omega arith };
         sure = λ runs. refl;
-        within = λ runs. subst (λ (a : Answer). LeadsToVersion Migrate a (version_in old) (version_in new)) (sym it.told)
-            (subst (λ (v : ℕ). LeadsToVersion Migrate (moved_answer it.moved) (version_in old) v)
+        within = λ runs. subst (λ (a : Told). LeadsToVersion Migrate a (version_in old) (version_in new)) (sym it.tells)
+            (subst (λ (v : ℕ). LeadsToVersion Migrate (moved_told it.moved) (version_in old) v)
             (sym (moved_second (desk_state old) (desk_state new) it.moved does.turn runs)) (leads_second it.moved (version_in old)));
         represents = λ may clean. does.represents (may refl (does.clean clean)) clean;
         migrates = λ clean shows may runs. inl (moved_second (desk_state old) (desk_state new) it.moved does.turn runs);
-        crash = λ may. (goes_moving g old answer new it (may refl)).crash;
+        crash = λ may. (goes_moving g old told new it (may refl)).crash;
       }
 
-  went_one : (request : Request) (answer : Answer) → AsksFor g old request answer new
-      → Went g (request ≡ Migrate) old (session_at request answer (desk_state new).needs_reopen) (LeadsToVersion request answer) new
-  went_one (Submit command) answer it = went_asking g _ old new _ it
-  went_one Players answer it = went_asking g _ old new _ it
-  went_one Standings answer it = went_asking g _ old new _ it
-  went_one (Slips round) answer it = went_asking g _ old new _ it
-  went_one Bracket answer it = went_asking g _ old new _ it
-  went_one (Export kind) answer it = went_asking g _ old new _ it
-  went_one Migrate answer it = went_moving answer it
+  went_one : (question : Question) (told : Told) → AsksFor g old question told new
+      → Went g (question ≡ Migrate) old (session_at question told (desk_state new).needs_reopen) (LeadsToVersion question told) new
+  went_one (Submit command) told it = went_asking g _ old new _ it
+  went_one Standings told it = went_asking g _ old new _ it
+  went_one (Show view) told it = went_asking g _ old new _ it
+  went_one (SlipOf round table) told it = went_asking g _ old new _ it
+  went_one Migrate told it = went_moving told it
 
 -- ---- one behind the other
 
@@ -197,40 +193,20 @@ module _ (join : SessionsJoin) {S : Type 0} (g : Ghosts S) (A B : Type 0) (old m
 -- ---- all of it
 
 -- a desk that was stopped reads nothing, and one that runs reads tables that represent its event
-read_fully : (R : Type 0) (old new : DeskState) (read : Result (Vec Row Global) Refusal) → (IsFalse old.needs_reopen → R)
-    → (read ≡ Err NeedsReopen) ⊎ IsFalse old.needs_reopen → (R → IfOk read (λ rows. AreTheStandings old.event rows.items))
-    → IfOk read (λ rows. AreTheStandings old.event rows.items)
-read_fully R old new read given (inl is) are =
-    subst (λ (r : Result (Vec Row Global) Refusal). IfOk r (λ rows. AreTheStandings old.event rows.items)) (sym is) tt
-read_fully R old new read given (inr runs) are = are (given runs)
+fully : (R : Type 0) (old new : DeskState) (question : Question) (told : Told) → (IsFalse old.needs_reopen → R)
+    → AnswersDesk R old question told new → AnswersDesk (Unit {0}) old question told new
+fully R old new question told given it = record { does = it.does; due = λ _ runs. it.due (given runs) runs }
 
-which : {A : Type 0} (passing : Refusal) (old new : DeskState) (read : Result A Refusal) → Reads passing old read new
-    → (read ≡ Err NeedsReopen) ⊎ IsFalse old.needs_reopen
-which passing old new read (inl it) = inr it.0
-which passing old new read (inr (inl it)) = inr it.0
-which passing old new read (inr (inr it)) = inl it.2
-
-fully : (R : Type 0) (old new : DeskState) (request : Request) (answer : Answer) → (IsFalse old.needs_reopen → R)
-    → DeskAnswers R old request answer new → DeskAnswers (Unit {0}) old request answer new
-fully R old new (Submit command) answer given it = it
-fully R old new Players answer given it = it
-fully R old new Standings answer given (read, reads, are, is, fails) =
-    (read, reads, λ _. read_fully R old new read given (which _ old new read reads) are, is, λ _ runs. fails (given runs) runs)
-fully R old new (Slips round) answer given it = it
-fully R old new Bracket answer given it = it
-fully R old new (Export kind) answer given it = it
-fully R old new Migrate answer given it = it
-
-pub record Over {S : Type 0} (g : Ghosts S) (old : Desk S g) (requests : List Request) (answers : List Answer) (session : Session)
+pub record Over {S : Type 0} (g : Ghosts S) (old : Desk S g) (questions : List Question) (answers : List Told) (session : Session)
     (new : Desk S g) : Type 0 where
-  pub went : Went g (AsksMigration requests) old session (LeadToVersion requests answers) new
+  pub went : Went g (AsksMigration questions) old session (LeadToVersion questions answers) new
   pub answered : HasCleanDisk (state g new) → (IsFalse (desk_state old).needs_reopen → ShowsOwn g old)
-      → (IsFalse (desk_state old).needs_reopen → MayIf g (AsksMigration requests) old)
-      → AnswersAll (desk_state old) requests answers session (desk_state new)
+      → (IsFalse (desk_state old).needs_reopen → MayIf g (AsksMigration questions) old)
+      → AnswersAll (desk_state old) questions answers session (desk_state new)
 
 module _ (join : SessionsJoin) {S : Type 0} (g : Ghosts S) (new : Desk S g) (rests : Asks g new no_session new) where
-  pub all_over : (requests : List Request) (answers : List Answer) (old : Desk S g) → AsksAll g old requests answers new
-      → (session : Session) × Over g old requests answers session new
+  pub all_over : (questions : List Question) (answers : List Told) (old : Desk S g) → AsksAll g old questions answers new
+      → (session : Session) × Over g old questions answers session new
   all_over [] [] old is = (
     no_session,
     record {
@@ -238,23 +214,23 @@ module _ (join : SessionsJoin) {S : Type 0} (g : Ghosts S) (new : Desk S g) (res
       answered = λ clean shows may. (refl, ap desk_state is);
     },
   )
-  all_over [] (answer ∷ answers) old is = absurd is
-  all_over (request ∷ requests) [] old is = absurd is
-  all_over (request ∷ requests) (answer ∷ answers) old (mid, asked, told, rest) =
-      let one = went_one g old mid request answer asked in
-      let later = all_over requests answers mid rest in
-      let s = session_at request answer (desk_state mid).needs_reopen in
+  all_over [] (told ∷ answers) old is = absurd is
+  all_over (question ∷ questions) [] old is = absurd is
+  all_over (question ∷ questions) (told ∷ answers) old (mid, asked, answered, rest) =
+      let one = went_one g old mid question told asked in
+      let later = all_over questions answers mid rest in
+      let s = session_at question told (desk_state mid).needs_reopen in
       let was : IsFalse (desk_state mid).needs_reopen → IsFalse (desk_state old).needs_reopen = λ runs.
       by one (desk_state old).needs_reopen refl runs in (
         joined s later.0,
         record {
-          went = went_then join g (request ≡ Migrate) (AsksMigration requests) old mid new s later.0 (LeadsToVersion request answer)
-              (LeadToVersion requests answers) one later.1.went;
+          went = went_then join g (question ≡ Migrate) (AsksMigration questions) old mid new s later.0 (LeadsToVersion question told)
+              (LeadToVersion questions answers) one later.1.went;
           answered = λ clean shows may.
               let mid_clean = later.1.went.clean clean in (
                 desk_state mid,
                 later.0,
-                fully _ (desk_state old) (desk_state mid) request answer (λ runs. (mid_clean, shows runs)) told,
+                fully _ (desk_state old) (desk_state mid) question told (λ runs. (mid_clean, shows runs)) answered,
                 later.1.answered clean
                     (λ runs. one.represents (λ a. may (was runs) (inl a)) mid_clean (shows (was runs)) runs)
                     (λ runs a it. one.migrates it (shows (was runs)) (may (was runs) (inr a) (one.clean it)) runs),
@@ -263,7 +239,7 @@ module _ (join : SessionsJoin) {S : Type 0} (g : Ghosts S) (new : Desk S g) (res
         },
       )
     where
-      by : Went g (request ≡ Migrate) old (session_at request answer (desk_state mid).needs_reopen) (LeadsToVersion request answer) mid
+      by : Went g (question ≡ Migrate) old (session_at question told (desk_state mid).needs_reopen) (LeadsToVersion question told) mid
           → (b : Bool) → (desk_state old).needs_reopen ≡ b → IsFalse (desk_state mid).needs_reopen → IsFalse (desk_state old).needs_reopen
       by one true is runs =
           absurd (true≢false (sym (ap (λ (d : Desk S g). (desk_state d).needs_reopen) (one.waits is).0 ∙ is) ∙ runs))

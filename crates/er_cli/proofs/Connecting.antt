@@ -1,28 +1,42 @@
 -- One connection after the other.
-use Rattle.std.proofs.Common.{◌≡◌, ◌⊎◌, inl, inr, ℕ, suc, ◌+◌, List, Option, Result, Ok, Err, refl, subst, arith}
+use Rattle.std.proofs.Common.{◌≡◌, ◌⊎◌, inl, inr, ℕ, suc, ◌+◌, Bool, List, [], ◌∷◌, Option, Result, Ok, Err, refl, ap, subst, ◌∙◌, arith}
 use Rattle.std.proofs.Math.Nat.{le_refl}
 use Rattle.std.specs.Io.KnownBytes.{Appends}
 use Rattle.sqlite_trees.specs.declared.store.Store.{Ghosts}
 use Rattle.sqlite.specs.State.{HasCleanDisk}
 use Rattle.er_desk.specs.{declared.desk.Desk.Desk, Asking.joined, Desk.{ShowsOwn, DeskState, desk_state, state}, Run.Session}
+use Rattle.er_event.specs.declared.{commands.Command.TheVariants.{Result as Hand}, scores.Games.Games}
+use Rattle.er_desk.specs.{Reply.Reply, Run.session_of}
+use Rattle.er_answers.specs.{Answers.{replies_of, session_at}, Question.reply_told}
+use Rattle.er_answers.specs.declared.question.{Question.TheVariants.Submit, Told.Told}
 use Rattle.er_slips.specs.{Answer.AnswerValue, Serving.{AnswersRequest, EndsServing, IsServed, IsUnserved, Serves}}
 use Rattle.er_slips.specs.{declared.request.wanted.Request.Request}
 use Rattle.er_slips.specs.{declared.request.wanted.Request.TheVariants.{Standings, Pairings, Slip, Report}}
 use Rattle.er_slips.specs.declared.request.wanted.Fault.{Fault}
 use Rattle.er_slips.specs.{declared.serve.Served.Served, declared.serve.Served.TheVariants.{Answered, ReadFault, WriteFault}}
 use Rattle.er_cli.specs.{declared.TheConstants.{DONE, DEVICE}, Serving.{Connects, ConnectsAll, ConnectsUpTo, PrintsServed}}
-use Rattle.er_cli.specs.{Serving.{listening, served}, Texts.AppendsPart}
+use Rattle.er_cli.specs.{Help.stream, Serving.{listening, served}, Texts.AppendsPart}
 use Rattle.er_cli.proofs.Sending.{part_after, part_first, whole_part}
+
+-- the session of a score that was handed in
+one_reply : (round table : ℕ) (score : Games) (told : Told) (reply : Reply) → told ≡ reply_told reply → (stopped : Bool)
+    → session_at (Submit (Hand round table score)) told stopped ≡ session_of (Hand round table score ∷ []) (reply ∷ []) stopped
+one_reply round table score told (Ok receipt) is stopped =
+    ap (λ (t : Told). session_of (Hand round table score ∷ []) (replies_of t) stopped) is
+one_reply round table score told (Err why) is stopped =
+    ap (λ (t : Told). session_of (Hand round table score ∷ []) (replies_of t) stopped) is
 
 -- what serving a request does to the desk
 module _ (Represented : Type 0) (old : DeskState) (session : Session) (new : DeskState) where
   asked_connects : (asked : Result Request Fault) (answer : AnswerValue) → AnswersRequest Represented old asked answer session new
       → Connects old session new
   asked_connects (Err fault) answer it = inl (it.2, it.1)
-  asked_connects (Ok Standings) answer (read, reads, found, is, nothing) = inr (inl (read, reads, nothing))
-  asked_connects (Ok (Pairings round)) answer it = inl (it.2, it.1)
-  asked_connects (Ok (Slip round table)) answer (read, reads, found, is, nothing) = inr (inr (inl (read, reads, nothing)))
-  asked_connects (Ok (Report round table score)) answer (reply, turn, is, asks) = inr (inr (inr (round, table, score, reply, turn, asks)))
+  asked_connects (Ok Standings) answer (told, it, message, nothing) = inr (inl (it.does.0, it.does.1, nothing))
+  asked_connects (Ok (Pairings round)) answer (told, it, message, nothing) = inl (it.does.1, nothing)
+  asked_connects (Ok (Slip round table)) answer (told, it, message, nothing) = inr (inr (inl (it.does.0, it.does.1, nothing)))
+  asked_connects (Ok (Report round table score)) answer (told, it, message, asks) =
+      let (reply, turn, is) = it.does in
+      inr (inr (inr (round, table, score, reply, turn, asks ∙ one_reply round table score told reply is new.needs_reopen)))
 
   served_connects : (input : Option (List ℕ)) (answer : AnswerValue)
       → IsServed Represented input old answer session new ⊎ IsUnserved input old answer session new → Connects old session new
@@ -59,18 +73,18 @@ connects_up_to count status old session new (inr (broke, some)) = some
 -- ---- what is printed where serving ends early
 
 module _ (port count : ℕ) (before after : Option (List ℕ)) (line : List ℕ) (is : line ≡ listening port) where
-  pub port_in_part : AppendsPart before after line → PrintsServed port count before after DEVICE
+  pub port_in_part : AppendsPart before after line → PrintsServed port count (stream before after) DEVICE
   port_in_part part = inr (
     refl,
     part_first before after (listening port) (served count)
         (subst (λ t. AppendsPart before after t) is part),
   )
 
-  pub port_alone : Appends before after line → PrintsServed port count before after DEVICE
+  pub port_alone : Appends before after line → PrintsServed port count (stream before after) DEVICE
   port_alone whole = port_in_part (whole_part before after line whole)
 
   pub count_in_part : (mid : Option (List ℕ)) (last : List ℕ) → last ≡ served count → Appends before mid line → AppendsPart mid after last
-      → PrintsServed port count before after DEVICE
+      → PrintsServed port count (stream before after) DEVICE
   count_in_part mid last ends whole part = inr (
     refl,
     part_after before mid after (listening port) (served count) (subst (λ t. Appends before mid t) is whole)

@@ -1,7 +1,6 @@
 -- A history goes on with what a command line asks.
-use Rattle.std.proofs.lemmas.Grind.{common_steps}
-use Rattle.std.proofs.Common.{◌≡◌, ◌⊎◌, inl, inr, ℕ, Bool, true, false, IsTrue, IsFalse, List, [], ◌∷◌, Option, None}
-use Rattle.std.proofs.Common.{Vec, Global, Result, Ok, Err, IfOk, IfErr, is_ok, refl, sym, ap, subst, ◌∙◌, arith, true≢false}
+use Rattle.std.proofs.Common.{◌≡◌, ◌⊎◌, inl, inr, ℕ, Bool, true, false, IsTrue, IsFalse, List, [], ◌∷◌, Option, Some, None}
+use Rattle.std.proofs.Common.{Vec, Global, Result, Ok, Err, is_ok, refl, sym, ap, subst, ◌∙◌, arith, true≢false}
 use Rattle.sqlite.specs.{Tree.Trees, State.HasCleanDisk, declared.file.Leftover.Leftover}
 use Rattle.sqlite.specs.Files.{HoldsDatabase, file_state, over_files}
 use Rattle.sqlite_disk.specs.declared.Disk as disk
@@ -12,12 +11,12 @@ use Rattle.er_event.specs.{declared.commands.Command.Command, declared.commands.
 use Rattle.er_event.specs.{declared.refusals.Refusal.TheVariants.{Memory, NoEvent}, Event.EventValue}
 use Rattle.er_rank.specs.declared.rows.Row.{Row}
 use Rattle.er_store.specs.{Fault.{IsFault}, Representing.{Leaves, RepresentsAt}, Layout.{Layout, version_of}}
-use Rattle.er_desk.specs.{declared.desk.Desk.Desk, Desk.{Point, Placed, DeskState, Turn, Reads, ShowsEvent, ShowsOwn, point_of}}
+use Rattle.er_desk.specs.{declared.desk.Desk.Desk, Desk.{Point, Placed, DeskState, Turn, Reads, ShowsOwn, point_of}}
 use Rattle.er_desk.specs.Desk.{IsStoredAt, placed_at, placed_of, running_at, desk_state, state, version_in}
-use Rattle.er_desk.specs.{Reply.{Reply, IsLawful, receipt}, Run.{Session, IsStoredEnd, no_session}, History.{Ended}}
+use Rattle.er_desk.specs.{Reply.{Reply, receipt}, Run.{Session, IsStoredEnd, no_session}, History.{Ended}}
 use Rattle.er_desk.specs.{Headline.{FindsAgain, IsBeginning, WasLeftBy}, Migrating.{MayMigrate, Migrates, MovesDesk}}
 use Rattle.sqlite_trees.specs.declared.store.Store.{Ghosts}
-use Rattle.er_desk.specs.{Headline.AreTheStandings, Asking.{Asks, GoesOnFrom, NextSessions}}
+use Rattle.er_desk.specs.{Asking.{Asks, GoesOnFrom, NextSessions}}
 use Rattle.er_desk.specs.{History.new_point, Opening.HoldsNothing}
 use Rattle.er_event.specs.Sound.{IsSetUp}
 use Rattle.er_cli.specs.{Files.IsMade, Left.{IsClearedOf, IsPutAway}, Next.{BeginsIn, GoesTo}}
@@ -32,83 +31,30 @@ use Rattle.er_store.specs.Layout.Layout.{Old, New, Moved}
 use Rattle.er_desk.specs.{declared.opening.OpenFault.OpenFault, declared.opening.OpenFault.TheVariants.Unopened as NotOpened}
 use Rattle.er_desk.specs.{declared.opening.OpenFault.TheVariants.Refused as OpenedInVain}
 use Rattle.er_desk.specs.{Opening.{OnRefused, OnUnopened, WhereUnopened, IsCleanFault, SeesStill, why_of}}
-use Rattle.er_words.specs.{declared.action.Task.Task, declared.action.Task.TheVariants.{Ask, Import, Serve}}
-use Rattle.er_words.specs.{declared.action.Request.Request, declared.action.Request.TheVariants.{Submit, Players, Standings, Slips}}
-use Rattle.er_words.specs.{declared.action.Request.TheVariants.{Bracket, Export, Migrate}}
-use Rattle.er_cli.specs.{declared.texts.Answer.Answer, declared.texts.Answer.TheVariants.{Accepted, Text, Refused, Usage}}
-use Rattle.er_cli.specs.Answers.{AsksFor, DeskAnswers, IsRowsAnswer, Moves, moved_answer}
-use Rattle.er_cli.specs.Answers.{reply_answer, replies_of, session_at, ShowsPlayers, ShowsSlips, ShowsBracket, ShowsExport}
-use Rattle.er_cli.specs.GoingOn.{Answered, DoesNext, Handed, IsAnswered, IsAnswerAt, LeadsToVersion, MayMove}
-use Rattle.er_cli.specs.GoingOn.{OrFault, ShowsStandings}
-use Rattle.er_cli.specs.{GoingOn.{OnOpen, GoesOn, GoesOnIfThere}, Files.{OpensFor}, Help.Tells}
-use Rattle.er_words.specs.{declared.action.Action.Action, declared.action.Action.TheVariants.{Init, Open}}
-
-pub replies_told : (reply : Reply) → replies_of (reply_answer reply) ≡ reply ∷ []
-replies_told (Ok receipt) = refl
-replies_told (Err why) = refl
-
--- ---- the answer
-
-lawful_turn : (old new : DeskState) (c : Command) (r : Reply) → Turn old c r new → IsFalse old.needs_reopen
-    → IsLawful old.version old.event old.serial c r
-lawful_turn old new c r h1 runs = grind (arith, common_steps)
-
-shown : (old : DeskState) (Shows : EventValue → Answer → Type 0) (answer : Answer) → IsFalse old.needs_reopen
-    → ShowsEvent Refused old Shows answer → OrFault (Shows old.event answer) answer
-shown old Shows answer runs (inl (going, inl shows)) = inl shows
-shown old Shows answer runs (inl (going, inr want)) = inr (Memory, inl refl, want)
-shown old Shows answer runs (inr (stopped, want)) = absurd (true≢false (sym stopped ∙ runs))
-
-rows_shown : (old : DeskState) (read : Result (Vec Row Global) Refusal) (answer : Answer)
-    → IfOk read (λ rows. AreTheStandings old.event rows.items) → IfErr read IsFault → IsRowsAnswer old.event read answer
-    → OrFault (ShowsStandings (point_of old) answer) answer
-rows_shown old (Ok rows) answer are fault (inl is) = inl (rows.items, are, is)
-rows_shown old (Ok rows) answer are fault (inr want) = inr (Memory, inl refl, want)
-rows_shown old (Err why) answer are fault is = inr (why, fault, is)
-
-moved_at : (old new : DeskState) (moved : Result ℕ Refusal) (answer : Answer) → IsFalse old.needs_reopen
-    → Migrates old moved new → answer ≡ moved_answer moved → OrFault (answer ≡ Accepted (receipt old.serial)) answer
-moved_at old new (Ok serial) answer runs it is = inl (is ∙ ap (λ (n : ℕ). Accepted (receipt n)) it.1)
-moved_at old new (Err why) answer runs (inl it) is = absurd (true≢false (sym it.0 ∙ runs))
-moved_at old new (Err why) answer runs (inr it) is = inr (why, it.2, is)
-
-pub answer_at : (Represented : Type 0) (old new : DeskState) (request : Request) (answer : Answer) → Represented → IsFalse old.needs_reopen
-    → DeskAnswers Represented old request answer new → IsAnswerAt old.version (point_of old) request answer
-answer_at Represented old new (Submit command) answer represented runs (reply, turn, is) =
-    (reply, lawful_turn old new command reply turn runs, is)
-answer_at Represented old new Players answer represented runs it = shown old ShowsPlayers answer runs it.0
-answer_at Represented old new Standings answer represented runs (read, reads, are, is, fails) =
-    rows_shown old read answer (are represented) (fails represented runs) is
-answer_at Represented old new (Slips round) answer represented runs it = shown old (ShowsSlips round) answer runs it.0
-answer_at Represented old new Bracket answer represented runs it = shown old ShowsBracket answer runs it.0
-answer_at Represented old new (Export kind) answer represented runs it = shown old (ShowsExport kind) answer runs it.0
-answer_at Represented old new Migrate answer represented runs (moved, it, is) = moved_at old new moved answer runs it is
+use Rattle.er_event.specs.{declared.slips.SlipRow.SlipRow, Slip.slip_of, declared.refusals.Refusal.TheVariants.NoSuchMatch}
+use Rattle.er_store.specs.Fault.{IsReadFault}
+use Rattle.er_answers.specs.Answers.{AnswersDesk, AsksFor, DoesAsked, MovesFile, session_at}
+use Rattle.er_answers.specs.{Due.{IsAnswerAt, IsDueAt, OrFault}, Question.{IsRowsTold, IsSlipTold, moved_told, reply_told, slip_told}}
+use Rattle.er_answers.specs.declared.question.{Question.Question, Told.Told, Told.TheVariants.{Accepted, Refused}}
+use Rattle.er_answers.specs.declared.question.Question.TheVariants.{Submit, Standings, Show, Slip as SlipOf, Migrate}
+use Rattle.er_cli.specs.declared.action.{Task.Task, Task.TheVariants.{Ask, Import, Serve}}
+use Rattle.er_cli.specs.GoingOn.{Answered, DoesNext, Handed, IsAnswered, LeadsToVersion, MayMove}
+use Rattle.er_cli.specs.{GoingOn.{GoesOn, GoesOnAction}, Files.{OpensFor}, Help.{Printed, Tells}}
+use Rattle.er_cli.specs.declared.action.{Action.Action, Action.TheVariants.{Init, Open}}
 
 -- ---- a receipt
 
-abbrev is_submitted : Request → Bool
-is_submitted (Submit command) = true
-is_submitted Players = false
-is_submitted Standings = false
-is_submitted (Slips round) = false
-is_submitted Bracket = false
-is_submitted (Export kind) = false
-is_submitted Migrate = false
-
-abbrev command_or : Command → Request → Command
+abbrev command_or : Command → Question → Command
 command_or other (Submit command) = command
-command_or other Players = other
-command_or other Standings = other
-command_or other (Slips round) = other
-command_or other Bracket = other
-command_or other (Export kind) = other
-command_or other Migrate = other
+command_or other question = other
 
-abbrev is_accepted : Answer → Bool
+abbrev is_submitted : Question → Bool
+is_submitted (Submit command) = true
+is_submitted question = false
+
+abbrev is_accepted : Told → Bool
 is_accepted (Accepted receipt) = true
-is_accepted (Text text) = false
-is_accepted (Refused why) = false
-is_accepted Usage = false
+is_accepted told = false
 
 turn_runs : (old new : DeskState) (c : Command) (receipt : Receipt) → Turn old c (Ok receipt) new → IsFalse new.needs_reopen
 turn_runs old new c receipt (inl it) = it.runs
@@ -119,29 +65,22 @@ turn_runs old new c receipt (inr (inr (inr it))) = absurd (true≢false (ap is_o
 abbrev pub one_kept : Command → Session
 one_kept command = record { kept = command ∷ []; doubt = None }
 
-other_kept : (request : Request) (answer : Answer) (stopped : Bool) (command : Command) → request ≡ Submit command
-    → is_submitted request ≡ false → session_at request answer stopped ≡ one_kept command
-other_kept request answer stopped command asked other = absurd (true≢false (sym (ap is_submitted asked) ∙ other))
+other_kept : {P : Type 0} (question : Question) (command : Command) → question ≡ Submit command → is_submitted question ≡ false → P
+other_kept question command asked other = absurd (true≢false (sym (ap is_submitted asked) ∙ other))
 
-pub kept_alone : (Represented : Type 0) (old new : DeskState) (request : Request) (answer : Answer)
-    → DeskAnswers Represented old request answer new
-    → (command : Command) (receipt : Receipt) → request ≡ Submit command → answer ≡ Accepted receipt
-    → session_at request answer new.needs_reopen ≡ one_kept command
-kept_alone Represented old new (Submit c) answer (Ok given, turn, is) command receipt asked told =
-    subst (λ (a : Answer). session_at (Submit c) a new.needs_reopen ≡ one_kept command) (sym is)
+pub kept_alone : (old new : DeskState) (question : Question) (told : Told) → DoesAsked old question told new
+    → (command : Command) (receipt : Receipt) → question ≡ Submit command → told ≡ Accepted receipt
+    → session_at question told new.needs_reopen ≡ one_kept command
+kept_alone old new (Submit c) told (Ok given, turn, is) command receipt asked tells =
+    subst (λ (a : Told). session_at (Submit c) a new.needs_reopen ≡ one_kept command) (sym is)
     (subst (λ (b : Bool). session_at (Submit c) (Accepted given) b ≡ one_kept command) (sym (turn_runs old new c given turn))
     (ap one_kept (ap (command_or c) asked)))
-kept_alone Represented old new (Submit c) answer (Err why, turn, is) command receipt asked told =
-    absurd (true≢false (sym (ap is_accepted told) ∙ ap is_accepted is))
-kept_alone Represented old new Players answer it command receipt asked told = other_kept Players answer new.needs_reopen command asked refl
-kept_alone Represented old new Standings answer it command receipt asked told = other_kept Standings answer new.needs_reopen command asked
-    refl
-kept_alone Represented old new (Slips round) answer it command receipt asked told = other_kept (Slips round) answer new.needs_reopen command
-    asked refl
-kept_alone Represented old new Bracket answer it command receipt asked told = other_kept Bracket answer new.needs_reopen command asked refl
-kept_alone Represented old new (Export kind) answer it command receipt asked told = other_kept (Export kind) answer new.needs_reopen command
-    asked refl
-kept_alone Represented old new Migrate answer it command receipt asked told = other_kept Migrate answer new.needs_reopen command asked refl
+kept_alone old new (Submit c) told (Err why, turn, is) command receipt asked tells =
+    absurd (true≢false (sym (ap is_accepted tells) ∙ ap is_accepted is))
+kept_alone old new Standings told it command receipt asked tells = other_kept Standings command asked refl
+kept_alone old new (Show view) told it command receipt asked tells = other_kept (Show view) command asked refl
+kept_alone old new (SlipOf round table) told it command receipt asked tells = other_kept (SlipOf round table) command asked refl
+kept_alone old new Migrate told it command receipt asked tells = other_kept Migrate command asked refl
 
 -- ---- a fault of the store
 
@@ -156,38 +95,65 @@ turn_fault old new c r (inr (inr (inr it))) runs stopped = absurd (true≢false 
 still : {P : Type 0} (old new : DeskState) → new ≡ old → IsFalse old.needs_reopen → IsTrue new.needs_reopen → P
 still old new same runs stopped = absurd (true≢false (sym stopped ∙ (ap (λ (s : DeskState). s.needs_reopen) same ∙ runs)))
 
-read_fault : (old : DeskState) (read : Result (Vec Row Global) Refusal) (answer : Answer) → IfErr read IsFault
-    → IsRowsAnswer old.event read answer → (IsTrue (is_ok read) → ⊥) → OrFault ⊥ answer
-read_fault old (Ok rows) answer fault is not = absurd (not refl)
-read_fault old (Err why) answer fault is not = inr (why, fault, is)
+-- a reading that stopped the desk was refused by a fault
+stopped_by : {A : Type 0} (passing : Refusal) (old new : DeskState) (read : Result A Refusal) → Reads passing old read new
+    → IsFalse old.needs_reopen → IsTrue new.needs_reopen → (why : Refusal) × IsReadFault why × (read ≡ Err why)
+stopped_by passing old new read (inl (going, same, was)) runs stopped = still old new same runs stopped
+stopped_by passing old new read (inr (inl (going, same, why, fault, is))) runs stopped = (why, fault, is)
+stopped_by passing old new read (inr (inr (was, same, is))) runs stopped = absurd (true≢false (sym was ∙ runs))
 
-reads_stopped : {A : Type 0} (old new : DeskState) (read : Result A Refusal) → Reads Memory old read new → IsFalse old.needs_reopen
-    → IsTrue new.needs_reopen → IsTrue (is_ok read) → ⊥
-reads_stopped old new read (inl (going, same, was)) runs stopped fine = still old new same runs stopped
-reads_stopped old new read (inr (inl (going, same, why, fault, is))) runs stopped fine = true≢false (sym fine ∙ ap is_ok is)
-reads_stopped old new read (inr (inr (was, same, is))) runs stopped fine = true≢false (sym was ∙ runs)
+rows_refused : (event : EventValue) (read : Result (Vec Row Global) Refusal) (why : Refusal) (told : Told) → read ≡ Err why
+    → IsRowsTold event read told → told ≡ Refused why
+rows_refused event read why told is tells = subst (λ (r : Result (Vec Row Global) Refusal). IsRowsTold event r told) is tells
 
-moved_fault : (old new : DeskState) (moved : Result ℕ Refusal) (answer : Answer) → IsFalse old.needs_reopen
-    → Migrates old moved new → answer ≡ moved_answer moved → IsTrue new.needs_reopen → OrFault ⊥ answer
-moved_fault old new (Ok serial) answer runs it is stopped =
+slip_refused : (read : Result SlipRow Refusal) (why : Refusal) (told : Told) → read ≡ Err why → IsSlipTold read told → told ≡ Refused why
+slip_refused read why told is tells = subst (λ (r : Result SlipRow Refusal). IsSlipTold r told) is tells
+
+no_rows : (point : Point) (version : ℕ) (why : Refusal) (told : Told) → told ≡ Refused why → OrFault (IsDueAt version point Standings told) told
+    → OrFault ⊥ told
+no_rows point version why told is (inl (rows, are, shows)) = absurd (let both = sym is ∙ shows in cc)
+no_rows point version why told is (inr fault) = inr fault
+
+read_fault_is_none : (why : Refusal) → IsReadFault why → why ≡ NoSuchMatch → ⊥
+read_fault_is_none why (inl (inl memory)) is = cc
+read_fault_is_none why (inl (inr refused)) is = cc
+read_fault_is_none why (inr row) is = cc
+
+no_slip : (slip : Option SlipRow) (why : Refusal) (told : Told) → IsReadFault why → told ≡ Refused why → told ≡ slip_told slip → ⊥
+no_slip None why told fault is shows = read_fault_is_none why fault (let both : Refused why ≡ Refused NoSuchMatch = sym is ∙ shows in cc)
+no_slip (Some row) why told fault is shows = let both : Refused why ≡ slip_told (Some row) = sym is ∙ shows in cc
+
+slip_fault : (version : ℕ) (point : Point) (round table : ℕ) (why : Refusal) (told : Told) → IsReadFault why → told ≡ Refused why
+    → OrFault (IsDueAt version point (SlipOf round table) told) told → OrFault ⊥ told
+slip_fault version point round table why told fault is (inl shows) =
+    absurd (no_slip (slip_of point.event round table) why told fault is shows)
+slip_fault version point round table why told fault is (inr due) = inr due
+
+moved_fault : (old new : DeskState) (moved : Result ℕ Refusal) (told : Told) → IsFalse old.needs_reopen
+    → Migrates old moved new → told ≡ moved_told moved → IsTrue new.needs_reopen → OrFault ⊥ told
+moved_fault old new (Ok serial) told runs it is stopped =
     absurd (true≢false (sym stopped ∙ (ap (λ (s : DeskState). s.needs_reopen) it.2 ∙ runs)))
-moved_fault old new (Err why) answer runs (inl it) is stopped = still old new it.2 runs stopped
-moved_fault old new (Err why) answer runs (inr it) is stopped = inr (why, it.2, is)
+moved_fault old new (Err why) told runs (inl it) is stopped = still old new it.2 runs stopped
+moved_fault old new (Err why) told runs (inr it) is stopped = inr (why, it.2, is)
 
-pub doubt_fault : (Represented : Type 0) (old new : DeskState) (request : Request) (answer : Answer) → Represented
+-- what stopped a desk over its own tables was told
+pub doubt_fault : (Represented : Type 0) (old new : DeskState) (question : Question) (told : Told) → Represented
     → IsFalse old.needs_reopen
-    → DeskAnswers Represented old request answer new → IsTrue new.needs_reopen → OrFault ⊥ answer
-doubt_fault Represented old new (Submit command) answer represented runs (reply, turn, is) stopped =
-    let it = turn_fault old new command reply turn runs stopped in
-    inr (it.0, it.1, is ∙ ap reply_answer it.2)
-doubt_fault Represented old new Players answer represented runs it stopped = still old new it.1 runs stopped
-doubt_fault Represented old new Standings answer represented runs (read, reads, are, is, fails) stopped =
-    read_fault old read answer (fails represented runs) is (reads_stopped old new read reads runs stopped)
-doubt_fault Represented old new (Slips round) answer represented runs it stopped = still old new it.1 runs stopped
-doubt_fault Represented old new Bracket answer represented runs it stopped = still old new it.1 runs stopped
-doubt_fault Represented old new (Export kind) answer represented runs it stopped = still old new it.1 runs stopped
-doubt_fault Represented old new Migrate answer represented runs (moved, it, is) stopped =
-    moved_fault old new moved answer runs it is stopped
+    → AnswersDesk Represented old question told new → IsTrue new.needs_reopen → OrFault ⊥ told
+doubt_fault Represented old new question told represented runs answers stopped = by question answers.does (answers.due represented runs)
+  where
+    by : (q : Question) → DoesAsked old q told new → IsAnswerAt old.version (point_of old) q told → OrFault ⊥ told
+    by (Submit command) (reply, turn, is) due =
+        let it = turn_fault old new command reply turn runs stopped in
+        inr (it.0, it.1, is ∙ ap reply_told it.2)
+    by Standings (read, reads, is) due =
+        let it = stopped_by Memory old new read reads runs stopped in
+        no_rows (point_of old) old.version it.0 told (rows_refused old.event read it.0 told it.2 is) due
+    by (Show view) it due = still old new it.1 runs stopped
+    by (SlipOf round table) (read, reads, is) due =
+        let it = stopped_by NoSuchMatch old new read reads runs stopped in
+        slip_fault old.version (point_of old) round table it.0 told it.1 (slip_refused read it.0 told it.2 is) due
+    by Migrate (moved, it, is) due = moved_fault old new moved told runs it is stopped
 
 -- ---- the file
 
@@ -217,20 +183,20 @@ pub ends_nowhere : (first : Placed) (trees : Trees) → IsStoredAt first trees �
 ends_nowhere first trees stored = (first.point, inl (record { event = refl; serial = omega arith; taken = tt }), stored)
 
 -- what is moved may be moved, as the file shows that was opened
-pub goes_moving : {S : Type 0} (g : Ghosts S) (old : Desk S g) (answer : Answer) (new : Desk S g) → Moves g old answer new
+pub goes_moving : {S : Type 0} (g : Ghosts S) (old : Desk S g) (told : Told) (new : Desk S g) → MovesFile g old told new
     → (HasCleanDisk (state g old) → MayMigrate g old)
-    → Goes g (LeadsToVersion Migrate answer) old no_session new
-goes_moving g old answer new it may = record {
+    → Goes g (LeadsToVersion Migrate told) old no_session new
+goes_moving g old told new it may = record {
   clean = it.does.clean;
   crash = λ shows clean trees left.
-      subst (λ (a : Answer). (v : ℕ) × LeadsToVersion Migrate a (version_in old) v
-      × IsStoredEnd (placed_at (point_of (desk_state old)) v) no_session trees) (sym it.told)
+      subst (λ (a : Told). (v : ℕ) × LeadsToVersion Migrate a (version_in old) v
+      × IsStoredEnd (placed_at (point_of (desk_state old)) v) no_session trees) (sym it.tells)
       (by it.moved it.does shows clean trees left);
 }
   where
     by : (moved : Result ℕ Refusal) → MovesDesk g old moved new → ShowsOwn g old → HasCleanDisk (state g new) → (trees : Trees)
         → (state g new).may_leave trees
-        → (v : ℕ) × LeadsToVersion Migrate (moved_answer moved) (version_in old) v
+        → (v : ℕ) × LeadsToVersion Migrate (moved_told moved) (version_in old) v
         × IsStoredEnd (placed_at (point_of (desk_state old)) v) no_session trees
     by (Ok serial) does shows clean trees left = (
       2,
@@ -244,27 +210,23 @@ goes_moving g old answer new it may = record {
     ]
 
 -- over tables of version 2 they represent the event while the desk runs
-pub represents_second : {S : Type 0} (g : Ghosts S) (old new : Desk S g) (request : Request) (answer : Answer)
-    → AsksFor g old request answer new → version_in old ≡ 2 → HasCleanDisk (state g new) → ShowsOwn g old
+pub represents_second : {S : Type 0} (g : Ghosts S) (old new : Desk S g) (question : Question) (told : Told)
+    → AsksFor g old question told new → version_in old ≡ 2 → HasCleanDisk (state g new) → ShowsOwn g old
     → IsFalse (desk_state new).needs_reopen
     → ShowsOwn g new
-represents_second g old new (Submit command) answer it second = it.represents
-represents_second g old new Players answer it second = it.represents
-represents_second g old new Standings answer it second = it.represents
-represents_second g old new (Slips round) answer it second = it.represents
-represents_second g old new Bracket answer it second = it.represents
-represents_second g old new (Export kind) answer it second = it.represents
-represents_second g old new Migrate answer it second = it.does.represents (inl second)
+represents_second g old new (Submit command) told it second = it.represents
+represents_second g old new Standings told it second = it.represents
+represents_second g old new (Show view) told it second = it.represents
+represents_second g old new (SlipOf round table) told it second = it.represents
+represents_second g old new Migrate told it second = it.does.represents (inl second)
 
-pub stays_second : {S : Type 0} (g : Ghosts S) (old new : Desk S g) (request : Request) (answer : Answer)
-    → AsksFor g old request answer new → version_in old ≡ 2 → version_in new ≡ 2
-stays_second g old new (Submit command) answer it second = it.version ∙ second
-stays_second g old new Players answer it second = it.version ∙ second
-stays_second g old new Standings answer it second = it.version ∙ second
-stays_second g old new (Slips round) answer it second = it.version ∙ second
-stays_second g old new Bracket answer it second = it.version ∙ second
-stays_second g old new (Export kind) answer it second = it.version ∙ second
-stays_second g old new Migrate answer it second =
+pub stays_second : {S : Type 0} (g : Ghosts S) (old new : Desk S g) (question : Question) (told : Told)
+    → AsksFor g old question told new → version_in old ≡ 2 → version_in new ≡ 2
+stays_second g old new (Submit command) told it second = it.version ∙ second
+stays_second g old new Standings told it second = it.version ∙ second
+stays_second g old new (Show view) told it second = it.version ∙ second
+stays_second g old new (SlipOf round table) told it second = it.version ∙ second
+stays_second g old new Migrate told it second =
     still_second (desk_state old) (desk_state new) it.moved it.does.turn second
 
 -- a desk that runs is at its point
@@ -373,44 +335,40 @@ module _ (law : NextSessions) (image : Image) (new : Point) (first : Placed) (en
   from = law new first.point ends was.begins was.history
 
   module _ {D : Type 0} (d : disk.Ghosts D) (what : Left D d) where
-    asked_goes_on : (desk last : Desk (FileStore D d) over_files) (request : Request) (answer : Answer)
+    asked_goes_on : (desk last : Desk (FileStore D d) over_files) (question : Question) (told : Told)
         → IsFound d image first desk
-        → Goes over_files (LeadsToVersion request answer) desk (session_at request answer (desk_state last).needs_reopen) last
+        → Goes over_files (LeadsToVersion question told) desk (session_at question told (desk_state last).needs_reopen) last
         → IsFalse (desk_state desk).needs_reopen
-        → DeskAnswers (HasCleanDisk (state over_files last) × ShowsOwn over_files desk) (desk_state desk) request answer (desk_state last)
-        → IsPutAway (state over_files last) what → Answered d new ends first request answer what
-    asked_goes_on desk last request answer found asked runs answers put = record {
+        → AnswersDesk (HasCleanDisk (state over_files last) × ShowsOwn over_files desk) (desk_state desk) question told (desk_state last)
+        → IsPutAway (state over_files last) what → Answered d new ends first question told what
+    asked_goes_on desk last question told found asked runs answers put = record {
       needs_reopen = (desk_state last).needs_reopen;
-      goes = goes_to new first ends was.begins from d (LeadsToVersion request answer) desk last
-          (session_at request answer (desk_state last).needs_reopen) found.finds asked what put;
+      goes = goes_to new first ends was.begins from d (LeadsToVersion question told) desk last
+          (session_at question told (desk_state last).needs_reopen) found.finds asked what put;
       lawful = put_clean _ (state over_files last) what put (λ clean.
           let again = found.finds (asked.clean clean) in
-          subst (λ (p : Placed). IsAnswerAt p.version p.point request answer) again.found
-          (answer_at _ (desk_state desk) (desk_state last) request answer (clean, again.shows) runs answers));
-      acknowledged = kept_alone _ (desk_state desk) (desk_state last) request answer answers;
+          subst (λ (p : Placed). IsAnswerAt p.version p.point question told) again.found
+          (answers.due (clean, again.shows) runs));
+      acknowledged = kept_alone (desk_state desk) (desk_state last) question told answers.does;
       doubt = put_clean _ (state over_files last) what put (λ clean stopped.
-          doubt_fault _ (desk_state desk) (desk_state last) request answer (clean, (found.finds (asked.clean clean)).shows) runs answers
+          doubt_fault _ (desk_state desk) (desk_state last) question told (clean, (found.finds (asked.clean clean)).shows) runs answers
           stopped);
     }
 
-    is_answered : (desk last : Desk (FileStore D d) over_files) (request : Request) (answer : Answer) → IsFound d image first desk
-        → IsFalse (desk_state desk).needs_reopen → AsksFor over_files desk request answer last
-        → DeskAnswers (HasCleanDisk (state over_files last) × ShowsOwn over_files desk) (desk_state desk) request answer (desk_state last)
-        → IsPutAway (state over_files last) what → IsAnswered d image new ends first request answer what
-    is_answered desk last (Submit command) answer found runs asked answers put =
-        asked_goes_on desk last (Submit command) answer found (goes_asking _ _ _ _ asked) runs answers put
-    is_answered desk last Players answer found runs asked answers put =
-        asked_goes_on desk last Players answer found (goes_asking _ _ _ _ asked) runs answers put
-    is_answered desk last Standings answer found runs asked answers put =
-        asked_goes_on desk last Standings answer found (goes_asking _ _ _ _ asked) runs answers put
-    is_answered desk last (Slips round) answer found runs asked answers put =
-        asked_goes_on desk last (Slips round) answer found (goes_asking _ _ _ _ asked) runs answers put
-    is_answered desk last Bracket answer found runs asked answers put =
-        asked_goes_on desk last Bracket answer found (goes_asking _ _ _ _ asked) runs answers put
-    is_answered desk last (Export kind) answer found runs asked answers put =
-        asked_goes_on desk last (Export kind) answer found (goes_asking _ _ _ _ asked) runs answers put
-    is_answered desk last Migrate answer found runs moved answers put = λ may.
-        asked_goes_on desk last Migrate answer found
+    is_answered : (desk last : Desk (FileStore D d) over_files) (question : Question) (told : Told) → IsFound d image first desk
+        → IsFalse (desk_state desk).needs_reopen → AsksFor over_files desk question told last
+        → AnswersDesk (HasCleanDisk (state over_files last) × ShowsOwn over_files desk) (desk_state desk) question told (desk_state last)
+        → IsPutAway (state over_files last) what → IsAnswered d image new ends first question told what
+    is_answered desk last (Submit command) told found runs asked answers put =
+        asked_goes_on desk last (Submit command) told found (goes_asking _ _ _ _ asked) runs answers put
+    is_answered desk last Standings told found runs asked answers put =
+        asked_goes_on desk last Standings told found (goes_asking _ _ _ _ asked) runs answers put
+    is_answered desk last (Show view) told found runs asked answers put =
+        asked_goes_on desk last (Show view) told found (goes_asking _ _ _ _ asked) runs answers put
+    is_answered desk last (SlipOf round table) told found runs asked answers put =
+        asked_goes_on desk last (SlipOf round table) told found (goes_asking _ _ _ _ asked) runs answers put
+    is_answered desk last Migrate told found runs moved answers put = λ may.
+        asked_goes_on desk last Migrate told found
         (goes_moving _ _ _ _ moved (λ clean. may_migrate d image first desk found clean may)) runs answers put
 
     refused_next : (why : OpenFault D d)
@@ -431,13 +389,13 @@ module _ (law : NextSessions) (image : Image) (new : Point) (first : Placed) (en
     refused_fault (NotOpened refusal left) why is failed = tt
     refused_fault (OpenedInVain conn refusal) why is failed = λ clean. subst IsFault (sym is) (failed clean)
 
-    module _ (Spares : Error → Option (Leftover D d) → Type 0) (out out_then err err_then : Option (List ℕ)) (status : ℕ) where
+    module _ (Spares : Error → Option (Leftover D d) → Type 0) (p : Printed) where
       does_next : (task : Task) (desk : Desk (FileStore D d) over_files) → IsFalse (desk_state desk).needs_reopen
-          → IsFound d image first desk → OpensFor what out out_then err err_then status task desk
-          → DoesNext d Spares image new ends first what out out_then err err_then status task
-      does_next (Ask request) desk runs found it =
-          let (answer, answers, asked, tells) = it.does in
-          (answer, is_answered desk it.last request answer found runs asked answers it.put_away, tells)
+          → IsFound d image first desk → OpensFor what p task desk
+          → DoesNext d Spares image new ends first what p task
+      does_next (Ask question) desk runs found it =
+          let (told, answers, asked, tells) = it.does in
+          (told, is_answered desk it.last question told found runs asked answers it.put_away, tells)
       does_next (Import list) desk runs found it =
           let (session, imports, asked) = it.does in
           handed new first ends was.begins from d desk it.last session found.finds (goes_asking _ _ _ _ asked) _ runs imports what
@@ -448,15 +406,15 @@ module _ (law : NextSessions) (image : Image) (new : Point) (first : Placed) (en
           it.put_away
 
       pub task_goes_on : (task : Task) (desk : Desk (FileStore D d) over_files) → IsFalse (desk_state desk).needs_reopen
-          → IsFound d image first desk → OpensFor what out out_then err err_then status task desk
-          → GoesOn d Spares image new ends first what out out_then err err_then status task
+          → IsFound d image first desk → OpensFor what p task desk
+          → GoesOn d Spares image new ends first what p task
       task_goes_on task desk runs found it = inr (does_next task desk runs found it)
 
       pub unopened_goes_on : (task : Task) (fault : OpenFault D d) (why : Refusal) → why ≡ why_of fault → IsClearedOf fault what
           → (IsCleanFault fault → IsFault (why_of fault))
           → ((db : Trees) → HoldsDatabase image db → OnRefused fault (λ conn. Leaves (file_state conn) (λ trees. trees ≡ db)))
-          → WhereUnopened fault (IsFault (why_of fault)) → OnUnopened fault Spares → Tells (Refused why) out out_then err err_then status
-          → GoesOn d Spares image new ends first what out out_then err err_then status task
+          → WhereUnopened fault (IsFault (why_of fault)) → OnUnopened fault Spares → Tells (Refused why) p
+          → GoesOn d Spares image new ends first what p task
       unopened_goes_on task fault why is cleared cause kept failed spared tells = inl (
         Refused why,
         record {
@@ -470,16 +428,10 @@ module _ (law : NextSessions) (image : Image) (new : Point) (first : Placed) (en
         tells,
       )
 
--- the file is not there, or memory is wanting for any words
-absent : (why : Refusal) → (why ≡ NoEvent) ⊎ IsFault why → OrFault (Refused why ≡ Refused NoEvent) (Refused why)
-absent why (inl none) = inl (ap (λ (w : Refusal). Refused w) none)
-absent why (inr fault) = inr (why, fault, refl)
-
-module _ {D : Type 0} (d : disk.Ghosts D) (Spares : Error → Option (Leftover D d) → Type 0) (image : Image) (new : Point)
-    (ends : List Ended)
-    (first : Placed) (what : Left D d) (out out_then err err_then : Option (List ℕ)) (status : ℕ) where
-  pub absent_goes_on : (why : Refusal) → (why ≡ NoEvent) ⊎ IsFault why → what ≡ Nothing → Tells (Refused why) out out_then err err_then
-      status
-      → (action : Action) → OnOpen action (GoesOnIfThere d Spares image new ends first what out out_then err err_then status)
-  absent_goes_on why cause none tells (Init name rounds cut) = tt
-  absent_goes_on why cause none tells (Open task) = inl (Refused why, (none, absent why cause), tells)
+module _ {D : Type 0} (d : disk.Ghosts D) (Spares : Error → Option (Leftover D d) → Type 0) (image : Image) (what : Left D d) (p : Printed)
+  where
+    -- the file is not there, or memory is wanting for any words
+    pub absent_goes_on : (why : Refusal) → (why ≡ NoEvent) ⊎ IsFault why → what ≡ Nothing → Tells (Refused why) p
+        → (action : Action) → GoesOnAction d Spares image action what p
+    absent_goes_on why cause none tells (Init name rounds cut) = tt
+    absent_goes_on why cause none tells (Open task) = λ new first ends was. inl (Refused why, (none, why, cause, refl), tells)

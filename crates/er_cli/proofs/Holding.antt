@@ -20,8 +20,8 @@ use Rattle.er_store.specs.{Fault.IsFault, Representing.{IsStoredIn, Leaves, Repr
 use Rattle.er_desk.specs.{declared.desk.Desk.Desk, Desk.{Point, Placed, DeskState, IsStoredAt, placed_at, desk_state, state}}
 use Rattle.er_desk.specs.{Run.{Session, no_session}, History.Ended, Opening.SeesStill}
 use Rattle.er_desk.specs.{Headline.{IsBeginning, WasLeftBy, and_then}, Asking.{Asks, NextSessions, GoesOnFrom, SessionsJoin}}
-use Rattle.er_words.specs.declared.action.Request.{Request}
-use Rattle.er_cli.specs.declared.{left.Left.Left, texts.Answer.Answer}
+use Rattle.er_answers.specs.declared.question.{Question.Question, Told.Told}
+use Rattle.er_cli.specs.declared.left.{Left.Left}
 use Rattle.er_cli.specs.Next.{BeginsIn, WasLeftIn}
 use Rattle.sqlite_wal.specs.{Files.outcomes, Reads.AreClean}
 use Rattle.er_cli.specs.{Left.{AreClosed, IfUnopened}, Next.WasPutAway}
@@ -101,12 +101,12 @@ module _ {D : Type 0} {d : disk.Ghosts D} where
       left_by In new ends session begins what (put_sound s what over) (put_such (BeginsIn In new ends session) s what over leaves)
 
 -- a disk that is clean after a session was clean before
-pub ran_clean : {D : Type 0} (d : disk.Ghosts D) (join : SessionsJoin) (desk : Desk (FileStore D d) over_files) (requests : List Request)
-    (answers : Result (Vec Answer Global) Refusal) (now : Result (Files D) (Left D d)) → AsksOver desk requests answers now → {Is : Type 0}
+pub ran_clean : {D : Type 0} (d : disk.Ghosts D) (join : SessionsJoin) (desk : Desk (FileStore D d) over_files) (questions : List Question)
+    (answers : Result (Vec Told Global) Refusal) (now : Result (Files D) (Left D d)) → AsksOver desk questions answers now → {Is : Type 0}
     → (HasCleanDisk (state over_files desk) → Is) → IfCleanFiles Is now
-ran_clean d join desk requests (Ok them) now it {Is} is = over_clean Is (state over_files it.last) now it.let_go
-    (λ clean. is ((all_over join over_files it.last it.rests requests them.items desk it.asked).1.went.clean clean))
-ran_clean {D} d join desk requests (Err why) now it {Is} is = over_clean Is (state over_files it.last) now it.let_go
+ran_clean d join desk questions (Ok them) now it {Is} is = over_clean Is (state over_files it.last) now it.let_go
+    (λ clean. is ((all_over join over_files it.last it.rests questions them.items desk it.asked).1.went.clean clean))
+ran_clean {D} d join desk questions (Err why) now it {Is} is = over_clean Is (state over_files it.last) now it.let_go
     (λ clean. is (subst (λ (k : Desk (FileStore D d) over_files). HasCleanDisk (state over_files k)) it.asked.1 clean))
 
 module _ {D : Type 0} (d : disk.Ghosts D) (law : NextSessions) (files : Files D) (new : Point) (first : Placed) (ends : List Ended)
@@ -151,12 +151,12 @@ module _ {D : Type 0} (d : disk.Ghosts D) (law : NextSessions) (files : Files D)
         it.0.now_is ∙ was ∙ sym it.0.committed_is,
       )
 
-  pub refused_holds : (requests : List Request) (back : Held (FileStore D d)) (why : Refusal) (now : Result (Files D) (Left D d))
+  pub refused_holds : (questions : List Question) (back : Held (FileStore D d)) (why : Refusal) (now : Result (Files D) (Left D d))
       → IsLeftOver (file_state back) now
       → Leaves (file_state back) (BeginsIn (Stays first.version) new ends no_session)
       → (HasCleanDisk (file_state back) → IsFault why)
-      → HoldsNext d new ends first files requests (Err why) now
-  refused_holds requests back why now over leaves failed = record {
+      → HoldsNext d new ends first files questions (Err why) now
+  refused_holds questions back why now over leaves failed = record {
     session = no_session;
     held = over_clean _ (file_state back) now over (λ clean. (refl, failed clean));
     leaves = over_next (Stays first.version) new ends no_session was.begins (file_state back) now over leaves;
@@ -165,28 +165,28 @@ module _ {D : Type 0} (d : disk.Ghosts D) (law : NextSessions) (files : Files D)
 
   pub ran_holds : SessionsJoin → (desk : Desk (FileStore D d) over_files) → IsFalse (desk_state desk).needs_reopen
       → IsFound d (image_of d files) first desk
-      → (requests : List Request) → MayMoveFor (image_of d files) first requests
-      → (answers : Result (Vec Answer Global) Refusal) (now : Result (Files D) (Left D d)) → AsksOver desk requests answers now
-      → HoldsNext d new ends first files requests answers now
-  ran_holds join desk runs found requests move (Ok them) now it =
-      let over = all_over join over_files it.last it.rests requests them.items desk it.asked in
-      let may : MayIf over_files (AsksMigration requests) desk =
+      → (questions : List Question) → MayMoveFor (image_of d files) first questions
+      → (answers : Result (Vec Told Global) Refusal) (now : Result (Files D) (Left D d)) → AsksOver desk questions answers now
+      → HoldsNext d new ends first files questions answers now
+  ran_holds join desk runs found questions move (Ok them) now it =
+      let over = all_over join over_files it.last it.rests questions them.items desk it.asked in
+      let may : MayIf over_files (AsksMigration questions) desk =
       λ asked clean. may_migrate d (image_of d files) first desk found clean (move asked) in
       record {
         session = over.0;
         held = over_clean _ (state over_files it.last) now it.let_go (λ clean. (
           desk_state it.last,
-          subst (λ (s : DeskState). AnswersAll s requests them.items over.0 (desk_state it.last))
+          subst (λ (s : DeskState). AnswersAll s questions them.items over.0 (desk_state it.last))
               (runs_at (desk_state desk) first runs (found.finds (over.1.went.clean clean)).found)
               (over.1.answered clean (λ _. (found.finds (over.1.went.clean clean)).shows) (λ _. may)),
         ));
-        leaves = over_next (VersionLeft requests (Ok them) first.version) new ends over.0 was.begins (state over_files it.last) now
+        leaves = over_next (VersionLeft questions (Ok them) first.version) new ends over.0 was.begins (state over_files it.last) now
             it.let_go
-            (leaves_next new first ends was.begins from d (LeadToVersion requests them.items) desk it.last over.0 found.finds
+            (leaves_next new first ends was.begins from d (LeadToVersion questions them.items) desk it.last over.0 found.finds
             (record { clean = over.1.went.clean; crash = over.1.went.crash may }));
         unopened = over_put (state over_files it.last) now it.let_go;
       }
-  ran_holds join desk runs found requests move (Err why) now it =
+  ran_holds join desk runs found questions move (Err why) now it =
       let (is, same) = it.asked in
       let asked : Asks over_files desk no_session it.last =
       subst (λ (k : Desk (FileStore D d) over_files). Asks over_files k no_session it.last) same it.rests in
@@ -210,16 +210,16 @@ so_far {A} all seen x first (few, is) =
     ∙ ap₂ (λ (l : List A) (a : A). l ++ a ∷ []) (sym first ∙ map-id seen) (sym is))
     ∙ append_assoc seen (x ∷ []) (drop (n + 1) all)
 
-module _ (new : Point) (P Q : List Ended → Placed → Image → Type 0) (requests : Vec Request Global)
-    (answers : Result (Vec Answer Global) Refusal) where
+module _ (new : Point) (P Q : List Ended → Placed → Image → Type 0) (questions : Vec Question Global)
+    (answers : Result (Vec Told Global) Refusal) where
   abbrev Goes_on : Type 0
   Goes_on = (ends : List Ended) (first : Placed) (image : Image) → P ends first image → WasLeftBy image new ends first
-      → HoldsThen new Q ends first image (requests ∷ []) (answers ∷ [])
+      → HoldsThen new Q ends first image (questions ∷ []) (answers ∷ [])
 
   -- one session more
-  pub then_push : Goes_on → (done : List (Vec Request Global)) (before : List (Result (Vec Answer Global) Refusal)) (ends : List Ended)
+  pub then_push : Goes_on → (done : List (Vec Question Global)) (before : List (Result (Vec Told Global) Refusal)) (ends : List Ended)
       (first : Placed) (image : Image) → WasLeftBy image new ends first → HoldsThen new P ends first image done before
-      → HoldsThen new Q ends first image (done ++ requests ∷ []) (before ++ answers ∷ [])
+      → HoldsThen new Q ends first image (done ++ questions ∷ []) (before ++ answers ∷ [])
   then_push goes [] [] ends first image was holds = goes ends first image holds was
   then_push goes [] (r ∷ before) ends first image was holds = absurd holds
   then_push goes (c ∷ done) [] ends first image was holds = absurd holds
@@ -233,17 +233,17 @@ module _ (new : Point) (P Q : List Ended → Placed → Image → Type 0) (reque
     then_push goes done before (and_then ends it.0 it.1.point) it.1 it.2 it.5 it.6,
   ))
 
-module _ {D : Type 0} (d : disk.Ghosts D) (new : Point) (requests : Vec Request Global) (answers : Result (Vec Answer Global) Refusal)
+module _ {D : Type 0} (d : disk.Ghosts D) (new : Point) (questions : Vec Question Global) (answers : Result (Vec Told Global) Refusal)
     (files : Files D) (left : Result (Files D) (Left D d)) (last now : Files D) (is : left ≡ Ok last)
     (clean : AreClean d now.log now.db) (last_clean : AreClean d last.log last.db) (may_leave : outcomes d last.log last.db (image_of d now))
     (holds : (first : Placed) (ends : List Ended) → WasLeftBy (image_of d files) new ends first
-    → MayMoveFor (image_of d files) first requests.items → HoldsNext d new ends first files requests.items answers left) where
+    → MayMoveFor (image_of d files) first questions.items → HoldsNext d new ends first files questions.items answers left) where
   goes : (ends : List Ended) (first : Placed) (image : Image) → image ≡ image_of d files → WasLeftBy image new ends first
-      → HoldsThen new (λ _ _ then. then ≡ image_of d now) ends first image (requests ∷ []) (answers ∷ [])
+      → HoldsThen new (λ _ _ then. then ≡ image_of d now) ends first image (questions ∷ []) (answers ∷ [])
   goes ends first image same was = λ may.
-      let it = subst (HoldsNext d new ends first files requests.items answers) is
+      let it = subst (HoldsNext d new ends first files questions.items answers) is
       (holds first ends (subst (λ (i : Image). WasLeftBy i new ends first) same was)
-      (subst (λ (i : Image). MayMoveFor i first requests.items) same may)) in
+      (subst (λ (i : Image). MayMoveFor i first questions.items) same may)) in
       ∥∥₁_map (it.leaves last_clean (image_of d now) may_leave) (λ next. (
         it.session,
         next.0,
@@ -255,9 +255,9 @@ module _ {D : Type 0} (d : disk.Ghosts D) (new : Point) (requests : Vec Request 
       ))
 
   pub holds_more : (ends : List Ended) (first : Placed) (image : Image) → WasLeftBy image new ends first
-      → (done : List (Vec Request Global)) (before : List (Result (Vec Answer Global) Refusal))
+      → (done : List (Vec Question Global)) (before : List (Result (Vec Told Global) Refusal))
       → HoldsThen new (λ _ _ then. then ≡ image_of d files) ends first image done before
-      → HoldsThen new (λ _ _ then. then ≡ image_of d now) ends first image (done ++ requests ∷ []) (before ++ answers ∷ [])
+      → HoldsThen new (λ _ _ then. then ≡ image_of d now) ends first image (done ++ questions ∷ []) (before ++ answers ∷ [])
   holds_more ends first image was done before holds =
-      then_push new (λ _ _ then. then ≡ image_of d files) (λ _ _ then. then ≡ image_of d now) requests answers goes done before ends first
+      then_push new (λ _ _ then. then ≡ image_of d files) (λ _ _ then. then ≡ image_of d now) questions answers goes done before ends first
       image was holds

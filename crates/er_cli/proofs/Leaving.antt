@@ -19,7 +19,8 @@ use Rattle.er_desk.specs.Opening.{NamesFirstFault, NamesFirstFaultIn, OnRefused,
 use Rattle.er_cli.specs.declared.left.Left.{Left}
 use Rattle.er_cli.specs.declared.left.Left.TheVariants as left
 use Rattle.er_cli.specs.Left.{AreClosed, IfClean, IfUnopened, IsClearedOf, IsPutAway, KeepsAll, LeavesSuch}
-use Rattle.er_cli.specs.{declared.texts.Answer.TheVariants.Refused, Files.{IsNotOpened, NamesFirst}}
+use Rattle.er_answers.specs.declared.question.Told.TheVariants.{Refused}
+use Rattle.er_cli.specs.Files.{IsNotOpened, NamesFirst}
 use Rattle.er_cli.specs.Next.{BeginsIn, FindsNext, IsLeftBy, WasLeftIn, WasPutAway}
 use Rattle.er_cli.proofs.Outcomes.{left_again}
 use Rattle.std.proofs.Math.Logic.{∥∥₁_map}

@@ -2,11 +2,11 @@
 use Rattle.std.proofs.Common.{◌≡◌, ℕ, ◌+◌, ◌<◌, List, [], ◌∷◌, ◌++◌, length, map, take, get_or, Option, Bor, refl, subst, ap, ◌∙◌}
 use Rattle.std.proofs.{Common.append-nil, lemmas.List.{map-append, take_more}, lemmas.List.Concat.flat_map-append}
 use Rattle.std.specs.List.{flat_map}
-use Rattle.er_words.specs.Fields.{script_action}
+use Rattle.er_cli.specs.Action.{script_action}
 use Rattle.er_desk.specs.Desk.{DeskState}
-use Rattle.er_cli.specs.{declared.texts.Answer.Answer, Texts.answer_text, Script.{LineAnswers, RunsLines}}
+use Rattle.er_cli.specs.{declared.texts.LineAnswer.LineAnswer, Texts.answer_text, Script.{LineAnswers, RunsLines}}
 
-pub Runs-push : (lines : List (List ℕ)) (answers : List Answer) (old mid new : Option DeskState) (line : List ℕ) (answer : Answer)
+pub Runs-push : (lines : List (List ℕ)) (answers : List LineAnswer) (old mid new : Option DeskState) (line : List ℕ) (answer : LineAnswer)
     → RunsLines old lines answers mid → LineAnswers mid (script_action line) answer new
     → RunsLines old (lines ++ line ∷ []) (answers ++ answer ∷ []) new
 Runs-push [] [] old mid new line answer runs last = (new, subst (λ k. LineAnswers k (script_action line) answer new) runs last, refl)
@@ -15,7 +15,7 @@ Runs-push (l ∷ lines) (a ∷ answers) old mid new line answer runs last =
 Runs-push [] (a ∷ answers) old mid new line answer runs last = absurd runs
 Runs-push (l ∷ lines) [] old mid new line answer runs last = absurd runs
 
-pub printed-push : (answers : List Answer) (answer : Answer)
+pub printed-push : (answers : List LineAnswer) (answer : LineAnswer)
     → flat_map answer_text (answers ++ answer ∷ []) ≡ flat_map answer_text answers ++ answer_text answer
 printed-push answers answer = flat_map-append answer_text answers (answer ∷ []) ∙ ap
     (λ text. flat_map answer_text answers ++ text) (append-nil (answer_text answer))

@@ -3,11 +3,11 @@ use Rattle.std.specs.Prelude.{◌≡◌, ◌⊎◌, ℕ, ◌==◌, if◌then◌e
 use Rattle.er_event.specs.declared.refusals.Refusal.TheVariants.{Memory}
 use Rattle.er_cli.specs.declared.TheConstants.{USAGE}
 use Rattle.er_cli.specs.declared.complaints.TheConstants.{TRY_HELP, NO_TEXT}
-use Rattle.er_cli.specs.declared.texts.Answer.TheVariants.{Refused}
+use Rattle.er_answers.specs.declared.question.Told.TheVariants.{Refused}
 use Rattle.er_values.specs.declared.usage.UsageFault.{UsageFault}
 use Rattle.er_values.specs.declared.usage.UsageFault.TheVariants.{UnknownSubcommand, LeadingDash, TooFew, TooMany, BadNumber, BadSeed}
 use Rattle.er_values.specs.declared.usage.UsageFault.TheVariants.{BadCount, BadKind}
-use Rattle.er_cli.specs.Help.{Says, Tells, subcommand_text}
+use Rattle.er_cli.specs.Help.{Printed, Says, Tells, subcommand_text}
 use Rattle.er_words.specs.Usage.{fault_of}
 
 abbrev pub what_is_wrong : UsageFault → List ℕ
@@ -50,8 +50,5 @@ Complains (name ∷ words) text =
     (fault : UsageFault) × (fault_of (name ∷ words) ≡ Some fault) × (text ≡ complaint_with (name ∷ words) fault (advice name))
 
 -- What is wrong goes to the errors, or that memory is wanting. The output stays as it is.
-abbrev pub EndsAsUsage : List (List ℕ) → (out out_then err err_then : Option (List ℕ)) → ℕ → Type 0
-EndsAsUsage words out out_then err err_then status =
-    ((text : List ℕ) × Complains words text
-    × Says text USAGE (record { meant = err; other = out }) (record { meant = err_then; other = out_then }) status)
-    ⊎ Tells (Refused Memory) out out_then err err_then status
+abbrev pub EndsAsUsage : List (List ℕ) → Printed → Type 0
+EndsAsUsage words p = ((text : List ℕ) × Complains words text × Says text USAGE p.err p.out p.status) ⊎ Tells (Refused Memory) p

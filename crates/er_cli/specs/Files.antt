@@ -27,28 +27,28 @@ use Rattle.er_desk.specs.Opening.{HoldsNothing, ListsNothing, MakesOver, NamesFi
 use Rattle.er_desk.specs.History.{new_point}
 use Rattle.er_desk.specs.Reply.{receipt}
 use Rattle.er_desk.specs.Run.{Session, no_session}
-use Rattle.er_words.specs.declared.action.Action.{Action}
-use Rattle.er_words.specs.declared.action.Action.TheVariants.{Init, Open}
-use Rattle.er_words.specs.declared.action.Task.{Task}
-use Rattle.er_words.specs.declared.action.Task.TheVariants.{Ask, Import, Serve}
-use Rattle.er_cli.specs.declared.texts.Answer.{Answer}
-use Rattle.er_cli.specs.declared.texts.Answer.TheVariants.{Accepted, Refused}
+use Rattle.er_answers.specs.Answers.{AnswersDesk, AsksFor}
+use Rattle.er_answers.specs.declared.question.Told.{Told}
+use Rattle.er_answers.specs.declared.question.Told.TheVariants.{Accepted, Refused}
+use Rattle.er_cli.specs.declared.action.Action.{Action}
+use Rattle.er_cli.specs.declared.action.Action.TheVariants.{Init, Open}
+use Rattle.er_cli.specs.declared.action.Task.{Task}
+use Rattle.er_cli.specs.declared.action.Task.TheVariants.{Ask, Import, Serve}
 use Rattle.er_cli.specs.declared.TheConstants.{DEVICE}
 use Rattle.er_cli.specs.declared.help.TheConstants.{CANNOT_LISTEN}
-use Rattle.er_cli.specs.Help.{Says, Tells}
+use Rattle.er_cli.specs.Help.{Printed, Says, Tells}
 use Rattle.er_cli.specs.Importing.{Imports}
 use Rattle.er_cli.specs.Serving.{PrintsSome, ServesAll}
 use Rattle.er_cli.specs.Next.{GoesTo}
 use Rattle.er_cli.specs.Setup.{init_checks}
-use Rattle.er_cli.specs.Answers.{AsksFor, DeskAnswers}
 use Rattle.er_cli.specs.Left.{IfClean, IfUnopened, IsPutAway, LeavesSuch}
 use Rattle.er_cli.specs.declared.left.Left.{Left}
 use Rattle.er_cli.specs.declared.left.Left.TheVariants.{Nothing}
 use Rattle.er_cli.specs.declared.left.NoDesk.{NoDesk}
 
 -- the system says that there is no file, or memory or the device fails before it is opened
-abbrev pub IsNotThere : {D : Type 0} {g : disk.Ghosts D} → Left D g → Answer → Type 0
-IsNotThere what answer = (what ≡ Nothing) × (why : Refusal) × ((why ≡ NoEvent) ⊎ IsFault why) × (answer ≡ Refused why)
+abbrev pub IsNotThere : {D : Type 0} {g : disk.Ghosts D} → Left D g → Told → Type 0
+IsNotThere what told = (what ≡ Nothing) × (why : Refusal) × ((why ≡ NoEvent) ⊎ IsFault why) × (told ≡ Refused why)
 
 -- the first fault of what an opening finds in the file
 abbrev pub NamesFirst : Image → Refusal → Type 0
@@ -57,9 +57,9 @@ NamesFirst image why = (db : Database) × IsDatabase db × AreFoundIn image db.t
 -- The event was not opened. No event and a damaged table are the first fault of what the file held, and what is left holds just that:
 -- no table of it changes, and a crash leaves nothing else.
 pub record IsNotOpened {D : Type 0} {g : disk.Ghosts D} (Spares : Error → Option (Leftover D g) → Type 0) (image : Image) (what : Left D g)
-    (answer : Answer) : Type 0 where
+    (told : Told) : Type 0 where
   pub why : Refusal
-  pub answered : answer ≡ Refused why
+  pub answered : told ≡ Refused why
   pub cause : (why ≡ NoEvent) ⊎ IsLoadFault why
   pub unopened : IfUnopened Spares why what
   pub first : IfClean (NamesFirst image why) what
@@ -105,14 +105,12 @@ InitReplies g Spares image name rounds cut made =
     × MatchResult made (IsMade image (new_point name rounds cut)) (λ it. IsNotMade Spares image (new_point name rounds cut) it.why it.left))
     (λ why. made ≡ Err (record { why = why; left = Nothing }))
 
-module _ (out out_then err err_then : Option (List ℕ)) (status : ℕ) where
-  -- clients were served, or the port can't be had, or memory was wanting before anybody was listened to
-  abbrev pub ServesClients : ℕ → DeskState → Session → DeskState → Type 0
-  ServesClients count old session new =
-      (PrintsSome count out out_then status × (err_then ≡ err) × ServesAll count status old session new)
-      ⊎ (Says CANNOT_LISTEN.now DEVICE (record { meant = err; other = out }) (record { meant = err_then; other = out_then }) status
-      × (session ≡ no_session) × (new ≡ old))
-      ⊎ (Tells (Refused Memory) out out_then err err_then status × (session ≡ no_session) × (new ≡ old))
+-- clients were served, or the port can't be had, or memory was wanting before anybody was listened to
+abbrev pub ServesClients : Printed → ℕ → DeskState → Session → DeskState → Type 0
+ServesClients p count old session new =
+    (PrintsSome count p.out p.status × (p.err.after ≡ p.err.before) × ServesAll count p.status old session new)
+    ⊎ (Says CANNOT_LISTEN.now DEVICE p.err p.out p.status × (session ≡ no_session) × (new ≡ old))
+    ⊎ (Tells (Refused Memory) p × (session ≡ no_session) × (new ≡ old))
 
 -- a desk that was just opened: its event is sound, and no fault of the store is behind
 pub record IsOpened {S : Type 0} (g : Ghosts S) (desk : Desk S g) : Type 0 where
@@ -124,27 +122,25 @@ pub record IsOpened {S : Type 0} (g : Ghosts S) (desk : Desk S g) : Type 0 where
       → AreKeyed (state g desk).now → ShowsOwn g desk
 
 -- what is done with an event that was opened, by its desk, and the desk's state then
-abbrev pub Does : {S : Type 0} (g : Ghosts S) → Desk S g → Task → Desk S g → (out out_then err err_then : Option (List ℕ)) → ℕ → Type 0
-Does g desk (Ask request) last out out_then err err_then status =
-    (answer : Answer)
-    × DeskAnswers (HasCleanDisk (state g last) × ShowsOwn g desk) (desk_state desk) request answer (desk_state last)
-    × AsksFor g desk request answer last
-    × Tells answer out out_then err err_then status
-Does g desk (Import list) last out out_then err err_then status =
-    AsksSome g desk (Imports out out_then err err_then status) last
-Does g desk (Serve port count) last out out_then err err_then status =
-    AsksSome g desk (ServesClients out out_then err err_then status count) last
+abbrev pub Does : {S : Type 0} (g : Ghosts S) → Desk S g → Task → Desk S g → Printed → Type 0
+Does g desk (Ask question) last p =
+    (told : Told)
+    × AnswersDesk (HasCleanDisk (state g last) × ShowsOwn g desk) (desk_state desk) question told (desk_state last)
+    × AsksFor g desk question told last
+    × Tells told p
+Does g desk (Import list) last p = AsksSome g desk (Imports p) last
+Does g desk (Serve port count) last p = AsksSome g desk (ServesClients p count) last
 
-module _ {D : Type 0} {g : disk.Ghosts D} (what : Left D g) (out out_then err err_then : Option (List ℕ)) (status : ℕ) where
-  -- An event was opened by this desk, one thing was done with it, and what is left is its file, put away then.
-  pub record OpensFor (task : Task) (desk : Desk (FileStore D g) over_files) : Type 0 where
-    pub last : Desk (FileStore D g) over_files
-    pub opened : IsOpened over_files desk
-    pub does : Does over_files desk task last out out_then err err_then status
-    pub put_away : IsPutAway (state over_files last) what
+-- An event was opened by this desk, one thing was done with it, and what is left is its file, put away then.
+pub record OpensFor {D : Type 0} {g : disk.Ghosts D} (what : Left D g) (p : Printed) (task : Task) (desk : Desk (FileStore D g) over_files)
+    : Type 0 where
+  pub last : Desk (FileStore D g) over_files
+  pub opened : IsOpened over_files desk
+  pub does : Does over_files desk task last p
+  pub put_away : IsPutAway (state over_files last) what
 
 module _ {D : Type 0} (g : disk.Ghosts D) (Spares : Error → Option (Leftover D g) → Type 0) (image : Image) (what : Left D g)
-    (out out_then err err_then : Option (List ℕ)) (status : ℕ) where
+    (p : Printed) where
   -- An event was made, and its file put away; or why it was not. In a file that held nothing this begins the empty history,
   -- with which the next command line goes on.
   abbrev pub Makes : List ℕ → ℕ → ℕ → Type 0
@@ -154,14 +150,14 @@ module _ {D : Type 0} (g : disk.Ghosts D) (Spares : Error → Option (Leftover D
       × MatchResult made
       (λ desk. IsPutAway (state over_files desk) what × (HoldsNothing image → GoesTo g (λ version. version ≡ 2)
       (new_point name rounds cut) [] no_session what)
-      × Tells (Accepted (receipt 0)) out out_then err err_then status)
-      (λ it. (what ≡ it.left) × Tells (Refused it.why) out out_then err err_then status)
+      × Tells (Accepted (receipt 0)) p)
+      (λ it. (what ≡ it.left) × Tells (Refused it.why) p)
 
   -- What a command line does to the output and the errors and leaves of the file, and its status. An event is opened by a desk over such
   -- files.
   abbrev pub EndsLine : Action → Type 0
   EndsLine (Init name rounds cut) = Makes name rounds cut
   EndsLine (Open task) =
-      ((answer : Answer) × IsNotThere what answer × Tells answer out out_then err err_then status)
-      ⊎ ((answer : Answer) × IsNotOpened Spares image what answer × Tells answer out out_then err err_then status)
-      ⊎ ((desk : Desk (FileStore D g) over_files) × SeesFile image desk × OpensFor what out out_then err err_then status task desk)
+      ((told : Told) × IsNotThere what told × Tells told p)
+      ⊎ ((told : Told) × IsNotOpened Spares image what told × Tells told p)
+      ⊎ ((desk : Desk (FileStore D g) over_files) × SeesFile image desk × OpensFor what p task desk)

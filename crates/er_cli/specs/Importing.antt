@@ -18,9 +18,9 @@ use Rattle.er_paper.specs.Reading.{ReadsPlayers}
 use Rattle.er_cli.specs.declared.TheConstants.{DONE, REFUSED, DEVICE}
 use Rattle.er_cli.specs.declared.importing.Additions.{Additions}
 use Rattle.er_cli.specs.declared.importing.TheConstants.{MAX_LIST_BYTES}
-use Rattle.er_cli.specs.declared.texts.Answer.TheVariants.{Refused}
-use Rattle.er_cli.specs.Help.{Says, Tells}
-use Rattle.er_cli.specs.Texts.{AppendsPart}
+use Rattle.er_answers.specs.declared.question.Told.TheVariants.{Refused}
+use Rattle.er_cli.specs.Help.{Printed, PutsText, Says, Tells, refusal_status}
+use Rattle.er_cli.specs.Texts.{told_text, AppendsPart}
 
 -- the player was there already
 abbrev pub is_taken : Refusal → Bool
@@ -63,12 +63,13 @@ names_of = map (λ line. line.name)
 abbrev pub additions_text : Additions → List ℕ
 additions_text additions = codes "added " ++ (decimal additions.added ++ (codes " already " ++ (decimal additions.already ++ (10 ∷ []))))
 
--- the additions goes to the output, and then the refusal that ended the import to the errors
-abbrev pub PrintsAdditions : Additions → Option Refusal → (out out_then err err_then : Option (List ℕ)) → ℕ → Type 0
-PrintsAdditions additions stop out out_then err err_then status =
-    (Appends out out_then (additions_text additions)
-    × MatchOption stop ((status ≡ DONE) × (err_then ≡ err)) (λ why. Tells (Refused why) out_then out_then err err_then status))
-    ⊎ ((status ≡ DEVICE) × AppendsPart out out_then (additions_text additions) × (err_then ≡ err))
+-- the additions go to the output, and then the refusal that ended the import to the errors
+abbrev pub PrintsAdditions : Additions → Option Refusal → Printed → Type 0
+PrintsAdditions additions stop p =
+    (Appends p.out.before p.out.after (additions_text additions)
+    × MatchOption stop ((p.status ≡ DONE) × (p.err.after ≡ p.err.before))
+    (λ why. PutsText (told_text (Refused why)) (refusal_status why) p.err p.status))
+    ⊎ ((p.status ≡ DEVICE) × AppendsPart p.out.before p.out.after (additions_text additions) × (p.err.after ≡ p.err.before))
 
 -- what is said of a list that has a fault
 abbrev pub fault_text : CsvFault → List ℕ
@@ -80,31 +81,28 @@ fault_text csv.Memory = []
 abbrev pub EnrolsNobody : DeskState → Session → DeskState → Type 0
 EnrolsNobody old session new = (new ≡ old) × (session ≡ no_session)
 
-module _ (out out_then err err_then : Option (List ℕ)) (status : ℕ) where
+module _ (p : Printed) where
   -- the names are handed to the desk, and the additions are printed
   pub record Hands (names : List (List ℕ)) (old : DeskState) (session : Session) (new : DeskState) : Type 0 where
     pub additions : Additions
     pub stop : Option Refusal
     pub enrols : Enrols names old additions stop session new
-    pub prints : PrintsAdditions additions stop out out_then err err_then status
+    pub prints : PrintsAdditions additions stop p
 
   -- the fault of a list is named; a list without one is enrolled
   abbrev pub TakesList : List ℕ → DeskState → Session → DeskState → Type 0
   TakesList list old session new =
       ((fault : CsvFault) × (fault ≢ csv.Memory) × ReadsPlayers list (Err fault) × EnrolsNobody old session new
-      × Says (fault_text fault) REFUSED (record { meant = err; other = out }) (record { meant = err_then; other = out_then }) status)
+      × Says (fault_text fault) REFUSED p.err p.out p.status)
       ⊎ ((lines : List PlayerLine) × ReadsPlayers list (Ok lines) × Hands (names_of lines) old session new)
 
   -- Memory is wanting for a list, or it is taken.
   abbrev pub ImportsList : List ℕ → DeskState → Session → DeskState → Type 0
-  ImportsList list old session new =
-      (EnrolsNobody old session new × Tells (Refused Memory) out out_then err err_then status) ⊎ TakesList list old session new
+  ImportsList list old session new = (EnrolsNobody old session new × Tells (Refused Memory) p) ⊎ TakesList list old session new
 
   -- The list can't be read, or memory is wanting for it, or it is taken. Nobody is enrolled but by the last.
   abbrev pub Imports : DeskState → Session → DeskState → Type 0
   Imports old session new =
-      (EnrolsNobody old session new
-      × Says (codes "cannot read\n") DEVICE
-      (record { meant = err; other = out }) (record { meant = err_then; other = out_then }) status)
-      ⊎ (EnrolsNobody old session new × Tells (Refused Memory) out out_then err err_then status)
+      (EnrolsNobody old session new × Says (codes "cannot read\n") DEVICE p.err p.out p.status)
+      ⊎ (EnrolsNobody old session new × Tells (Refused Memory) p)
       ⊎ ((list : List ℕ) × (length list ≤ MAX_LIST_BYTES) × TakesList list old session new)

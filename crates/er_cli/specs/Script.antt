@@ -7,41 +7,48 @@ use Rattle.er_rules.specs.Commands.{first_refusal}
 use Rattle.er_store.specs.Fault.{IsFault}
 use Rattle.er_desk.specs.Desk.{DeskState, running_at}
 use Rattle.er_desk.specs.History.{new_point}
-use Rattle.er_words.specs.declared.action.Action.{Action}
-use Rattle.er_words.specs.declared.action.Action.TheVariants.{Init, Open}
-use Rattle.er_words.specs.declared.action.Task.TheVariants.{Ask, Import, Serve}
-use Rattle.er_cli.specs.declared.texts.Answer.{Answer}
-use Rattle.er_cli.specs.declared.texts.Answer.TheVariants.{Accepted, Refused, Usage}
+use Rattle.er_answers.specs.Answers.{AnswersDesk}
+use Rattle.er_answers.specs.declared.question.Told.{Told}
+use Rattle.er_answers.specs.declared.question.Told.TheVariants.{Accepted, Refused}
+use Rattle.er_cli.specs.Action.{script_action}
+use Rattle.er_cli.specs.declared.action.Action.{Action}
+use Rattle.er_cli.specs.declared.action.Action.TheVariants.{Init, Open}
+use Rattle.er_cli.specs.declared.action.Task.TheVariants.{Ask, Import, Serve}
+use Rattle.er_cli.specs.declared.texts.LineAnswer.{LineAnswer}
+use Rattle.er_cli.specs.declared.texts.LineAnswer.TheVariants.{Asked, Usage}
 use Rattle.er_cli.specs.Setup.{init_checks}
-use Rattle.er_words.specs.Fields.{script_action}
-use Rattle.er_cli.specs.Answers.{DeskAnswers}
 use Rattle.er_cli.specs.Texts.{answer_text, AppendsPart}
 
 -- an event is made, or memory or the store fails, and all stays as it is
-abbrev pub CreatesEvent : Option DeskState → List ℕ → ℕ → ℕ → Answer → Option DeskState → Type 0
-CreatesEvent old name rounds cut answer new =
-    ((answer ≡ Accepted (record { serial = 0 })) × (new ≡ Some (running_at (new_point name rounds cut) 2)))
-    ⊎ ((why : Refusal) × IsFault why × (answer ≡ Refused why) × (new ≡ old))
+abbrev pub CreatesEvent : Option DeskState → List ℕ → ℕ → ℕ → Told → Option DeskState → Type 0
+CreatesEvent old name rounds cut told new =
+    ((told ≡ Accepted (record { serial = 0 })) × (new ≡ Some (running_at (new_point name rounds cut) 2)))
+    ⊎ ((why : Refusal) × IsFault why × (told ≡ Refused why) × (new ≡ old))
+
+-- what setting up an event is answered
+abbrev pub SetsUp : Option DeskState → List ℕ → ℕ → ℕ → Told → Option DeskState → Type 0
+SetsUp old name rounds cut told new =
+    MatchOption (first_refusal (init_checks (is_some old) name rounds cut))
+    (CreatesEvent old name rounds cut told new)
+    (λ why. ((told ≡ Refused why) ⊎ (told ≡ Refused Memory)) × (new ≡ old))
 
 -- What an action is answered, and the desk's state then. The tables in memory represent its event. All but `init`
 -- want an event. A script imports no list, and serves no clients.
-abbrev pub Acts : Option DeskState → Action → Answer → Option DeskState → Type 0
-Acts old (Init name rounds cut) answer new =
-    MatchOption (first_refusal (init_checks (is_some old) name rounds cut))
-    (CreatesEvent old name rounds cut answer new)
-    (λ why. ((answer ≡ Refused why) ⊎ (answer ≡ Refused Memory)) × (new ≡ old))
+abbrev pub Acts : Option DeskState → Action → LineAnswer → Option DeskState → Type 0
+Acts old (Init name rounds cut) answer new = (told : Told) × SetsUp old name rounds cut told new × (answer ≡ Asked told)
 Acts old (Open (Import list)) answer new = (answer ≡ Usage) × (new ≡ old)
-Acts None (Open (Ask request)) answer new = (answer ≡ Refused NoEvent) × (new ≡ None)
-Acts (Some old) (Open (Ask request)) answer new = (next : DeskState) × DeskAnswers ⊤ old request answer next × (new ≡ Some next)
+Acts None (Open (Ask question)) answer new = (answer ≡ Asked (Refused NoEvent)) × (new ≡ None)
+Acts (Some old) (Open (Ask question)) answer new =
+    (told : Told) × (next : DeskState) × AnswersDesk ⊤ old question told next × (answer ≡ Asked told) × (new ≡ Some next)
 Acts old (Open (Serve port count)) answer new = (answer ≡ Usage) × (new ≡ old)
 
 -- What a line is answered. Memory may be wanting to read it.
-abbrev pub LineAnswers : Option DeskState → Option Action → Answer → Option DeskState → Type 0
-LineAnswers old None answer new = ((answer ≡ Usage) ⊎ (answer ≡ Refused Memory)) × (new ≡ old)
-LineAnswers old (Some action) answer new = Acts old action answer new ⊎ ((answer ≡ Refused Memory) × (new ≡ old))
+abbrev pub LineAnswers : Option DeskState → Option Action → LineAnswer → Option DeskState → Type 0
+LineAnswers old None answer new = ((answer ≡ Usage) ⊎ (answer ≡ Asked (Refused Memory))) × (new ≡ old)
+LineAnswers old (Some action) answer new = Acts old action answer new ⊎ ((answer ≡ Asked (Refused Memory)) × (new ≡ old))
 
 -- the answers to these lines, in order
-abbrev pub RunsLines : Option DeskState → List (List ℕ) → List Answer → Option DeskState → Type 0
+abbrev pub RunsLines : Option DeskState → List (List ℕ) → List LineAnswer → Option DeskState → Type 0
 RunsLines old [] [] new = new ≡ old
 RunsLines old (line ∷ lines) (answer ∷ answers) new =
     (next : Option DeskState) × LineAnswers old (script_action line) answer next × RunsLines next lines answers new
@@ -50,7 +57,7 @@ RunsLines old (line ∷ lines) [] new = ⊥
 
 -- what a writer held, and holds when the answers to the lines are printed
 pub record Prints (lines : List (List ℕ)) (before after : Option (List ℕ)) : Type 0 where
-  pub answers : List Answer
+  pub answers : List LineAnswer
   pub last : Option DeskState
   pub runs : RunsLines None lines answers last
   pub printed : Appends before after (flat_map answer_text answers)
@@ -58,7 +65,7 @@ pub record Prints (lines : List (List ℕ)) (before after : Option (List ℕ)) :
 -- what a writer holds where a write failed: the answers to the first lines, of which the last may be cut
 pub record PrintsPart (lines : List (List ℕ)) (before after : Option (List ℕ)) : Type 0 where
   pub count : ℕ
-  pub answers : List Answer
+  pub answers : List LineAnswer
   pub last : Option DeskState
   pub runs : RunsLines None (take count lines) answers last
   pub printed : AppendsPart before after (flat_map answer_text answers)

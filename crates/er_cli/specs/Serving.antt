@@ -1,6 +1,6 @@
 -- What serving clients does: to the desk, and to what is printed.
 use Rattle.std.specs.Global.{Global}
-use Rattle.std.specs.Prelude.{◌≡◌, ◌⊎◌, ◌≤◌, ℕ, zero, suc, List, [], ◌∷◌, ◌++◌, Option, Result, Vec, codes}
+use Rattle.std.specs.Prelude.{◌≡◌, ◌⊎◌, ◌≤◌, ℕ, zero, suc, List, [], ◌∷◌, ◌++◌, Result, Vec, codes}
 use Rattle.std.specs.Fmt.{decimal}
 use Rattle.er_event.specs.declared.commands.Command.TheVariants.{Result as Hand}
 use Rattle.er_event.specs.declared.refusals.Refusal.{Refusal}
@@ -12,7 +12,7 @@ use Rattle.er_desk.specs.Desk.{DeskState, Turn, ReadsRows, ReadsSlip}
 use Rattle.er_desk.specs.Reply.{Reply}
 use Rattle.er_desk.specs.Run.{Session, session_of, no_session}
 use Rattle.er_cli.specs.declared.TheConstants.{DONE, DEVICE}
-use Rattle.er_cli.specs.Help.{Puts}
+use Rattle.er_cli.specs.Help.{PutsText, Stream}
 
 -- One connection: the desk stays as it is, reads its standings or a slip, or is handed one score. Only the score is
 -- a command.
@@ -45,9 +45,9 @@ abbrev pub served : ℕ → List ℕ
 served count = codes "served " ++ (decimal count ++ (10 ∷ []))
 
 -- the port that is listened at, and at the end how many clients were served, or a beginning of this
-abbrev pub PrintsServed : (port count : ℕ) → (before after : Option (List ℕ)) → ℕ → Type 0
-PrintsServed port count before after status = Puts (listening port ++ served count) DONE before after status
+abbrev pub PrintsServed : (port count : ℕ) → Stream → ℕ → Type 0
+PrintsServed port count stream status = PutsText (listening port ++ served count) DONE stream status
 
 -- at some port, or nothing where it can't be told
-abbrev pub PrintsSome : ℕ → (before after : Option (List ℕ)) → ℕ → Type 0
-PrintsSome count before after status = (port : ℕ) × (port ≤ 65535) × PrintsServed port count before after status
+abbrev pub PrintsSome : ℕ → Stream → ℕ → Type 0
+PrintsSome count stream status = (port : ℕ) × (port ≤ 65535) × PrintsServed port count stream status

@@ -22,10 +22,10 @@ use Rattle.er_desk.specs.Asking.{Asks, joined}
 use Rattle.er_desk.specs.Desk.{Point, Placed, DeskState, ShowsOwn, running_at, desk_state, state}
 use Rattle.er_desk.specs.Run.{Session, no_session}
 use Rattle.er_desk.specs.History.{Ended}
-use Rattle.er_words.specs.declared.action.Request.{Request}
-use Rattle.er_words.specs.declared.action.Request.TheVariants.{Migrate}
-use Rattle.er_cli.specs.declared.texts.Answer.{Answer}
-use Rattle.er_cli.specs.Answers.{AsksFor, DeskAnswers, session_at}
+use Rattle.er_answers.specs.Answers.{AnswersDesk, AsksFor, session_at}
+use Rattle.er_answers.specs.declared.question.Question.{Question}
+use Rattle.er_answers.specs.declared.question.Question.TheVariants.{Migrate}
+use Rattle.er_answers.specs.declared.question.Told.{Told}
 use Rattle.er_cli.specs.GoingOn.{LeadsToVersion, MayMove}
 use Rattle.er_cli.specs.Left.{IfClean, IfUnopened, IsPutAway}
 use Rattle.er_cli.specs.Next.{IsLeftBy, WasLeftIn, WasPutAway}
@@ -62,112 +62,112 @@ SparesFiles files error (Some rest) = IsCleanLeft rest → FailsToOpenFiles file
 -- ---- what a session asks
 
 -- a migration is among these
-abbrev pub AsksMigration : List Request → Type 0
+abbrev pub AsksMigration : List Question → Type 0
 AsksMigration [] = ⊥
-AsksMigration (request ∷ requests) = (request ≡ Migrate) ⊎ AsksMigration requests
+AsksMigration (question ∷ questions) = (question ≡ Migrate) ⊎ AsksMigration questions
 
 -- A desk was asked one thing after the other, over its file: these were its answers.
-abbrev pub AsksAll : {S : Type 0} (g : Ghosts S) → Desk S g → List Request → List Answer → Desk S g → Type 0
+abbrev pub AsksAll : {S : Type 0} (g : Ghosts S) → Desk S g → List Question → List Told → Desk S g → Type 0
 AsksAll g old [] [] new = new ≡ old
-AsksAll {S} g old (request ∷ requests) (answer ∷ answers) new =
-    (mid : Desk S g) × AsksFor g old request answer mid
-    × DeskAnswers (HasCleanDisk (state g mid) × ShowsOwn g old) (desk_state old) request answer (desk_state mid)
-    × AsksAll g mid requests answers new
-AsksAll g old [] (answer ∷ answers) new = ⊥
-AsksAll g old (request ∷ requests) [] new = ⊥
+AsksAll {S} g old (question ∷ questions) (told ∷ answers) new =
+    (mid : Desk S g) × AsksFor g old question told mid
+    × AnswersDesk (HasCleanDisk (state g mid) × ShowsOwn g old) (desk_state old) question told (desk_state mid)
+    × AsksAll g mid questions answers new
+AsksAll g old [] (told ∷ answers) new = ⊥
+AsksAll g old (question ∷ questions) [] new = ⊥
 
 -- What a desk answers whose tables represent its event, and the session that the requests are together: each is answered on the event
 -- that those before it left.
-abbrev pub AnswersAll : DeskState → List Request → List Answer → Session → DeskState → Type 0
+abbrev pub AnswersAll : DeskState → List Question → List Told → Session → DeskState → Type 0
 AnswersAll old [] [] session new = (session ≡ no_session) × (new ≡ old)
-AnswersAll old (request ∷ requests) (answer ∷ answers) session new =
-    (mid : DeskState) × (later : Session) × DeskAnswers (Unit {0}) old request answer mid × AnswersAll mid requests answers later new
-    × (session ≡ joined (session_at request answer mid.needs_reopen) later)
-AnswersAll old [] (answer ∷ answers) session new = ⊥
-AnswersAll old (request ∷ requests) [] session new = ⊥
+AnswersAll old (question ∷ questions) (told ∷ answers) session new =
+    (mid : DeskState) × (later : Session) × AnswersDesk (Unit {0}) old question told mid × AnswersAll mid questions answers later new
+    × (session ≡ joined (session_at question told mid.needs_reopen) later)
+AnswersAll old [] (told ∷ answers) session new = ⊥
+AnswersAll old (question ∷ questions) [] session new = ⊥
 
 -- the version of the tables that are left: each request leads from the one before it
-abbrev pub LeadToVersion : List Request → List Answer → (was now : ℕ) → Type 0
+abbrev pub LeadToVersion : List Question → List Told → (was now : ℕ) → Type 0
 LeadToVersion [] [] was now = now ≡ was
-LeadToVersion (request ∷ requests) (answer ∷ answers) was now =
-    (mid : ℕ) × LeadsToVersion request answer was mid × LeadToVersion requests answers mid now
-LeadToVersion [] (answer ∷ answers) was now = ⊥
-LeadToVersion (request ∷ requests) [] was now = ⊥
+LeadToVersion (question ∷ questions) (told ∷ answers) was now =
+    (mid : ℕ) × LeadsToVersion question told was mid × LeadToVersion questions answers mid now
+LeadToVersion [] (told ∷ answers) was now = ⊥
+LeadToVersion (question ∷ questions) [] was now = ⊥
 
 -- where nothing was asked, the version stays
-abbrev pub VersionLeft : List Request → Result (Vec Answer Global) Refusal → (was now : ℕ) → Type 0
-VersionLeft requests (Ok answers) was now = LeadToVersion requests answers.items was now
-VersionLeft requests (Err why) was now = now ≡ was
+abbrev pub VersionLeft : List Question → Result (Vec Told Global) Refusal → (was now : ℕ) → Type 0
+VersionLeft questions (Ok answers) was now = LeadToVersion questions answers.items was now
+VersionLeft questions (Err why) was now = now ≡ was
 
 -- ---- one session
 
 -- This desk was asked all of it, or there was no memory for the answers, and its files were let go.
-pub record AsksOver {D : Type 0} {d : disk.Ghosts D} (desk : Desk (FileStore D d) over_files) (requests : List Request)
-    (answers : Result (Vec Answer Global) Refusal) (files : Result (Files D) (Left D d)) : Type 0 where
+pub record AsksOver {D : Type 0} {d : disk.Ghosts D} (desk : Desk (FileStore D d) over_files) (questions : List Question)
+    (answers : Result (Vec Told Global) Refusal) (files : Result (Files D) (Left D d)) : Type 0 where
   pub last : Desk (FileStore D d) over_files
   pub let_go : IsLeftOver (state over_files last) files
   pub rests : Asks over_files last no_session last
-  pub asked : MatchResult answers (λ them. AsksAll over_files desk requests them.items last) (λ why. (why ≡ Memory) × (last ≡ desk))
+  pub asked : MatchResult answers (λ them. AsksAll over_files desk questions them.items last) (λ why. (why ≡ Memory) × (last ≡ desk))
 
 -- What one session was that began here: its requests were answered so. Or nothing was asked, and memory or the device failed.
-abbrev pub IsHeld : Placed → List Request → Result (Vec Answer Global) Refusal → Session → Type 0
-IsHeld first requests (Ok answers) session =
-    (last : DeskState) × AnswersAll (running_at first.point first.version) requests answers.items session last
-IsHeld first requests (Err why) session = (session ≡ no_session) × IsFault why
+abbrev pub IsHeld : Placed → List Question → Result (Vec Told Global) Refusal → Session → Type 0
+IsHeld first questions (Ok answers) session =
+    (last : DeskState) × AnswersAll (running_at first.point first.version) questions answers.items session last
+IsHeld first questions (Err why) session = (session ≡ no_session) × IsFault why
 
 -- The history goes on with this session, which began where it ended.
 pub record HoldsNext {D : Type 0} (d : disk.Ghosts D) (new : Point) (ends : List Ended) (first : Placed) (files : Files D)
-    (requests : List Request) (answers : Result (Vec Answer Global) Refusal) (now : Result (Files D) (Left D d)) : Type 0 where
+    (questions : List Question) (answers : Result (Vec Told Global) Refusal) (now : Result (Files D) (Left D d)) : Type 0 where
   pub session : Session
-  pub held : IfCleanFiles (IsHeld first requests answers session) now
-  pub leaves : IsLeftByNext d (VersionLeft requests answers first.version) new ends session now
+  pub held : IfCleanFiles (IsHeld first questions answers session) now
+  pub leaves : IsLeftByNext d (VersionLeft questions answers first.version) new ends session now
   -- of files that can't be opened nothing was asked
   pub unopened : MatchResult now (λ _. Unit {0})
       (λ what. MatchResult answers (λ _. WasPutAway what) (λ why. IfUnopened (SparesFiles files) why what))
 
 -- where a migration is among the requests, the file's tables may be migrated
-abbrev pub MayMoveFor : Image → Placed → List Request → Type 0
-MayMoveFor image first requests = AsksMigration requests → MayMove image first.point
+abbrev pub MayMoveFor : Image → Placed → List Question → Type 0
+MayMoveFor image first questions = AsksMigration questions → MayMove image first.point
 
 -- ---- many
 
 -- Sessions were held, each over the bytes that a crash left of the one before it: each goes on with the history. At their end this holds
 -- of the history, of the point where it ended, and of the bytes.
-abbrev pub HoldsThen : Point → (List Ended → Placed → Image → Type 0) → List Ended → Placed → Image → List (Vec Request Global)
-    → List (Result (Vec Answer Global) Refusal) → Type 0
+abbrev pub HoldsThen : Point → (List Ended → Placed → Image → Type 0) → List Ended → Placed → Image → List (Vec Question Global)
+    → List (Result (Vec Told Global) Refusal) → Type 0
 HoldsThen new Then ends first image [] [] = Then ends first image
-HoldsThen new Then ends first image (requests ∷ later) (answers ∷ more) =
-    MayMoveFor image first requests.items
-    → ∥ ((session : Session) × (last : Placed) × (left : Image) × IsHeld first requests.items answers session
-    × VersionLeft requests.items answers first.version last.version × WasLeftBy left new (and_then ends session last.point) last
+HoldsThen new Then ends first image (questions ∷ later) (answers ∷ more) =
+    MayMoveFor image first questions.items
+    → ∥ ((session : Session) × (last : Placed) × (left : Image) × IsHeld first questions.items answers session
+    × VersionLeft questions.items answers first.version last.version × WasLeftBy left new (and_then ends session last.point) last
     × HoldsThen new Then (and_then ends session last.point) last left later more) ∥₁
 HoldsThen new Then ends first image [] (answers ∷ more) = ⊥
-HoldsThen new Then ends first image (requests ∷ later) [] = ⊥
+HoldsThen new Then ends first image (questions ∷ later) [] = ⊥
 
 -- on a clean disk these files are what the last crash left
-abbrev pub HoldsEach : {D : Type 0} (d : disk.Ghosts D) → Point → List Ended → (first : Placed) → Image → List (Vec Request Global)
-    → List (Result (Vec Answer Global) Refusal) → Files D → Type 0
+abbrev pub HoldsEach : {D : Type 0} (d : disk.Ghosts D) → Point → List Ended → (first : Placed) → Image → List (Vec Question Global)
+    → List (Result (Vec Told Global) Refusal) → Files D → Type 0
 HoldsEach d new ends first image sessions answers now =
     AreClean d now.log now.db → HoldsThen new (λ _ _ left. left ≡ image_of d now) ends first image sessions answers
 
 -- The last of those that were begun could not open its files, or not close them. Those before it were held, and this is left of it.
 pub record HoldsSome {D : Type 0} (d : disk.Ghosts D) (new : Point) (ends : List Ended) (first : Placed) (image : Image)
-    (sessions : List (Vec Request Global)) (answers : List (Result (Vec Answer Global) Refusal)) (what : Left D d) : Type 0 where
-  pub done : List (Vec Request Global)
-  pub requests : Vec Request Global
-  pub later : List (Vec Request Global)
-  pub are : sessions ≡ done ++ requests ∷ later
-  pub before : List (Result (Vec Answer Global) Refusal)
-  pub answered : Result (Vec Answer Global) Refusal
+    (sessions : List (Vec Question Global)) (answers : List (Result (Vec Told Global) Refusal)) (what : Left D d) : Type 0 where
+  pub done : List (Vec Question Global)
+  pub questions : Vec Question Global
+  pub later : List (Vec Question Global)
+  pub are : sessions ≡ done ++ questions ∷ later
+  pub before : List (Result (Vec Told Global) Refusal)
+  pub answered : Result (Vec Told Global) Refusal
   pub were : answers ≡ before ++ answered ∷ []
   pub files : Files D
   pub held : HoldsEach d new ends first image done before files
   pub clean : IfClean (AreClean d files.log files.db) what
   pub goes_on : (so_far : List Ended) (mid : Placed) → WasLeftBy (image_of d files) new so_far mid
-      → MayMoveFor (image_of d files) mid requests.items → HoldsNext d new so_far mid files requests.items answered (Err what)
+      → MayMoveFor (image_of d files) mid questions.items → HoldsNext d new so_far mid files questions.items answered (Err what)
 
 -- all of them were held, or some
-abbrev pub HoldsAll : {D : Type 0} (d : disk.Ghosts D) → Point → List Ended → (first : Placed) → Image → List (Vec Request Global)
-    → List (Result (Vec Answer Global) Refusal) → Result (Files D) (Left D d) → Type 0
+abbrev pub HoldsAll : {D : Type 0} (d : disk.Ghosts D) → Point → List Ended → (first : Placed) → Image → List (Vec Question Global)
+    → List (Result (Vec Told Global) Refusal) → Result (Files D) (Left D d) → Type 0
 HoldsAll d new ends first image sessions answers (Ok now) = HoldsEach d new ends first image sessions answers now
 HoldsAll d new ends first image sessions answers (Err what) = HoldsSome d new ends first image sessions answers what

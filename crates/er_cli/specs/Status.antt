@@ -4,8 +4,9 @@ use Rattle.std.specs.Io.KnownBytes.{Appends, Keeps}
 use Rattle.er_event.specs.declared.refusals.Refusal.TheVariants.{Memory}
 use Rattle.er_cli.specs.declared.TheConstants.{DONE, USAGE, DEVICE, MEMORY}
 use Rattle.er_cli.specs.declared.input.TheConstants.{MAX_SCRIPT_BYTES}
-use Rattle.er_cli.specs.declared.texts.Answer.TheVariants.{Refused, Usage}
-use Rattle.er_cli.specs.Texts.{answer_text, AppendsPart}
+use Rattle.er_answers.specs.declared.question.Told.TheVariants.{Refused}
+use Rattle.er_cli.specs.declared.texts.LineAnswer.TheVariants.{Usage}
+use Rattle.er_cli.specs.Texts.{answer_text, told_text, AppendsPart}
 use Rattle.er_cli.specs.Input.{lines_of}
 use Rattle.er_cli.specs.Script.{Prints, PrintsPart}
 
@@ -33,12 +34,12 @@ Breaks input before after =
     Keeps before after
     ⊎ ServesPart input before after
     ⊎ (IsTooLong input × AppendsPart before after (answer_text Usage))
-    ⊎ AppendsPart before after (answer_text (Refused Memory))
+    ⊎ AppendsPart before after (told_text (Refused Memory))
 
 -- the bytes that the reader had left, those that the writer held before and holds now, and the status
 pub record Ends (input before after : Option (List ℕ)) (status : ℕ) : Type 0 where
   pub done : status ≡ DONE → Serves input before after
   pub too_long : status ≡ USAGE → IsTooLong input × Appends before after (answer_text Usage)
   pub device : status ≡ DEVICE → Breaks input before after
-  pub memory : status ≡ MEMORY → Appends before after (answer_text (Refused Memory))
+  pub memory : status ≡ MEMORY → Appends before after (told_text (Refused Memory))
   pub one_of : (status ≡ DONE) ⊎ (status ≡ USAGE) ⊎ (status ≡ DEVICE) ⊎ (status ≡ MEMORY)

@@ -1,15 +1,23 @@
--- What an answer prints, and what a writer holds then. Each text is nested to the right, as a format writes its parts.
+-- What is printed of an answer, and what a writer holds then. Each text is nested to the right, as a format writes its parts.
 use Rattle.std.specs.Prelude.{ℕ, List, [], ◌∷◌, ◌++◌, take, Option, codes}
 use Rattle.std.specs.Fmt.{decimal}
 use Rattle.std.specs.Io.KnownBytes.{Appends}
 use Rattle.er_event.specs.Refusal.{entry_of}
-use Rattle.er_cli.specs.declared.texts.Answer.{Answer}
-use Rattle.er_cli.specs.declared.texts.Answer.TheVariants.{Accepted, Text, Refused, Usage}
+use Rattle.er_answers.specs.declared.question.Told.{Told}
+use Rattle.er_answers.specs.declared.question.Told.TheVariants.{Accepted, Text, Slip, Refused}
+use Rattle.er_cli.specs.declared.texts.LineAnswer.{LineAnswer}
+use Rattle.er_cli.specs.declared.texts.LineAnswer.TheVariants.{Asked, Usage}
 
-abbrev pub answer_text : Answer → List ℕ
-answer_text (Accepted receipt) = codes "ok " ++ (decimal receipt.serial ++ (10 ∷ []))
-answer_text (Text text) = text
-answer_text (Refused why) = codes "refused " ++ (decimal (entry_of why).0 ++ (32 ∷ ((entry_of why).1 ++ (10 ∷ []))))
+-- what the desk has answered, as it is printed
+abbrev pub told_text : Told → List ℕ
+told_text (Accepted receipt) = codes "ok " ++ (decimal receipt.serial ++ (10 ∷ []))
+told_text (Text text) = text
+told_text (Slip text) = text
+told_text (Refused why) = codes "refused " ++ (decimal (entry_of why).0 ++ (32 ∷ ((entry_of why).1 ++ (10 ∷ []))))
+
+-- what a line of a script is answered; `usage` where it is none
+abbrev pub answer_text : LineAnswer → List ℕ
+answer_text (Asked told) = told_text told
 answer_text Usage = codes "usage" ++ (10 ∷ [])
 
 -- the writer got a beginning of the text, or none of it

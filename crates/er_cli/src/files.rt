@@ -5,34 +5,33 @@ ghost use Rattle.er_event.specs.declared.commands.TheConstants.{MAX_SERIAL};
 ghost use Rattle.er_rules.specs.Sound.{IsSound};
 ghost use Rattle.er_event.specs.Sound.{AreLimits};
 ghost use Rattle.er_desk.specs.Asking.{Asks, AsksSome};
-ghost use Rattle.er_desk.specs.Desk.{Point, Placed, desk_state, state};
+ghost use Rattle.er_desk.specs.Desk.{desk_state, state};
 ghost use Rattle.er_desk.specs.Run.{no_session};
-ghost use Rattle.er_desk.specs.History.{Ended, new_point};
-ghost use Rattle.er_desk.specs.Headline.{WasLeftBy};
+ghost use Rattle.er_desk.specs.History.{new_point};
 ghost use Rattle.er_desk.specs.Opening.{IsSpared};
-ghost use Rattle.er_cli.specs.GoingOn.{GoesOn, GoesOnIfThere, OnOpen};
+ghost use Rattle.er_cli.specs.GoingOn.{GoesOnAction, GoesOnTask};
 ghost use Rattle.er_desk.specs.Reply.{receipt};
-ghost use Rattle.er_words.specs.declared.action.Action.TheVariants.{Init, Open};
-ghost use Rattle.er_words.specs.Action.{action_of};
+ghost use Rattle.er_cli.specs.declared.action.Action.TheVariants.{Open};
+ghost use Rattle.er_cli.specs.Action.{action_of};
 ghost use Rattle.er_store.specs.Fault.{IsFault};
 ghost use Rattle.er_cli.specs.Left.{IsPutAway};
 ghost use Rattle.er_cli.specs.Files.{Does, EndsLine, InitReplies, IsMade, IsNotMade, IsOpened, Makes, OpensFor, ServesClients};
-ghost use Rattle.er_cli.specs.Help.{Tells};
+ghost use Rattle.er_cli.specs.Help.{Tells, printed};
 
-use crate::answers::answer;
+use crate::action::{Action, Task, file_and_action};
 use crate::closing::{clear_fault, log_to_make, put_away};
 use crate::help::CANNOT_LISTEN;
 use crate::importing::import;
 use crate::left::{Left, NoDesk, Ran};
 use crate::serving::serve_on;
 use crate::setup::set_up;
-use crate::texts::Answer;
 use crate::{DEVICE, end_with, print};
+use er_answers::{Told, ask};
 use er_desk::Desk;
 use er_desk::laws::next_sessions;
 use er_event::{Cause, Name, Receipt, Refusal};
 use er_slips::Routes;
-use er_words::{Action, Line, Task};
+use er_words::Line;
 use sqlite::{Alter, FileFrom, FileStore, Start};
 use sqlite_disk::Disk;
 use std::fs;
@@ -100,12 +99,12 @@ fn print_made<D: Disk + Drop, O: Write, E: Write>(
 ) -> Ran<D>
     ensures put_away { IsPutAway (state over_files desk) result.left }
     ensures asks { Asks over_files desk no_session desk }
-    ensures told { Tells (Answer.Accepted (receipt 0)) (O.contents out.old) (O.contents out.new)
-        (E.contents err.old) (E.contents err.new) result.status }
+    ensures told { Tells (Told.Accepted (receipt 0)) (printed (O.contents out.old) (O.contents out.new)
+        (E.contents err.old) (E.contents err.new) result.status) }
 {
     // A desk that is only looked at asks nothing of its file: this tells the proof.
     desk.asks_nothing();
-    let status = print(out, err, &Answer::Accepted(Receipt { serial: 0 }));
+    let status = print(out, err, &Told::Accepted(Receipt { serial: 0 }));
     Ran {
         status,
         left: put_away(desk),
@@ -123,8 +122,8 @@ fn make<S: Start, O: Write, E: Write>(
     out: &mut O,
     err: &mut E,
 ) -> Ran<FileFrom<S>>
-    ensures { Makes ⟦<FileFrom<S> as Disk>⟧ IsSpared (image_at S.Start) result.left (O.contents out.old) (O.contents out.new)
-        (E.contents err.old) (E.contents err.new) result.status name.now rounds cut }
+    ensures { Makes ⟦<FileFrom<S> as Disk>⟧ IsSpared (image_at S.Start) result.left (printed (O.contents out.old) (O.contents out.new)
+        (E.contents err.old) (E.contents err.new) result.status) name.now rounds cut }
 {
     // What is begun here is the history that the next command line goes on with: this tells the proof.
     next_sessions();
@@ -143,8 +142,8 @@ fn listen<S: Alter, O: Write, E: Write>(
     out: &mut O,
     err: &mut E,
 ) -> u8
-    ensures { AsksSome S.Store desk.old (ServesClients (O.contents out.old) (O.contents out.new)
-        (E.contents err.old) (E.contents err.new) result count) desk.new }
+    ensures { AsksSome S.Store desk.old (ServesClients (printed (O.contents out.old) (O.contents out.new)
+        (E.contents err.old) (E.contents err.new) result) count) desk.new }
 {
     // Where nobody is listened to, nothing is asked of the file: this tells the proof.
     desk.asks_nothing();
@@ -168,11 +167,11 @@ fn do_task<S: Alter, O: Write, E: Write>(
     requires sound { IsSound desk.old.event }
     requires low { desk.old.serial ≤ MAX_SERIAL }
     requires ready { IsFalse (desk_state desk.old).needs_reopen }
-    ensures { Does S.Store desk.old task desk.new (O.contents out.old) (O.contents out.new)
-        (E.contents err.old) (E.contents err.new) result }
+    ensures { Does S.Store desk.old task desk.new (printed (O.contents out.old) (O.contents out.new)
+        (E.contents err.old) (E.contents err.new) result) }
 {
     match task {
-        Task::Ask { request } => print(out, err, &answer(rt.alloc(), desk, request)),
+        Task::Ask { question } => print(out, err, &ask(rt.alloc(), desk, question)),
         Task::Import { list } => import(rt, desk, list.as_str(), out, err),
         Task::Serve { port, count } => listen(rt, desk, port, count, out, err),
     }
@@ -187,8 +186,8 @@ fn do_and_close<D: Disk + Drop, O: Write, E: Write>(
     err: &mut E,
 ) -> Ran<D>
     requires opened { IsOpened over_files desk }
-    ensures { OpensFor result.left (O.contents out.old) (O.contents out.new) (E.contents err.old)
-        (E.contents err.new) result.status task desk }
+    ensures { OpensFor result.left (printed (O.contents out.old) (O.contents out.new)
+        (E.contents err.old) (E.contents err.new) result.status) task desk }
 {
     let status = do_task(rt, &mut desk, task, out, err);
     Ran {
@@ -199,10 +198,10 @@ fn do_and_close<D: Disk + Drop, O: Write, E: Write>(
 
 /// Tells why a file was not opened.
 fn tell_refusal<O: Write, E: Write>(out: &mut O, err: &mut E, why: Refusal) -> u8
-    ensures { Tells (Answer.Refused why) (O.contents out.old) (O.contents out.new)
-        (E.contents err.old) (E.contents err.new) result }
+    ensures { Tells (Told.Refused why) (printed (O.contents out.old) (O.contents out.new)
+        (E.contents err.old) (E.contents err.new) result) }
 {
-    print(out, err, &Answer::Refused(why))
+    print(out, err, &Told::Refused(why))
 }
 
 /// Tells why there is no desk over a file, and gives back what is left of that.
@@ -212,8 +211,8 @@ fn tell_no_desk<D: Disk + Drop, O: Write, E: Write>(
     none: NoDesk<D>,
 ) -> Ran<D>
     ensures left { result.left ≡ none.left }
-    ensures told { Tells (Answer.Refused none.why) (O.contents out.old) (O.contents out.new)
-        (E.contents err.old) (E.contents err.new) result.status }
+    ensures told { Tells (Told.Refused none.why) (printed (O.contents out.old) (O.contents out.new)
+        (E.contents err.old) (E.contents err.new) result.status) }
 {
     Ran {
         status: tell_refusal(out, err, none.why),
@@ -228,8 +227,8 @@ fn tell_unopened<D: Disk + Drop, O: Write, E: Write>(
     why: Refusal,
 ) -> Ran<D>
     ensures left { result.left ≡ Left.Nothing }
-    ensures told { Tells (Answer.Refused why) (O.contents out.old) (O.contents out.new)
-        (E.contents err.old) (E.contents err.new) result.status }
+    ensures told { Tells (Told.Refused why) (printed (O.contents out.old) (O.contents out.new)
+        (E.contents err.old) (E.contents err.new) result.status) }
 {
     Ran {
         status: tell_refusal(out, err, why),
@@ -246,14 +245,12 @@ fn open<S: Start, O: Write, E: Write>(
     out: &mut O,
     err: &mut E,
 ) -> Ran<FileFrom<S>>
-    ensures ends { EndsLine ⟦<FileFrom<S> as Disk>⟧ IsSpared (image_at S.Start) result.left (O.contents out.old) (O.contents out.new)
-        (E.contents err.old) (E.contents err.new) result.status (Open task) }
+    ensures ends { EndsLine ⟦<FileFrom<S> as Disk>⟧ IsSpared (image_at S.Start) result.left (printed (O.contents out.old) (O.contents out.new)
+        (E.contents err.old) (E.contents err.new) result.status) (Open task) }
     // Of a file that a history left, the history goes on with what the desk is asked.
-    ensures goes_on { (new : Point) (first : Placed) (ends : List Ended)
-        → WasLeftBy (image_at S.Start) new ends first
-        → GoesOn ⟦<FileFrom<S> as Disk>⟧ IsSpared (image_at S.Start) new ends first result.left
-        (O.contents out.old) (O.contents out.new) (E.contents err.old) (E.contents err.new)
-        result.status task }
+    ensures goes_on { GoesOnTask ⟦<FileFrom<S> as Disk>⟧ IsSpared (image_at S.Start) task result.left
+        (printed (O.contents out.old) (O.contents out.new) (E.contents err.old)
+        (E.contents err.new) result.status) }
 {
     // What a session leaves is an end of the history with that session: this tells the proof.
     next_sessions();
@@ -272,16 +269,14 @@ pub fn run_line<S: Start, O: Write, E: Write>(
     out: &mut O,
     err: &mut E,
 ) -> Ran<FileFrom<S>>
-    ensures ends { EndsLine ⟦<FileFrom<S> as Disk>⟧ IsSpared (image_at S.Start) result.left (O.contents out.old) (O.contents out.new)
-        (E.contents err.old) (E.contents err.new) result.status (action_of line) }
+    ensures ends { EndsLine ⟦<FileFrom<S> as Disk>⟧ IsSpared (image_at S.Start) result.left (printed (O.contents out.old) (O.contents out.new)
+        (E.contents err.old) (E.contents err.new) result.status) (action_of line) }
     // Of a file that a history left, the history goes on with what the desk is asked, or the system says that it isn't there.
-    ensures goes_on { (new : Point) (first : Placed) (ends : List Ended)
-        → WasLeftBy (image_at S.Start) new ends first
-        → OnOpen (action_of line) (GoesOnIfThere ⟦<FileFrom<S> as Disk>⟧ IsSpared
-        (image_at S.Start) new ends first result.left (O.contents out.old) (O.contents out.new)
-        (E.contents err.old) (E.contents err.new) result.status) }
+    ensures goes_on { GoesOnAction ⟦<FileFrom<S> as Disk>⟧ IsSpared (image_at S.Start) (action_of line)
+        result.left (printed (O.contents out.old) (O.contents out.new) (E.contents err.old)
+        (E.contents err.new) result.status) }
 {
-    let (file, action) = line.into_parts();
+    let (file, action) = file_and_action(line);
     match action {
         Action::Init { name, rounds, cut } => {
             make(

@@ -1,10 +1,9 @@
 ghost use Rattle.std.specs.Prelude.{◌≡◌, OnOk, OnErr, map, option_map, string_bytes};
 ghost use Rattle.std.specs.Io.KnownBytes.{Appends};
-ghost use Rattle.er_cli.specs.Help.{option_text, subcommand_text, text_behind, text_for, text_of};
+ghost use Rattle.er_cli.specs.Help.{option_text, subcommand_text, text_behind, text_for};
 ghost use Rattle.er_cli.specs.Texts.{AppendsPart};
 
 use crate::texts::{WriteFault, flush, send};
-use er_words::Subcommand;
 use std::io::Write;
 
 /// What `--version` prints.
@@ -439,36 +438,30 @@ fn text_behind(name: &str, word: &str) -> Option<&'static str>
     }
 }
 
-/// What there is to know of a subcommand.
-fn text_of(subcommand: Subcommand) -> &'static str
-    ensures { result.now ≡ text_of subcommand }
-{
-    match subcommand {
-        Subcommand::Init => INIT,
-        Subcommand::Enrol => ENROL,
-        Subcommand::Import => IMPORT,
-        Subcommand::Start => START,
-        Subcommand::Pair => PAIR,
-        Subcommand::Result => RESULT,
-        Subcommand::Correct => CORRECT,
-        Subcommand::Drop => DROP,
-        Subcommand::Cut => CUT,
-        Subcommand::Playoff => PLAYOFF,
-        Subcommand::Standings => STANDINGS,
-        Subcommand::Players => PLAYERS,
-        Subcommand::Slips => SLIPS,
-        Subcommand::Bracket => BRACKET,
-        Subcommand::Export => EXPORT,
-        Subcommand::Serve => SERVE,
-        Subcommand::Migrate => MIGRATE,
-    }
-}
-
 /// What there is to know of the subcommand that has this name.
 pub fn subcommand_text(name: &str) -> Option<&'static str>
     ensures { option_map (λ text. text.now) result ≡ subcommand_text name.now }
 {
-    Some(text_of(Subcommand::named(name)?))
+    match name {
+        "init" => Some(INIT),
+        "enrol" => Some(ENROL),
+        "import" => Some(IMPORT),
+        "start" => Some(START),
+        "pair" => Some(PAIR),
+        "result" => Some(RESULT),
+        "correct" => Some(CORRECT),
+        "drop" => Some(DROP),
+        "cut" => Some(CUT),
+        "playoff" => Some(PLAYOFF),
+        "standings" => Some(STANDINGS),
+        "players" => Some(PLAYERS),
+        "slips" => Some(SLIPS),
+        "bracket" => Some(BRACKET),
+        "export" => Some(EXPORT),
+        "serve" => Some(SERVE),
+        "migrate" => Some(MIGRATE),
+        _ => None,
+    }
 }
 
 /// The text that the words ask for: an option alone, or behind a subcommand.

@@ -4,11 +4,12 @@ ghost use Rattle.er_desk.specs.Asking.{Asks, AsksSome};
 ghost use Rattle.er_desk.specs.Desk.{Turn, desk_state};
 ghost use Rattle.er_desk.specs.Run.{session_of};
 ghost use Rattle.er_cli.specs.Importing.{Enrols, Imports, ImportsList, PrintsAdditions, fault_text, is_taken, names_of, additions_text};
-ghost use Rattle.er_cli.specs.Help.{Puts};
+ghost use Rattle.er_cli.specs.Help.{PutsText, printed, stream};
 
 use crate::input::{InputFault, read_whole};
-use crate::texts::{Answer, WriteFault, print_line};
+use crate::texts::{WriteFault, print_line};
 use crate::{DEVICE, DONE, REFUSED, end_with, print};
+use er_answers::Told;
 use er_desk::laws::lists_grow;
 use er_desk::{Desk, Reply};
 use er_event::{Command, Items, Name, Refusal};
@@ -65,7 +66,7 @@ fn fault_line(fault: CsvFault) -> ShortText
 }
 
 fn say_fault<W: Write>(writer: &mut W, fault: CsvFault) -> u8
-    ensures { Puts (fault_text fault) REFUSED (W.contents writer.old) (W.contents writer.new) result }
+    ensures { PutsText (fault_text fault) REFUSED (stream (W.contents writer.old) (W.contents writer.new)) result }
 {
     match print_line(writer, &fault_line(fault)) {
         Ok(()) => REFUSED,
@@ -140,14 +141,14 @@ fn enrol_all<S: Alter>(alloc: Global, desk: &mut Desk<S>, lines: &[PlayerLine]) 
 
 /// Prints how many were enrolled, and the refusal that ended it, where there is one.
 fn print_additions<O: Write, E: Write>(out: &mut O, err: &mut E, enrolled: Enrolled) -> u8
-    ensures { PrintsAdditions enrolled.additions enrolled.stop (O.contents out.old)
-        (O.contents out.new) (E.contents err.old) (E.contents err.new) result }
+    ensures { PrintsAdditions enrolled.additions enrolled.stop (printed (O.contents out.old) (O.contents out.new)
+        (E.contents err.old) (E.contents err.new) result) }
 {
     let Ok(()) = print_line(out, &additions_line(enrolled.additions)) else {
         return DEVICE;
     };
     match enrolled.stop {
-        Some(why) => print(out, err, &Answer::Refused(why)),
+        Some(why) => print(out, err, &Told::Refused(why)),
         None => DONE,
     }
 }
@@ -161,8 +162,8 @@ fn import_list<S: Alter, O: Write, E: Write>(
     err: &mut E,
 ) -> u8
     requires { IsFalse (desk_state desk.old).needs_reopen }
-    ensures { AsksSome S.Store desk.old (ImportsList (O.contents out.old) (O.contents out.new)
-        (E.contents err.old) (E.contents err.new) result list.now) desk.new }
+    ensures { AsksSome S.Store desk.old (ImportsList (printed (O.contents out.old) (O.contents out.new)
+        (E.contents err.old) (E.contents err.new) result) list.now) desk.new }
 {
     // Where nobody is enrolled, nothing is asked of the file: this tells the proof.
     desk.asks_nothing();
@@ -171,7 +172,7 @@ fn import_list<S: Alter, O: Write, E: Write>(
             let enrolled = enrol_all(alloc, desk, &lines);
             print_additions(out, err, enrolled)
         }
-        Err(CsvFault::Memory) => print(out, err, &Answer::Refused(Refusal::Memory)),
+        Err(CsvFault::Memory) => print(out, err, &Told::Refused(Refusal::Memory)),
         Err(fault) => say_fault(err, fault),
     }
 }
@@ -185,14 +186,14 @@ pub fn import<S: Alter, O: Write, E: Write>(
     err: &mut E,
 ) -> u8
     requires { IsFalse (desk_state desk.old).needs_reopen }
-    ensures { AsksSome S.Store desk.old (Imports (O.contents out.old) (O.contents out.new)
-        (E.contents err.old) (E.contents err.new) result) desk.new }
+    ensures { AsksSome S.Store desk.old (Imports (printed (O.contents out.old) (O.contents out.new)
+        (E.contents err.old) (E.contents err.new) result)) desk.new }
 {
     // Where nobody is enrolled, nothing is asked of the file: this tells the proof.
     desk.asks_nothing();
     match read_list(rt, path) {
         Ok(list) => import_list(rt.alloc(), desk, &list, out, err),
-        Err(InputFault::Memory) => print(out, err, &Answer::Refused(Refusal::Memory)),
+        Err(InputFault::Memory) => print(out, err, &Told::Refused(Refusal::Memory)),
         Err(InputFault::TooLong | InputFault::Read) => end_with(err, "cannot read\n", DEVICE),
     }
 }

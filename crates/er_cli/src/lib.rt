@@ -3,24 +3,19 @@
 
 ghost use Rattle.std.specs.Prelude.{List, ◌≡◌, ◌⊎◌, IfOk, IfSome, OnOk, OnErr, None, Some, map, string_bytes};
 ghost use Rattle.std.specs.Io.KnownBytes.{Appends};
-ghost use Rattle.er_cli.specs.Texts.{answer_text, AppendsPart};
+ghost use Rattle.er_cli.specs.Texts.{told_text, AppendsPart};
 ghost use Rattle.sqlite_wal.specs.Files.{image_at};
-ghost use Rattle.er_desk.specs.Desk.{Point, Placed};
-ghost use Rattle.er_desk.specs.History.{Ended};
-ghost use Rattle.er_desk.specs.Headline.{WasLeftBy};
 ghost use Rattle.er_desk.specs.Opening.{IsSpared};
-ghost use Rattle.er_words.specs.Action.{action_of};
-ghost use Rattle.er_cli.specs.GoingOn.{GoesOnIfThere, OnOpen};
+ghost use Rattle.er_cli.specs.GoingOn.{GoesOnWords};
 ghost use Rattle.er_cli.specs.Complaints.{EndsAsUsage};
 ghost use Rattle.er_cli.specs.Words.{EndsWords};
 ghost use Rattle.er_cli.specs.declared.help.TheConstants.{AWAITING};
-ghost use Rattle.er_cli.specs.Help.{Puts, Tells, refusal_status, text_for};
-ghost use Rattle.er_words.specs.Line.{line_of};
+ghost use Rattle.er_cli.specs.Help.{PutsText, Tells, printed, refusal_status, stream, text_for};
 ghost use Rattle.er_words.specs.Usage.{fault_of};
 ghost use Rattle.er_cli.specs.Status.{Ends, Breaks};
 ghost use Rattle.er_cli.specs.inside.Unread.{EndsUnread, UnreadPart};
 
-mod answers;
+mod action;
 mod client;
 mod clients;
 mod closing;
@@ -37,12 +32,12 @@ mod sessions;
 mod setup;
 mod texts;
 
+pub use action::{Action, Task, file_and_action};
 pub use clients::{AcceptFault, Clients, Side, Visit};
 use complaints::complaint;
+pub use er_answers::{Question, Told, View};
 use er_event::Refusal;
-pub use er_words::{
-    Action, ExportKind, FilePath, Line, LineFault, Request, Task, UsageFault, read_words,
-};
+pub use er_words::{ExportKind, FilePath, Line, LineFault, UsageFault, read_words};
 use files::run_line;
 use help::{AWAITING, print_text, text_for};
 use input::{InputFault, lines_of, read_script};
@@ -54,8 +49,7 @@ use sqlite::{FileFrom, Start, Wary};
 use sqlite_disk::Disk;
 use std::alloc::Global;
 use std::io::{Read, Write};
-pub use texts::Answer;
-use texts::{WriteFault, flush, print_answer};
+use texts::{LineAnswer, WriteFault, flush, print_answer, print_told};
 
 /// It was done; of a script, to its end, whatever its lines were answered.
 const DONE: u8 = 0;
@@ -75,11 +69,11 @@ fn print_fault<W: Write>(writer: &mut W, fault: InputFault) -> Result<u8, WriteF
 {
     match fault {
         InputFault::TooLong => {
-            print_answer(writer, &Answer::Usage)?;
+            print_answer(writer, &LineAnswer::Usage)?;
             Ok(USAGE)
         }
         InputFault::Memory => {
-            print_answer(writer, &Answer::Refused(Refusal::Memory))?;
+            print_told(writer, &Told::Refused(Refusal::Memory))?;
             Ok(MEMORY)
         }
         InputFault::Read => Ok(DEVICE),
@@ -133,27 +127,26 @@ fn refusal_status(why: &Refusal) -> u8
 }
 
 /// Prints the only answer of a command line, and has the writer pass it on.
-fn print_flushed<W: Write>(writer: &mut W, answer: &Answer) -> Result<(), WriteFault>
+fn print_flushed<W: Write>(writer: &mut W, told: &Told) -> Result<(), WriteFault>
     ensures sent { OnOk result (Appends (W.contents writer.old) (W.contents writer.new)
-        (answer_text answer.now)) }
+        (told_text told.now)) }
     ensures part { OnErr result (AppendsPart (W.contents writer.old) (W.contents writer.new)
-        (answer_text answer.now)) }
+        (told_text told.now)) }
 {
-    print_answer(writer, answer)?;
+    print_told(writer, told)?;
     flush(writer)
 }
 
-/// Prints an answer to the stream that it goes to: a refusal to the errors. Gives the status that comes with it.
-fn print<O: Write, E: Write>(out: &mut O, err: &mut E, answer: &Answer) -> u8
-    ensures { Tells answer.now (O.contents out.old) (O.contents out.new) (E.contents err.old)
-        (E.contents err.new) result }
+/// Prints what the desk has answered to the stream that it goes to: a refusal to the errors. Gives the status that comes with it.
+fn print<O: Write, E: Write>(out: &mut O, err: &mut E, told: &Told) -> u8
+    ensures { Tells told.now (printed (O.contents out.old) (O.contents out.new)
+        (E.contents err.old) (E.contents err.new) result) }
 {
-    let (told, status) = match answer {
-        Answer::Accepted(_) | Answer::Text(_) => (print_flushed(out, answer), DONE),
-        Answer::Refused(why) => (print_flushed(err, answer), refusal_status(why)),
-        Answer::Usage => (print_flushed(err, answer), USAGE),
+    let (printed, status) = match told {
+        Told::Accepted(_) | Told::Text(_) | Told::Slip(_) => (print_flushed(out, told), DONE),
+        Told::Refused(why) => (print_flushed(err, told), refusal_status(why)),
     };
-    match told {
+    match printed {
         Ok(()) => status,
         Err(WriteFault) => DEVICE,
     }
@@ -161,7 +154,7 @@ fn print<O: Write, E: Write>(out: &mut O, err: &mut E, answer: &Answer) -> u8
 
 /// Prints a text on the one stream, and gives the status to end with.
 fn end_with<W: Write>(writer: &mut W, text: &str, due: u8) -> u8
-    ensures { Puts text.now due (W.contents writer.old) (W.contents writer.new) result }
+    ensures { PutsText text.now due (stream (W.contents writer.old) (W.contents writer.new)) result }
 {
     match print_text(writer, text) {
         Ok(()) => due,
@@ -178,12 +171,12 @@ fn print_usage<O: Write, E: Write>(
     err: &mut E,
 ) -> u8
     ensures { fault_of (map string_bytes words.now) ≡ Some fault
-        → EndsAsUsage (map string_bytes words.now) (O.contents out.old) (O.contents out.new)
-        (E.contents err.old) (E.contents err.new) result }
+        → EndsAsUsage (map string_bytes words.now) (printed (O.contents out.old) (O.contents out.new)
+        (E.contents err.old) (E.contents err.new) result) }
 {
     match complaint(alloc, words, fault) {
         Ok(text) => end_with(err, text.as_str(), USAGE),
-        Err(_error) => print(out, err, &Answer::Refused(Refusal::Memory)),
+        Err(_error) => print(out, err, &Told::Refused(Refusal::Memory)),
     }
 }
 
@@ -191,8 +184,8 @@ fn print_usage<O: Write, E: Write>(
 /// written, closed again, so that it holds the event without its log too.
 pub fn run<O: Write, E: Write>(rt: &HostRuntime, words: &[String], out: &mut O, err: &mut E) -> u8
     ensures { (what : _) × EndsWords ⟦<FileFrom<Wary> as Disk>⟧ IsSpared (image_at ⟦<Wary as Start>⟧)
-        (map string_bytes words.now) what (O.contents out.old) (O.contents out.new)
-        (E.contents err.old) (E.contents err.new) result }
+        (map string_bytes words.now) what (printed (O.contents out.old) (O.contents out.new)
+        (E.contents err.old) (E.contents err.new) result) }
 {
     run_from(rt, words, Wary, out, err).status
 }
@@ -207,19 +200,15 @@ pub fn run_from<S: Start, O: Write, E: Write>(
     err: &mut E,
 ) -> Ran<FileFrom<S>>
     ensures ends { EndsWords ⟦<FileFrom<S> as Disk>⟧ IsSpared (image_at S.Start)
-        (map string_bytes words.now) result.left (O.contents out.old) (O.contents out.new)
-        (E.contents err.old) (E.contents err.new) result.status }
+        (map string_bytes words.now) result.left (printed (O.contents out.old) (O.contents out.new)
+        (E.contents err.old) (E.contents err.new) result.status) }
     // Of a file that a history of a new event left, the history goes on with what is asked of the desk: the one command, the names of a
     // list, the scores that clients hand in, or nothing. The answer is that of the event at its end; and in what is left of the file the
     // next command line finds it. Or the answer is one that comes before the file is opened: that it isn't there, or that memory or the
     // device is wanting. Then nothing is left.
-    ensures goes_on { (new : Point) (first : Placed) (ends : List Ended)
-        → WasLeftBy (image_at S.Start) new ends first
-        → text_for (map string_bytes words.now) ≡ None
-        → IfSome (line_of (map string_bytes words.now)) (λ line. OnOpen (action_of line)
-        (GoesOnIfThere ⟦<FileFrom<S> as Disk>⟧ IsSpared (image_at S.Start) new ends first
-        result.left (O.contents out.old) (O.contents out.new) (E.contents err.old)
-        (E.contents err.new) result.status)) }
+    ensures goes_on { GoesOnWords ⟦<FileFrom<S> as Disk>⟧ IsSpared (image_at S.Start)
+        (map string_bytes words.now) result.left (printed (O.contents out.old) (O.contents out.new)
+        (E.contents err.old) (E.contents err.new) result.status) }
 {
     if let Some(text) = text_for(words) {
         return Ran {
@@ -234,7 +223,7 @@ pub fn run_from<S: Start, O: Write, E: Write>(
             left: Left::Nothing,
         },
         Err(LineFault::Memory) => Ran {
-            status: print(out, err, &Answer::Refused(Refusal::Memory)),
+            status: print(out, err, &Told::Refused(Refusal::Memory)),
             left: Left::Nothing,
         },
     }
@@ -250,8 +239,7 @@ pub fn print_awaiting<E: Write>(err: &mut E)
 
 /// Answers where there was no memory to read the words of the command line, and gives the status to end with.
 pub fn refuse_memory<W: Write>(writer: &mut W) -> u8
-    ensures { Puts (answer_text (Answer.Refused Refusal.Memory)) MEMORY (W.contents writer.old)
-        (W.contents writer.new) result }
+    ensures { PutsText (told_text (Told.Refused Refusal.Memory)) MEMORY (stream (W.contents writer.old) (W.contents writer.new)) result }
 {
     match print_fault(writer, InputFault::Memory) {
         Ok(status) => status,

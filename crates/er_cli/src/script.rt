@@ -5,19 +5,20 @@ ghost use Rattle.er_store.specs.Fault.{IsFault};
 ghost use Rattle.er_event.specs.Sound.{AreLimits};
 ghost use Rattle.er_desk.specs.Desk.{ShowsOwn, running_at, desk_state, version_in};
 ghost use Rattle.er_desk.specs.History.{new_point};
-ghost use Rattle.er_words.specs.Fields.{script_action};
-ghost use Rattle.er_words.specs.declared.action.Action.TheVariants.{Init, Open};
-ghost use Rattle.er_words.specs.declared.action.Task.TheVariants.{Ask};
-ghost use Rattle.er_cli.specs.Answers.{reply_answer};
-ghost use Rattle.er_cli.specs.Script.{Acts, LineAnswers, Prints, PrintsPart};
+ghost use Rattle.er_answers.specs.Question.{reply_told};
+ghost use Rattle.er_cli.specs.Action.{script_action};
+ghost use Rattle.er_cli.specs.declared.action.Action.TheVariants.{Open};
+ghost use Rattle.er_cli.specs.declared.action.Task.TheVariants.{Ask};
+ghost use Rattle.er_cli.specs.Script.{Acts, LineAnswers, Prints, PrintsPart, SetsUp};
 ghost use Rattle.er_cli.specs.inside.Desk.{HasOwnTables, desk_state_of};
 
-use crate::answers::{answer, reply_answer};
+use crate::action::{Action, Task, file_and_action};
 use crate::setup::set_up;
-use crate::texts::{Answer, WriteFault, print_answer};
+use crate::texts::{LineAnswer, WriteFault, print_answer};
+use er_answers::{Question, Told, ask, reply_told};
 use er_desk::{Desk, Reply};
 use er_event::{Name, Receipt, Refusal};
-use er_words::{Action, LineFault, Request, Task, read_line};
+use er_words::{LineFault, read_line};
 use sqlite::{Connection, MemStore};
 use std::alloc::Global;
 use std::io::Write;
@@ -48,8 +49,8 @@ fn create_desk(alloc: Global, name: Name, rounds: u8, cut: u8) -> Result<Desk<Me
 
 impl Runner {
     fn init(&mut self, name: &[u8], rounds: u8, cut: u8) -> Reply
-        ensures acts { Acts (desk_state_of self.old.desk) (Init name.now rounds cut)
-            (reply_answer result) (desk_state_of self.new.desk) }
+        ensures sets_up { SetsUp (desk_state_of self.old.desk) name.now rounds cut
+            (reply_told result) (desk_state_of self.new.desk) }
         ensures written { HasOwnTables self.old.desk → HasOwnTables self.new.desk }
     {
         let name = set_up(self.alloc, name, rounds, cut)?;
@@ -61,32 +62,32 @@ impl Runner {
         Ok(Receipt { serial: 0 })
     }
 
-    fn ask(&mut self, request: Request) -> Answer
+    fn ask(&mut self, question: Question) -> LineAnswer
         requires { HasOwnTables self.old.desk }
-        ensures acts { Acts (desk_state_of self.old.desk) (Open (Ask request)) result
+        ensures acts { Acts (desk_state_of self.old.desk) (Open (Ask question)) result
             (desk_state_of self.new.desk) }
         ensures written { HasOwnTables self.new.desk }
     {
         match &mut self.desk {
-            None => Answer::Refused(Refusal::NoEvent),
-            Some(desk) => answer(self.alloc, desk, request),
+            None => LineAnswer::Asked(Told::Refused(Refusal::NoEvent)),
+            Some(desk) => LineAnswer::Asked(ask(self.alloc, desk, question)),
         }
     }
 
-    fn open(&mut self, task: Task) -> Answer
+    fn open(&mut self, task: Task) -> LineAnswer
         requires { HasOwnTables self.old.desk }
         ensures acts { Acts (desk_state_of self.old.desk) (Open task) result
             (desk_state_of self.new.desk) }
         ensures written { HasOwnTables self.new.desk }
     {
         match task {
-            Task::Ask { request } => self.ask(request),
+            Task::Ask { question } => self.ask(question),
             // A script keeps to itself: it reads no list, and has no file that clients could ask.
-            Task::Import { list: _ } | Task::Serve { port: _, count: _ } => Answer::Usage,
+            Task::Import { list: _ } | Task::Serve { port: _, count: _ } => LineAnswer::Usage,
         }
     }
 
-    fn run_action(&mut self, action: Action) -> Answer
+    fn run_action(&mut self, action: Action) -> LineAnswer
         requires { HasOwnTables self.old.desk }
         ensures acts { Acts (desk_state_of self.old.desk) action result
             (desk_state_of self.new.desk) }
@@ -94,14 +95,14 @@ impl Runner {
     {
         match action {
             Action::Init { name, rounds, cut } => {
-                reply_answer(self.init(name.as_slice(), rounds, cut))
+                LineAnswer::Asked(reply_told(self.init(name.as_slice(), rounds, cut)))
             }
             Action::Open { task } => self.open(task),
         }
     }
 
     /// The answer to a line.
-    fn answer(&mut self, line: &[u8]) -> Answer
+    fn answer(&mut self, line: &[u8]) -> LineAnswer
         requires { HasOwnTables self.old.desk }
         ensures answers { LineAnswers (desk_state_of self.old.desk) (script_action line.now) result
             (desk_state_of self.new.desk) }
@@ -109,11 +110,11 @@ impl Runner {
     {
         match read_line(self.alloc, line) {
             Ok(line) => {
-                let (_script, action) = line.into_parts();
+                let (_script, action) = file_and_action(line);
                 self.run_action(action)
             }
-            Err(LineFault::Usage(_fault)) => Answer::Usage,
-            Err(LineFault::Memory) => Answer::Refused(Refusal::Memory),
+            Err(LineFault::Usage(_fault)) => LineAnswer::Usage,
+            Err(LineFault::Memory) => LineAnswer::Asked(Told::Refused(Refusal::Memory)),
         }
     }
 }

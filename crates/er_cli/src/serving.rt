@@ -2,6 +2,7 @@ ghost use Rattle.std.specs.Prelude.{◌≡◌, MatchResult, OnOk};
 ghost use Rattle.er_desk.specs.Asking.{AsksSome};
 ghost use Rattle.er_cli.specs.Clients.{KnewBefore, ServesKnown};
 ghost use Rattle.er_cli.specs.declared.TheConstants.{DONE};
+ghost use Rattle.er_cli.specs.Help.{stream};
 ghost use Rattle.er_cli.specs.Serving.{Connects, ConnectsAll, ConnectsUpTo, PrintsServed, PrintsSome, ServesAll, listening, served};
 
 use crate::clients::{AcceptFault, Clients, Listening};
@@ -97,7 +98,7 @@ pub fn serve_all<S: Alter, C: Clients, W: Write>(
 ) -> u8
     // Each client leaves the desk as it was, has it read its standings or a slip, or hands it one score: these scores are the session.
     ensures turns { AsksSome S.Store desk.old (ServesAll count result) desk.new }
-    ensures printed { PrintsServed port count (W.contents out.old) (W.contents out.new) result }
+    ensures printed { PrintsServed port count (stream (W.contents out.old) (W.contents out.new)) result }
     // Where all are served, each of whom it is known what they send got its answer.
     ensures served { result ≡ DONE → ServesKnown S.Store count (C.coming clients.old)
         (C.got clients.old) desk.old (C.coming clients.new) (C.got clients.new) desk.new }
@@ -127,7 +128,7 @@ pub fn serve_on<S: Alter, W: Write>(
     out: &mut W,
 ) -> u8
     ensures turns { AsksSome S.Store desk.old (ServesAll count result) desk.new }
-    ensures printed { PrintsSome count (W.contents out.old) (W.contents out.new) result }
+    ensures printed { PrintsSome count (stream (W.contents out.old) (W.contents out.new)) result }
 {
     // Where nobody is served, nothing is asked of the file: this tells the proof.
     desk.asks_nothing();

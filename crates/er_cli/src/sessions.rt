@@ -7,25 +7,23 @@ ghost use Rattle.sqlite_wal.specs.Files.{outcomes};
 ghost use Rattle.sqlite_wal.specs.Reads.{AreClean};
 ghost use Rattle.er_cli.specs.Sessions.{AreCut, AsksAll, AsksOver, HoldsAll, HoldsNext, IfCleanFiles, IsLeftOver, MayMoveFor};
 
-use crate::answers::answer;
 use crate::closing::close;
 use crate::left::Left;
-use crate::texts::Answer;
+use er_answers::{Question, Told, ask};
 use er_desk::Desk;
 use er_desk::laws::{next_sessions, sessions_join};
 use er_event::Refusal;
 use er_store::laws::stored_represents;
 use er_store::refusal_of;
-use er_words::Request;
 use sqlite::{Alter, Connection, FileStore, Files, Options};
 use sqlite_disk::{Crash, Disk};
 use std::alloc::{AllocError, Global};
 
-/// A session over the files of an event: what its requests were answered, or why there was none, and the files, which the next session
+/// A session over the files of an event: what its questions were answered, or why there was none, and the files, which the next session
 /// may open. Or they can't be opened, or closed, and what is left of them comes back.
 #[derive(Drop)]
 pub struct Held<D: Disk + Drop> {
-    pub answers: Result<Vec<Answer>, Refusal>,
+    pub answers: Result<Vec<Told>, Refusal>,
     pub files: Result<Files<D>, Left<D>>,
 }
 
@@ -56,15 +54,15 @@ fn let_go<D: Disk + Drop>(desk: Desk<FileStore<D>>) -> Result<Files<D>, Left<D>>
 fn ask_all<S: Alter>(
     alloc: Global,
     desk: &mut Desk<S>,
-    requests: Vec<Request>,
-) -> Result<Vec<Answer>, AllocError>
+    questions: Vec<Question>,
+) -> Result<Vec<Told>, AllocError>
     ensures { MatchResult result
-        (λ answers. AsksAll S.Store desk.old requests.items answers.items desk.new)
+        (λ answers. AsksAll S.Store desk.old questions.items answers.items desk.new)
         (λ _. desk.new ≡ desk.old) }
 {
-    let mut answers = Vec::with_capacity(alloc, requests.len())?;
-    for request in requests {
-        let told = answer(alloc, desk, request);
+    let mut answers = Vec::with_capacity(alloc, questions.len())?;
+    for question in questions {
+        let told = ask(alloc, desk, question);
         let Ok(()) = answers.push(told) else {
             unreachable!()
         };
@@ -76,11 +74,11 @@ fn ask_all<S: Alter>(
 fn hold<D: Disk + Drop>(
     alloc: Global,
     mut desk: Desk<FileStore<D>>,
-    requests: Vec<Request>,
+    questions: Vec<Question>,
 ) -> Held<D>
-    ensures { AsksOver desk requests.items result.answers result.files }
+    ensures { AsksOver desk questions.items result.answers result.files }
 {
-    let asked = ask_all(alloc, &mut desk, requests);
+    let asked = ask_all(alloc, &mut desk, questions);
     // To look at a desk asks nothing of its file: this tells the proof.
     desk.asks_nothing();
     let files = let_go(desk);
@@ -101,15 +99,15 @@ pub fn next_session<D: Disk + Drop>(
     alloc: Global,
     files: Files<D>,
     options: Options,
-    requests: Vec<Request>,
+    questions: Vec<Question>,
 ) -> Held<D>
     requires log { IsTrue (D.Disk.is_usable files.log) }
     requires db { IsTrue (D.Disk.is_usable files.db) }
     // Of files that a history left, the history goes on with this session.
     ensures holds { (new : Point) (first : Placed) (ends : List Ended)
         → WasLeftBy (image_of D.Disk files) new ends first
-        → MayMoveFor (image_of D.Disk files) first requests.items
-        → HoldsNext D.Disk new ends first files requests.items result.answers result.files }
+        → MayMoveFor (image_of D.Disk files) first questions.items
+        → HoldsNext D.Disk new ends first files questions.items result.answers result.files }
     // On a disk that is clean then, it was clean before.
     ensures clean { IfCleanFiles (AreClean D.Disk files.log files.db) result.files }
 {
@@ -120,7 +118,7 @@ pub fn next_session<D: Disk + Drop>(
     stored_represents();
     match Connection::open_files(alloc, files, options) {
         Ok(conn) => match Desk::adopt(alloc, conn) {
-            Ok(desk) => hold(alloc, desk, requests),
+            Ok(desk) => hold(alloc, desk, questions),
             Err((back, why)) => Held {
                 answers: Err(why),
                 files: Ok(cut(back)),
@@ -146,11 +144,11 @@ fn crash<D: Crash + Drop>(files: Files<D>) -> Files<D>
     Files { log, db }
 }
 
-/// Sessions that were held: what the requests of each were answered, and the files after the last. Where it could not open them, or not
+/// Sessions that were held: what the questions of each were answered, and the files after the last. Where it could not open them, or not
 /// close them, what is left of them.
 #[derive(Drop)]
 pub struct Sessions<D: Disk + Drop> {
-    pub answers: Vec<Result<Vec<Answer>, Refusal>>,
+    pub answers: Vec<Result<Vec<Told>, Refusal>>,
     pub files: Result<Files<D>, Left<D>>,
 }
 
@@ -161,7 +159,7 @@ pub fn hold_sessions<D: Crash + Drop>(
     alloc: Global,
     files: Files<D>,
     options: Options,
-    sessions: Vec<Vec<Request>>,
+    sessions: Vec<Vec<Question>>,
 ) -> Result<Sessions<D>, Files<D>>
     requires log { IsTrue (D.Disk.is_usable files.log) }
     requires db { IsTrue (D.Disk.is_usable files.db) }
@@ -177,8 +175,8 @@ pub fn hold_sessions<D: Crash + Drop>(
     };
     let mut answers = room;
     let mut now = files;
-    for requests in sessions {
-        let held = next_session(alloc, now, options, requests);
+    for questions in sessions {
+        let held = next_session(alloc, now, options, questions);
         let Held {
             answers: told,
             files,

@@ -1,17 +1,19 @@
 ghost use Rattle.std.specs.Prelude.{◌≡◌, OnOk, OnErr};
 ghost use Rattle.std.specs.Io.KnownBytes.{Appends, Keeps};
-ghost use Rattle.er_cli.specs.Texts.{answer_text, AppendsPart};
+ghost use Rattle.er_answers.specs.declared.question.Told.TheVariants.{Accepted, Refused};
+ghost use Rattle.er_cli.specs.Texts.{answer_text, told_text, AppendsPart};
 
-use er_event::{Items, Receipt, Refusal};
+use er_answers::Told;
+use er_event::Refusal;
 use er_paper::ShortText;
 use std::io::Write;
 
 /// What a line of a script is answered.
 #[derive(Drop)]
-pub enum Answer {
-    Accepted(Receipt),
-    Text(Items<u8>),
-    Refused(Refusal),
+pub enum LineAnswer {
+    /// What its desk answers, or that it has none.
+    Asked(Told),
+    /// It is no line of a script.
     Usage,
 }
 
@@ -49,7 +51,7 @@ pub fn flush<W: Write>(writer: &mut W) -> Result<(), WriteFault>
 }
 
 fn ok_line(serial: u32) -> ShortText
-    ensures { result ≡ answer_text (Answer.Accepted (record { serial = serial })) }
+    ensures { result ≡ told_text (Accepted (record { serial = serial })) }
 {
     let mut line = ShortText::new();
     line.push(b"ok ");
@@ -59,7 +61,7 @@ fn ok_line(serial: u32) -> ShortText
 }
 
 fn refusal_line(refusal: &Refusal) -> ShortText
-    ensures { result ≡ answer_text (Answer.Refused refusal.now) }
+    ensures { result ≡ told_text (Refused refusal.now) }
 {
     let mut line = ShortText::new();
     line.push(b"refused ");
@@ -70,18 +72,30 @@ fn refusal_line(refusal: &Refusal) -> ShortText
     line
 }
 
-/// Prints an answer, by one write where the writer takes it whole. It takes no memory.
-pub fn print_answer<W: Write>(writer: &mut W, answer: &Answer) -> Result<(), WriteFault>
+/// Prints what the desk has answered, by one write where the writer takes it whole. It takes no memory.
+pub fn print_told<W: Write>(writer: &mut W, told: &Told) -> Result<(), WriteFault>
+    ensures sent { OnOk result (Appends (W.contents writer.old) (W.contents writer.new)
+        (told_text told.now)) }
+    ensures part { OnErr result (AppendsPart (W.contents writer.old) (W.contents writer.new)
+        (told_text told.now)) }
+{
+    match told {
+        Told::Accepted(receipt) => send(writer, ok_line(receipt.serial).as_slice()),
+        Told::Text(text) | Told::Slip(text) => send(writer, text.as_slice()),
+        Told::Refused(refusal) => send(writer, refusal_line(refusal).as_slice()),
+    }
+}
+
+/// Prints the answer to a line of a script.
+pub fn print_answer<W: Write>(writer: &mut W, answer: &LineAnswer) -> Result<(), WriteFault>
     ensures sent { OnOk result (Appends (W.contents writer.old) (W.contents writer.new)
         (answer_text answer.now)) }
     ensures part { OnErr result (AppendsPart (W.contents writer.old) (W.contents writer.new)
         (answer_text answer.now)) }
 {
     match answer {
-        Answer::Accepted(receipt) => send(writer, ok_line(receipt.serial).as_slice()),
-        Answer::Text(text) => send(writer, text.as_slice()),
-        Answer::Refused(refusal) => send(writer, refusal_line(refusal).as_slice()),
-        Answer::Usage => send(writer, b"usage\n"),
+        LineAnswer::Asked(told) => print_told(writer, told),
+        LineAnswer::Usage => send(writer, b"usage\n"),
     }
 }
 

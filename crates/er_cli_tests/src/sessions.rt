@@ -3,11 +3,11 @@ ghost use Rattle.std.specs.Prelude.{◌≡◌, IsTrue, IfSome};
 ghost use Rattle.sqlite_disk.specs.Memory.{memory_is_usable};
 ghost use Rattle.sqlite_disk.specs.Fuse.{inner_of, IsFresh};
 
-use er_cli::{Answer, hold_sessions};
+use er_cli::{Action, Question, Task, Told, file_and_action, hold_sessions};
 use er_desk::Desk;
 use er_event::Refusal;
 use er_testing::desks::old_desk;
-use er_words::{Action, Request, Task, read_line};
+use er_words::read_line;
 use sqlite::{Connection, Files, Options};
 use sqlite_disk::{Disk, Fuse, Memory};
 use std::alloc::Global;
@@ -38,34 +38,34 @@ fn old_files(alloc: Global) -> Option<Disks> {
 }
 
 /// What a line of a script asks of its event.
-fn request(alloc: Global, line: &str) -> Option<Request> {
-    match read_line(alloc, line.as_bytes()).ok()?.into_parts() {
+fn question(alloc: Global, line: &str) -> Option<Question> {
+    match file_and_action(read_line(alloc, line.as_bytes()).ok()?) {
         (
             _file,
             Action::Open {
-                task: Task::Ask { request },
+                task: Task::Ask { question },
             },
-        ) => Some(request),
+        ) => Some(question),
         _ => None,
     }
 }
 
-fn requests(alloc: Global, lines: &str) -> Option<Vec<Request>> {
+fn questions(alloc: Global, lines: &str) -> Option<Vec<Question>> {
     let mut all = Vec::new(alloc);
     for line in lines.lines() {
-        all.push(request(alloc, line)?).ok()?;
+        all.push(question(alloc, line)?).ok()?;
     }
     Some(all)
 }
 
 /// Two sessions: the first one moves the tables between two commands, the second shows the standings after two.
-fn two_sessions(alloc: Global) -> Option<Vec<Vec<Request>>> {
+fn two_sessions(alloc: Global) -> Option<Vec<Vec<Question>>> {
     let mut sessions = Vec::new(alloc);
     for lines in [
         "enrol\tP1\nmigrate\nenrol\tP2\n",
         "enrol\tP3\nenrol\tP4\nstandings\n",
     ] {
-        sessions.push(requests(alloc, lines)?).ok()?;
+        sessions.push(questions(alloc, lines)?).ok()?;
     }
     Some(sessions)
 }
@@ -86,9 +86,9 @@ fn held_in(alloc: Global, files: &Disks) -> Option<(u32, u8)> {
 }
 
 /// Whether a session showed something at its end.
-fn shows_last(answers: &Result<Vec<Answer>, Refusal>) -> bool {
+fn shows_last(answers: &Result<Vec<Told>, Refusal>) -> bool {
     match answers {
-        Ok(answers) => matches!(answers.as_slice(), [.., Answer::Text(_)]),
+        Ok(answers) => matches!(answers.as_slice(), [.., Told::Text(_)]),
         Err(_why) => false,
     }
 }

@@ -1,20 +1,22 @@
 -- What the desk answers, and how serving an input ends.
-use Rattle.std.proofs.{lemmas.Grind.common_steps, Common.{◌≡◌, ◌⊎◌, ◌≤◌, inl, inr, ℕ, ◌==◌, false, true≢false, arith, List, Option}}
-use Rattle.std.proofs.Common.{Some, None, Bool, true, length, take, nat_lt, if◌then◌else◌, Result, Ok, Err, IsTrue, IsFalse, IfOk, IfSome}
-use Rattle.std.proofs.Common.{MatchResult, Vec, Global, is_ok}
-use Rattle.std.proofs.{Common.{refl, sym, ap, subst, ◌∙◌}, lemmas.Bool.Decides.nat_tests}
-use Rattle.std.specs.{Io.KnownBytes.Keeps, declared.alloc.AllocError.AllocError}
-use Rattle.er_event.specs.{declared.refusals.Refusal.Refusal, declared.refusals.Refusal.TheVariants.{Memory, NeedsReopen, NoSuchMatch}}
-use Rattle.er_event.specs.{declared.commands.TheConstants.MAX_SERIAL, declared.scores.Games.Games, declared.slips.SlipRow.SlipRow}
-use Rattle.er_event.specs.Event.{EventValue}
-use Rattle.er_json.specs.Slip.{slip_games, slip_text}
-use Rattle.er_paper.specs.Texts.{rows_text}
-use Rattle.er_rank.specs.declared.rows.Row.{Row}
-use Rattle.er_store.specs.{Fault.{IsFault, IsReadFault}, Slip.{FindsSlip, FindsSlipOrFails}}
-use Rattle.er_desk.specs.Desk.{DeskState, Turn, ShowsEvent}
-use Rattle.er_desk.specs.Desk.{Reads, ReadsRows, ReadsSlip}
-use Rattle.er_desk.specs.{Headline.AreTheStandings, Reply.{Reply, receipt, reply_to, IsDue}, Run.{Session, no_session}}
-use Rattle.er_slips.specs.{declared.answer.Answer.Answer, declared.request.wanted.Request.Request}
+use Rattle.std.proofs.{lemmas.Grind.common_steps, Common.{◌≡◌, ◌⊎◌, ◌≤◌, inl, inr, ℕ, false, true≢false, arith, List, Option}}
+use Rattle.std.proofs.Common.{Some, None, Bool, true, length, take, nat_lt, if◌then◌else◌, Result, Ok, Err, IsFalse, IfSome, IfOk, is_ok}
+use Rattle.std.proofs.Common.{MatchResult}
+use Rattle.std.specs.declared.alloc.AllocError.{AllocError}
+use Rattle.std.proofs.{Common.{refl, ap, subst, ◌∙◌}, lemmas.Bool.Decides.nat_tests}
+use Rattle.std.specs.Io.KnownBytes.{Keeps}
+use Rattle.sqlite_trees.specs.declared.store.Store.{Ghosts}
+use Rattle.er_event.specs.{declared.refusals.Refusal.Refusal, declared.refusals.Refusal.TheVariants.{Memory}}
+use Rattle.er_event.specs.{declared.scores.Games.Games, declared.commands.Command.TheVariants.{Result as Hand}}
+use Rattle.er_json.specs.Slip.{slip_games}
+use Rattle.er_store.specs.Fault.{IsFault}
+use Rattle.er_desk.specs.declared.desk.Desk.{Desk}
+use Rattle.er_desk.specs.Asking as desk
+use Rattle.er_desk.specs.Desk.{DeskState, desk_state, point_of}
+use Rattle.er_desk.specs.{Reply.{Reply, IsDue, IsLawful}, Run.{Session, no_session}}
+use Rattle.er_answers.specs.{Answers.{AsksFor, session_at}, Due.{IsAnswerAt, IsDueAt, OrFault}, Question.reply_told}
+use Rattle.er_answers.specs.declared.question.{Told.Told, Told.TheVariants.{Accepted, Text, Slip as SlipText, Refused as Declined}}
+use Rattle.er_slips.specs.declared.request.wanted.Request.{Request}
 use Rattle.er_slips.specs.{declared.request.wanted.Request.TheVariants.{Standings, Pairings, Slip, Report}}
 use Rattle.er_slips.specs.{declared.request.wanted.Fault.Fault}
 use Rattle.er_slips.specs.{declared.request.wanted.NoRequest.NoRequest, declared.request.wanted.NoRequest.TheVariants.Refused}
@@ -24,72 +26,26 @@ use Rattle.er_slips.specs.declared.request.wanted.Fault.TheVariants.{BadRequest}
 use Rattle.er_slips.specs.{declared.serve.Served.Served, declared.serve.Served.TheVariants.{Answered, ReadFault, WriteFault}}
 use Rattle.er_slips.specs.{Request.{Asks, headed, headless, IsWhole, next_of, asked_with, reported}}
 use Rattle.er_slips.specs.{inside.Telling.TellsRequest}
-use Rattle.er_slips.specs.{Answer.{AnswerValue, answer_value, fault_answer, refusal_answer, slip_answer, text_answer}}
-use Rattle.er_slips.specs.{Answer.status_of, Whole.{reply_answer, row_answer, IsAnswered, submitted, IsAnswerUnless503}}
-use Rattle.er_slips.specs.Serving.{IsRowsAnswer, IsSlipAnswer, AnswersRequest, IsServed, IsUnserved, Writes, EndsServing, IsWritten}
-use Rattle.er_event.specs.declared.commands.Command.TheVariants.{Result as Hand}
+use Rattle.er_slips.specs.declared.answer.Answer.{Answer}
+use Rattle.er_slips.specs.Answer.{AnswerValue, IsMessage, answer_value, fault_answer, refusal_answer, status_of}
+use Rattle.er_slips.specs.Whole.{IsAnswered, submitted, IsAnswerUnless503, question_of}
+use Rattle.er_slips.specs.Serving.{AnswersRequest, IsServed, IsUnserved, Writes, EndsServing, IsWritten}
 
-pub reopening : (desk : DeskState) (Shows : EventValue → AnswerValue → Type 0) (answer : AnswerValue) (why : Refusal)
-    → IsTrue desk.needs_reopen × (why ≡ NeedsReopen) → answer ≡ refusal_answer why → ShowsEvent refusal_answer desk Shows answer
-reopening desk Shows answer why stopped is = inr (stopped.0, is ∙ ap refusal_answer stopped.1)
+-- a request moves no tables: it asks its session of the file
+pub asks_session : {S : Type 0} (g : Ghosts S) (old : Desk S g) (asked : Request) (told : Told) (new : Desk S g)
+    → AsksFor g old (question_of asked) told new
+    → desk.Asks g old (session_at (question_of asked) told (desk_state new).needs_reopen) new
+asks_session g old Standings told new it = it
+asks_session g old (Pairings round) told new it = it
+asks_session g old (Slip round table) told new it = it
+asks_session g old (Report round table score) told new it = it
 
 -- an answer that was made, or want of memory
-pub made-is : (made : Result Answer AllocError) (answer due : AnswerValue) → IfOk made (λ a. answer_value a ≡ due)
+pub made_is : (made : Result Answer AllocError) (answer due : AnswerValue) → IfOk made (λ a. answer_value a ≡ due)
     → MatchResult made (λ a. answer ≡ answer_value a) (λ _. answer ≡ refusal_answer Memory)
     → (answer ≡ due) ⊎ (answer ≡ refusal_answer Memory)
-made-is (Ok made) answer due of is = inl (is ∙ of)
-made-is (Err error) answer due of is = inr is
-
-pub slip-made : (read : Result SlipRow Refusal) (row : SlipRow) (made : Result Answer AllocError) (answer : AnswerValue) → read ≡ Ok row
-    → IfOk made (λ a. answer_value a ≡ slip_answer (slip_text row))
-    → MatchResult made (λ a. answer ≡ answer_value a) (λ _. answer ≡ refusal_answer Memory) → IsSlipAnswer read answer
-slip-made read row made answer of is same = rw of (made-is made answer (slip_answer (slip_text row)) is same)
-
--- of the desk's own event
-pub rows-made : (e event : EventValue) (rows : List Row) (made : Result Answer AllocError) (answer : AnswerValue) → e ≡ event
-    → IfOk made (λ a. answer_value a ≡ text_answer (rows_text e rows))
-    → MatchResult made (λ a. answer ≡ answer_value a) (λ _. answer ≡ refusal_answer Memory)
-    → (answer ≡ text_answer (rows_text event rows)) ⊎ (answer ≡ refusal_answer Memory)
-rows-made e event rows made answer same of is =
-    subst (λ (f : EventValue). (answer ≡ text_answer (rows_text f rows)) ⊎ (answer ≡ refusal_answer Memory)) same
-    (made-is made answer (text_answer (rows_text e rows)) of is)
-
--- rows that were read leave the desk at its event
-pub rows-answered : (rows : Vec Row Global) (old new : DeskState) (answer : AnswerValue) → ReadsRows old (Ok rows) new
-    → (IsFalse new.needs_reopen → (answer ≡ text_answer (rows_text new.event rows.items)) ⊎ (answer ≡ refusal_answer Memory))
-    → IsRowsAnswer old.event (Ok rows) answer
-rows-answered rows old new answer (inl (running, same, e)) due =
-    subst (λ (s : DeskState). IsFalse s.needs_reopen → (answer ≡ text_answer (rows_text s.event rows.items))
-    ⊎ (answer ≡ refusal_answer Memory))
-    same due running
-rows-answered rows old new answer (inr (inl (running, same, why, fault, e))) due = absurd (true≢false (ap is_ok e))
-rows-answered rows old new answer (inr (inr (stopped, same, e))) due = absurd (true≢false (ap is_ok e))
-
-same-refusal : {A : Type 0} (why other : Refusal) → ◌≡◌ {A = Result A Refusal} (Err why) (Err other) → why ≡ other
-same-refusal why other is = cc
-
--- what was read was read by a desk that ran
-pub ran-before : {A : Type 0} (passing : Refusal) (old new : DeskState) (x : A) → Reads passing old (Ok x) new → IsFalse old.needs_reopen
-ran-before passing old new x (inl it) = it.0
-ran-before passing old new x (inr (inl it)) = it.0
-ran-before passing old new x (inr (inr (stopped, same, e))) = absurd (true≢false (ap is_ok e))
-
-no-fault : (why : Refusal) → IsFault why → why ≡ NoSuchMatch → ⊥
-no-fault why (inl memory) is = cc
-no-fault why (inr refused) is = cc
-
-no-slip : (e : EventValue) (k t : ℕ) (why : Refusal) → FindsSlipOrFails e k t (Err why) → FindsSlip e k t (Err why)
-no-slip e k t why (inl fault) is = absurd (no-fault why fault is)
-no-slip e k t why (inr none) is = none.1
-
--- a desk that was stopped says of no match that there is none
-pub finds-slip : (old new : DeskState) (k t : ℕ) (read : Result SlipRow Refusal) → ReadsSlip old read new
-    → (IsFalse old.needs_reopen → FindsSlipOrFails old.event k t read) → FindsSlip old.event k t read
-finds-slip old new k t (Ok row) reads found = found (ran-before NoSuchMatch old new row reads)
-finds-slip old new k t (Err why) (inl it) found = no-slip old.event k t why (found it.0)
-finds-slip old new k t (Err why) (inr (inl it)) found = no-slip old.event k t why (found it.0)
-finds-slip old new k t (Err why) (inr (inr (stopped, same, e))) found =
-    λ is. absurd (let both = same-refusal why NeedsReopen e in cc)
+made_is (Ok made) answer due of is = inl (is ∙ of)
+made_is (Err error) answer due of is = inr is
 
 -- ---- how serving ends
 
@@ -181,79 +137,59 @@ module _ (old : DeskState) (session : Session) (new : DeskState) (input : List �
     hindered : (why : Refusal) → status_of why ≡ 503 → answer ≡ refusal_answer why → IsAnswerUnless503 old.event old.serial input answer
     hindered why is same = (let request = whole asked of in inr (ap (λ (a : AnswerValue). a.status) same ∙ is, request.0, request.1))
 
-    faulty : (why : Refusal) → IsReadFault why → answer ≡ refusal_answer why → IsAnswerUnless503 old.event old.serial input answer
-    faulty why (inl (inl memory)) e = hindered why (ap status_of memory) e
-    faulty why (inl (inr refused)) e = hindered why (ap status_of refused) e
-    faulty why (inr row) e = hindered why (ap status_of row) e
+    faulty : (why : Refusal) → IsFault why → answer ≡ refusal_answer why → IsAnswerUnless503 old.event old.serial input answer
+    faulty why (inl memory) e = hindered why (ap status_of memory) e
+    faulty why (inr refused) e = hindered why (ap status_of refused) e
 
-  runs-on : {A : Type 0} → IsTrue old.needs_reopen → A
-  runs-on stopped = absurd (true≢false (sym stopped ∙ runs))
+    -- what is due, or no memory for its message
+    due_told : (told : Told) → IsDueAt 2 (point_of old) (question_of asked) told → IsMessage told answer
+        → IsAnswerUnless503 old.event old.serial input answer
+    due_told (Accepted receipt) due is = exact (Ok asked) of (Accepted receipt, due, is)
+    due_told (Text text) due (inl is) = exact (Ok asked) of (Text text, due, is)
+    due_told (Text text) due (inr full) = hindered Memory refl full
+    due_told (SlipText slip) due (inl is) = exact (Ok asked) of (SlipText slip, due, is)
+    due_told (SlipText slip) due (inr full) = hindered Memory refl full
+    due_told (Declined why) due is = exact (Ok asked) of (Declined why, due, is)
 
-  rows-by : (read : Result (Vec Row Global) Refusal) → Asks input (Ok Standings) → ReadsRows old read new
-      → IfOk read (λ rows. AreTheStandings old.event rows.items)
-      → IsRowsAnswer old.event read answer → IsAnswerUnless503 old.event old.serial input answer
-  rows-by (Ok rows) is reads are (inl e) = exact (Ok Standings) is (
-    rows_text old.event rows.items,
-    record { rows = rows.items; standings = are.0; lines = refl },
-    e,
-  )
-  rows-by (Ok rows) is reads are (inr memory) = hindered Standings is Memory refl memory
-  rows-by (Err why) is (inl (running, same, inl ok)) are e = absurd (true≢false (sym ok))
-  rows-by (Err why) is (inl (running, same, inr memory)) are e =
-      hindered Standings is Memory refl (e ∙ ap refusal_answer (same-refusal why Memory memory))
-  rows-by (Err why) is (inr (inl (running, same, other, fault, f))) are e =
-      faulty Standings is why (subst IsReadFault (sym (same-refusal why other f)) fault) e
-  rows-by (Err why) is (inr (inr (stopped, same, f))) are e = runs-on stopped
+    fault_told : (told : Told) (why : Refusal) → IsFault why → told ≡ Declined why → IsMessage told answer
+        → IsAnswerUnless503 old.event old.serial input answer
+    fault_told told why fault is message = faulty why fault (subst (λ (t : Told). IsMessage t answer) is message)
 
-  reply-by : (round table : ℕ) (score : Games) (reply : Reply) → Asks input (Ok (Report round table score))
-      → Turn old (Hand round table score) reply new
-      → answer ≡ reply_answer reply → IsAnswerUnless503 old.event old.serial input answer
-  reply-by round table score reply is (inl it) e = exact (Ok (Report round table score)) is (reply, (Ok new.event, it.taken, due), e)
-    where
-      below : (old.serial == MAX_SERIAL) ≡ false
-      below = let room = it.room in grind (arith, nat_tests)
+    told_or_fault : (told : Told) → OrFault (IsDueAt 2 (point_of old) (question_of asked) told) told → IsMessage told answer
+        → IsAnswerUnless503 old.event old.serial input answer
+    told_or_fault told (inl due) message = due_told told due message
+    told_or_fault told (inr (why, fault, is)) message = fault_told told why fault is message
 
-      due : reply ≡ reply_to 2 old.event old.serial (Hand round table score) (Ok new.event)
-      due = rw below (it.answered ∙ ap (λ (n : ℕ). Ok (receipt n)) it.serial_is)
-  reply-by round table score reply is (inr (inl it)) e = by it.cause
-    where
-      due : IsDue old.version old.event old.serial (Hand round table score) (Err it.why)
-          → IsDue 2 old.event old.serial (Hand round table score) (Err it.why)
-      due (Ok next, taken, same) = (Ok next, taken, same)
-      due (Err why, refused, same) = (Err why, refused, same)
+  module _ (round table : ℕ) (score : Games) (of : Asks input (Ok (Report round table score))) where
+    -- a score is never late
+    in_time : (reply : Reply) → IsDue old.version old.event old.serial (Hand round table score) reply
+        → IsDue 2 old.event old.serial (Hand round table score) reply
+    in_time reply (Ok next, taken, same) = (Ok next, taken, same)
+    in_time reply (Err why, refused, same) = (Err why, refused, same)
 
-      by : (it.why ≡ Memory) ⊎ IsDue old.version old.event old.serial (Hand round table score) (Err it.why)
-          → IsAnswerUnless503 old.event old.serial input answer
-      by (inl memory) = hindered (Report round table score) is Memory refl (e ∙ ap reply_answer it.answered ∙ ap refusal_answer memory)
-      by (inr is_due) = exact (Ok (Report round table score)) is (Err it.why, due is_due, e ∙ ap reply_answer it.answered)
-  reply-by round table score reply is (inr (inr (inl it))) e = faulty (Report round table score) is it.why (inl it.fault)
-      (e ∙ ap reply_answer it.answered)
-  reply-by round table score reply is (inr (inr (inr it))) e = runs-on it.needed_reopen
+    reply_by : (told : Told) (reply : Reply) → IsLawful old.version old.event old.serial (Hand round table score) reply
+        → told ≡ reply_told reply → IsMessage told answer → IsAnswerUnless503 old.event old.serial input answer
+    reply_by told reply (inl due) is message =
+        due_told (Report round table score) of told (reply, in_time reply due, is) message
+    reply_by told reply (inr (inl full)) is message =
+        fault_told (Report round table score) of told Memory (inl refl) (is ∙ ap reply_told full) message
+    reply_by told reply (inr (inr (due, why, fault, failed))) is message =
+        fault_told (Report round table score) of told why fault (is ∙ ap reply_told failed) message
 
-  slip-by : (round table : ℕ) (read : Result SlipRow Refusal) → Asks input (Ok (Slip round table)) → ReadsSlip old read new
-      → FindsSlip old.event round table read → IsSlipAnswer read answer → IsAnswerUnless503 old.event old.serial input answer
-  slip-by round table (Ok row) is reads found (inl e) = exact (Ok (Slip round table)) is (e ∙ ap row_answer (sym found))
-  slip-by round table (Ok row) is reads found (inr memory) = hindered (Slip round table) is Memory refl memory
-  slip-by round table (Err why) is (inl (running, same, inl ok)) found e = absurd (true≢false (sym ok))
-  slip-by round table (Err why) is (inl (running, same, inr passes)) found e =
-      let no_match = same-refusal why NoSuchMatch passes in
-      exact (Ok (Slip round table)) is (e ∙ ap refusal_answer no_match ∙ ap row_answer (sym (found no_match)))
-  slip-by round table (Err why) is (inr (inl (running, same, other, fault, f))) found e =
-      faulty (Slip round table) is why (subst IsReadFault (sym (same-refusal why other f)) fault) e
-  slip-by round table (Err why) is (inr (inr (stopped, same, f))) found e = runs-on stopped
+  answered_at : (asked : Request) → Asks input (Ok asked) → (told : Told)
+      → IsAnswerAt old.version (point_of old) (question_of asked) told → IsMessage told answer
+      → IsAnswerUnless503 old.event old.serial input answer
+  answered_at Standings of told it message = told_or_fault Standings of told it message
+  answered_at (Pairings round) of told it message = told_or_fault (Pairings round) of told it message
+  answered_at (Slip round table) of told it message = told_or_fault (Slip round table) of told it message
+  answered_at (Report round table score) of told (reply, lawful, is) message = reply_by round table score of told reply lawful is message
 
   answered-by : (Represented : Type 0) → Represented → (asked : Result Request Fault) → Asks input asked
       → AnswersRequest Represented old asked answer session new
       → IsAnswerUnless503 old.event old.serial input answer
   answered-by Represented represented (Err fault) is answers = exact (Err fault) is answers.0
-  answered-by Represented represented (Ok Standings) is (read, reads, found, e, _) = rows-by read is reads (found represented) e
-  answered-by Represented represented (Ok (Pairings round)) is (inl (running, inl shown), _, _) = exact (Ok (Pairings round)) is shown
-  answered-by Represented represented (Ok (Pairings round)) is (inl (running, inr memory), _, _) = hindered (Pairings round) is Memory
-      refl memory
-  answered-by Represented represented (Ok (Pairings round)) is (inr (stopped, e), _, _) = runs-on stopped
-  answered-by Represented represented (Ok (Slip round table)) is (read, reads, found, e, _) = slip-by round table read is reads
-      (found represented) e
-  answered-by Represented represented (Ok (Report round table score)) is (reply, turn, e, _) = reply-by round table score reply is turn e
+  answered-by Represented represented (Ok asked) is (told, answers, message, asks) =
+      answered_at asked is told (answers.due represented runs) message
 
   due-by : (Represented : Type 0) → Represented → IsServed Represented (Some input) old answer session new
       ⊎ IsUnserved (Some input) old answer session new

@@ -15,7 +15,8 @@ use Rattle.er_slips.specs.{declared.request.wanted.Request.TheVariants.Pairings,
 use Rattle.er_slips.specs.{declared.request.wanted.Fault.TheVariants.{NotFound, NotAllowed, TooLarge}}
 use Rattle.er_slips.specs.{Request.{route_of, path_of, asked_of}}
 use Rattle.er_slips.specs.{Request.reported, Answer.{AnswerValue, fault_answer, refusal_answer, receipt_answer, slip_answer, text_answer}}
-use Rattle.er_slips.specs.{Answer.status_of, Whole.{row_answer, pairings_answer}}
+use Rattle.er_slips.specs.Answer.{message_of, status_of}
+use Rattle.er_answers.specs.Question.{slip_told, text_told}
 use Rattle.er_event.specs.declared.commands.Command.TheVariants.{Result as Hand}
 use Rattle.er_slips.specs.declared.request.routes.Route.TheVariants as route
 
@@ -197,14 +198,14 @@ friday = record {
   bracket = record { stages = [] };
 }
 
-pub slip_shown : row_answer (slip_of friday 1 1) ≡ slip_answer
+pub slip_shown : message_of (slip_told (slip_of friday 1 1)) ≡ slip_answer
     (slip_text (record { round = 1; table = 1; first = (4, codes "Di"); second = Some (2, codes "Bo"); score = None }))
 slip_shown = refl
 
-pub no_slip : row_answer (slip_of friday 1 3) ≡ refusal_answer NoSuchMatch
+pub no_slip : message_of (slip_told (slip_of friday 1 3)) ≡ refusal_answer NoSuchMatch
 no_slip = refl
 
-pub round_not_stored : pairings_answer (pairings_text friday 9) ≡ refusal_answer NoSuchMatch
+pub round_not_stored : message_of (text_told (pairings_text friday 9)) ≡ refusal_answer NoSuchMatch
 round_not_stored = refl
 
 abbrev hand : Games → Command

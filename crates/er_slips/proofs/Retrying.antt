@@ -4,7 +4,8 @@ use Rattle.er_event.specs.{declared.refusals.Refusal.Refusal, declared.refusals.
 use Rattle.er_event.specs.{declared.scores.Games.Games, Event.EventValue}
 use Rattle.er_rules.specs.Retry.{IsRetryRefusal, NoDoubleEffect}
 use Rattle.er_desk.specs.Reply.{reply_to}
-use Rattle.er_slips.specs.{declared.request.wanted.Request.TheVariants.Report, Answer.{AnswerValue, refusal_answer}, Whole.reply_answer}
+use Rattle.er_slips.specs.{declared.request.wanted.Request.TheVariants.Report, Answer.{AnswerValue, message_of, refusal_answer}}
+use Rattle.er_answers.specs.Question.{reply_told}
 use Rattle.er_slips.specs.{Whole.IsAnswered, Retry.{HasScore, Retries}}
 use Rattle.er_slips.proofs.Unique.{one_asked}
 use Rattle.er_event.specs.declared.commands.Command.TheVariants.{Result as Hand}
@@ -38,11 +39,11 @@ module _ (later : EventValue) (round table : ℕ) (handed : Games) where
 
   answered : IsRefused → (serial : ℕ) (answer : AnswerValue) → IsAnswered later serial (Ok (Report round table handed)) answer
       → IsToldAgain answer
-  answered refused serial answer (reply, (result, inl (steps, few), due), same) =
+  answered refused serial answer (told, (reply, (result, inl (steps, few), due), tells), same) =
       let it = refused result steps in
-      refusal_for answer it.0 result steps it.1 (same ∙ ap reply_answer
-      (due ∙ ap (reply_to 2 later serial (Hand round table handed)) it.1)) it.2
-  answered refused serial answer (reply, (result, inr (over, needs), due), same) = absurd needs
+      refusal_for answer it.0 result steps it.1 (same ∙ ap message_of (tells ∙ ap reply_told
+      (due ∙ ap (reply_to 2 later serial (Hand round table handed)) it.1))) it.2
+  answered refused serial answer (told, (reply, (result, inr (over, needs), due), tells), same) = absurd needs
 
 pub retries : NoDoubleEffect → Retries
 retries law event next later more round table handed taken folds serial input answer submits asks it =

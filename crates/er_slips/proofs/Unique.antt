@@ -11,7 +11,9 @@ use Rattle.er_rules.specs.Step.{Steps}
 use Rattle.er_paper.specs.Texts.{rows_text}
 use Rattle.er_desk.specs.Reply.{Reply, IsDue, reply_to}
 use Rattle.er_slips.specs.declared.request.wanted.Request.TheVariants.{Standings, Pairings, Slip, Report}
-use Rattle.er_slips.specs.{Answer.{AnswerValue, text_answer}, Whole.{IsAnswered, OneAnswer, reply_answer, submitted}}
+use Rattle.er_rank.specs.declared.rows.Row.{Row}
+use Rattle.er_answers.specs.{Due.IsDueAt, Question.reply_told, declared.question.{Told.Told, Told.TheVariants.Text}}
+use Rattle.er_slips.specs.{Answer.{AnswerValue, message_of}, Whole.{IsAnswered, OneAnswer, question_of, submitted}}
 
 pub one_asked : (input : List ℕ) (r q : Result Request Fault) → Asks input r → Asks input q → r ≡ q
 one_asked input r q (headed h rest is e) (headed k more also f) =
@@ -36,16 +38,19 @@ module _ (standings : HasOneStandings) (step : OneStep) (event : EventValue) (se
   one_reply round table score r q (result, inr (over, needs), due) (other, answers, same) = absurd needs
   one_reply round table score r q (result, inl (steps, few), due) (other, inr (over, needs), same) = absurd needs
 
+  one_told : (asked : Request) (a b : Told) → IsDueAt 2 (record { event = event; serial = serial }) (question_of asked) a
+      → IsDueAt 2 (record { event = event; serial = serial }) (question_of asked) b → a ≡ b
+  one_told Standings a b (rows, are, is) (other, also, it) =
+      is ∙ ap (λ (list : List Row). Text (rows_text event list)) (sym (standings event rows sound are.0 other also.0)) ∙ sym it
+  one_told (Pairings round) a b is also = is ∙ sym also
+  one_told (Slip round table) a b is also = is ∙ sym also
+  one_told (Report round table score) a b (reply, due, is) (other, same, also) =
+      is ∙ ap reply_told (one_reply round table score reply other due same) ∙ sym also
+
   one_answered : (asked : Result Request Fault) (a b : AnswerValue) → IsAnswered event serial asked a
       → IsAnswered event serial asked b → a ≡ b
   one_answered (Err fault) a b is also = is ∙ sym also
-  one_answered (Ok Standings) a b (text, of, is) (other, it, also) =
-      let rows = standings event of.rows sound of.standings it.rows it.standings in
-      is ∙ ap text_answer (of.lines ∙ ap (rows_text event) (sym rows) ∙ sym it.lines) ∙ sym also
-  one_answered (Ok (Pairings round)) a b is also = is ∙ sym also
-  one_answered (Ok (Slip round table)) a b is also = is ∙ sym also
-  one_answered (Ok (Report round table score)) a b (reply, due, is) (other, same, also) =
-      is ∙ ap reply_answer (one_reply round table score reply other due same) ∙ sym also
+  one_answered (Ok asked) a b (told, due, is) (other, same, also) = is ∙ ap message_of (one_told asked told other due same) ∙ sym also
 
 pub one_answer : HasOneStandings → OneStep → OneAnswer
 one_answer standings step event serial input one other submits also sound is it =

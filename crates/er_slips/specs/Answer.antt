@@ -1,10 +1,12 @@
 -- Answers, to the byte. Each text is nested to the right, as the code writes its parts.
-use Rattle.std.specs.Prelude.{ℕ, ◌==◌, Bool, true, false, if◌then◌else◌, List, [], ◌∷◌, ◌++◌, length, Option, Some, None, codes}
+use Rattle.std.specs.Prelude.{◌≡◌, ◌⊎◌, ℕ, ◌==◌, Bool, true, false, if◌then◌else◌, List, [], ◌∷◌, ◌++◌, length, Option, Some, None, codes}
 use Rattle.std.specs.Fmt.{decimal}
 use Rattle.er_event.specs.declared.refusals.Refusal.{Refusal}
 use Rattle.er_event.specs.declared.refusals.Refusal.TheVariants.{AlreadyReported, NoSuchMatch, Memory, Store, NeedsReopen}
 use Rattle.er_event.specs.declared.scores.Games.{Games}
 use Rattle.er_event.specs.Refusal.{entry_of}
+use Rattle.er_answers.specs.declared.question.Told.{Told}
+use Rattle.er_answers.specs.declared.question.Told.TheVariants.{Accepted, Text, Slip, Refused}
 use Rattle.er_slips.specs.declared.answer.Answer.{Answer}
 use Rattle.er_slips.specs.declared.answer.Answer.TheVariants.{Short, Long}
 use Rattle.er_slips.specs.declared.request.wanted.Fault.{Fault}
@@ -100,3 +102,16 @@ text_answer text = answer_of 200 None true text
 
 abbrev pub slip_answer : List ℕ → AnswerValue
 slip_answer slip = json_answer 200 slip
+
+-- what the desk has answered, as a message
+abbrev pub message_of : Told → AnswerValue
+message_of (Accepted receipt) = receipt_answer receipt.serial
+message_of (Text text) = text_answer text
+message_of (Slip slip) = slip_answer slip
+message_of (Refused why) = refusal_answer why
+
+-- this message, or that there is no memory for one of any length
+abbrev pub IsMessage : Told → AnswerValue → Type 0
+IsMessage (Text text) answer = (answer ≡ text_answer text) ⊎ (answer ≡ refusal_answer Memory)
+IsMessage (Slip slip) answer = (answer ≡ slip_answer slip) ⊎ (answer ≡ refusal_answer Memory)
+IsMessage told answer = answer ≡ message_of told

@@ -1,61 +1,33 @@
 -- What serving one request does: to the desk, and to what is written.
-use Rattle.std.specs.Global.{Global}
-use Rattle.std.specs.Prelude.{◌≡◌, ◌⊎◌, ◌≤◌, ℕ, List, [], ◌∷◌, length, take, Option, Some, Result, Ok, Err, IfOk, IfSome, Vec}
+use Rattle.std.specs.Prelude.{◌≡◌, ◌⊎◌, ◌≤◌, ℕ, List, length, take, Option, Result, Ok, Err, IfSome}
 use Rattle.std.specs.Io.KnownBytes.{Appends, Keeps}
 use Rattle.sqlite_trees.specs.declared.store.Store.{Ghosts}
 use Rattle.sqlite.specs.State.{HasCleanDisk}
-use Rattle.er_event.specs.declared.commands.Command.TheVariants.{Result as Hand}
-use Rattle.er_event.specs.declared.refusals.Refusal.{Refusal}
 use Rattle.er_event.specs.declared.refusals.Refusal.TheVariants.{Memory}
-use Rattle.er_event.specs.declared.slips.SlipRow.{SlipRow}
-use Rattle.er_event.specs.Event.{EventValue}
-use Rattle.er_paper.specs.Texts.{rows_text}
-use Rattle.er_rank.specs.declared.rows.Row.{Row}
-use Rattle.er_store.specs.Slip.{FindsSlip}
 use Rattle.er_desk.specs.declared.desk.Desk.{Desk}
 use Rattle.er_desk.specs.Asking as desk
-use Rattle.er_desk.specs.Desk.{DeskState, Turn, ReadsRows, ReadsSlip, ShowsEvent, ShowsOwn, desk_state, state}
-use Rattle.er_desk.specs.Headline.{AreTheStandings}
-use Rattle.er_desk.specs.Reply.{Reply}
-use Rattle.er_desk.specs.Run.{Session, session_of, no_session}
+use Rattle.er_desk.specs.Desk.{DeskState, ShowsOwn, desk_state, state}
+use Rattle.er_desk.specs.Run.{Session, no_session}
+use Rattle.er_answers.specs.Answers.{AnswersDesk, session_at}
+use Rattle.er_answers.specs.declared.question.Told.{Told}
 use Rattle.er_slips.specs.declared.request.wanted.Request.{Request}
-use Rattle.er_slips.specs.declared.request.wanted.Request.TheVariants.{Standings, Pairings, Slip, Report}
 use Rattle.er_slips.specs.declared.request.wanted.Fault.{Fault}
 use Rattle.er_slips.specs.declared.serve.Served.{Served}
 use Rattle.er_slips.specs.declared.serve.Served.TheVariants.{Answered, ReadFault, WriteFault}
 use Rattle.er_slips.specs.declared.request.Next.TheVariants.{Body}
 use Rattle.er_slips.specs.Request.{Asks, IsWhole}
-use Rattle.er_slips.specs.Answer.{AnswerValue, fault_answer, refusal_answer, text_answer}
-use Rattle.er_slips.specs.Whole.{ShowsPairings, row_answer, reply_answer, IsAnswerUnless503}
+use Rattle.er_slips.specs.Answer.{AnswerValue, IsMessage, fault_answer, refusal_answer}
+use Rattle.er_slips.specs.Whole.{IsAnswerUnless503, question_of}
 
 -- ---- the desk
 
--- of what was read, its slip, or want of memory in making it
-abbrev pub IsSlipAnswer : Result SlipRow Refusal → AnswerValue → Type 0
-IsSlipAnswer (Ok row) answer = (answer ≡ row_answer (Some row)) ⊎ (answer ≡ refusal_answer Memory)
-IsSlipAnswer (Err why) answer = answer ≡ refusal_answer why
-
--- of the standings that were read, their text, or want of memory in making it
-abbrev pub IsRowsAnswer : EventValue → Result (Vec Row Global) Refusal → AnswerValue → Type 0
-IsRowsAnswer event (Ok rows) answer = (answer ≡ text_answer (rows_text event rows.items)) ⊎ (answer ≡ refusal_answer Memory)
-IsRowsAnswer event (Err why) answer = answer ≡ refusal_answer why
-
--- What is asked of the desk, its answer, the session that it asks of the file, and the desk's state then. `Represented` is that
--- its tables represented its event, on a clean disk: on this rests what is read of them. Only a score is a command.
+-- What is asked of the desk, the message that tells its answer, the session that it asks of the file, and the desk's state then.
+-- `Represented` is that its tables represented its event, on a clean disk: on this rests what is answered.
 abbrev pub AnswersRequest : Type 0 → DeskState → Result Request Fault → AnswerValue → Session → DeskState → Type 0
 AnswersRequest Represented old (Err fault) answer session new = (answer ≡ fault_answer fault) × (session ≡ no_session) × (new ≡ old)
-AnswersRequest Represented old (Ok Standings) answer session new =
-    (read : Result (Vec Row Global) Refusal) × ReadsRows old read new
-    × (Represented → IfOk read (λ rows. AreTheStandings old.event rows.items)) × IsRowsAnswer old.event read answer × (session ≡ no_session)
-AnswersRequest Represented old (Ok (Pairings round)) answer session new =
-    ShowsEvent refusal_answer old (ShowsPairings round) answer × (session ≡ no_session) × (new ≡ old)
-AnswersRequest Represented old (Ok (Slip round table)) answer session new =
-    (read : Result SlipRow Refusal) × ReadsSlip old read new × (Represented → FindsSlip old.event round table read)
-    × IsSlipAnswer read answer
-    × (session ≡ no_session)
-AnswersRequest Represented old (Ok (Report round table score)) answer session new =
-    (reply : Reply) × Turn old (Hand round table score) reply new × (answer ≡ reply_answer reply)
-    × (session ≡ session_of (Hand round table score ∷ []) (reply ∷ []) new.needs_reopen)
+AnswersRequest Represented old (Ok request) answer session new =
+    (told : Told) × AnswersDesk Represented old (question_of request) told new × IsMessage told answer
+    × (session ≡ session_at (question_of request) told new.needs_reopen)
 
 -- a desk is asked this, answers so, and its file takes the session
 pub record Answers {S : Type 0} (g : Ghosts S) (old : Desk S g) (asked : Request) (answer : AnswerValue) (new : Desk S g) : Type 0 where

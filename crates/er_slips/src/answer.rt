@@ -4,7 +4,7 @@ mod long;
 
 use er_paper::ShortText;
 pub use fixed::{fault_answer, receipt_answer, refusal_answer};
-pub use long::{pairings_answer, slip_answer, standings_answer};
+pub use long::{slip_answer, text_answer};
 
 /// An answer as a whole, before a byte of it is sent.
 #[derive(Drop)]

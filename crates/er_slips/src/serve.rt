@@ -1,23 +1,19 @@
-ghost use Rattle.std.specs.Prelude.{◌≡◌, ◌⊎◌, IfSome, IsFalse, MatchResult};
+ghost use Rattle.std.specs.Prelude.{◌≡◌, IfSome, IsFalse, MatchResult};
 ghost use Rattle.sqlite.specs.State.{HasCleanDisk};
-ghost use Rattle.er_desk.specs.Desk.{ShowsEvent, ShowsOwn, desk_state, state};
-ghost use Rattle.er_paper.specs.Texts.{rows_text};
-ghost use Rattle.er_slips.specs.declared.request.wanted.Request.TheVariants as asked;
-ghost use Rattle.er_slips.specs.Answer.{answer_value, refusal_answer, text_answer};
-ghost use Rattle.er_slips.specs.Whole.{ShowsPairings, reply_answer};
-ghost use Rattle.er_slips.specs.Serving.{IsSlipAnswer, Answers, Writes, Serves, IsWritten};
+ghost use Rattle.er_desk.specs.Desk.{ShowsOwn, desk_state, state};
+ghost use Rattle.er_slips.specs.Answer.{IsMessage, answer_value, refusal_answer};
+ghost use Rattle.er_slips.specs.Serving.{Answers, Writes, Serves, IsWritten};
 
 mod sending;
 
 use crate::answer::{
-    Answer, fault_answer, pairings_answer, receipt_answer, refusal_answer, slip_answer,
-    standings_answer,
+    Answer, fault_answer, receipt_answer, refusal_answer, slip_answer, text_answer,
 };
 use crate::request::{NoRequest, Request, Routes, read_request};
 use crate::serve::sending::{Sent, send};
-use er_desk::{Desk, Reply};
-use er_event::{Command, Games, Refusal, SlipRow};
-use er_rank::Row;
+use er_answers::{Question, Told, ask};
+use er_desk::Desk;
+use er_event::Refusal;
 use sqlite::Alter;
 use std::alloc::{AllocError, Global};
 use std::io::{Read, Write};
@@ -43,101 +39,25 @@ fn answer_or_memory(answer: Result<Answer, AllocError>) -> Answer
     }
 }
 
-/// The answer with these rows of standings.
-fn rows_answer<S: Alter>(alloc: Global, desk: &Desk<S>, rows: &[Row]) -> Answer
-    ensures { IsFalse (desk_state desk.now).needs_reopen
-        → (answer_value result ≡ text_answer (rows_text desk.now.event rows.now))
-        ⊎ (answer_value result ≡ refusal_answer Refusal.Memory) }
+/// The message that tells what the desk has answered.
+fn message(alloc: Global, told: &Told) -> Answer
+    ensures { IsMessage told.now (answer_value result) }
 {
-    match desk.event() {
-        Ok(event) => answer_or_memory(standings_answer(alloc, rows, event)),
-        Err(why) => refusal_answer(&why),
+    match told {
+        Told::Accepted(receipt) => receipt_answer(*receipt),
+        Told::Text(text) => answer_or_memory(text_answer(alloc, text.as_slice())),
+        Told::Slip(slip) => answer_or_memory(slip_answer(alloc, slip.as_slice())),
+        Told::Refused(why) => refusal_answer(why),
     }
-}
-
-fn standings<S: Alter>(alloc: Global, desk: &mut Desk<S>) -> Answer
-    ensures { Answers S.Store desk.old asked.Standings (answer_value result) desk.new }
-{
-    match desk.stored_standings(alloc) {
-        Ok(rows) => rows_answer(alloc, desk, rows.as_slice()),
-        Err(why) => refusal_answer(&why),
-    }
-}
-
-fn pairings<S: Alter>(alloc: Global, desk: &Desk<S>, round: u8) -> Answer
-    ensures { ShowsEvent refusal_answer (desk_state desk.now) (ShowsPairings round)
-        (answer_value result) }
-{
-    match desk.event() {
-        Ok(event) => answer_or_memory(pairings_answer(alloc, event, round)),
-        Err(why) => refusal_answer(&why),
-    }
-}
-
-/// The answer to what was read of a slip.
-fn slip_row_answer(alloc: Global, read: &Result<SlipRow, Refusal>) -> Answer
-    ensures { IsSlipAnswer read.now (answer_value result) }
-{
-    match read {
-        Ok(row) => answer_or_memory(slip_answer(alloc, row)),
-        Err(why) => refusal_answer(why),
-    }
-}
-
-fn slip<S: Alter>(alloc: Global, desk: &mut Desk<S>, round: u8, table: u16) -> Answer
-    ensures { Answers S.Store desk.old (asked.Slip round table) (answer_value result) desk.new }
-{
-    let read = desk.slip(alloc, round, table);
-    slip_row_answer(alloc, &read)
-}
-
-fn answer_to(reply: Reply) -> Answer
-    ensures { answer_value result ≡ reply_answer reply }
-{
-    match reply {
-        Ok(receipt) => receipt_answer(receipt),
-        Err(why) => refusal_answer(&why),
-    }
-}
-
-/// Submits the score of a match.
-fn report<S: Alter>(
-    alloc: Global,
-    desk: &mut Desk<S>,
-    round: u8,
-    table: u16,
-    score: Games,
-) -> Answer
-    ensures { Answers S.Store desk.old (asked.Report round table score) (answer_value result)
-        desk.new }
-{
-    let reply = desk.submit(
-        alloc,
-        Command::Result {
-            round,
-            table,
-            score,
-        },
-    );
-    answer_to(reply)
 }
 
 /// What the desk answers. It is asked once.
 fn answer<S: Alter>(alloc: Global, desk: &mut Desk<S>, asked: Request) -> Answer
     ensures { Answers S.Store desk.old asked (answer_value result) desk.new }
 {
-    // To look at a desk asks nothing of its file: this tells the proof.
-    desk.asks_nothing();
-    match asked {
-        Request::Standings => standings(alloc, desk),
-        Request::Pairings { round } => pairings(alloc, desk, round),
-        Request::Slip { round, table } => slip(alloc, desk, round, table),
-        Request::Report {
-            round,
-            table,
-            score,
-        } => report(alloc, desk, round, table, score),
-    }
+    let question = Question::from(asked);
+    let told = ask(alloc, desk, question);
+    message(alloc, &told)
 }
 
 /// Sends a whole answer.

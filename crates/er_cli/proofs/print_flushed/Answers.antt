@@ -3,5 +3,5 @@ use Rattle.er_cli.proofs.print_flushed.Goals as goal
 
 pub returns-clause-part : goal.returns-clause-part
 returns-clause-part g c =
-    let all = whole_part _ _ _ c.in_ok-print_answer.ensures.sent in
+    let all = whole_part _ _ _ c.in_ok-print_told.ensures.sent in
     err_is c.flush.result (part_kept _ _ _ _ all c.flush.ensures)

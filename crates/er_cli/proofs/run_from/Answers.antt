@@ -1,6 +1,6 @@
 use Rattle.std.proofs.Common.{inl, inr, refl, map, Option, Some, None, IfSome, string_bytes, rules}
 use Rattle.er_words.specs.Line.{line_of}
-use Rattle.er_words.specs.Action.{action_of}
+use Rattle.er_cli.specs.Action.{action_of}
 use Rattle.er_event.specs.declared.refusals.Refusal.TheVariants.{Memory}
 use Rattle.er_cli.proofs.GoingOn.{absent_goes_on}
 use Rattle.er_cli.proofs.run_from.Goals as goal
@@ -20,10 +20,9 @@ returns-clause-ends g c =
     }
 
 pub returns-clause-goes_on : goal.returns-clause-goes_on
-returns-clause-goes_on g c new first ends was asked =
-    let printed = c.print in
-    always (line_of (map string_bytes c.args.words.now)) (λ line.
-    absent_goes_on _ _ _ new ends first _ _ _ _ _ _ Memory (inr (inl refl)) refl printed.ensures (action_of line))
+returns-clause-goes_on g c asked =
+    always (line_of (map string_bytes c.args.words.now))
+    (λ line. absent_goes_on _ _ _ _ _ Memory (inr (inl refl)) refl c.print.ensures (action_of line))
 
 pub returns-in-Ok-clause-goes_on : goal.returns-in-Ok-clause-goes_on
-returns-in-Ok-clause-goes_on g c new first ends was asked = rw c.in-Ok.ensures.0 (c.run_line.ensures.goes_on new first ends was)
+returns-in-Ok-clause-goes_on g c asked = rw c.in-Ok.ensures.0 c.run_line.ensures.goes_on

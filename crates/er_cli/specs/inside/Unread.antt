@@ -6,17 +6,18 @@ use Rattle.er_cli.specs.declared.TheConstants.{USAGE, DEVICE, MEMORY}
 use Rattle.er_cli.specs.declared.input.InputFault.{InputFault}
 use Rattle.er_cli.specs.declared.input.InputFault.TheVariants as fault
 use Rattle.er_cli.specs.declared.input.InputFault.TheVariants.{TooLong, Read}
-use Rattle.er_cli.specs.declared.texts.Answer.TheVariants.{Refused, Usage}
-use Rattle.er_cli.specs.Texts.{answer_text, AppendsPart}
+use Rattle.er_answers.specs.declared.question.Told.TheVariants.{Refused}
+use Rattle.er_cli.specs.declared.texts.LineAnswer.TheVariants.{Usage}
+use Rattle.er_cli.specs.Texts.{answer_text, told_text, AppendsPart}
 
 -- the status of a script that is not run, and what is printed of it
 abbrev pub EndsUnread : InputFault → Option (List ℕ) → Option (List ℕ) → ℕ → Type 0
 EndsUnread TooLong before after status = (status ≡ USAGE) × Appends before after (answer_text Usage)
 EndsUnread Read before after status = (status ≡ DEVICE) × (after ≡ before)
-EndsUnread fault.Memory before after status = (status ≡ MEMORY) × Appends before after (answer_text (Refused Memory))
+EndsUnread fault.Memory before after status = (status ≡ MEMORY) × Appends before after (told_text (Refused Memory))
 
 -- what is printed of it where a write failed
 abbrev pub UnreadPart : InputFault → Option (List ℕ) → Option (List ℕ) → Type 0
 UnreadPart TooLong before after = AppendsPart before after (answer_text Usage)
 UnreadPart Read before after = Keeps before after
-UnreadPart fault.Memory before after = AppendsPart before after (answer_text (Refused Memory))
+UnreadPart fault.Memory before after = AppendsPart before after (told_text (Refused Memory))

@@ -1,7 +1,7 @@
 use Rattle.er_cli.proofs.files.do_task.Goals as goal
 
 pub returns-in-Ask : goal.returns-in-Ask
-returns-in-Ask g c = rw c.in-Ask.is (c.answer.result, c.answer.ensures.answers, c.answer.ensures.asked, c.print.ensures)
+returns-in-Ask g c = rw c.in-Ask.is (c.ask.result, c.ask.ensures.answers, c.ask.ensures.asked, c.print.ensures)
 
 pub returns-in-Import : goal.returns-in-Import
 returns-in-Import g c = rw c.in-Import.is c.import.ensures

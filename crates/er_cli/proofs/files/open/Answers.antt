@@ -1,6 +1,6 @@
 use Rattle.std.proofs.Common.{inl, inr}
 use Rattle.sqlite_wal.specs.Files.{image_at}
-use Rattle.er_cli.specs.declared.texts.Answer.TheVariants.{Refused}
+use Rattle.er_answers.specs.declared.question.Told.TheVariants.{Refused}
 use Rattle.er_cli.proofs.{GoingOn.{task_goes_on, unopened_goes_on}, Leaving.not_opened}
 use Rattle.er_cli.proofs.files.open.Goals as goal
 
@@ -19,7 +19,7 @@ returns-in-Err-clause-goes_on g c new first ends was =
     let law = c.next_sessions.ensures in
     let image = image_at g.S.Start in
     rw c.tell_no_desk.ensures.left (
-    unopened_goes_on law image new first ends was _ c.clear_fault.result.left _ _ _ _ _ _ c.args.task c.in-Err.fault
+    unopened_goes_on law image new first ends was _ c.clear_fault.result.left _ _ c.args.task c.in-Err.fault
     c.clear_fault.result.why
     c.clear_fault.ensures.why c.clear_fault.ensures.left
     (c.in-Err.ensures.opens.found first was.left (law new first.point ends was.begins was.history).sound) c.in-Err.ensures.opens.left
@@ -36,7 +36,7 @@ pub returns-in-Ok-clause-goes_on : goal.returns-in-Ok-clause-goes_on
 returns-in-Ok-clause-goes_on g c new first ends was =
     let law = c.next_sessions.ensures in
     let image = image_at g.S.Start in
-    task_goes_on law image new first ends was _ c.do_and_close.result.left _ _ _ _ _ _ c.args.task c.in-Ok.desk c.in-Ok.ensures.opens.ready
+    task_goes_on law image new first ends was _ c.do_and_close.result.left _ _ c.args.task c.in-Ok.desk c.in-Ok.ensures.opens.ready
     (record {
       finds = c.in-Ok.ensures.opens.found first was.left (law new first.point ends was.begins was.history).sound;
       sees =

@@ -7,10 +7,10 @@ use Rattle.er_desk.specs.Headline.{WasLeftBy}
 use Rattle.er_cli.specs.Sessions.{HoldsEach}
 use Rattle.er_cli.proofs.sessions.hold_sessions.Given as goal
 
-abbrev pub invariant-loop-requests : goal.invariant-loop-requests
-invariant-loop-requests g l =
-    (goal.iterator-loop-requests g).can_next l.requests-iterator ×
-    (goal.iterator-loop-requests g).is_finite l.requests-iterator ×
+abbrev pub invariant-loop-questions : goal.invariant-loop-questions
+invariant-loop-questions g l =
+    (goal.iterator-loop-questions g).can_next l.questions-iterator ×
+    (goal.iterator-loop-questions g).is_finite l.questions-iterator ×
     (IsTrue (g.D.Disk.is_usable l.now.log) × IsTrue (g.D.Disk.is_usable l.now.db)) ×
     (vec_len l.answers ≡ length l.yielded) ×
     (length l.fn.sessions.items ≤ vec_capacity l.answers) ×

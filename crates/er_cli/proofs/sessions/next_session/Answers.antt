@@ -16,14 +16,14 @@ returns-in-Ok-adopt-clause-holds g c new first ends was may =
       sees = sees_still g.D.Disk law c.args.files new first ends was conn c.in-Ok-adopt.desk it.left.clean c.in-Ok.ensures.opened
           c.in-Ok.ensures.found it.same;
     })
-    c.args.requests.items may c.hold.result.answers c.hold.result.files c.hold.ensures
+    c.args.questions.items may c.hold.result.answers c.hold.result.files c.hold.ensures
 
 pub returns-in-Err-adopt-clause-holds : goal.returns-in-Err-adopt-clause-holds
 returns-in-Err-adopt-clause-holds g c new first ends was may =
     let law = c.next_sessions.ensures in
     let it = c.in-Err-adopt.ensures in
     let conn = c.in-Ok.conn in
-    refused_holds g.D.Disk law c.args.files new first ends was c.args.requests.items c.in-Err-adopt.back c.in-Err-adopt.why
+    refused_holds g.D.Disk law c.args.files new first ends was c.args.questions.items c.in-Err-adopt.back c.in-Err-adopt.why
     (Ok c.cut.result)
     c.cut.ensures
     (λ clean trees left. still_begins g.D.Disk law c.args.files new first ends was conn c.in-Ok.ensures.opened c.in-Ok.ensures.found
@@ -45,7 +45,7 @@ returns-in-Err-clause-holds g c new first ends was may = record {
 }
 
 pub returns-in-Ok-adopt-clause-clean : goal.returns-in-Ok-adopt-clause-clean
-returns-in-Ok-adopt-clause-clean g c = ran_clean g.D.Disk c.sessions_join.ensures c.in-Ok-adopt.desk c.args.requests.items
+returns-in-Ok-adopt-clause-clean g c = ran_clean g.D.Disk c.sessions_join.ensures c.in-Ok-adopt.desk c.args.questions.items
     c.hold.result.answers
     c.hold.result.files c.hold.ensures
     (λ clean. (c.in-Ok.ensures.found (c.in-Ok-adopt.ensures.left.clean clean)).honest)

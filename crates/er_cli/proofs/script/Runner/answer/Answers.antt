@@ -1,4 +1,4 @@
-use Rattle.er_words.specs.Fields.{script_action}
+use Rattle.er_cli.specs.Action.{script_action}
 use Rattle.er_cli.specs.inside.Desk.{desk_state_of}
 use Rattle.er_cli.proofs.Turns.{memory_answers}
 use Rattle.er_cli.proofs.script.Runner.answer.Goals as goal

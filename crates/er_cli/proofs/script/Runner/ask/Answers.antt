@@ -9,9 +9,10 @@ unfolding doubt
 returns-in-Some-clause-acts c =
     let was = rw c.in-Some.is at c.requires in
     rw c.in-Some.is (
-      desk_state c.answer.new.desk,
-      represented_answers _ _ _ _ _ (λ runs. (refl, was.1 runs))
-          c.answer.ensures.answers,
+      c.ask.result,
+      desk_state c.ask.new.desk,
+      represented_answers _ _ _ _ _ (λ runs. (refl, was.1 runs)) c.ask.ensures.answers,
+      refl,
       refl,
     )
 
@@ -19,7 +20,7 @@ pub returns-in-Some-clause-written : goal.returns-in-Some-clause-written
 unfolding doubt
 returns-in-Some-clause-written c =
     let was = rw c.in-Some.is at c.requires in
-    let asked = c.answer.ensures.asked in (
+    let asked = c.ask.ensures.asked in (
       stays_second _ _ _ _ _ asked was.0,
-      λ runs. represents_second _ _ _ _ _ asked was.0 refl (was.1 (ran_before _ _ _ _ _ c.answer.ensures.answers runs)) runs,
+      λ runs. represents_second _ _ _ _ _ asked was.0 refl (was.1 (ran_before _ _ _ _ c.ask.ensures.answers.does runs)) runs,
     )

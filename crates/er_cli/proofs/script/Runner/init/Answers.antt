@@ -25,8 +25,8 @@ already : (setup exists : Bool) (P : Type 0) (Q : Refusal → Type 0) → setup 
     → MatchOption (first_refusal ((not setup, BadSetup) ∷ (exists, EventExists) ∷ [])) P Q
 already setup exists P Q lawful there q = rw (lawful, there) q
 
-pub returns-clause-acts : goal.returns-clause-acts
-returns-clause-acts c =
+pub returns-clause-sets_up : goal.returns-clause-sets_up
+returns-clause-sets_up c =
     let named = c.in_ok-name.ensures.ok in
     not_yet _ _ _ _ named.1 (represents c.args.self.now.desk ∙ (sym c.is_some.ensures ∙ c.if-is_some.false)) (inl (
       refl,
@@ -34,7 +34,7 @@ returns-clause-acts c =
           (c.in_ok-desk.ensures.made ∙ ap (λ (name : List ℕ). started name c.args.rounds c.args.cut) named.0),
     ))
 
-pub returns-then-is_some-clause-acts : goal.returns-then-is_some-clause-acts
-returns-then-is_some-clause-acts c =
+pub returns-then-is_some-clause-sets_up : goal.returns-then-is_some-clause-sets_up
+returns-then-is_some-clause-sets_up c =
     already _ _ _ _ c.in_ok-name.ensures.ok.1 (represents c.args.self.now.desk ∙ (sym c.is_some.ensures ∙ c.if-is_some.true))
     (inl refl, refl)

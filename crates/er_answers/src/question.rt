@@ -1,0 +1,39 @@
+use er_event::{Command, Items, Receipt, Refusal};
+
+/// What the desk of an event is asked.
+#[derive(Debug, Drop)]
+pub enum Question {
+    /// To take a command.
+    Submit { command: Command },
+    /// To show the standings.
+    Standings,
+    /// To show the event.
+    Show { view: View },
+    /// To give the slip of a match, as JSON.
+    Slip { round: u8, table: u16 },
+    /// To move its tables to version 2.
+    Migrate,
+}
+
+/// A text that the event alone determines.
+#[derive(Clone, Copy, Debug, PartialEq, Eq)]
+pub enum View {
+    Players,
+    /// The pairings of a round.
+    Pairings { round: u8 },
+    Bracket,
+    /// The players as CSV.
+    PlayersCsv,
+    /// The results as CSV.
+    ResultsCsv,
+}
+
+/// What the desk answers.
+#[derive(Drop)]
+pub enum Told {
+    Accepted(Receipt),
+    Text(Items<u8>),
+    /// A slip as JSON.
+    Slip(Items<u8>),
+    Refused(Refusal),
+}

@@ -1,0 +1,117 @@
+"""Counts the definitions of the repository that the contract of a function rests on, by crate: `python3 -B -m scripts.gate.definitions er_cli run_from`.
+
+A definition is an `abbrev`, an `unfoldable`, a record or a data type of a `specs/` file. It rests on each definition that its text names, by an import,
+a module's short name or in its own file; a function's contract on those that its clauses name. What comes from source, as a struct, and what is the
+kit's, is not counted. With `--names` each definition is named, with its lines.
+"""
+import argparse
+import collections
+import glob
+import os
+import re
+
+from scripts import TOP
+
+HEAD = re.compile(r"^(  )*(?:abbrev |unfoldable )?(?:pub )?(?:(?:record|data) (\w+)|([\w']+) *:)")
+USE = re.compile(r"^(?:ghost )?use (?:Rattle|crate)\.([\w.]+?)(?:\.(\{.*\}))?(?: as (\w+))?;?$")
+WORD = re.compile(r"[A-Za-z_][\w']*(?:\.[A-Za-z_][\w']*)*")
+
+
+def listed(text):
+    """The names of a list in braces, which may have lists of its own: each with the path before it."""
+    depth, begun, text = 0, 0, text.strip()[1:-1]
+    for at, letter in enumerate(text + ","):
+        depth += (letter == "{") - (letter == "}")
+        if letter == "," and depth == 0:
+            part, begun = text[begun:at].strip(), at + 1
+            if part.endswith("}"):
+                path, inner = part.split(".{", 1)
+                yield from (f"{path}.{name}" for name in listed("{" + inner))
+            elif part:
+                yield part
+
+
+def imported(line, names):
+    """Puts what a `use` line brings in into `names`: by its local name, the path of a definition or of a module."""
+    found = USE.match(line.strip())
+    if not found:
+        return
+    path, inner, alias = found.groups()
+    for part in listed(inner) if inner else [""]:
+        whole = f"{path}.{part}" if part else path
+        whole, _, other = whole.partition(" as ")
+        names[other or alias or whole.rsplit(".", 1)[-1]] = whole
+
+
+def read_specs():
+    """Each definition, by its path, as its lines and what its file brings in."""
+    found = {}
+    for path in sorted(glob.glob(f"{TOP}/crates/*/specs/**/*.antt", recursive=True)):
+        crate, rest = os.path.relpath(path, f"{TOP}/crates").split("/specs/")
+        module, names, at = f"{crate}.specs." + rest[: -len(".antt")].replace("/", "."), {}, None
+        with open(path, encoding="utf-8") as it:
+            for line in it.read().split("\n"):
+                imported(line, names)
+                head = HEAD.match(line)
+                name = head and (head[2] or head[3])
+                is_field = at and found[at][2] and line.startswith("  ") and head and not head[2] and not line.lstrip().startswith("abbrev")
+                if name and not is_field and not line.lstrip().startswith(("--", "use")):
+                    at = f"{module}.{name}"
+                    found.setdefault(at, ([], names, bool(head[2])))
+                if at and line.strip() and not line.lstrip().startswith(("--", "use ", "module ")):
+                    found[at][0].append(line)
+    return found
+
+
+def named(text, names, module, found):
+    """The definitions that a text names."""
+    for word in WORD.findall(text):
+        first, _, rest = word.partition(".")
+        for path in (f"{module}.{first}", names.get(first, ""), f"{names.get(first, '')}.{rest.split('.')[0]}" if rest else ""):
+            if path in found:
+                yield path
+                break
+
+
+def of_function(crate, function, found):
+    """What the contract of a function names."""
+    for path in sorted(glob.glob(f"{TOP}/crates/{crate}/src/**/*.rt", recursive=True)):
+        with open(path, encoding="utf-8") as it:
+            text = it.read()
+        head = re.search(rf"^ *pub fn {function}\b.*?^ *(?:ensures|requires)(.*?)^ *\{{$", text, re.M | re.S)
+        if head:
+            names = {}
+            for line in re.sub(r"\{\n?(.*?)\}", lambda it: it[0].replace("\n", " "), text, flags=re.S).split("\n"):
+                imported(line, names)
+            clauses = re.sub(r"//.*", "", head[1])
+            return set(named(clauses, names, "", found))
+    return set()
+
+
+def main():
+    words = argparse.ArgumentParser(description="Counts the definitions that the contract of a function rests on.")
+    words.add_argument("crate")
+    words.add_argument("function")
+    words.add_argument("--names", action="store_true", help="name each of them, with its lines")
+    said = words.parse_args()
+    found = read_specs()
+    reached, left = set(), of_function(said.crate, said.function, found)
+    while left:
+        at = left.pop()
+        reached.add(at)
+        lines, names, _ = found[at]
+        left |= set(named("\n".join(lines), names, at.rsplit(".", 1)[0], found)) - reached
+    count, size = collections.Counter(), collections.Counter()
+    for at in sorted(reached):
+        crate = at.split(".", 1)[0]
+        count[crate] += 1
+        size[crate] += len(found[at][0])
+        if said.names:
+            print(f"{len(found[at][0]):4} {at}")
+    for crate in sorted(count, key=lambda it: -count[it]):
+        print(f"{crate}: {count[crate]} definitions, {size[crate]} lines")
+    print(f"all: {sum(count.values())} definitions, {sum(size.values())} lines")
+
+
+if __name__ == "__main__":
+    main()
