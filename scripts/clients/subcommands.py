@@ -2,7 +2,7 @@
 import os
 import re
 
-SOURCE = os.path.join(os.path.dirname(__file__), "../../crates/er_words/src/subcommand.rt")
+SOURCE = os.path.join(os.path.dirname(__file__), "../../crates/er_words/src/line.rt")
 
 
 def listed(help_text):
@@ -12,7 +12,7 @@ def listed(help_text):
 
 def read():
     """Each name that is read, in the order of the source."""
-    return re.findall(r'^ +"([a-z]+)" => Some\(Subcommand::', open(SOURCE, encoding="utf-8").read(), re.M)
+    return re.findall(r'^ +"([a-z]+)" => ', open(SOURCE, encoding="utf-8").read(), re.M)
 
 
 def kinds(export_help):

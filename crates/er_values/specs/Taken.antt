@@ -2,8 +2,8 @@
 use Rattle.std.specs.Prelude.{◌≡◌, ◌⊎◌, ℕ, List, [], ◌∷◌, map, Option, Some, None, Result, MatchResult}
 use Rattle.std.specs.Borrow.{Bor}
 use Rattle.er_event.specs.declared.scores.Games.{Games}
-use Rattle.er_values.specs.Usage.{score_kinds, values_fault}
-use Rattle.er_values.specs.Values.{games_in}
+use Rattle.er_values.specs.Kinds.{score_kinds, score_values, values_of}
+use Rattle.er_values.specs.Usage.{values_fault}
 use Rattle.er_values.specs.declared.usage.UsageFault.{UsageFault}
 use Rattle.er_values.specs.declared.usage.UsageFault.TheVariants.{TooFew, TooMany}
 
@@ -34,5 +34,5 @@ Ends place words result =
 -- the last three words are read as games
 abbrev pub ReadsScore : List (List ℕ) → Result Games UsageFault → Type 0
 ReadsScore words result =
-    MatchResult result (λ games. (games_in words ≡ Some games) × (values_fault score_kinds 4 words ≡ None))
-    (λ fault. (games_in words ≡ None) × (values_fault score_kinds 4 words ≡ Some fault))
+    MatchResult result (λ games. (values_of score_kinds words ≡ Some (score_values games)) × (values_fault score_kinds 4 words ≡ None))
+    (λ fault. (values_of score_kinds words ≡ None) × (values_fault score_kinds 4 words ≡ Some fault))

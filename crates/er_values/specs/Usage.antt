@@ -2,20 +2,7 @@
 use Rattle.std.specs.Prelude.{ℕ, ◌+◌, List, [], ◌∷◌, Option, Some, None}
 use Rattle.er_values.specs.declared.usage.UsageFault.{UsageFault}
 use Rattle.er_values.specs.declared.usage.UsageFault.TheVariants.{TooFew, TooMany, BadNumber, BadSeed, BadCount, BadKind}
-use Rattle.er_values.specs.Values.{number_below, count_of, seed_of, kind_of}
-
--- what a word has to be
-pub data Kind : Type 0 where
-  Text : Kind
-  SmallNumber : Kind
-  Number : Kind
-  Seed : Kind
-  Count : Kind
-  ListKind : Kind
-
--- games won by the one, by the other, and drawn
-abbrev pub score_kinds : List Kind
-score_kinds = SmallNumber ∷ SmallNumber ∷ SmallNumber ∷ []
+use Rattle.er_values.specs.Kinds.{Kind, Text, SmallNumber, Number, Seed, Count, ListKind, value_of}
 
 -- this fault, where there is no value
 abbrev pub unless : {V : Type 0} → Option V → UsageFault → Option UsageFault
@@ -25,11 +12,11 @@ unless None fault = Some fault
 -- what is wrong with the word at a place, if it is not of its kind
 abbrev pub word_fault : Kind → ℕ → List ℕ → Option UsageFault
 word_fault Text place word = None
-word_fault SmallNumber place word = unless (number_below 256 word) (BadNumber place 255)
-word_fault Number place word = unless (number_below 65536 word) (BadNumber place 65535)
-word_fault Seed place word = unless (seed_of word) (BadSeed place)
-word_fault Count place word = unless (count_of word) (BadCount place)
-word_fault ListKind place word = unless (kind_of word) (BadKind place)
+word_fault SmallNumber place word = unless (value_of SmallNumber word) (BadNumber place 255)
+word_fault Number place word = unless (value_of Number word) (BadNumber place 65535)
+word_fault Seed place word = unless (value_of Seed word) (BadSeed place)
+word_fault Count place word = unless (value_of Count word) (BadCount place)
+word_fault ListKind place word = unless (value_of ListKind word) (BadKind place)
 
 -- the first of the two, where there is one
 abbrev pub or_then : Option UsageFault → Option UsageFault → Option UsageFault

@@ -1,9 +1,7 @@
--- The values that words are.
-use Rattle.std.specs.Prelude.{ℕ, ◌+◌, ◌*◌, ◌==◌, nat_lt, ◌&&◌, if◌then◌else◌, List, [], ◌∷◌, length, Option, Some, None, option_map}
-use Rattle.std.specs.Prelude.{option_and_then, codes}
+-- The value that a word is.
+use Rattle.std.specs.Prelude.{ℕ, ◌+◌, ◌*◌, ◌==◌, nat_lt, ◌&&◌, if◌then◌else◌, List, [], ◌∷◌, length, Option, Some, None, option_and_then, codes}
 use Rattle.std.specs.List.{list_all}
 use Rattle.std.specs.Str.{bytes_eq}
-use Rattle.er_event.specs.declared.scores.Games.{Games}
 use Rattle.er_values.specs.declared.values.ExportKind.{ExportKind}
 use Rattle.er_values.specs.declared.values.ExportKind.TheVariants as kind
 use Rattle.std.specs.Char.{is_ascii_digit, is_ascii_hexdigit, digit_value}
@@ -33,23 +31,3 @@ abbrev pub kind_of : List ℕ → Option ExportKind
 kind_of word =
     if bytes_eq word (codes "players") then Some kind.Players
     else (if bytes_eq word (codes "results") then Some kind.Results else None)
-
--- two values, where both are there
-abbrev pub both : {A B : Type 0} → Option A → Option B → Option (A × B)
-both (Some a) (Some b) = Some (a, b)
-both (Some a) None = None
-both None b = None
-
--- three values, where all are there
-abbrev pub all_three : {A B C : Type 0} → Option A → Option B → Option C → Option (A × B × C)
-all_three (Some a) (Some b) (Some c) = Some (a, b, c)
-all_three (Some a) (Some b) None = None
-all_three (Some a) None c = None
-all_three None b c = None
-
--- `X Y D`: games won by the first-named player, won by the second, and drawn
-abbrev pub games_in : List (List ℕ) → Option Games
-games_in (x ∷ y ∷ d ∷ []) =
-    option_map (λ it. record { x = it.0; y = it.1; d = it.2 })
-    (all_three (number_below 256 x) (number_below 256 y) (number_below 256 d))
-games_in _ = None

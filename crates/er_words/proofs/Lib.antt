@@ -1,3 +1,4 @@
+mod Examples
 mod Refusals
 mod Walks
 mod WordLemmas

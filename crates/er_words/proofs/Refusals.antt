@@ -8,7 +8,7 @@ use Rattle.clap.specs.{Walk.{walk_from, nothing_held, settled, finished}, Values
 use Rattle.clap.specs.{Kinds.{Kinds, or_else}, Faults.{fault_of, walk_fault, turn_fault, other_fault, step_fault, level_fault}}
 use Rattle.clap.specs.Faults.{entered_fault, defaults_fault, settle_fault, values_fault, check_fault}
 use Rattle.clap.proofs.FaultLemmas.{stopped_fault}
-use Rattle.er_words.specs.{declared.subcommand.Subcommand.Subcommand, Line.{is_option, split_of, subcommand_of as named}}
+use Rattle.er_words.specs.Line.{is_option, split_of}
 use Rattle.er_words.specs.inside.Words.{bare, program, words_in}
 use Rattle.er_words.proofs.Walks.{AllPlain, plain_met, leaf_rule, leaf_rules, leaf_built, labels}
 use Rattle.er_words.proofs.Walks.{reading_words, first_word, next_word, leaf_walk, same_name, name_walked, whole_walk, entered_is}
@@ -97,9 +97,8 @@ pub begins : {S : Type 0} (text : S → Text) (items : List S) (first : S) → S
 begins text [] first is = let bad : Some first ≡ None = is in cc
 begins text (item ∷ items) first is = (map text items, ap (λ x. text x ∷ map text items) (sym (same_Some first item is)))
 
-pub split_is : (name : Text) (subcommand : Subcommand) (texts rest : List Text) → texts ≡ name ∷ rest → Some subcommand ≡ named name
-    → Some (subcommand, rest) ≡ split_of texts
-split_is name subcommand texts rest are is = rw are (ap (option_map (λ (it : Subcommand). (it, rest))) is)
+pub split_is : (name : Text) (texts rest : List Text) → texts ≡ name ∷ rest → Some (name, rest) ≡ split_of texts
+split_is name texts rest are = rw are refl
 
 module _ (app : App) (name : Text) (texts rest : List Text) (is : app ≡ program name) (are : texts ≡ name ∷ rest) where
   pub none_refused : AllPlain texts → length texts < 2 ^ 64 → fault_of app texts ≡ []

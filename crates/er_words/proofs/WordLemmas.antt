@@ -4,8 +4,8 @@ use Rattle.std.proofs.Common.{take, drop, get_or, codes, Bor, Option, Some, None
 use Rattle.std.proofs.lemmas.{List.length-map, Bool.false_from_ne_true, Str.{is_utf8-from_IsUtf8, IsUtf8-from_is_utf8}}
 use Rattle.std.specs.{List.{list_any, position, position_or_len}, Str.{IsUtf8, is_utf8}}
 use Rattle.er_words.specs.{declared.line.Line.Line, declared.line.LineFault.LineFault}
-use Rattle.er_words.specs.{declared.subcommand.Subcommand.Subcommand, Line.{is_option, line_of, split_of}}
-use Rattle.er_words.specs.{Usage.{ReadsWords, fault_of, fault_at}, inside.Usage.ReadsBy}
+use Rattle.er_words.specs.Line.{is_option, line_of, split_of}
+use Rattle.er_words.specs.{Usage.{ReadsWords, fault_of, fault_at}, inside.Usage.ReadsNamed}
 use Rattle.er_values.specs.declared.usage.UsageFault.TheVariants.{LeadingDash, UnknownSubcommand}
 use Rattle.er_words.specs.Fields.{fields_of, with_file, script_words}
 
@@ -60,6 +60,6 @@ Reads-unsplit words plain none = (
   rw (plain, none) refl,
 )
 
-pub Reads-split : (words : List (List ℕ)) (subcommand : Subcommand) (rest : List (List ℕ)) (r : Result Line LineFault)
-    → position is_option words ≡ None → split_of words ≡ Some (subcommand, rest) → ReadsBy subcommand rest r → ReadsWords words r
-Reads-split words subcommand rest r plain split read = rw (none_from_place is_option words plain, plain, split) read
+pub Reads-split : (words : List (List ℕ)) (name : List ℕ) (rest : List (List ℕ)) (r : Result Line LineFault)
+    → position is_option words ≡ None → split_of words ≡ Some (name, rest) → ReadsNamed name rest r → ReadsWords words r
+Reads-split words name rest r plain split read = rw (none_from_place is_option words plain, plain, split) read

@@ -1,10 +1,8 @@
 -- What a line of a script is.
-use Rattle.std.specs.Prelude.{ℕ, ◌==◌, if◌then◌else◌, List, [], ◌∷◌, Option, option_map, codes}
+use Rattle.std.specs.Prelude.{ℕ, ◌==◌, if◌then◌else◌, List, [], ◌∷◌, Option, codes}
 use Rattle.std.specs.List.{slice_split}
 use Rattle.std.specs.Str.{is_utf8}
-use Rattle.er_words.specs.declared.action.Action.{Action}
 use Rattle.er_words.specs.declared.line.Line.{Line}
-use Rattle.er_words.specs.Action.{action_of}
 use Rattle.er_words.specs.Line.{line_of}
 
 -- what stands between the TABs
@@ -22,7 +20,3 @@ script_words line = if is_utf8 line then with_file (fields_of line) else []
 
 abbrev pub script_line : List ℕ → Option Line
 script_line line = line_of (script_words line)
-
--- what a line of a script has done
-abbrev pub script_action : List ℕ → Option Action
-script_action line = option_map action_of (script_line line)

@@ -1,40 +1,26 @@
 -- What is at fault in words that are no line: the first thing that is.
-use Rattle.std.specs.Prelude.{◌≡◌, ℕ, List, [], ◌∷◌, Option, Some, None, Result, Ok, Err}
+use Rattle.std.specs.Prelude.{◌≡◌, ℕ, List, Option, Some, None, Result, Ok, Err}
 use Rattle.std.specs.List.{position}
 use Rattle.er_values.specs.declared.usage.UsageFault.{UsageFault}
 use Rattle.er_values.specs.declared.usage.UsageFault.TheVariants.{UnknownSubcommand, LeadingDash}
-use Rattle.er_values.specs.Usage.{Kind, Text, SmallNumber, Number, Seed, Count, ListKind, score_kinds, values_fault}
+use Rattle.er_values.specs.Usage.{values_fault}
 use Rattle.er_words.specs.declared.line.Line.{Line}
 use Rattle.er_words.specs.declared.line.LineFault.{LineFault}
 use Rattle.er_words.specs.declared.line.LineFault.TheVariants.{Usage, Memory}
-use Rattle.er_words.specs.declared.subcommand.Subcommand.{Subcommand}
-use Rattle.er_words.specs.declared.subcommand.Subcommand.TheVariants as sub
-use Rattle.er_words.specs.Line.{is_option, line_of, split_of}
-
--- what the words after a subcommand's name have to be
-abbrev pub kinds_of : Subcommand → List Kind
-kinds_of sub.Init = Text ∷ Text ∷ SmallNumber ∷ SmallNumber ∷ []
-kinds_of sub.Enrol = Text ∷ Text ∷ []
-kinds_of sub.Import = Text ∷ Text ∷ []
-kinds_of sub.Start = Text ∷ []
-kinds_of sub.Pair = Text ∷ SmallNumber ∷ Seed ∷ []
-kinds_of sub.Result = Text ∷ SmallNumber ∷ Number ∷ score_kinds
-kinds_of sub.Correct = Text ∷ SmallNumber ∷ Number ∷ score_kinds
-kinds_of sub.Drop = Text ∷ Number ∷ []
-kinds_of sub.Cut = Text ∷ []
-kinds_of sub.Playoff = Text ∷ SmallNumber ∷ SmallNumber ∷ score_kinds
-kinds_of sub.Standings = Text ∷ []
-kinds_of sub.Players = Text ∷ []
-kinds_of sub.Slips = Text ∷ SmallNumber ∷ []
-kinds_of sub.Bracket = Text ∷ []
-kinds_of sub.Export = Text ∷ ListKind ∷ []
-kinds_of sub.Serve = Text ∷ Number ∷ Count ∷ []
-kinds_of sub.Migrate = Text ∷ []
+use Rattle.er_words.specs.Line.{Subcommand, is_option, line_of, split_of, subcommand_of}
 
 -- of the words after a subcommand's name
-abbrev pub split_fault : Option (Subcommand × List (List ℕ)) → Option UsageFault
+abbrev pub fault_by : Option Subcommand → List (List ℕ) → Option UsageFault
+fault_by None words = Some UnknownSubcommand
+fault_by (Some subcommand) words = values_fault subcommand.kinds 1 words
+
+abbrev pub named_fault : List ℕ → List (List ℕ) → Option UsageFault
+named_fault name words = fault_by (subcommand_of name) words
+
+-- of words that are split behind the first
+abbrev pub split_fault : Option (List ℕ × List (List ℕ)) → Option UsageFault
 split_fault None = Some UnknownSubcommand
-split_fault (Some split) = values_fault (kinds_of split.0) 1 split.1
+split_fault (Some split) = named_fault split.0 split.1
 
 -- a word that begins with `-`, and else from the first word on
 abbrev pub fault_at : Option ℕ → List (List ℕ) → Option UsageFault

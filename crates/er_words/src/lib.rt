@@ -2,16 +2,12 @@
 //! nothing.
 #![tactic(auto)]
 
-mod action;
 mod fields;
 mod line;
 mod paths;
-mod subcommand;
 mod words;
 
-pub use action::{Action, Request, Task};
 pub use er_values::{ExportKind, UsageFault};
 pub use fields::read_line;
 pub use line::{Line, LineFault, read_words};
 pub use paths::FilePath;
-pub use subcommand::Subcommand;

@@ -1,15 +1,11 @@
-ghost use Rattle.std.specs.Prelude.{[], ◌∷◌, map, string_bytes};
-ghost use Rattle.er_words.specs.declared.subcommand.Subcommand.TheVariants as sub;
-ghost use Rattle.er_words.specs.Line.{lone_file};
-ghost use Rattle.er_values.specs.Usage.{Kind, values_fault};
-ghost use Rattle.er_words.specs.Usage.{Reads, ReadsWords};
-ghost use Rattle.er_words.specs.inside.Usage.{ReadsBy};
+ghost use Rattle.std.specs.Prelude.{codes, map, string_bytes};
+ghost use Rattle.er_words.specs.Line.{file_kinds, report_kinds, scored};
+ghost use Rattle.er_words.specs.Usage.{ReadsWords};
+ghost use Rattle.er_words.specs.inside.Usage.{ReadsAs, ReadsNamed, report};
 
-use crate::action::{Action, Request, Task};
 use crate::paths::FilePath;
-use crate::subcommand::Subcommand;
 use crate::words::{option_at, split_words};
-use er_event::{Command, Games, Items};
+use er_event::{Games, Items};
 use er_values::{
     ExportKind, UsageFault, count, end, list_kind, name_of, number, score, seed, small_number, text,
 };
@@ -123,86 +119,28 @@ impl From<UsageFault> for LineFault {
     }
 }
 
-impl Line {
-    ghost use Rattle.std.specs.Prelude.{◌≡◌};
-    ghost use Rattle.er_words.specs.Action.{action_of, file_of};
-
-    /// The file, and what is to be done with its event.
-    pub fn into_parts(self) -> (FilePath, Action)
-        ensures { result ≡ (file_of self, action_of self) }
-    {
-        match self {
-            Line::Init {
-                file,
-                name,
-                rounds,
-                cut,
-            } => (file, Action::Init { name, rounds, cut }),
-            Line::Enrol { file, name } => (file, Action::from(Command::Enrol { name })),
-            Line::Import { file, list } => (file, Action::from(Task::Import { list })),
-            Line::Start { file } => (file, Action::from(Command::Start)),
-            Line::Pair { file, round, seed } => {
-                (file, Action::from(Command::Pair { round, seed }))
-            }
-            Line::Result {
-                file,
-                round,
-                table,
-                score,
-            } => (
-                file,
-                Action::from(Command::Result {
-                    round,
-                    table,
-                    score,
-                }),
-            ),
-            Line::Correct {
-                file,
-                round,
-                table,
-                score,
-            } => (
-                file,
-                Action::from(Command::Correct {
-                    round,
-                    table,
-                    score,
-                }),
-            ),
-            Line::Drop { file, player } => (file, Action::from(Command::Drop { player })),
-            Line::Cut { file } => (file, Action::from(Command::Cut)),
-            Line::Playoff {
-                file,
-                stage,
-                slot,
-                score,
-            } => (file, Action::from(Command::Playoff { stage, slot, score })),
-            Line::Standings { file } => (file, Action::from(Request::Standings)),
-            Line::Players { file } => (file, Action::from(Request::Players)),
-            Line::Slips { file, round } => (file, Action::from(Request::Slips { round })),
-            Line::Bracket { file } => (file, Action::from(Request::Bracket)),
-            Line::Export { file, kind } => (file, Action::from(Request::Export { kind })),
-            Line::Serve { file, port, count } => {
-                (file, Action::from(Task::Serve { port, count }))
-            }
-            Line::Migrate { file } => (file, Action::from(Request::Migrate)),
-        }
-    }
-}
-
-/// The FILE that a lone word is.
-fn lone_file(alloc: Global, words: &[&str]) -> Result<FilePath, LineFault>
-    ensures { Reads (lone_file (map (λ word. word.now) words.now))
-        (values_fault (Kind.Text ∷ []) 1 (map (λ word. word.now) words.now)) result }
+/// The words `FILE`.
+fn read_file(alloc: Global, words: &[&str]) -> Result<FilePath, LineFault>
+    ensures { ReadsAs file_kinds (λ file. file) (map (λ word. word.now) words.now) result }
 {
     let (file, words) = text(words, 1)?;
     end(words, 2)?;
     Ok(FilePath::from_str(alloc, file)?)
 }
 
+/// The words `FILE ROUND TABLE X Y D`.
+fn read_report(alloc: Global, words: &[&str]) -> Result<(FilePath, u8, u16, Games), LineFault>
+    ensures { ReadsAs report_kinds (scored report) (map (λ word. word.now) words.now) result }
+{
+    let (file, words) = text(words, 1)?;
+    let (round, words) = small_number(words, 2)?;
+    let (table, words) = number(words, 3)?;
+    let score = score(words)?;
+    Ok((FilePath::from_str(alloc, file)?, round, table, score))
+}
+
 fn read_init(alloc: Global, words: &[&str]) -> Result<Line, LineFault>
-    ensures { ReadsBy sub.Init (map (λ word. word.now) words.now) result }
+    ensures { ReadsNamed (codes "init") (map (λ word. word.now) words.now) result }
 {
     let (file, words) = text(words, 1)?;
     let (name, words) = text(words, 2)?;
@@ -218,7 +156,7 @@ fn read_init(alloc: Global, words: &[&str]) -> Result<Line, LineFault>
 }
 
 fn read_enrol(alloc: Global, words: &[&str]) -> Result<Line, LineFault>
-    ensures { ReadsBy sub.Enrol (map (λ word. word.now) words.now) result }
+    ensures { ReadsNamed (codes "enrol") (map (λ word. word.now) words.now) result }
 {
     let (file, words) = text(words, 1)?;
     let (name, words) = text(words, 2)?;
@@ -230,7 +168,7 @@ fn read_enrol(alloc: Global, words: &[&str]) -> Result<Line, LineFault>
 }
 
 fn read_import(alloc: Global, words: &[&str]) -> Result<Line, LineFault>
-    ensures { ReadsBy sub.Import (map (λ word. word.now) words.now) result }
+    ensures { ReadsNamed (codes "import") (map (λ word. word.now) words.now) result }
 {
     let (file, words) = text(words, 1)?;
     let (list, words) = text(words, 2)?;
@@ -241,16 +179,8 @@ fn read_import(alloc: Global, words: &[&str]) -> Result<Line, LineFault>
     })
 }
 
-fn read_start(alloc: Global, words: &[&str]) -> Result<Line, LineFault>
-    ensures { ReadsBy sub.Start (map (λ word. word.now) words.now) result }
-{
-    Ok(Line::Start {
-        file: lone_file(alloc, words)?,
-    })
-}
-
 fn read_pair(alloc: Global, words: &[&str]) -> Result<Line, LineFault>
-    ensures { ReadsBy sub.Pair (map (λ word. word.now) words.now) result }
+    ensures { ReadsNamed (codes "pair") (map (λ word. word.now) words.now) result }
 {
     let (file, words) = text(words, 1)?;
     let (round, words) = small_number(words, 2)?;
@@ -263,38 +193,8 @@ fn read_pair(alloc: Global, words: &[&str]) -> Result<Line, LineFault>
     })
 }
 
-fn read_result(alloc: Global, words: &[&str]) -> Result<Line, LineFault>
-    ensures { ReadsBy sub.Result (map (λ word. word.now) words.now) result }
-{
-    let (file, words) = text(words, 1)?;
-    let (round, words) = small_number(words, 2)?;
-    let (table, words) = number(words, 3)?;
-    let score = score(words)?;
-    Ok(Line::Result {
-        file: FilePath::from_str(alloc, file)?,
-        round,
-        table,
-        score,
-    })
-}
-
-fn read_correct(alloc: Global, words: &[&str]) -> Result<Line, LineFault>
-    ensures { ReadsBy sub.Correct (map (λ word. word.now) words.now) result }
-{
-    let (file, words) = text(words, 1)?;
-    let (round, words) = small_number(words, 2)?;
-    let (table, words) = number(words, 3)?;
-    let score = score(words)?;
-    Ok(Line::Correct {
-        file: FilePath::from_str(alloc, file)?,
-        round,
-        table,
-        score,
-    })
-}
-
 fn read_drop(alloc: Global, words: &[&str]) -> Result<Line, LineFault>
-    ensures { ReadsBy sub.Drop (map (λ word. word.now) words.now) result }
+    ensures { ReadsNamed (codes "drop") (map (λ word. word.now) words.now) result }
 {
     let (file, words) = text(words, 1)?;
     let (player, words) = number(words, 2)?;
@@ -305,16 +205,8 @@ fn read_drop(alloc: Global, words: &[&str]) -> Result<Line, LineFault>
     })
 }
 
-fn read_cut(alloc: Global, words: &[&str]) -> Result<Line, LineFault>
-    ensures { ReadsBy sub.Cut (map (λ word. word.now) words.now) result }
-{
-    Ok(Line::Cut {
-        file: lone_file(alloc, words)?,
-    })
-}
-
 fn read_playoff(alloc: Global, words: &[&str]) -> Result<Line, LineFault>
-    ensures { ReadsBy sub.Playoff (map (λ word. word.now) words.now) result }
+    ensures { ReadsNamed (codes "playoff") (map (λ word. word.now) words.now) result }
 {
     let (file, words) = text(words, 1)?;
     let (stage, words) = small_number(words, 2)?;
@@ -328,24 +220,8 @@ fn read_playoff(alloc: Global, words: &[&str]) -> Result<Line, LineFault>
     })
 }
 
-fn read_standings(alloc: Global, words: &[&str]) -> Result<Line, LineFault>
-    ensures { ReadsBy sub.Standings (map (λ word. word.now) words.now) result }
-{
-    Ok(Line::Standings {
-        file: lone_file(alloc, words)?,
-    })
-}
-
-fn read_players(alloc: Global, words: &[&str]) -> Result<Line, LineFault>
-    ensures { ReadsBy sub.Players (map (λ word. word.now) words.now) result }
-{
-    Ok(Line::Players {
-        file: lone_file(alloc, words)?,
-    })
-}
-
 fn read_slips(alloc: Global, words: &[&str]) -> Result<Line, LineFault>
-    ensures { ReadsBy sub.Slips (map (λ word. word.now) words.now) result }
+    ensures { ReadsNamed (codes "slips") (map (λ word. word.now) words.now) result }
 {
     let (file, words) = text(words, 1)?;
     let (round, words) = small_number(words, 2)?;
@@ -356,16 +232,8 @@ fn read_slips(alloc: Global, words: &[&str]) -> Result<Line, LineFault>
     })
 }
 
-fn read_bracket(alloc: Global, words: &[&str]) -> Result<Line, LineFault>
-    ensures { ReadsBy sub.Bracket (map (λ word. word.now) words.now) result }
-{
-    Ok(Line::Bracket {
-        file: lone_file(alloc, words)?,
-    })
-}
-
 fn read_export(alloc: Global, words: &[&str]) -> Result<Line, LineFault>
-    ensures { ReadsBy sub.Export (map (λ word. word.now) words.now) result }
+    ensures { ReadsNamed (codes "export") (map (λ word. word.now) words.now) result }
 {
     let (file, words) = text(words, 1)?;
     let (kind, words) = list_kind(words, 2)?;
@@ -377,7 +245,7 @@ fn read_export(alloc: Global, words: &[&str]) -> Result<Line, LineFault>
 }
 
 fn read_serve(alloc: Global, words: &[&str]) -> Result<Line, LineFault>
-    ensures { ReadsBy sub.Serve (map (λ word. word.now) words.now) result }
+    ensures { ReadsNamed (codes "serve") (map (λ word. word.now) words.now) result }
 {
     let (file, words) = text(words, 1)?;
     let (port, words) = number(words, 2)?;
@@ -390,36 +258,57 @@ fn read_serve(alloc: Global, words: &[&str]) -> Result<Line, LineFault>
     })
 }
 
-fn read_migrate(alloc: Global, words: &[&str]) -> Result<Line, LineFault>
-    ensures { ReadsBy sub.Migrate (map (λ word. word.now) words.now) result }
+/// The line of the subcommand that has this name, by the words after it.
+fn read_named(alloc: Global, name: &str, words: &[&str]) -> Result<Line, LineFault>
+    ensures { ReadsNamed name.now (map (λ word. word.now) words.now) result }
 {
-    Ok(Line::Migrate {
-        file: lone_file(alloc, words)?,
-    })
-}
-
-/// The line of a subcommand, by the words after its name.
-fn read_by(alloc: Global, subcommand: Subcommand, words: &[&str]) -> Result<Line, LineFault>
-    ensures { ReadsBy subcommand (map (λ word. word.now) words.now) result }
-{
-    match subcommand {
-        Subcommand::Init => read_init(alloc, words),
-        Subcommand::Enrol => read_enrol(alloc, words),
-        Subcommand::Import => read_import(alloc, words),
-        Subcommand::Start => read_start(alloc, words),
-        Subcommand::Pair => read_pair(alloc, words),
-        Subcommand::Result => read_result(alloc, words),
-        Subcommand::Correct => read_correct(alloc, words),
-        Subcommand::Drop => read_drop(alloc, words),
-        Subcommand::Cut => read_cut(alloc, words),
-        Subcommand::Playoff => read_playoff(alloc, words),
-        Subcommand::Standings => read_standings(alloc, words),
-        Subcommand::Players => read_players(alloc, words),
-        Subcommand::Slips => read_slips(alloc, words),
-        Subcommand::Bracket => read_bracket(alloc, words),
-        Subcommand::Export => read_export(alloc, words),
-        Subcommand::Serve => read_serve(alloc, words),
-        Subcommand::Migrate => read_migrate(alloc, words),
+    match name {
+        "init" => read_init(alloc, words),
+        "enrol" => read_enrol(alloc, words),
+        "import" => read_import(alloc, words),
+        "start" => Ok(Line::Start {
+            file: read_file(alloc, words)?,
+        }),
+        "pair" => read_pair(alloc, words),
+        "result" => {
+            let (file, round, table, score) = read_report(alloc, words)?;
+            Ok(Line::Result {
+                file,
+                round,
+                table,
+                score,
+            })
+        }
+        "correct" => {
+            let (file, round, table, score) = read_report(alloc, words)?;
+            Ok(Line::Correct {
+                file,
+                round,
+                table,
+                score,
+            })
+        }
+        "drop" => read_drop(alloc, words),
+        "cut" => Ok(Line::Cut {
+            file: read_file(alloc, words)?,
+        }),
+        "playoff" => read_playoff(alloc, words),
+        "standings" => Ok(Line::Standings {
+            file: read_file(alloc, words)?,
+        }),
+        "players" => Ok(Line::Players {
+            file: read_file(alloc, words)?,
+        }),
+        "slips" => read_slips(alloc, words),
+        "bracket" => Ok(Line::Bracket {
+            file: read_file(alloc, words)?,
+        }),
+        "export" => read_export(alloc, words),
+        "serve" => read_serve(alloc, words),
+        "migrate" => Ok(Line::Migrate {
+            file: read_file(alloc, words)?,
+        }),
+        _ => Err(LineFault::Usage(UsageFault::UnknownSubcommand)),
     }
 }
 
@@ -431,8 +320,8 @@ pub fn read_words(alloc: Global, words: &[String]) -> Result<Line, LineFault>
     if let Some(place) = option_at(words) {
         return Err(LineFault::Usage(UsageFault::LeadingDash { place }));
     }
-    let Some((subcommand, values)) = split_words(alloc, words)? else {
+    let Some((name, values)) = split_words(alloc, words)? else {
         return Err(LineFault::Usage(UsageFault::UnknownSubcommand));
     };
-    read_by(alloc, subcommand, &values)
+    read_named(alloc, name, &values)
 }

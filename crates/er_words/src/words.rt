@@ -4,7 +4,6 @@ ghost use Rattle.clap.specs.Words.{app_of, found_of, kind_of, rows_of};
 ghost use Rattle.er_words.specs.Line.{is_option, split_of};
 ghost use Rattle.er_words.specs.inside.Words.{program, words_in};
 
-use crate::subcommand::Subcommand;
 use clap::error::ErrorKind;
 use clap::{Arg, ArgMatches, Command, Error};
 use std::alloc::{AllocError, Global};
@@ -58,23 +57,20 @@ fn words_of<'a>(alloc: Global, matches: &ArgMatches<'a>) -> Result<Vec<&'a str>,
     }
 }
 
-/// The subcommand that the first word names, and the words after it.
+/// The first word, and the words after it.
 pub fn split_words<'a>(
     alloc: Global,
     words: &'a [String],
-) -> Result<Option<(Subcommand, Vec<&'a str>)>, AllocError>
+) -> Result<Option<(&'a str, Vec<&'a str>)>, AllocError>
     requires { position is_option (map string_bytes words.now) ≡ None }
     ensures { IfOk result (λ found. option_map
-        (λ split. (split.0, map (λ word. word.now) split.1.items)) found
+        (λ split. (split.0.now, map (λ word. word.now) split.1.items)) found
         ≡ split_of (map string_bytes words.entry.now)) }
 {
     let Some(first) = words.first() else {
         return Ok(None);
     };
     let name = first.as_str();
-    let Some(subcommand) = Subcommand::named(name) else {
-        return Ok(None);
-    };
     let matches = match command(alloc, name)?.try_get_matches_from(words) {
         Ok(matches) => matches,
         Err(error) => {
@@ -83,7 +79,7 @@ pub fn split_words<'a>(
         }
     };
     match matches.subcommand() {
-        Some((_name, inner)) => Ok(Some((subcommand, words_of(alloc, inner)?))),
+        Some((_name, inner)) => Ok(Some((name, words_of(alloc, inner)?))),
         None => Ok(None),
     }
 }

@@ -30,10 +30,10 @@ returns-in-Some-subcommand c =
     ≡ Some (c.in-Some-subcommand._name.now, rows_of (found_of c.in-Some-subcommand.inner.now)) =
     sym rows ∙ both_halves _ _ _ _ _ c.in-Some-subcommand.ensures.name c.in-Some-subcommand.ensures.rows in
     let words = found_words _ _ texts all.0 app_is all.1 (AllPlain-none texts (none_from_place is_option texts c.requires)) _ found in
-    ap (λ (ws : List Text). Some (c.in-Some-named.subcommand, ws))
+    ap (λ (ws : List Text). Some (c.as_str-name.result.now, ws))
     (c.in_ok-words_of-in-Some-subcommand.ensures ∙ words)
-    ∙ split_is c.as_str-name.result.now c.in-Some-named.subcommand texts all.0
-    (all.1 ∙ ap (λ n. n ∷ all.0) (sym c.as_str-name.ensures.value)) c.in-Some-named.ensures
+    ∙ split_is c.as_str-name.result.now texts all.0
+    (all.1 ∙ ap (λ n. n ∷ all.0) (sym c.as_str-name.ensures.value))
 
 pub returns : goal.returns
 returns c =
