@@ -8,11 +8,14 @@ ghost use Rattle.er_json.specs.Slip.{entry_of, three_values, games_in, slip_game
 use er_event::{Games, Name, PlayerNo, Score, SlipRow};
 use serde_json::{Map, Value, json};
 use std::alloc::{AllocError, Global};
+use thiserror::Error;
 
 /// Why bytes are no slip.
-#[derive(Clone, Copy, Debug, PartialEq, Eq)]
+#[derive(Clone, Copy, Debug, PartialEq, Eq, Error)]
 pub enum SlipFault {
+    #[error("the bytes are no slip")]
     Bad,
+    #[error("out of memory")]
     Memory,
 }
 

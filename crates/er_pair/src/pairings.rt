@@ -10,18 +10,22 @@ use crate::search::{Outcome, search};
 use crate::seats::by_position;
 use er_event::{MAX_PLAYERS, Refusal};
 use std::alloc::{AllocError, Global};
+use thiserror::Error;
 
 /// How many candidates a search for a pairing may look at.
 pub const MAX_STEPS: u32 = 1_000_000;
 
 /// Why there is no pairing.
-#[derive(Clone, Copy, Debug, PartialEq, Eq)]
+#[derive(Clone, Copy, Debug, PartialEq, Eq, Error)]
 pub enum PairFault {
     /// There is no legal pairing.
+    #[error("there is no legal pairing")]
     NoPairing,
     /// The search would take more than these steps.
+    #[error("no pairing was found in {steps} steps")]
     Budget { steps: u32 },
     /// Memory is wanting.
+    #[error("out of memory")]
     Memory,
 }
 

@@ -12,14 +12,18 @@ use crate::records::{only_field, records, seven_fields, three_fields};
 use csv::ByteRecord;
 use er_event::{Games, MAX_PLAYERS, MAX_ROUNDS, Name, PlayerNo, Score};
 use std::alloc::{AllocError, Global};
+use thiserror::Error;
 
 /// Why a table was not read.
-#[derive(Clone, Copy, Debug, PartialEq, Eq)]
+#[derive(Clone, Copy, Debug, PartialEq, Eq, Error)]
 pub enum CsvFault {
     /// The heading is missing, or another one.
+    #[error("the heading is missing, or another one")]
     BadHeading,
     /// The first row that is not as it must be, counted from 1 after the heading.
+    #[error("row {row} after the heading is not as it must be")]
     BadRow { row: usize },
+    #[error("out of memory")]
     Memory,
 }
 

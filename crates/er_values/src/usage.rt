@@ -3,27 +3,38 @@ ghost use Rattle.er_values.specs.Values.{count_of, kind_of, number_below, seed_o
 ghost use Rattle.er_values.specs.declared.usage.UsageFault.TheVariants.{BadCount, BadKind, BadNumber, BadSeed};
 ghost use Rattle.er_values.specs.Taken.{Ends, ReadsScore, Takes, TakesText};
 
-use crate::values::{ExportKind, count_of, kind_of, number_of, seed_of, small_number_of};
+use crate::values::{
+    ExportKind, MAX_CONNECTIONS, count_of, kind_of, number_of, seed_of, small_number_of,
+};
 use er_event::Games;
+use thiserror::Error;
 
 /// Which word keeps words from being a line: the first that does. Places count from 0, the place of the subcommand's name.
-#[derive(Clone, Copy, Debug, PartialEq, Eq)]
+#[derive(Clone, Copy, Debug, PartialEq, Eq, Error)]
 pub enum UsageFault {
     /// There is no word, or the first one names no subcommand.
+    #[error("the first word is no subcommand")]
     UnknownSubcommand,
     /// The word at this place begins with `-`.
+    #[error("word {place} begins with `-`, which no word may")]
     LeadingDash { place: usize },
     /// There is no word at this place, and the subcommand wants one.
+    #[error("word {place} is missing")]
     TooFew { place: usize },
     /// The word at this place is more than the subcommand takes.
+    #[error("word {place} is a word too many")]
     TooMany { place: usize },
     /// The word at this place is no number from 0 to `most`.
+    #[error("word {place} is no whole number from 0 to {most}")]
     BadNumber { place: usize, most: u16 },
     /// The word at this place isn't 64 hexadecimal digits.
+    #[error("word {place} is not 64 hexadecimal digits")]
     BadSeed { place: usize },
     /// The word at this place is no number of connections.
+    #[error("word {place} is no whole number from 1 to {MAX_CONNECTIONS}")]
     BadCount { place: usize },
     /// The word at this place is no kind of list.
+    #[error("word {place} is no kind of list: players or results")]
     BadKind { place: usize },
 }
 

@@ -28,7 +28,7 @@ pub fn kind_of(word: &str) -> Option<ExportKind>
 }
 
 /// How many connections are served at most before the file is given back.
-const MAX_CONNECTIONS: u32 = 1_000_000;
+pub(crate) const MAX_CONNECTIONS: u32 = 1_000_000;
 
 fn is_number(word: &str) -> bool
     ensures { result ≡ list_all is_ascii_digit word.now }

@@ -10,6 +10,7 @@ use er_values::{
     ExportKind, UsageFault, count, end, list_kind, name_of, number, score, seed, small_number, text,
 };
 use std::alloc::{AllocError, Global};
+use thiserror::Error;
 
 /// What a command line asks for. Each has the file of its event; a name may be unlawful, and a number one that the event has not.
 #[derive(Debug, Drop)]
@@ -89,11 +90,13 @@ pub enum Line {
 }
 
 /// Why a line was not read.
-#[derive(Clone, Copy, Debug, PartialEq, Eq)]
+#[derive(Clone, Copy, Debug, PartialEq, Eq, Error)]
 pub enum LineFault {
     /// It is no command line, and this is why.
+    #[error(transparent)]
     Usage(UsageFault),
     /// There was no memory to keep it.
+    #[error("out of memory")]
     Memory,
 }
 
