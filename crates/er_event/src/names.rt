@@ -4,16 +4,19 @@ ghost use Rattle.er_event.specs.Name.{is_plain_byte, is_lawful_name};
 
 use std::marker::Model;
 use std::str;
+use thiserror::Error;
 
 /// How many bytes a name may have.
 pub const MAX_NAME_BYTES: usize = 60;
 
 /// Why bytes are no name.
-#[derive(Clone, Copy, Debug, PartialEq, Eq)]
+#[derive(Clone, Copy, Debug, PartialEq, Eq, Error)]
 pub enum NameFault {
     /// The bytes are no lawful name.
+    #[error("the bytes are no lawful name")]
     Bad,
     /// There was no memory to keep the name. A name takes none today, so no call answers it.
+    #[error("out of memory")]
     Memory,
 }
 

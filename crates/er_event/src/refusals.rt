@@ -1,7 +1,10 @@
-ghost use Rattle.std.specs.Prelude.{◌≡◌};
+ghost use Rattle.std.specs.Prelude.{◌≡◌, Some};
+ghost use Rattle.er_event.specs.Refusal.{cause_text, place_text, refusal_text};
 
 use crate::scores::Score;
 use std::alloc::AllocError;
+use std::error::Error;
+use std::fmt;
 
 /// A table of an event's file.
 #[derive(Clone, Copy, Debug, PartialEq, Eq)]
@@ -56,6 +59,33 @@ pub enum Refusal {
     Damaged { table: Place },
     BadSetup,
 }
+
+impl fmt::Display for Place {
+    ghost output = { λ place. Some (place_text place) };
+
+    fn fmt<W: fmt::Write>(&self, f: &mut fmt::Formatter<W>) -> fmt::Result {
+        f.write_str(match self {
+            Place::EventTable => "EventTable",
+            Place::PlayerTable => "PlayerTable",
+            Place::PairingTable => "PairingTable",
+            Place::BracketTable => "BracketTable",
+            Place::TallyTable => "TallyTable",
+        })
+    }
+}
+
+impl fmt::Display for Cause {
+    ghost output = { λ cause. Some (cause_text cause) };
+
+    fn fmt<W: fmt::Write>(&self, f: &mut fmt::Formatter<W>) -> fmt::Result {
+        f.write_str(match self {
+            Cause::Refused => "the database declined a call",
+            Cause::BadRow => "a row was read that the format does not allow",
+        })
+    }
+}
+
+impl Error for Cause {}
 
 impl From<AllocError> for Refusal {
     ghost use Rattle.std.specs.Prelude.{◌≡◌};
@@ -123,3 +153,23 @@ impl Refusal {
         self.entry().1
     }
 }
+
+impl fmt::Display for Refusal {
+    ghost output = { λ why. Some (refusal_text why) };
+
+    /// The number and the name, and behind them what is named, if anything.
+    fn fmt<W: fmt::Write>(&self, f: &mut fmt::Formatter<W>) -> fmt::Result {
+        let (number, name) = self.entry();
+        match *self {
+            Refusal::WrongRound { next } => write!(f, "{number} {name} (next {next})"),
+            Refusal::RoundOpen { round } => write!(f, "{number} {name} (round {round})"),
+            Refusal::Budget { steps } => write!(f, "{number} {name} (steps {steps})"),
+            Refusal::AlreadyReported { score } => write!(f, "{number} {name} (score {score})"),
+            Refusal::Store { cause } => write!(f, "{number} {name} ({cause})"),
+            Refusal::Damaged { table } => write!(f, "{number} {name} (table {table})"),
+            _ => write!(f, "{number} {name}"),
+        }
+    }
+}
+
+impl Error for Refusal {}

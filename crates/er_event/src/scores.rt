@@ -1,6 +1,7 @@
 ghost use Rattle.std.specs.Prelude.{◌≡◌, ◌||◌, IsTrue, Some, None, if◌then◌else◌};
-ghost use Rattle.er_event.specs.Score.{is_swiss_score, is_playoff_score};
+ghost use Rattle.er_event.specs.Score.{games_text, is_swiss_score, is_playoff_score};
 
+use std::fmt;
 use std::marker::Model;
 
 /// Games won by the first-named player, games won by the second, and drawn games, as they were handed in.
@@ -58,6 +59,15 @@ impl Score {
         ensures { result ≡ self }
     {
         self.games
+    }
+}
+
+impl fmt::Display for Score {
+    ghost output = { λ score. Some (games_text score) };
+
+    fn fmt<W: fmt::Write>(&self, f: &mut fmt::Formatter<W>) -> fmt::Result {
+        let Games { x, y, d } = self.games;
+        write!(f, "{x}-{y}-{d}")
     }
 }
 

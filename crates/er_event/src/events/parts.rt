@@ -14,6 +14,7 @@ use crate::rows::{
     read_stored,
 };
 use std::alloc::{AllocError, Global};
+use thiserror::Error;
 
 /// The rows of an event's four tables, each list in the order of the table's key.
 #[derive(Drop)]
@@ -25,10 +26,12 @@ pub struct Parts {
 }
 
 /// Why rows are no event.
-#[derive(Clone, Copy, Debug, PartialEq, Eq)]
+#[derive(Clone, Copy, Debug, PartialEq, Eq, Error)]
 pub enum PartsFault {
     /// The first table whose rows no sound event has.
+    #[error("no sound event has the rows of {0}")]
     Damaged(Place),
+    #[error("out of memory")]
     Memory,
 }
 
