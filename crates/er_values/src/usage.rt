@@ -18,7 +18,7 @@ pub enum UsageFault {
     /// The word at this place begins with `-`.
     #[error("word {place} begins with `-`, which no word may")]
     LeadingDash { place: usize },
-    /// There is no word at this place, and the subcommand wants one.
+    /// There is no word at this place, and the subcommand takes one there.
     #[error("word {place} is missing")]
     TooFew { place: usize },
     /// The word at this place is more than the subcommand takes.

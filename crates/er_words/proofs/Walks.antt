@@ -62,7 +62,7 @@ leaf_words (w ∷ rest) plain = ap (λ (s : Walk). words_in (finished leaf_rules
 
 -- ---- the subcommand
 
--- what the parser is told, once it is built
+-- a subcommand, as the parser knows it once it is built
 abbrev pub leaf_built : Text → Shape
 leaf_built n = record (leaf n) {
   rules = leaf_rules;

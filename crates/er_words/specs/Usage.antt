@@ -31,7 +31,7 @@ fault_at None words = split_fault (split_of words)
 abbrev pub fault_of : List (List ℕ) → Option UsageFault
 fault_of words = fault_at (position is_option words) words
 
--- The answer to words that are this, if anything, and else have this fault. Memory may be wanting for any.
+-- The answer to words that are this, if anything, and else have this fault. For any of them memory may run out.
 abbrev pub Reads : {T : Type 0} → Option T → Option UsageFault → Result T LineFault → Type 0
 Reads found fault (Ok it) = (found ≡ Some it) × (fault ≡ None)
 Reads found fault (Err (Usage why)) = (found ≡ None) × (fault ≡ Some why)

@@ -8,7 +8,7 @@ use Rattle.clap.specs.Lexer.{usize_max}
 abbrev pub words_rule : Rule
 words_rule = record (new_rule (codes "words")) { range = Some (record { start_inclusive = 0; end_inclusive = usize_max }) }
 
--- a subcommand, as the parser is told of it
+-- a subcommand, as the parser knows it
 abbrev pub leaf : Text → Shape
 leaf name = (with_rule (new_app name) words_rule).top
 
@@ -17,7 +17,7 @@ bare = record (new_app (codes "event_reporter")) {
   top = record (new_app (codes "event_reporter")).top { no_binary_name = true; disable_help_flag = true; disable_help_subcommand = true };
 }
 
--- the program, as the parser is told of it, with this one subcommand
+-- the program, as the parser knows it, with this one subcommand
 abbrev pub program : Text → App
 program name = with_subcommand bare (leaf name)
 
