@@ -1,6 +1,6 @@
-ghost use Rattle.std.specs.Prelude.{◌≡◌, IfErr, false};
+ghost use Rattle.std.specs.Prelude.{◌≡◌, IfErr, Some, false};
 ghost use Rattle.sqlite_wal.specs.Files.{image_at};
-ghost use Rattle.er_event.specs.{Sound.AreLimits};
+ghost use Rattle.er_event.specs.{Refusal.refusal_text, Sound.AreLimits};
 ghost use Rattle.er_desk.specs.Files.{OpensFile, MakesFile};
 ghost use Rattle.er_desk.specs.Opening.{IsSpared, why_of, OnUnopened};
 
@@ -10,6 +10,7 @@ use er_store::laws::stored_represents;
 use er_store::refusal_of;
 use sqlite::{Alter, Connection, Error, FileFrom, FileStore, Leftover, Start};
 use sqlite_disk::Disk;
+use std::{error, fmt};
 
 /// Why a file was not opened as a desk.
 #[derive(Drop)]
@@ -37,6 +38,24 @@ impl<D: Disk + Drop> OpenFault<D> {
         }
     }
 }
+
+impl<D: Disk + Drop> fmt::Debug for OpenFault<D> {
+    fn fmt<W: fmt::Write>(&self, f: &mut fmt::Formatter<W>) -> fmt::Result {
+        let refusal = self.refusal();
+        write!(f, "OpenFault({refusal:?})")
+    }
+}
+
+impl<D: Disk + Drop> fmt::Display for OpenFault<D> {
+    ghost output = { λ fault. Some (refusal_text (why_of fault)) };
+
+    fn fmt<W: fmt::Write>(&self, f: &mut fmt::Formatter<W>) -> fmt::Result {
+        let refusal = self.refusal();
+        write!(f, "{refusal}")
+    }
+}
+
+impl<D: Disk + Drop> error::Error for OpenFault<D> {}
 
 /// Opens the file of an event. Where a crash may have left what the file holds, the event and the serial found are those that it
 /// represents, and a crash then leaves them again.
