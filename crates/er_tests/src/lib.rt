@@ -9,6 +9,8 @@ mod desks;
 #[cfg(test)]
 mod events;
 #[cfg(test)]
+mod faults;
+#[cfg(test)]
 mod migrations;
 #[cfg(test)]
 mod pairings;
