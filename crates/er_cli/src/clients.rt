@@ -8,9 +8,11 @@ use er_slips::Served;
 use std::io::{self, Read, Write};
 use std::net::{TcpListener, TcpStream};
 use std::time::Instant;
+use thiserror::Error;
 
 /// The listener gave no connection.
-#[derive(Clone, Copy)]
+#[derive(Clone, Copy, Debug, PartialEq, Eq, Error)]
+#[error("the listener gave no connection")]
 pub struct AcceptFault;
 
 /// One side of a connection, and whether a call of it has failed.

@@ -13,6 +13,7 @@ use Rattle.er_desk.specs.Reply.{IsDue}
 use Rattle.er_slips.specs.{declared.request.fields.TheConstants.MAX_BODY, declared.request.head.TheConstants.{MAX_HEAD, MAX_FIELDS}}
 use Rattle.er_slips.specs.{declared.request.wanted.Request.TheVariants.Pairings, declared.request.wanted.Fault.TheVariants.BadRequest}
 use Rattle.er_slips.specs.{declared.request.wanted.Fault.TheVariants.{NotFound, NotAllowed, TooLarge}}
+use Rattle.er_slips.specs.declared.request.wanted.Methods.TheVariants as methods
 use Rattle.er_slips.specs.{Request.{route_of, path_of, asked_of}}
 use Rattle.er_slips.specs.{Request.reported, Answer.{AnswerValue, fault_answer, refusal_answer, receipt_answer, slip_answer, text_answer}}
 use Rattle.er_slips.specs.Answer.{message_of, status_of}
@@ -40,12 +41,12 @@ pub accepted : receipt_answer 7 ≡ answer 200 (codes "HTTP/1.1 200 OK\r\nConten
 unfolding digits
 accepted = refl
 
-pub not_allowed : fault_answer (NotAllowed false) ≡ answer 405
+pub not_allowed : fault_answer (NotAllowed methods.Get) ≡ answer 405
     (codes "HTTP/1.1 405 Method Not Allowed\r\nAllow: GET\r\nContent-Type: application/json\r\nContent-Length: 30\r\nConnection: close\r\n\r\n{\"error\":\"method not allowed\"}")
 unfolding digits
 not_allowed = refl
 
-pub not_allowed_on_a_table : fault_answer (NotAllowed true) ≡ answer 405
+pub not_allowed_on_a_table : fault_answer (NotAllowed methods.GetAndPost) ≡ answer 405
     (codes "HTTP/1.1 405 Method Not Allowed\r\nAllow: GET, POST\r\nContent-Type: application/json\r\nContent-Length: 30\r\nConnection: close\r\n\r\n{\"error\":\"method not allowed\"}")
 unfolding digits
 not_allowed_on_a_table = refl
@@ -139,10 +140,10 @@ nowhere rest = refl
 pub deleted_nowhere : (rest : List ℕ) → asked_of (head_with (codes "DELETE") (codes "/nope") []) rest ≡ Err NotFound
 deleted_nowhere rest = refl
 
-pub deleted : (rest : List ℕ) → asked_of (head_with (codes "DELETE") (codes "/standings") []) rest ≡ Err (NotAllowed false)
+pub deleted : (rest : List ℕ) → asked_of (head_with (codes "DELETE") (codes "/standings") []) rest ≡ Err (NotAllowed methods.Get)
 deleted rest = refl
 
-pub put_on_a_table : (rest : List ℕ) → asked_of (head_with (codes "PUT") (codes "/rounds/1/tables/1") []) rest ≡ Err (NotAllowed true)
+pub put_on_a_table : (rest : List ℕ) → asked_of (head_with (codes "PUT") (codes "/rounds/1/tables/1") []) rest ≡ Err (NotAllowed methods.GetAndPost)
 put_on_a_table rest = refl
 
 pub not_stored : (rest : List ℕ) → asked_of (head_with (codes "GET") (codes "/rounds/9") []) rest ≡ Ok (Pairings 9)

@@ -9,6 +9,8 @@ use Rattle.er_answers.specs.declared.question.Told.{Told}
 use Rattle.er_answers.specs.declared.question.Told.TheVariants.{Accepted, Text, Slip, Refused}
 use Rattle.er_slips.specs.declared.answer.Answer.{Answer}
 use Rattle.er_slips.specs.declared.answer.Answer.TheVariants.{Short, Long}
+use Rattle.er_slips.specs.declared.request.wanted.Methods.{Methods}
+use Rattle.er_slips.specs.declared.request.wanted.Methods.TheVariants.{Get, GetAndPost}
 use Rattle.er_slips.specs.declared.request.wanted.Fault.{Fault}
 use Rattle.er_slips.specs.declared.request.wanted.Fault.TheVariants.{BadRequest, NotFound, NotAllowed, TooLarge}
 
@@ -38,20 +40,21 @@ status_line status =
     else codes "HTTP/1.1 503 Service Unavailable\r\n"
 
 -- in a 405 alone: the methods that the route has
-abbrev pub allow_line : Option Bool → List ℕ
+abbrev pub allow_line : Option Methods → List ℕ
 allow_line None = []
-allow_line (Some takes_post) = if takes_post then codes "Allow: GET, POST\r\n" else codes "Allow: GET\r\n"
+allow_line (Some Get) = codes "Allow: GET\r\n"
+allow_line (Some GetAndPost) = codes "Allow: GET, POST\r\n"
 
 abbrev pub type_line : Bool → List ℕ
 type_line is_text = if is_text then codes "Content-Type: text/plain; charset=utf-8\r\n" else codes "Content-Type: application/json\r\n"
 
-abbrev pub head_of : ℕ → Option Bool → Bool → ℕ → List ℕ
+abbrev pub head_of : ℕ → Option Methods → Bool → ℕ → List ℕ
 head_of status allow is_text size =
     status_line status
     ++ (allow_line allow
     ++ (type_line is_text ++ (codes "Content-Length: " ++ (decimal size ++ codes "\r\nConnection: close\r\n\r\n"))))
 
-abbrev pub answer_of : ℕ → Option Bool → Bool → List ℕ → AnswerValue
+abbrev pub answer_of : ℕ → Option Methods → Bool → List ℕ → AnswerValue
 answer_of status allow is_text body = record { status = status; bytes = head_of status allow is_text (length body) ++ body }
 
 abbrev pub json_answer : ℕ → List ℕ → AnswerValue
@@ -62,7 +65,7 @@ json_answer status body = answer_of status None false body
 abbrev pub fault_answer : Fault → AnswerValue
 fault_answer BadRequest = json_answer 400 (codes "{\"error\":\"bad request\"}")
 fault_answer NotFound = json_answer 404 (codes "{\"error\":\"not found\"}")
-fault_answer (NotAllowed takes_post) = answer_of 405 (Some takes_post) false (codes "{\"error\":\"method not allowed\"}")
+fault_answer (NotAllowed allowed) = answer_of 405 (Some allowed) false (codes "{\"error\":\"method not allowed\"}")
 fault_answer TooLarge = json_answer 413 (codes "{\"error\":\"body too large\"}")
 
 -- ---- after it

@@ -18,6 +18,7 @@ use Rattle.er_slips.specs.declared.request.wanted.Request.{Request}
 use Rattle.er_slips.specs.declared.request.wanted.Request.TheVariants.{Standings, Pairings, Slip, Report}
 use Rattle.er_slips.specs.declared.request.Next.{Next}
 use Rattle.er_slips.specs.declared.request.Next.TheVariants.{Get, Body}
+use Rattle.er_slips.specs.declared.request.wanted.Methods.TheVariants as methods
 use Rattle.er_slips.specs.declared.request.wanted.Fault.{Fault}
 use Rattle.er_slips.specs.declared.request.wanted.Fault.TheVariants.{BadRequest, NotFound, NotAllowed, TooLarge}
 use Rattle.er_slips.specs.Head.{IsHead, HasNoHead}
@@ -95,11 +96,11 @@ with_length round table (Ok n) = Ok (Body round table n)
 
 -- a GET serves each route, a POST the last
 abbrev pub serves : Route → List ℕ → List HeadField → Result Next Fault
-serves route.Standings method fields = if bytes_eq method (codes "GET") then Ok (Get Standings) else Err (NotAllowed false)
-serves (route.Round round) method fields = if bytes_eq method (codes "GET") then Ok (Get (Pairings round)) else Err (NotAllowed false)
+serves route.Standings method fields = if bytes_eq method (codes "GET") then Ok (Get Standings) else Err (NotAllowed methods.Get)
+serves (route.Round round) method fields = if bytes_eq method (codes "GET") then Ok (Get (Pairings round)) else Err (NotAllowed methods.Get)
 serves (route.Table round table) method fields =
     if bytes_eq method (codes "GET") then Ok (Get (Slip round table))
-    else if bytes_eq method (codes "POST") then with_length round table (body_length fields) else Err (NotAllowed true)
+    else if bytes_eq method (codes "POST") then with_length round table (body_length fields) else Err (NotAllowed methods.GetAndPost)
 
 abbrev pub next_on : Option Route → List ℕ → List HeadField → Result Next Fault
 next_on None method fields = Err NotFound

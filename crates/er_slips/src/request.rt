@@ -21,7 +21,7 @@ use httparse::spans::{EMPTY_HEADER_SPAN, HeaderSpan, RequestSpans};
 pub use routes::Routes;
 use std::alloc::Global;
 use std::io::Read;
-pub use wanted::{Fault, NoRequest, Request};
+pub use wanted::{Fault, Methods, NoRequest, Request};
 
 /// What is left to do once the head is there.
 #[derive(Clone, Copy)]
@@ -51,8 +51,12 @@ fn serves(route: Route, method: &[u8], bytes: &[u8], headers: &[HeaderSpan]) -> 
             table,
             length: body_length(bytes, headers)?,
         }),
-        Route::Table { .. } => Err(Fault::NotAllowed { takes_post: true }),
-        _ => Err(Fault::NotAllowed { takes_post: false }),
+        Route::Table { .. } => Err(Fault::NotAllowed {
+            allowed: Methods::GetAndPost,
+        }),
+        _ => Err(Fault::NotAllowed {
+            allowed: Methods::Get,
+        }),
     }
 }
 

@@ -5,12 +5,12 @@ ghost use Rattle.er_slips.specs.Answer.{receipt_body, receipt_answer};
 
 use crate::answer::Answer;
 use crate::answer::head::head_of;
-use crate::request::Fault;
+use crate::request::{Fault, Methods};
 use er_event::{Receipt, Refusal, Score};
 use er_paper::ShortText;
 
 /// The answer with this JSON.
-fn answer_of(status: u16, allow: Option<bool>, body: &[u8]) -> Answer
+fn answer_of(status: u16, allow: Option<Methods>, body: &[u8]) -> Answer
     requires { length body.now ≤ 168 }
     ensures { answer_value result ≡ answer_of status allow false body.now }
 {
@@ -26,9 +26,9 @@ pub fn fault_answer(fault: Fault) -> Answer
     match fault {
         Fault::BadRequest => answer_of(400, None, b"{\"error\":\"bad request\"}"),
         Fault::NotFound => answer_of(404, None, b"{\"error\":\"not found\"}"),
-        Fault::NotAllowed { takes_post } => answer_of(
+        Fault::NotAllowed { allowed } => answer_of(
             405,
-            Some(takes_post),
+            Some(allowed),
             b"{\"error\":\"method not allowed\"}",
         ),
         Fault::TooLarge => answer_of(413, None, b"{\"error\":\"body too large\"}"),

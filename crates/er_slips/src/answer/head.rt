@@ -1,6 +1,7 @@
 ghost use Rattle.std.specs.Prelude.{◌≡◌, ◌≤◌, length};
 ghost use Rattle.er_slips.specs.Answer.{status_line, allow_line, type_line, head_of};
 
+use crate::request::Methods;
 use er_paper::ShortText;
 
 /// The first line of an answer.
@@ -20,14 +21,14 @@ fn status_line(status: u16) -> &'static str
 }
 
 /// In a 405 alone: the methods that the route has.
-fn allow_line(allow: Option<bool>) -> &'static str
+fn allow_line(allow: Option<Methods>) -> &'static str
     ensures value { result.now ≡ allow_line allow }
     ensures short { length result.now ≤ 18 }
 {
     match allow {
         None => "",
-        Some(true) => "Allow: GET, POST\r\n",
-        Some(false) => "Allow: GET\r\n",
+        Some(Methods::Get) => "Allow: GET\r\n",
+        Some(Methods::GetAndPost) => "Allow: GET, POST\r\n",
     }
 }
 
@@ -43,7 +44,7 @@ fn type_line(is_text: bool) -> &'static str
 }
 
 /// The head of an answer with a body of this size.
-pub fn head_of(status: u16, allow: Option<bool>, is_text: bool, size: usize) -> ShortText
+pub fn head_of(status: u16, allow: Option<Methods>, is_text: bool, size: usize) -> ShortText
     ensures value { result ≡ head_of status allow is_text size }
     ensures short { length result ≤ 152 }
 {

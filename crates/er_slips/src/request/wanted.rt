@@ -39,13 +39,20 @@ impl From<Request> for Question {
     }
 }
 
+/// The methods that a route has.
+#[derive(Clone, Copy, Debug, PartialEq, Eq)]
+pub enum Methods {
+    Get,
+    GetAndPost,
+}
+
 /// Why a request is answered before the desk is asked.
 #[derive(Clone, Copy)]
 pub enum Fault {
     BadRequest,
     NotFound,
     /// The route is there, for another method.
-    NotAllowed { takes_post: bool },
+    NotAllowed { allowed: Methods },
     TooLarge,
 }
 
