@@ -3,7 +3,7 @@ use Rattle.std.proofs.{Common.{◌≡◌, ◌⊎◌, inl, inr, ℕ, List, length
 use Rattle.std.proofs.KnownBytes.{Appends-kept, Keeps-refl, Keeps-trans}
 use Rattle.std.specs.Io.KnownBytes.{Keeps}
 use Rattle.er_cli.specs.{declared.TheConstants.{DONE, USAGE, DEVICE, MEMORY}, Script.{RunsLines, Prints, PrintsPart}}
-use Rattle.er_cli.specs.Status.{Breaks, Ends, IsTooLong, Serves}
+use Rattle.er_cli.specs.Status.{Breaks, EndsScript, IsTooLong, RunsScript}
 use Rattle.er_cli.specs.inside.Unread.{EndsUnread, UnreadPart}
 use Rattle.er_cli.specs.{declared.input.InputFault.InputFault, declared.input.InputFault.TheVariants.{TooLong, Read}}
 use Rattle.er_cli.specs.declared.input.InputFault.TheVariants as fault
@@ -19,7 +19,7 @@ prints_whole lines before after prints = record {
   printed = whole_part before after _ prints.printed;
 }
 
-pub serves_part : (input before after : Option (List ℕ)) → Serves input before after → Breaks input before after
+pub serves_part : (input before after : Option (List ℕ)) → RunsScript input before after → Breaks input before after
 serves_part input before after served = inr (inl (record {
   script = served.script;
   whole = served.whole;
@@ -46,8 +46,8 @@ Breaks-kept input before mid after (inr (inl served)) keeps =
 Breaks-kept input before mid after (inr (inr (inl long))) keeps = inr (inr (inl (long.0, part_kept before mid after _ long.1 keeps)))
 Breaks-kept input before mid after (inr (inr (inr memory))) keeps = inr (inr (inr (part_kept before mid after _ memory keeps)))
 
-pub Ends-kept : (input before mid after : Option (List ℕ)) (status : ℕ) → Ends input before mid status → Keeps mid after
-    → Ends input before after status
+pub Ends-kept : (input before mid after : Option (List ℕ)) (status : ℕ) → EndsScript input before mid status → Keeps mid after
+    → EndsScript input before after status
 Ends-kept input before mid after status ends keeps = record {
   done = λ is. let served = ends.done is in let prints =
       served.prints in record {
@@ -67,7 +67,7 @@ Ends-kept input before mid after status ends keeps = record {
   one_of = ends.one_of;
 }
 
-broken : (input before after : Option (List ℕ)) (status : ℕ) → Ends input before after status
+broken : (input before after : Option (List ℕ)) (status : ℕ) → EndsScript input before after status
     → (status ≡ DONE) ⊎ (status ≡ USAGE) ⊎ (status ≡ DEVICE) ⊎ (status ≡ MEMORY) → Breaks input before after
 broken input before after status ends (inl is) = serves_part input before after (ends.done is)
 broken input before after status ends (inr (inl is)) =
@@ -75,13 +75,13 @@ broken input before after status ends (inr (inl is)) =
 broken input before after status ends (inr (inr (inl is))) = ends.device is
 broken input before after status ends (inr (inr (inr is))) = inr (inr (inr (whole_part before after _ (ends.memory is))))
 
-pub Ends-breaks : (input before mid after : Option (List ℕ)) (status : ℕ) → Ends input before mid status → Keeps mid after
+pub Ends-breaks : (input before mid after : Option (List ℕ)) (status : ℕ) → EndsScript input before mid status → Keeps mid after
     → Breaks input before after
 Ends-breaks input before mid after status ends keeps =
     Breaks-kept input before mid after (broken input before mid status ends ends.one_of) keeps
 
 -- a script that was run to its end
-pub Ends-done : (input before after : Option (List ℕ)) → Serves input before after → Ends input before after DONE
+pub Ends-done : (input before after : Option (List ℕ)) → RunsScript input before after → EndsScript input before after DONE
 Ends-done input before after served = record {
   done = λ _. served;
   too_long = λ is. absurd (omega (arith, is));
@@ -91,7 +91,7 @@ Ends-done input before after served = record {
 }
 
 -- the status of a fault says no more than what was printed
-pub Ends-device : (input before after : Option (List ℕ)) → Breaks input before after → Ends input before after DEVICE
+pub Ends-device : (input before after : Option (List ℕ)) → Breaks input before after → EndsScript input before after DEVICE
 Ends-device input before after breaks = record {
   done = λ is. absurd (omega (arith, is));
   too_long = λ is. absurd (omega (arith, is));
@@ -104,7 +104,7 @@ Ends-device input before after breaks = record {
 
 module _ (input before after : Option (List ℕ)) where
   pub Ends-unread : (fault : InputFault) (status : ℕ) → (fault ≡ TooLong → IsTooLong input) → EndsUnread fault before after status
-      → Ends input before after status
+      → EndsScript input before after status
   Ends-unread TooLong status long (is, printed) = record {
     done = λ other. absurd (omega (arith, is, other));
     too_long = λ _. (long refl, printed);
@@ -114,7 +114,7 @@ module _ (input before after : Option (List ℕ)) where
   }
   Ends-unread Read status long (is, same) =
       let kept : Keeps before after = rw same (Keeps-refl before) in
-      subst (λ (s : ℕ). Ends input before after s) (sym is) (Ends-device input before after (inl kept))
+      subst (λ (s : ℕ). EndsScript input before after s) (sym is) (Ends-device input before after (inl kept))
   Ends-unread fault.Memory status long (is, printed) = record {
     done = λ other. absurd (omega (arith, is, other));
     too_long = λ other. absurd (omega (arith, is, other));

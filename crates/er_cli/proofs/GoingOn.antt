@@ -19,7 +19,7 @@ use Rattle.sqlite_trees.specs.declared.store.Store.{Ghosts}
 use Rattle.er_desk.specs.{Asking.{Asks, GoesOnFrom, NextSessions}}
 use Rattle.er_desk.specs.{History.new_point, Opening.HoldsNothing}
 use Rattle.er_event.specs.Sound.{IsSetUp}
-use Rattle.er_cli.specs.{Files.IsMade, Left.{IsClearedOf, IsPutAway}, Next.{BeginsIn, GoesTo}}
+use Rattle.er_cli.specs.{Files.HasMadeEvent, Left.{IsClearedOf, IsPutAway}, Next.{BeginsIn, GoesTo}}
 use Rattle.er_cli.specs.declared.left.{Left.Left, Left.TheVariants.Nothing}
 use Rattle.er_cli.proofs.Leaving.{put_such, put_clean, was_put, cleared_such, cleared_clean, cleared_unopened, cleared_sound, put_sound}
 use Rattle.er_cli.proofs.Leaving.{left_by}
@@ -38,7 +38,7 @@ use Rattle.er_answers.specs.{Due.{IsAnswerAt, IsDueAt, OrFault}, Question.{IsRow
 use Rattle.er_answers.specs.declared.question.{Question.Question, Told.Told, Told.TheVariants.{Accepted, Refused}}
 use Rattle.er_answers.specs.declared.question.Question.TheVariants.{Submit, Standings, Show, Slip as SlipOf, Migrate}
 use Rattle.er_cli.specs.declared.action.{Task.Task, Task.TheVariants.{Ask, Import, Serve}}
-use Rattle.er_cli.specs.GoingOn.{Answered, DoesNext, Handed, IsAnswered, LeadsToVersion, MayMove}
+use Rattle.er_cli.specs.GoingOn.{AnswersQuestion, DoesNext, TakesCommands, AnswersOnce, LeadsToVersion, MayMoveTables}
 use Rattle.er_cli.specs.{GoingOn.{GoesOn, GoesOnAction}, Files.{OpensFor}, Help.{Printed, Tells}}
 use Rattle.er_cli.specs.declared.action.{Action.Action, Action.TheVariants.{Init, Open}}
 
@@ -109,8 +109,8 @@ rows_refused event read why told is tells = subst (λ (r : Result (Vec Row Globa
 slip_refused : (read : Result SlipRow Refusal) (why : Refusal) (told : Told) → read ≡ Err why → IsSlipTold read told → told ≡ Refused why
 slip_refused read why told is tells = subst (λ (r : Result SlipRow Refusal). IsSlipTold r told) is tells
 
-no_rows : (point : Point) (version : ℕ) (why : Refusal) (told : Told) → told ≡ Refused why → OrFault (IsDueAt version point Standings told) told
-    → OrFault ⊥ told
+no_rows : (point : Point) (version : ℕ) (why : Refusal) (told : Told) → told ≡ Refused why
+    → OrFault (IsDueAt version point Standings told) told → OrFault ⊥ told
 no_rows point version why told is (inl (rows, are, shows)) = absurd (let both = sym is ∙ shows in cc)
 no_rows point version why told is (inr fault) = inr fault
 
@@ -244,7 +244,7 @@ pub record IsFound {D : Type 0} (d : disk.Ghosts D) (image : Image) (first : Pla
 module _ {D : Type 0} (d : disk.Ghosts D) (image : Image) (first : Placed) (desk : Desk (FileStore D d) over_files)
     (found : IsFound d image first desk) (clean : HasCleanDisk (state over_files desk)) where
   -- its tables may be migrated where those of the file may
-  pub may_migrate : MayMove image first.point → MayMigrate over_files desk
+  pub may_migrate : MayMoveTables image first.point → MayMigrate over_files desk
   may_migrate may = by shows.represents.layout shows.represents.is shows.represents.represents
     where
       again : FindsAgain over_files desk first
@@ -294,7 +294,7 @@ module _ (new : Point) (first : Placed) (ends : List Ended) (begins : IsBeginnin
       (asked : Goes over_files Stays desk session last) where
     handed : (Did : DeskState → Session → DeskState → Type 0)
         → IsFalse (desk_state desk).needs_reopen → Did (desk_state desk) session (desk_state last)
-        → (what : Left D d) → IsPutAway (state over_files last) what → Handed d new ends first Did what
+        → (what : Left D d) → IsPutAway (state over_files last) what → TakesCommands d new ends first Did what
     handed Did runs did what put = record {
       session = session;
       goes = goes_to d Stays desk last session found asked what put;
@@ -313,7 +313,7 @@ first_placed new old is = ap placed_of is
 -- where an event was made in a file that held nothing, its empty history begins
 pub made_begins : NextSessions → {D : Type 0} (d : disk.Ghosts D) (image : Image) (name : List ℕ) (rounds cut : ℕ)
     (desk : Desk (FileStore D d) over_files)
-    → IsSetUp name rounds cut → IsMade image (new_point name rounds cut) desk → Asks over_files desk no_session desk
+    → IsSetUp name rounds cut → HasMadeEvent image (new_point name rounds cut) desk → Asks over_files desk no_session desk
     → (what : Left D d) → IsPutAway (state over_files desk) what → HoldsNothing image
     → GoesTo d (λ version. version ≡ 2) (new_point name rounds cut) [] no_session what
 made_begins law d image name rounds cut desk set_up made asks what put nothing =
@@ -340,7 +340,7 @@ module _ (law : NextSessions) (image : Image) (new : Point) (first : Placed) (en
         → Goes over_files (LeadsToVersion question told) desk (session_at question told (desk_state last).needs_reopen) last
         → IsFalse (desk_state desk).needs_reopen
         → AnswersDesk (HasCleanDisk (state over_files last) × ShowsOwn over_files desk) (desk_state desk) question told (desk_state last)
-        → IsPutAway (state over_files last) what → Answered d new ends first question told what
+        → IsPutAway (state over_files last) what → AnswersQuestion d new ends first question told what
     asked_goes_on desk last question told found asked runs answers put = record {
       needs_reopen = (desk_state last).needs_reopen;
       goes = goes_to new first ends was.begins from d (LeadsToVersion question told) desk last
@@ -358,7 +358,7 @@ module _ (law : NextSessions) (image : Image) (new : Point) (first : Placed) (en
     is_answered : (desk last : Desk (FileStore D d) over_files) (question : Question) (told : Told) → IsFound d image first desk
         → IsFalse (desk_state desk).needs_reopen → AsksFor over_files desk question told last
         → AnswersDesk (HasCleanDisk (state over_files last) × ShowsOwn over_files desk) (desk_state desk) question told (desk_state last)
-        → IsPutAway (state over_files last) what → IsAnswered d image new ends first question told what
+        → IsPutAway (state over_files last) what → AnswersOnce d image new ends first question told what
     is_answered desk last (Submit command) told found runs asked answers put =
         asked_goes_on desk last (Submit command) told found (goes_asking _ _ _ _ asked) runs answers put
     is_answered desk last Standings told found runs asked answers put =

@@ -18,25 +18,26 @@ use Rattle.er_desk.specs.{Desk.Point, Opening.{HoldsNothing, LeavesOver, ListsNo
 use Rattle.er_cli.specs.declared.left.{Left.Left, Left.TheVariants.Nothing, NoDesk.NoDesk}
 use Rattle.er_cli.specs.{Left.IsClearedOf, Files.LeavesBeside}
 use Rattle.er_cli.proofs.Leaving.{cleared_such, cleared_clean, cleared_unopened}
-use Rattle.er_cli.specs.{Files.{InitReplies, IsMade, IsNotMade}, Setup.{init_checks, is_setup}}
+use Rattle.er_cli.specs.{Files.{InitReplies, HasMadeEvent, HasMadeNone}, Setup.{init_checks, is_setup}}
 
 -- an event that was made was set up lawfully
 module _ {D : Type 0} (g : disk.Ghosts D) (Spares : Error → Option (Leftover D g) → Type 0) (image : Image) (name : List ℕ)
     (rounds cut : ℕ) where
   pub made_so : (made : Result (Desk (FileStore D g) over_files) (NoDesk D g)) (desk : Desk (FileStore D g) over_files) → made ≡ Ok desk
-      → InitReplies g Spares image name rounds cut made → IsSetUp name rounds cut × IsMade image (new_point name rounds cut) desk
+      → InitReplies g Spares image name rounds cut made → IsSetUp name rounds cut × HasMadeEvent image (new_point name rounds cut) desk
   made_so made desk is = by (first_refusal (init_checks false name rounds cut))
     where
       by : (why : Option Refusal)
           → MatchOption why (IsSetUp name rounds cut
-          × MatchResult made (IsMade image (new_point name rounds cut))
-          (λ it. IsNotMade Spares image (new_point name rounds cut) it.why it.left)) (λ w. made ≡ Err (record { why = w; left = Nothing }))
-          → IsSetUp name rounds cut × IsMade image (new_point name rounds cut) desk
+          × MatchResult made (HasMadeEvent image (new_point name rounds cut))
+          (λ it. HasMadeNone Spares image (new_point name rounds cut) it.why it.left))
+          (λ w. made ≡ Err (record { why = w; left = Nothing }))
+          → IsSetUp name rounds cut × HasMadeEvent image (new_point name rounds cut) desk
       by None (setup, it) = (
         setup,
         subst (λ (m : Result (Desk (FileStore D g) over_files) (NoDesk D g)).
-            MatchResult m (IsMade image (new_point name rounds cut))
-            (λ it. IsNotMade Spares image (new_point name rounds cut) it.why it.left)) is it,
+            MatchResult m (HasMadeEvent image (new_point name rounds cut))
+            (λ it. HasMadeNone Spares image (new_point name rounds cut) it.why it.left)) is it,
       )
       by (Some why) refused = absurd (true≢false (ap is_ok (sym is ∙ refused)))
 
@@ -47,8 +48,8 @@ module _ {D : Type 0} (g : disk.Ghosts D) (Spares : Error → Option (Leftover D
   -- and one that may be set up so is answered as its making has it
   pub lawful_replies : (made : Result (Desk (FileStore D g) over_files) (NoDesk D g)) → is_setup name rounds cut ≡ true
       → IsSetUp name rounds cut
-      → MatchResult made (IsMade image (new_point name rounds cut))
-      (λ it. IsNotMade Spares image (new_point name rounds cut) it.why it.left)
+      → MatchResult made (HasMadeEvent image (new_point name rounds cut))
+      (λ it. HasMadeNone Spares image (new_point name rounds cut) it.why it.left)
       → InitReplies g Spares image name rounds cut made
   lawful_replies made setup set_up is = lawful (is_setup name rounds cut) _ _ setup (set_up, is)
 
@@ -73,7 +74,7 @@ module _ {D : Type 0} {g : disk.Ghosts D} where
       → (HoldsNothing image → OnRefused fault (λ conn. Leaves (file_state conn) (Either ListsNothing (IsStoredIn 2 new.event new.serial))))
       → ((db : Trees) → HoldsDatabase image db → OnRefused fault (λ conn. HasCleanDisk (file_state conn)
       → LeavesOver new db (file_state conn)))
-      → OnUnopened fault Spares → IsNotMade Spares image new why what
+      → OnUnopened fault Spares → HasMadeNone Spares image new why what
   not_made Spares image new fault why what so is cause failed leaves over spared = record {
     cause = subst (λ (w : Refusal). (w ≡ EventExists) ⊎ IsFault w) (sym so) cause;
     unopened = cleared_unopened Spares fault why what so is failed spared;

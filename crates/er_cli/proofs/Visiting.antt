@@ -8,7 +8,7 @@ use Rattle.sqlite.specs.State.{HasCleanDisk}
 use Rattle.er_desk.specs.{declared.desk.Desk.Desk, Asking.Asks, Desk.{DeskState, ShowsOwn, desk_state, state}, Run.Session}
 use Rattle.er_slips.specs.{declared.serve.Served.Served, declared.serve.Served.TheVariants.{Answered, ReadFault, WriteFault}}
 use Rattle.er_slips.specs.Serving.{IsWritten}
-use Rattle.er_cli.specs.{Serving.Connects, Clients.{Got, GetEach, GetsAnswer, GetsLast, IsNext, KnewBefore, ServesKnown}}
+use Rattle.er_cli.specs.{Serving.Connects, Clients.{Got, GetEach, GetsAnswer, GetsLast, IsNextClient, KnewBefore, ServesKnown}}
 use Rattle.er_cli.specs.Clients.{ServesSome, tells}
 
 -- ---- one client
@@ -32,7 +32,7 @@ module _ {S : Type 0} (g : Ghosts S) (old new : Desk S g) (session : Session)
     (connects : Connects (desk_state old) session (desk_state new)) where
   -- the next client was served
   serves_next : (inputs : List (List ℕ)) (before all : List Got) (reads wrote after : Option (List ℕ)) (was r w : Bool) (served : Served)
-      (coming then : Option (List (List ℕ))) → IsNext inputs reads wrote was coming
+      (coming then : Option (List (List ℕ))) → IsNextClient inputs reads wrote was coming
       → IfSome reads (λ input. IsFalse (desk_state old).needs_reopen → HasCleanDisk (state g new) × ShowsOwn g old
       → IsWritten (desk_state old) input wrote after served)
       → tells r w served ≡ true → then ≡ coming → GetsLast (Some before) after (r || w) (Some all)
@@ -61,7 +61,7 @@ module _ {S : Type 0} (g : Ghosts S) (old new : Desk S g) (session : Session)
       }
 
   pub known_next : (a : Option (List (List ℕ))) (b : Option (List Got)) (reads wrote after : Option (List ℕ)) (was r w : Bool) (served : Served)
-      (coming then : Option (List (List ℕ))) (got : Option (List Got)) → IfSome a (λ inputs. IsNext inputs reads wrote was coming)
+      (coming then : Option (List (List ℕ))) (got : Option (List Got)) → IfSome a (λ inputs. IsNextClient inputs reads wrote was coming)
       → IfSome reads (λ input. IsFalse (desk_state old).needs_reopen → HasCleanDisk (state g new) × ShowsOwn g old
       → IsWritten (desk_state old) input wrote after served)
       → tells r w served ≡ true → then ≡ coming → GetsLast b after (r || w) got → ServesKnown g 1 a b old then got new

@@ -17,8 +17,8 @@ pub record Got : Type 0 where
   pub failed : Bool
 
 -- The next client came: it sends the first of these inputs, has got nothing, and its connection is whole.
-abbrev pub IsNext : List (List ℕ) → (reads wrote : Option (List ℕ)) → (failed : Bool) → (coming : Option (List (List ℕ))) → Type 0
-IsNext inputs reads wrote failed coming =
+abbrev pub IsNextClient : List (List ℕ) → (reads wrote : Option (List ℕ)) → (failed : Bool) → (coming : Option (List (List ℕ))) → Type 0
+IsNextClient inputs reads wrote failed coming =
     (input : List ℕ) × (rest : List (List ℕ)) × (inputs ≡ input ∷ rest) × (reads ≡ Some input) × (wrote ≡ Some []) × (failed ≡ false)
     × (coming ≡ Some rest)
 

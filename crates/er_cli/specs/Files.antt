@@ -73,7 +73,8 @@ pub record SeesFile {D : Type 0} {g : disk.Ghosts D} (image : Image) (desk : Des
 
 -- The desk of an event that was just made. In a file that held nothing its tables stand alone and represent that event, and a crash
 -- leaves just that. In any other the event's tables are there beside what it held.
-pub record IsMade {D : Type 0} {g : disk.Ghosts D} (image : Image) (new : Point) (desk : Desk (FileStore D g) over_files) : Type 0 where
+pub record HasMadeEvent {D : Type 0} {g : disk.Ghosts D} (image : Image) (new : Point) (desk : Desk (FileStore D g) over_files)
+    : Type 0 where
   pub is_new : desk_state desk ≡ running_at new 2
   pub alone : HoldsNothing image → HasCleanDisk (state over_files desk) → (state over_files desk).now.schema ≡ alone_schema 2
   pub represents : HoldsNothing image → HasCleanDisk (state over_files desk) → ShowsOwn over_files desk
@@ -89,7 +90,7 @@ pub record LeavesBeside {D : Type 0} {g : disk.Ghosts D} (new : Point) (held : T
 
 -- No event was made: the file has one, or memory or the store fails. Of a file that held nothing, nothing is left then, or that event
 -- whole; of any other what it held, alone or with the event's tables beside it.
-pub record IsNotMade {D : Type 0} {g : disk.Ghosts D} (Spares : Error → Option (Leftover D g) → Type 0) (image : Image) (new : Point)
+pub record HasMadeNone {D : Type 0} {g : disk.Ghosts D} (Spares : Error → Option (Leftover D g) → Type 0) (image : Image) (new : Point)
     (why : Refusal) (what : Left D g) : Type 0 where
   pub cause : (why ≡ EventExists) ⊎ IsFault why
   pub unopened : IfUnopened Spares why what
@@ -102,7 +103,8 @@ abbrev pub InitReplies : {D : Type 0} (g : disk.Ghosts D) → (Error → Option 
 InitReplies g Spares image name rounds cut made =
     MatchOption (first_refusal (init_checks false name rounds cut))
     (IsSetUp name rounds cut
-    × MatchResult made (IsMade image (new_point name rounds cut)) (λ it. IsNotMade Spares image (new_point name rounds cut) it.why it.left))
+    × MatchResult made (HasMadeEvent image (new_point name rounds cut))
+    (λ it. HasMadeNone Spares image (new_point name rounds cut) it.why it.left))
     (λ why. made ≡ Err (record { why = why; left = Nothing }))
 
 -- clients were served, or the port can't be had, or memory was wanting before anybody was listened to
@@ -143,8 +145,8 @@ module _ {D : Type 0} (g : disk.Ghosts D) (Spares : Error → Option (Leftover D
     (p : Printed) where
   -- An event was made, and its file put away; or why it was not. In a file that held nothing this begins the empty history,
   -- with which the next command line goes on.
-  abbrev pub Makes : List ℕ → ℕ → ℕ → Type 0
-  Makes name rounds cut =
+  abbrev pub MakesEvent : List ℕ → ℕ → ℕ → Type 0
+  MakesEvent name rounds cut =
       (made : Result (Desk (FileStore D g) over_files) (NoDesk D g))
       × InitReplies g Spares image name rounds cut made
       × MatchResult made
@@ -156,7 +158,7 @@ module _ {D : Type 0} (g : disk.Ghosts D) (Spares : Error → Option (Leftover D
   -- What a command line does to the output and the errors and leaves of the file, and its status. An event is opened by a desk over such
   -- files.
   abbrev pub EndsLine : Action → Type 0
-  EndsLine (Init name rounds cut) = Makes name rounds cut
+  EndsLine (Init name rounds cut) = MakesEvent name rounds cut
   EndsLine (Open task) =
       ((told : Told) × IsNotThere what told × Tells told p)
       ⊎ ((told : Told) × IsNotOpened Spares image what told × Tells told p)

@@ -48,7 +48,7 @@ LeadsToVersion Migrate (Refused why) was now = (now ≡ was) ⊎ (now ≡ 2)
 LeadsToVersion question told was now = now ≡ was
 
 -- The event was opened, its desk was asked, and what is left is its file, put away then.
-pub record Answered {D : Type 0} (d : disk.Ghosts D) (new : Point) (ends : List Ended) (first : Placed) (question : Question)
+pub record AnswersQuestion {D : Type 0} (d : disk.Ghosts D) (new : Point) (ends : List Ended) (first : Placed) (question : Question)
     (told : Told) (what : Left D d) : Type 0 where
   -- whether a fault of the store is behind
   pub needs_reopen : Bool
@@ -62,7 +62,7 @@ pub record Answered {D : Type 0} (d : disk.Ghosts D) (new : Point) (ends : List 
 
 -- The event was opened, its desk was asked one command after the other, and what is left is its file, put away then. `Did` says of the desk
 -- at the beginning, the session and the desk at the end what they were, and what was printed.
-pub record Handed {D : Type 0} (d : disk.Ghosts D) (new : Point) (ends : List Ended) (first : Placed)
+pub record TakesCommands {D : Type 0} (d : disk.Ghosts D) (new : Point) (ends : List Ended) (first : Placed)
     (Did : DeskState → Session → DeskState → Type 0) (what : Left D d) : Type 0 where
   pub session : Session
   pub goes : GoesTo d (λ version. version ≡ first.version) new ends session what
@@ -70,20 +70,20 @@ pub record Handed {D : Type 0} (d : disk.Ghosts D) (new : Point) (ends : List En
   pub did : IfClean ((last : DeskState) × Did (running_at first.point first.version) session last) what
 
 -- the tables that the file held are of version 2, or stand alone in it
-pub record MayMove (image : Image) (point : Point) : Type 0 where
+pub record MayMoveTables (image : Image) (point : Point) : Type 0 where
   pub db : Trees
   pub holds : HoldsDatabase image db
   pub alone : (schema : Schema) → IsSound schema db → RepresentsAt Old (record { schema = schema; trees = db }) point.event point.serial
       → StandsAlone schema
 
 -- it was answered so; to a migration, where the tables may be migrated
-abbrev pub IsAnswered : {D : Type 0} (d : disk.Ghosts D) → Image → Point → List Ended → Placed → Question → Told → Left D d → Type 0
-IsAnswered d image new ends first Migrate told what = MayMove image first.point → Answered d new ends first Migrate told what
-IsAnswered d image new ends first question told what = Answered d new ends first question told what
+abbrev pub AnswersOnce : {D : Type 0} (d : disk.Ghosts D) → Image → Point → List Ended → Placed → Question → Told → Left D d → Type 0
+AnswersOnce d image new ends first Migrate told what = MayMoveTables image first.point → AnswersQuestion d new ends first Migrate told what
+AnswersOnce d image new ends first question told what = AnswersQuestion d new ends first question told what
 
 -- The event was not opened, for memory or by the device. Nothing was asked, and what is left is what the history left.
-pub record Unopened {D : Type 0} (d : disk.Ghosts D) (Spares : Error → Option (Leftover D d) → Type 0) (new : Point) (ends : List Ended)
-    (first : Placed) (told : Told) (what : Left D d) : Type 0 where
+pub record StaysUnopened {D : Type 0} (d : disk.Ghosts D) (Spares : Error → Option (Leftover D d) → Type 0) (new : Point)
+    (ends : List Ended) (first : Placed) (told : Told) (what : Left D d) : Type 0 where
   pub why : Refusal
   pub answered : told ≡ Refused why
   pub fault : IfClean (IsFault why) what
@@ -97,14 +97,14 @@ module _ {D : Type 0} (d : disk.Ghosts D) (Spares : Error → Option (Leftover D
     (first : Placed) (what : Left D d) (p : Printed) where
   -- one request with its answer; the names of a list; or the scores that clients handed in
   abbrev pub DoesNext : Task → Type 0
-  DoesNext (Ask question) = (told : Told) × IsAnswered d image new ends first question told what × Tells told p
+  DoesNext (Ask question) = (told : Told) × AnswersOnce d image new ends first question told what × Tells told p
   DoesNext (Import list) =
-      Handed d new ends first (Imports p) what
-  DoesNext (Serve port count) = Handed d new ends first (ServesClients p count) what
+      TakesCommands d new ends first (Imports p) what
+  DoesNext (Serve port count) = TakesCommands d new ends first (ServesClients p count) what
 
   -- or the event was not opened, and why is told
   abbrev pub GoesOn : Task → Type 0
-  GoesOn task = ((told : Told) × Unopened d Spares new ends first told what × Tells told p)
+  GoesOn task = ((told : Told) × StaysUnopened d Spares new ends first told what × Tells told p)
       ⊎ DoesNext task
 
   -- of a file that may not be there

@@ -2,9 +2,9 @@
 -- serving and importing do.
 --
 -- Action is what a line has done; Files is a command line over a file, Left what is left of that, and Help
--- one over none. Script and Input are a script and its lines, Status how it ends. Importing is a list of players, Again one that is imported
--- again, Serving the clients of a listener. Texts says what a writer holds after an answer, Setup what an event is set up with, and Complaints what a
--- person is told of words that are no line. GoingOn is a command line over the file that a history
+-- one over none. Script and Input are a script and its lines, Status how it ends. Importing is a list of players, Again one
+-- that is imported again, Serving the clients of a listener. Texts says what a writer holds after an answer, Setup what an
+-- event is set up with, and Complaints what a person is told of words that are no line. GoingOn is a command line over the file that a history
 -- left, and Next what it leaves there.
 --
 -- What private functions alone cite lies in `inside`.

@@ -26,7 +26,7 @@ use Rattle.er_answers.specs.Answers.{AnswersDesk, AsksFor, session_at}
 use Rattle.er_answers.specs.declared.question.Question.{Question}
 use Rattle.er_answers.specs.declared.question.Question.TheVariants.{Migrate}
 use Rattle.er_answers.specs.declared.question.Told.{Told}
-use Rattle.er_cli.specs.GoingOn.{LeadsToVersion, MayMove}
+use Rattle.er_cli.specs.GoingOn.{LeadsToVersion, MayMoveTables}
 use Rattle.er_cli.specs.Left.{IfClean, IfUnopened, IsPutAway}
 use Rattle.er_cli.specs.Next.{IsLeftBy, WasLeftIn, WasPutAway}
 use Rattle.er_cli.specs.declared.left.Left.{Left}
@@ -127,7 +127,7 @@ pub record HoldsNext {D : Type 0} (d : disk.Ghosts D) (new : Point) (ends : List
 
 -- where a migration is among the requests, the file's tables may be migrated
 abbrev pub MayMoveFor : Image → Placed → List Question → Type 0
-MayMoveFor image first questions = AsksMigration questions → MayMove image first.point
+MayMoveFor image first questions = AsksMigration questions → MayMoveTables image first.point
 
 -- ---- many
 

@@ -11,14 +11,14 @@ use Rattle.er_cli.specs.Input.{lines_of}
 use Rattle.er_cli.specs.Script.{Prints, PrintsPart}
 
 -- the whole input was run as a script, and its answers were printed
-pub record Serves (input before after : Option (List ℕ)) : Type 0 where
+pub record RunsScript (input before after : Option (List ℕ)) : Type 0 where
   pub script : List ℕ
   pub whole : IfSome input (λ all. script ≡ all)
   pub small : length script ≤ MAX_SCRIPT_BYTES
   pub prints : Prints (lines_of script) before after
 
 -- the whole input was read as a script, and a write or the flush failed
-pub record ServesPart (input before after : Option (List ℕ)) : Type 0 where
+pub record RunsScriptPart (input before after : Option (List ℕ)) : Type 0 where
   pub script : List ℕ
   pub whole : IfSome input (λ all. script ≡ all)
   pub small : length script ≤ MAX_SCRIPT_BYTES
@@ -32,13 +32,13 @@ IsTooLong input = IfSome input (λ all. MAX_SCRIPT_BYTES < length all)
 abbrev pub Breaks : (input before after : Option (List ℕ)) → Type 0
 Breaks input before after =
     Keeps before after
-    ⊎ ServesPart input before after
+    ⊎ RunsScriptPart input before after
     ⊎ (IsTooLong input × AppendsPart before after (answer_text Usage))
     ⊎ AppendsPart before after (told_text (Refused Memory))
 
 -- the bytes that the reader had left, those that the writer held before and holds now, and the status
-pub record Ends (input before after : Option (List ℕ)) (status : ℕ) : Type 0 where
-  pub done : status ≡ DONE → Serves input before after
+pub record EndsScript (input before after : Option (List ℕ)) (status : ℕ) : Type 0 where
+  pub done : status ≡ DONE → RunsScript input before after
   pub too_long : status ≡ USAGE → IsTooLong input × Appends before after (answer_text Usage)
   pub device : status ≡ DEVICE → Breaks input before after
   pub memory : status ≡ MEMORY → Appends before after (told_text (Refused Memory))

@@ -1,7 +1,7 @@
 ghost use Rattle.std.specs.Prelude.{◌≡◌, ◌||◌, List, ℕ, Option, None, Some, false, IfOk, IfSome, MatchOption, MatchResult, is_err};
 ghost use Rattle.std.specs.Io.{ReadsAtMost, WritesAtMost};
 ghost use Rattle.std.specs.Io.KnownBytes.{ReadConsumes, WriteAppends, Keeps};
-ghost use Rattle.er_cli.specs.Clients.{Got, IsNext, GetsLast, tells};
+ghost use Rattle.er_cli.specs.Clients.{Got, IsNextClient, GetsLast, tells};
 
 use crate::client::Client;
 use er_slips::Served;
@@ -137,7 +137,7 @@ pub trait Clients {
     /// Takes the next client. None where nothing can be done with its connection, so that it counts as gone.
     fn accept(&mut self) -> Result<Option<Visit<Self::Reader, Self::Writer>>, AcceptFault>
         ensures comes { IfSome (coming self.old) (λ inputs. MatchResult result
-            (λ given. MatchOption given ⊥ (λ visit. IsNext inputs (Self.Reader.remaining visit.reader.stream)
+            (λ given. MatchOption given ⊥ (λ visit. IsNextClient inputs (Self.Reader.remaining visit.reader.stream)
             (Self.Writer.contents visit.writer.stream) (visit.reader.has_failed || visit.writer.has_failed)
             (coming self.new)))
             (λ _. coming self.new ≡ coming self.old)) }

@@ -15,7 +15,7 @@ ghost use Rattle.er_cli.specs.declared.action.Action.TheVariants.{Open};
 ghost use Rattle.er_cli.specs.Action.{action_of};
 ghost use Rattle.er_store.specs.Fault.{IsFault};
 ghost use Rattle.er_cli.specs.Left.{IsPutAway};
-ghost use Rattle.er_cli.specs.Files.{Does, EndsLine, InitReplies, IsMade, IsNotMade, IsOpened, Makes, OpensFor, ServesClients};
+ghost use Rattle.er_cli.specs.Files.{Does, EndsLine, InitReplies, HasMadeEvent, HasMadeNone, IsOpened, MakesEvent, OpensFor, ServesClients};
 ghost use Rattle.er_cli.specs.Help.{Tells, printed};
 
 use crate::action::{Action, Task, file_and_action};
@@ -61,8 +61,8 @@ fn create<S: Start>(
     start: S,
 ) -> Result<Desk<FileStore<FileFrom<S>>>, NoDesk<FileFrom<S>>>
     requires limits { AreLimits rounds cut }
-    ensures { MatchResult result (IsMade (image_at S.Start) (new_point name rounds cut))
-        (λ it. IsNotMade IsSpared (image_at S.Start) (new_point name rounds cut) it.why it.left) }
+    ensures { MatchResult result (HasMadeEvent (image_at S.Start) (new_point name rounds cut))
+        (λ it. HasMadeNone IsSpared (image_at S.Start) (new_point name rounds cut) it.why it.left) }
 {
     let log = log_to_make(rt, path);
     match er_desk::create_in(rt, path, start, name, rounds, cut) {
@@ -122,7 +122,8 @@ fn make<S: Start, O: Write, E: Write>(
     out: &mut O,
     err: &mut E,
 ) -> Ran<FileFrom<S>>
-    ensures { Makes ⟦<FileFrom<S> as Disk>⟧ IsSpared (image_at S.Start) result.left (printed (O.contents out.old) (O.contents out.new)
+    ensures { MakesEvent ⟦<FileFrom<S> as Disk>⟧ IsSpared (image_at S.Start) result.left
+        (printed (O.contents out.old) (O.contents out.new)
         (E.contents err.old) (E.contents err.new) result.status) name.now rounds cut }
 {
     // What is begun here is the history that the next command line goes on with: this tells the proof.
@@ -245,7 +246,8 @@ fn open<S: Start, O: Write, E: Write>(
     out: &mut O,
     err: &mut E,
 ) -> Ran<FileFrom<S>>
-    ensures ends { EndsLine ⟦<FileFrom<S> as Disk>⟧ IsSpared (image_at S.Start) result.left (printed (O.contents out.old) (O.contents out.new)
+    ensures ends { EndsLine ⟦<FileFrom<S> as Disk>⟧ IsSpared (image_at S.Start) result.left
+        (printed (O.contents out.old) (O.contents out.new)
         (E.contents err.old) (E.contents err.new) result.status) (Open task) }
     // Of a file that a history left, the history goes on with what the desk is asked.
     ensures goes_on { GoesOnTask ⟦<FileFrom<S> as Disk>⟧ IsSpared (image_at S.Start) task result.left
@@ -269,7 +271,8 @@ pub fn run_line<S: Start, O: Write, E: Write>(
     out: &mut O,
     err: &mut E,
 ) -> Ran<FileFrom<S>>
-    ensures ends { EndsLine ⟦<FileFrom<S> as Disk>⟧ IsSpared (image_at S.Start) result.left (printed (O.contents out.old) (O.contents out.new)
+    ensures ends { EndsLine ⟦<FileFrom<S> as Disk>⟧ IsSpared (image_at S.Start) result.left
+        (printed (O.contents out.old) (O.contents out.new)
         (E.contents err.old) (E.contents err.new) result.status) (action_of line) }
     // Of a file that a history left, the history goes on with what the desk is asked, or the system says that it isn't there.
     ensures goes_on { GoesOnAction ⟦<FileFrom<S> as Disk>⟧ IsSpared (image_at S.Start) (action_of line)

@@ -12,7 +12,7 @@ ghost use Rattle.er_cli.specs.Words.{EndsWords};
 ghost use Rattle.er_cli.specs.declared.help.TheConstants.{AWAITING};
 ghost use Rattle.er_cli.specs.Help.{PutsText, Tells, printed, refusal_status, stream, text_for};
 ghost use Rattle.er_words.specs.Usage.{fault_of};
-ghost use Rattle.er_cli.specs.Status.{Ends, Breaks};
+ghost use Rattle.er_cli.specs.Status.{EndsScript, Breaks};
 ghost use Rattle.er_cli.specs.inside.Unread.{EndsUnread, UnreadPart};
 
 mod action;
@@ -85,7 +85,7 @@ fn answer_script<R: Read, W: Write>(
     reader: &mut R,
     writer: &mut W,
 ) -> Result<u8, WriteFault>
-    ensures ends { IfOk result (Ends (R.remaining reader.old) (W.contents writer.old)
+    ensures ends { IfOk result (EndsScript (R.remaining reader.old) (W.contents writer.old)
         (W.contents writer.new)) }
     ensures part { OnErr result (Breaks (R.remaining reader.old) (W.contents writer.old)
         (W.contents writer.new)) }
@@ -104,7 +104,7 @@ fn answer_script<R: Read, W: Write>(
 /// Runs a script on one event in memory, prints the answer to each line, and gives the status to end with. Each answer is one write, where
 /// the writer takes it whole, and the writer is flushed at the end.
 pub fn run_script<R: Read, W: Write>(rt: &HostRuntime, reader: &mut R, writer: &mut W) -> u8
-    ensures { Ends (R.remaining reader.old) (W.contents writer.old) (W.contents writer.new) result }
+    ensures { EndsScript (R.remaining reader.old) (W.contents writer.old) (W.contents writer.new) result }
 {
     let Ok(status) = answer_script(rt.alloc(), reader, writer) else {
         return DEVICE;

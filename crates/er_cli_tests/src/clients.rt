@@ -1,7 +1,7 @@
 //! Clients in memory, who tell what they send and what they got.
 ghost use Rattle.std.specs.Prelude.{◌≡◌, ◌||◌, ◌∷◌, ◌++◌, [], List, ℕ, Option, Some, None, map, IfSome, MatchOption, MatchResult};
 ghost use Rattle.std.specs.Option.{option_map};
-ghost use Rattle.er_cli.specs.Clients.{Got, IsNext, GetsLast};
+ghost use Rattle.er_cli.specs.Clients.{Got, IsNextClient, GetsLast};
 
 use er_cli::{AcceptFault, Clients, Visit, serve_all};
 use er_slips::Routes;
@@ -46,7 +46,7 @@ impl Clients for Queue {
 
     fn accept(&mut self) -> Result<Option<Visit<VecDeque<u8>, Vec<u8>>>, AcceptFault>
         ensures comes { MatchResult result
-            (λ given. MatchOption given ⊥ (λ visit. IsNext (map (λ input. input.items) self.old.coming.items)
+            (λ given. MatchOption given ⊥ (λ visit. IsNextClient (map (λ input. input.items) self.old.coming.items)
             (Some visit.reader.stream.items) (Some visit.writer.stream.items)
             (visit.reader.has_failed || visit.writer.has_failed)
             (Some (map (λ input. input.items) self.new.coming.items))))

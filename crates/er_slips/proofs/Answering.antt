@@ -24,7 +24,7 @@ use Rattle.er_slips.specs.declared.request.wanted.NoRequest.TheVariants as no_re
 use Rattle.er_slips.specs.{declared.request.Next.Next, declared.request.Next.TheVariants.{Get, Body}}
 use Rattle.er_slips.specs.declared.request.wanted.Fault.TheVariants.{BadRequest}
 use Rattle.er_slips.specs.{declared.serve.Served.Served, declared.serve.Served.TheVariants.{Answered, ReadFault, WriteFault}}
-use Rattle.er_slips.specs.{Request.{Asks, headed, headless, IsWhole, next_of, asked_with, reported}}
+use Rattle.er_slips.specs.{Request.{IsRequest, headed, headless, IsWholeRequest, next_of, asked_with, reported}}
 use Rattle.er_slips.specs.{inside.Telling.TellsRequest}
 use Rattle.er_slips.specs.declared.answer.Answer.{Answer}
 use Rattle.er_slips.specs.Answer.{AnswerValue, IsMessage, answer_value, fault_answer, refusal_answer, status_of}
@@ -57,11 +57,11 @@ module _ (Represented : Type 0) (input : Option (List ℕ)) (old : DeskState) (s
       → EndsServing Represented input old session new before after served
   ends h1 wrote due = grind (arith, common_steps)
 
-  asks : (i : Option (List ℕ)) (asked : Request) → IfSome i (λ xs. TellsRequest xs (Ok asked)) → IfSome i (λ xs. Asks xs (Ok asked))
+  asks : (i : Option (List ℕ)) (asked : Request) → IfSome i (λ xs. TellsRequest xs (Ok asked)) → IfSome i (λ xs. IsRequest xs (Ok asked))
   asks h1 asked told = grind (arith, common_steps)
 
   asks-fault : (i : Option (List ℕ)) (fault : Fault) → IfSome i (λ xs. TellsRequest xs (Err (Refused fault)))
-      → IfSome i (λ xs. Asks xs (Err fault))
+      → IfSome i (λ xs. IsRequest xs (Err fault))
   asks-fault h1 fault told = grind (arith, common_steps)
 
   pub ends-asked : (served : Served) (asked : Request) → IfSome input (λ xs. TellsRequest xs (Ok asked))
@@ -110,15 +110,15 @@ there round table n rest asked e = by (nat_lt (length rest) n) refl e
 
 module _ (old : DeskState) (session : Session) (new : DeskState) (input : List ℕ) (answer : AnswerValue)
     (runs : IsFalse old.needs_reopen) where
-  exact : (asked : Result Request Fault) → Asks input asked → IsAnswered old.event old.serial asked answer
+  exact : (asked : Result Request Fault) → IsRequest input asked → IsAnswered old.event old.serial asked answer
       → IsAnswerUnless503 old.event old.serial input answer
   exact asked is answered = inl (submitted asked, record { asked = asked; asks = is; answered = answered; command = refl })
 
   -- something is asked for by a whole request alone
-  whole : (asked : Request) → Asks input (Ok asked) → (next : Next) × IsWhole input next
+  whole : (asked : Request) → IsRequest input (Ok asked) → (next : Next) × IsWholeRequest input next
   whole asked (headed head rest is e) = by (next_of head) refl e
     where
-      by : (due : Result Next Fault) → next_of head ≡ due → Ok asked ≡ asked_with due rest → (next : Next) × IsWhole input next
+      by : (due : Result Next Fault) → next_of head ≡ due → Ok asked ≡ asked_with due rest → (next : Next) × IsWholeRequest input next
       by (Err fault) of e = absurd (true≢false (ap is_ok e))
       by (Ok (Get it)) of e = (Get it, record { head = head; rest = rest; heads = is; passes = of; body = tt })
       by (Ok (Body round table n)) of e = (
@@ -133,7 +133,7 @@ module _ (old : DeskState) (session : Session) (new : DeskState) (input : List �
       )
   whole asked (headless so e) = absurd (true≢false (ap is_ok e))
 
-  module _ (asked : Request) (of : Asks input (Ok asked)) where
+  module _ (asked : Request) (of : IsRequest input (Ok asked)) where
     hindered : (why : Refusal) → status_of why ≡ 503 → answer ≡ refusal_answer why → IsAnswerUnless503 old.event old.serial input answer
     hindered why is same = (let request = whole asked of in inr (ap (λ (a : AnswerValue). a.status) same ∙ is, request.0, request.1))
 
@@ -160,7 +160,7 @@ module _ (old : DeskState) (session : Session) (new : DeskState) (input : List �
     told_or_fault told (inl due) message = due_told told due message
     told_or_fault told (inr (why, fault, is)) message = fault_told told why fault is message
 
-  module _ (round table : ℕ) (score : Games) (of : Asks input (Ok (Report round table score))) where
+  module _ (round table : ℕ) (score : Games) (of : IsRequest input (Ok (Report round table score))) where
     -- a score is never late
     in_time : (reply : Reply) → IsDue old.version old.event old.serial (Hand round table score) reply
         → IsDue 2 old.event old.serial (Hand round table score) reply
@@ -176,7 +176,7 @@ module _ (old : DeskState) (session : Session) (new : DeskState) (input : List �
     reply_by told reply (inr (inr (due, why, fault, failed))) is message =
         fault_told (Report round table score) of told why fault (is ∙ ap reply_told failed) message
 
-  answered_at : (asked : Request) → Asks input (Ok asked) → (told : Told)
+  answered_at : (asked : Request) → IsRequest input (Ok asked) → (told : Told)
       → IsAnswerAt old.version (point_of old) (question_of asked) told → IsMessage told answer
       → IsAnswerUnless503 old.event old.serial input answer
   answered_at Standings of told it message = told_or_fault Standings of told it message
@@ -184,7 +184,7 @@ module _ (old : DeskState) (session : Session) (new : DeskState) (input : List �
   answered_at (Slip round table) of told it message = told_or_fault (Slip round table) of told it message
   answered_at (Report round table score) of told (reply, lawful, is) message = reply_by round table score of told reply lawful is message
 
-  answered-by : (Represented : Type 0) → Represented → (asked : Result Request Fault) → Asks input asked
+  answered-by : (Represented : Type 0) → Represented → (asked : Result Request Fault) → IsRequest input asked
       → AnswersRequest Represented old asked answer session new
       → IsAnswerUnless503 old.event old.serial input answer
   answered-by Represented represented (Err fault) is answers = exact (Err fault) is answers.0

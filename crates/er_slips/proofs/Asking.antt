@@ -12,7 +12,7 @@ use Rattle.er_slips.specs.{declared.request.head.Head.Head, declared.request.hea
 use Rattle.er_slips.specs.{declared.request.wanted.Fault.Fault, declared.request.Next.Next, declared.request.Next.TheVariants.{Get, Body}}
 use Rattle.er_slips.specs.{declared.request.wanted.Request.Request, declared.request.wanted.NoRequest.NoRequest}
 use Rattle.er_slips.specs.{declared.request.wanted.Fault.TheVariants.BadRequest, declared.request.head.TheConstants.MAX_HEAD}
-use Rattle.er_slips.specs.{Head.{IsHead}, Request.{path_of, next_of, asked_with, asked_of, reported, Asks, headed, IsWhole}}
+use Rattle.er_slips.specs.{Head.{IsHead}, Request.{path_of, next_of, asked_with, asked_of, reported, IsRequest, headed, IsWholeRequest}}
 use Rattle.er_slips.specs.inside.{Scan.{IfFound, ShowsHead}, Telling.{IsDueUnlessMemory, TellsRequest}}
 use Rattle.er_slips.specs.declared.request.wanted.NoRequest.TheVariants as no_request
 
@@ -70,21 +70,21 @@ module _ (input after : Option (List ℕ)) (bytes : List ℕ) (headers : List He
 
   -- what it asks for, by what its head says
   pub asks-by : (result : Result Request Fault) → ((xs : List ℕ) → input ≡ Some xs → result ≡ asked_of shows.head (drop spans.len xs))
-      → IfSome input (λ xs. Asks xs result)
-  asks-by result is = of-head (λ xs. Asks xs result) (λ xs e head. headed shows.head (drop spans.len xs) head (is xs e))
+      → IfSome input (λ xs. IsRequest xs result)
+  asks-by result is = of-head (λ xs. IsRequest xs result) (λ xs e head. headed shows.head (drop spans.len xs) head (is xs e))
 
-  pub asks-get : (asked : Request) → next_of shows.head ≡ Ok (Get asked) → IfSome input (λ xs. Asks xs (Ok asked))
+  pub asks-get : (asked : Request) → next_of shows.head ≡ Ok (Get asked) → IfSome input (λ xs. IsRequest xs (Ok asked))
   asks-get asked e = asks-by (Ok asked) (λ xs is. ap (λ n. asked_with n (drop spans.len xs)) (sym e))
 
-  pub asks-fault : (fault : Fault) → next_of shows.head ≡ Err fault → IfSome input (λ xs. Asks xs (Err fault))
+  pub asks-fault : (fault : Fault) → next_of shows.head ≡ Err fault → IfSome input (λ xs. IsRequest xs (Err fault))
   asks-fault fault e = asks-by (Err fault) (λ xs is. ap (λ n. asked_with n (drop spans.len xs)) (sym e))
 
   -- ---- with a body
 
   tells-asked : (xs : List ℕ) (due : Result Request Fault) (r : Result Request NoRequest) → IsDueUnlessMemory due r
-      → (round table n : ℕ) × IsWhole xs (Body round table n) → Asks xs due → TellsRequest xs r
-  tells-asked xs due (Ok asked) t body is = subst (Asks xs) t is
-  tells-asked xs due (Err (no_request.Refused fault)) t body is = subst (Asks xs) t is
+      → (round table n : ℕ) × IsWholeRequest xs (Body round table n) → IsRequest xs due → TellsRequest xs r
+  tells-asked xs due (Ok asked) t body is = subst (IsRequest xs) t is
+  tells-asked xs due (Err (no_request.Refused fault)) t body is = subst (IsRequest xs) t is
   tells-asked xs due (Err no_request.Memory) t body is = body
   tells-asked xs due (Err no_request.Unread) t body is = absurd t
 
@@ -128,7 +128,7 @@ module _ (input after : Option (List ℕ)) (bytes : List ℕ) (headers : List He
         (round, table, n, record { head = shows.head; rest = drop spans.len xs; heads = head; passes = is-next; body = whole })
         (headed shows.head (drop spans.len xs) head asked))
 
-    pub asks-short : spans.len ≤ count → count < spans.len + n → IsAtEnd later → IfSome input (λ xs. Asks xs (Err BadRequest))
+    pub asks-short : spans.len ≤ count → count < spans.len + n → IsAtEnd later → IfSome input (λ xs. IsRequest xs (Err BadRequest))
     asks-short past few-came ended = asks-by (Err BadRequest) (λ xs is.
         let more = behind xs later (take count buf) (subst (λ i. Consumes i later (take count buf)) is came-on) in
         let all : xs ≡ take count buf = more.1 ∙ ap (λ ys. take count buf ++ ys) (more.2 ended) ∙ append-nil (take count buf) in

@@ -5,12 +5,12 @@ use Rattle.std.proofs.{lemmas.Fmt.IsAscii-from_digits, lemmas.Str.IsUtf8-from_as
 use Rattle.std.proofs.lemmas.Str.Parse.{IsNumeralModel, numerals_by_value, parse_digits, digits_value_short}
 use Rattle.std.specs.{Char.is_ascii_digit, List.list_all, Str.IsUtf8, Str.Parse.{digits_value, ParsesUnsigned}, Result.result_ok}
 use Rattle.er_slips.specs.{declared.request.fields.TheConstants.MAX_BODY, declared.request.wanted.Fault.TheVariants.TooLarge}
-use Rattle.er_slips.specs.Request.{number_of, length_of}
+use Rattle.er_slips.specs.Request.{path_number, length_of}
 
 numerals : IsNumeralModel (λ word. list_all is_ascii_digit word ≡ true) (digits_value 10)
 numerals = grind (arith, common_steps, numerals_by_value)
 
-no-digits : (word : List ℕ) → (0 < length word → ⊥) → number_of word ≡ None
+no-digits : (word : List ℕ) → (0 < length word → ⊥) → path_number word ≡ None
 no-digits [] none = refl
 no-digits (c ∷ cs) none = absurd (none (omega arith))
 
@@ -22,11 +22,11 @@ module _ (word : List ℕ) (all : list_all is_ascii_digit word ≡ true) where
     fits : digits_value 10 word < 2 ^ 16
     fits = let small : digits_value 10 word < 10 ^ 3 = digits_value_short numerals word 3 all short in omega arith
 
-    some-digits : 0 < length word → number_of word ≡ Some (digits_value 10 word)
+    some-digits : 0 < length word → path_number word ≡ Some (digits_value 10 word)
     some-digits some = rw (lt-ltb 0 (length word) some, le-leb (length word) 3 short, all) refl
 
     -- what `parse` gives of at most three digits
-    pub number_of-parsed : {E : Type 0} (r : Result ℕ E) → ParsesUnsigned 16 10 word r → result_ok r ≡ number_of word
+    pub number_of-parsed : {E : Type 0} (r : Result ℕ E) → ParsesUnsigned 16 10 word r → result_ok r ≡ path_number word
     number_of-parsed {E} (Ok n) parsed =
         let told = parse_digits numerals {E = E} 16 word (Ok n) parsed all in ap Some told.1 ∙ sym (some-digits told.0.0)
     number_of-parsed {E} (Err e) parsed =

@@ -143,7 +143,8 @@ deleted_nowhere rest = refl
 pub deleted : (rest : List ℕ) → asked_of (head_with (codes "DELETE") (codes "/standings") []) rest ≡ Err (NotAllowed methods.Get)
 deleted rest = refl
 
-pub put_on_a_table : (rest : List ℕ) → asked_of (head_with (codes "PUT") (codes "/rounds/1/tables/1") []) rest ≡ Err (NotAllowed methods.GetAndPost)
+pub put_on_a_table : (rest : List ℕ) → asked_of (head_with (codes "PUT") (codes "/rounds/1/tables/1") []) rest
+    ≡ Err (NotAllowed methods.GetAndPost)
 put_on_a_table rest = refl
 
 pub not_stored : (rest : List ℕ) → asked_of (head_with (codes "GET") (codes "/rounds/9") []) rest ≡ Ok (Pairings 9)

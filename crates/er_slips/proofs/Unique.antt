@@ -1,7 +1,8 @@
 -- A whole input asks for one thing, and has one answer.
 use Rattle.std.proofs.Common.{◌≡◌, inl, inr, List, ℕ, Result, Ok, Err, sym, ap, ap₂, subst, ◌∙◌}
 use Rattle.httparse.proofs.GrammarLemmas.{request_unique}
-use Rattle.er_slips.specs.{declared.request.wanted.Request.Request, declared.request.wanted.Fault.Fault, Request.{Asks, headed, headless}}
+use Rattle.er_slips.specs.declared.request.wanted.{Request.Request, Fault.Fault}
+use Rattle.er_slips.specs.Request.{IsRequest, headed, headless}
 use Rattle.er_slips.specs.Request.{asked_of}
 use Rattle.er_event.specs.declared.commands.Command.{Command}
 use Rattle.er_event.specs.declared.commands.Command.TheVariants.{Result as Hand}
@@ -15,7 +16,7 @@ use Rattle.er_rank.specs.declared.rows.Row.{Row}
 use Rattle.er_answers.specs.{Due.IsDueAt, Question.reply_told, declared.question.{Told.Told, Told.TheVariants.Text}}
 use Rattle.er_slips.specs.{Answer.{AnswerValue, message_of}, Whole.{IsAnswered, OneAnswer, question_of, submitted}}
 
-pub one_asked : (input : List ℕ) (r q : Result Request Fault) → Asks input r → Asks input q → r ≡ q
+pub one_asked : (input : List ℕ) (r q : Result Request Fault) → IsRequest input r → IsRequest input q → r ≡ q
 one_asked input r q (headed h rest is e) (headed k more also f) =
     let same = request_unique input h k rest more is.0 also.0 in
     e ∙ ap₂ asked_of same.0 same.1 ∙ sym f

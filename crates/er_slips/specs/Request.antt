@@ -32,14 +32,14 @@ path_of [] = []
 path_of (b ∷ rest) = if b == 63 then [] else b ∷ path_of rest
 
 -- 1 to 3 digits
-abbrev pub number_of : List ℕ → Option ℕ
-number_of part =
+abbrev pub path_number : List ℕ → Option ℕ
+path_number part =
     if nat_lt 0 (length part) && nat_le (length part) 3 && list_all is_ascii_digit part then Some (digits_value 10 part)
     else None
 
 -- at most 255
-abbrev pub round_of : List ℕ → Option ℕ
-round_of part = option_and_then (λ n. if nat_lt n 256 then Some n else None) (number_of part)
+abbrev pub path_round : List ℕ → Option ℕ
+path_round part = option_and_then (λ n. if nat_lt n 256 then Some n else None) (path_number part)
 
 abbrev pub table_with : Option ℕ → Option ℕ → Option Route
 table_with (Some round) (Some table) = Some (route.Table round table)
@@ -48,10 +48,10 @@ table_with None table = None
 
 -- behind `/rounds/`: a round, or a round, `/tables/` and a table
 abbrev pub round_route : List ℕ → Option Route
-round_route rest = option_map route.Round (round_of (before rest))
+round_route rest = option_map route.Round (path_round (before rest))
 
 abbrev pub table_route : List ℕ → Option Route
-table_route rest = table_with (round_of (before rest)) (number_of (drop 8 (after rest)))
+table_route rest = table_with (path_round (before rest)) (path_number (drop 8 (after rest)))
 
 abbrev pub route_by : List ℕ → Option Pattern → Option Route
 route_by path None = None
@@ -129,9 +129,9 @@ asked_of head rest = asked_with (next_of head) rest
 -- ---- the whole input
 
 -- Asked of a whole input. There is one such answer, since a text has at most one head.
-pub data Asks (input : List ℕ) (result : Result Request Fault) : Type 0 where
-  headed : (head : RequestHead) (rest : List ℕ) → IsHead input head rest → result ≡ asked_of head rest → Asks input result
-  headless : HasNoHead input → result ≡ Err BadRequest → Asks input result
+pub data IsRequest (input : List ℕ) (result : Result Request Fault) : Type 0 where
+  headed : (head : RequestHead) (rest : List ℕ) → IsHead input head rest → result ≡ asked_of head rest → IsRequest input result
+  headless : HasNoHead input → result ≡ Err BadRequest → IsRequest input result
 
 -- behind a head that asks for this, its body is whole; a GET has none
 abbrev pub HasBody : List ℕ → Next → Type 0
@@ -139,7 +139,7 @@ HasBody rest (Get asked) = Unit {0}
 HasBody rest (Body round table n) = n ≤ length rest
 
 -- a head that passes each check, and asks for this, with the whole of its body
-pub record IsWhole (input : List ℕ) (next : Next) : Type 0 where
+pub record IsWholeRequest (input : List ℕ) (next : Next) : Type 0 where
   pub head : RequestHead
   pub rest : List ℕ
   pub heads : IsHead input head rest

@@ -11,7 +11,7 @@ use Rattle.er_rules.specs.Step.{Steps}
 use Rattle.er_rules.specs.Fold.{Folds}
 use Rattle.er_slips.specs.declared.request.wanted.Request.TheVariants.{Report}
 use Rattle.er_slips.specs.Answer.{AnswerValue, refusal_answer}
-use Rattle.er_slips.specs.Request.{Asks}
+use Rattle.er_slips.specs.Request.{IsRequest}
 use Rattle.er_slips.specs.Whole.{IsAnswer}
 
 -- the match of this table is stored with this score
@@ -25,6 +25,6 @@ abbrev pub Retries : Type 0
 Retries = (event next later : EventValue) (more : List Command) (round table : ℕ) (handed : Games)
     → Steps event (Hand round table handed) (Ok next) → Folds next more later
     → (serial : ℕ) (input : List ℕ) (answer : AnswerValue) (submits : Option Command)
-    → Asks input (Ok (Report round table handed)) → IsAnswer later serial input answer submits
+    → IsRequest input (Ok (Report round table handed)) → IsAnswer later serial input answer submits
     → ((stored : Games) × HasScore later round table stored × (answer ≡ refusal_answer (AlreadyReported stored)))
     ⊎ (answer ≡ refusal_answer NotSwiss)

@@ -15,7 +15,7 @@ use Rattle.er_slips.specs.declared.request.wanted.Fault.{Fault}
 use Rattle.er_slips.specs.declared.serve.Served.{Served}
 use Rattle.er_slips.specs.declared.serve.Served.TheVariants.{Answered, ReadFault, WriteFault}
 use Rattle.er_slips.specs.declared.request.Next.TheVariants.{Body}
-use Rattle.er_slips.specs.Request.{Asks, IsWhole}
+use Rattle.er_slips.specs.Request.{IsRequest, IsWholeRequest}
 use Rattle.er_slips.specs.Answer.{AnswerValue, IsMessage, fault_answer, refusal_answer}
 use Rattle.er_slips.specs.Whole.{IsAnswerUnless503, question_of}
 
@@ -30,7 +30,8 @@ AnswersRequest Represented old (Ok request) answer session new =
     × (session ≡ session_at (question_of request) told new.needs_reopen)
 
 -- a desk is asked this, answers so, and its file takes the session
-pub record Answers {S : Type 0} (g : Ghosts S) (old : Desk S g) (asked : Request) (answer : AnswerValue) (new : Desk S g) : Type 0 where
+pub record AnswersAsked {S : Type 0} (g : Ghosts S) (old : Desk S g) (asked : Request) (answer : AnswerValue) (new : Desk S g)
+    : Type 0 where
   pub session : Session
   pub answers : AnswersRequest (HasCleanDisk (state g new) × ShowsOwn g old) (desk_state old) (Ok asked) answer session (desk_state new)
   pub asks : desk.Asks g old session new
@@ -40,12 +41,12 @@ pub record Answers {S : Type 0} (g : Ghosts S) (old : Desk S g) (asked : Request
 -- the desk was asked what the input asks for
 abbrev pub IsServed : Type 0 → Option (List ℕ) → DeskState → AnswerValue → Session → DeskState → Type 0
 IsServed Represented input old answer session new =
-    (asked : Result Request Fault) × IfSome input (λ xs. Asks xs asked) × AnswersRequest Represented old asked answer session new
+    (asked : Result Request Fault) × IfSome input (λ xs. IsRequest xs asked) × AnswersRequest Represented old asked answer session new
 
 -- or memory was wanting for a body, before the desk was asked, and it stays as it is
 abbrev pub IsUnserved : Option (List ℕ) → DeskState → AnswerValue → Session → DeskState → Type 0
 IsUnserved input old answer session new =
-    (answer ≡ refusal_answer Memory) × IfSome input (λ xs. (round table n : ℕ) × IsWhole xs (Body round table n))
+    (answer ≡ refusal_answer Memory) × IfSome input (λ xs. (round table n : ℕ) × IsWholeRequest xs (Body round table n))
     × (session ≡ no_session) × (new ≡ old)
 
 -- what was written of an answer

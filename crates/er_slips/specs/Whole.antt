@@ -13,7 +13,7 @@ use Rattle.er_slips.specs.declared.request.wanted.Request.{Request}
 use Rattle.er_slips.specs.declared.request.wanted.Request.TheVariants.{Standings, Pairings, Slip, Report}
 use Rattle.er_slips.specs.declared.request.wanted.Fault.{Fault}
 use Rattle.er_slips.specs.declared.request.Next.{Next}
-use Rattle.er_slips.specs.Request.{Asks, IsWhole}
+use Rattle.er_slips.specs.Request.{IsRequest, IsWholeRequest}
 use Rattle.er_slips.specs.Answer.{AnswerValue, fault_answer, message_of}
 
 -- what a request asks the desk; a score that is reported is a command
@@ -42,7 +42,7 @@ submitted (Ok request) = command_of (question_of request)
 -- the answer to a whole input, and the command that is submitted for it
 pub record IsAnswer (event : EventValue) (serial : ℕ) (input : List ℕ) (answer : AnswerValue) (submits : Option Command) : Type 0 where
   pub asked : Result Request Fault
-  pub asks : Asks input asked
+  pub asks : IsRequest input asked
   pub answered : IsAnswered event serial asked answer
   pub command : submits ≡ submitted asked
 
@@ -57,4 +57,5 @@ OneAnswer = (event : EventValue) (serial : ℕ) (input : List ℕ) (one other : 
 -- always answered.
 abbrev pub IsAnswerUnless503 : EventValue → ℕ → List ℕ → AnswerValue → Type 0
 IsAnswerUnless503 event serial input answer =
-    ((submits : Option Command) × IsAnswer event serial input answer submits) ⊎ ((answer.status ≡ 503) × (next : Next) × IsWhole input next)
+    ((submits : Option Command) × IsAnswer event serial input answer submits)
+    ⊎ ((answer.status ≡ 503) × (next : Next) × IsWholeRequest input next)

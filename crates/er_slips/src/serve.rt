@@ -2,7 +2,7 @@ ghost use Rattle.std.specs.Prelude.{◌≡◌, IfSome, IsFalse, MatchResult};
 ghost use Rattle.sqlite.specs.State.{HasCleanDisk};
 ghost use Rattle.er_desk.specs.Desk.{ShowsOwn, desk_state, state};
 ghost use Rattle.er_slips.specs.Answer.{IsMessage, answer_value, refusal_answer};
-ghost use Rattle.er_slips.specs.Serving.{Answers, Writes, Serves, IsWritten};
+ghost use Rattle.er_slips.specs.Serving.{AnswersAsked, Writes, Serves, IsWritten};
 
 mod sending;
 
@@ -53,7 +53,7 @@ fn message(alloc: Global, told: &Told) -> Answer
 
 /// What the desk answers. It is asked once.
 fn answer<S: Alter>(alloc: Global, desk: &mut Desk<S>, asked: Request) -> Answer
-    ensures { Answers S.Store desk.old asked (answer_value result) desk.new }
+    ensures { AnswersAsked S.Store desk.old asked (answer_value result) desk.new }
 {
     let question = Question::from(asked);
     let told = ask(alloc, desk, question);

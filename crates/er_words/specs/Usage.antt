@@ -32,11 +32,11 @@ abbrev pub fault_of : List (List ℕ) → Option UsageFault
 fault_of words = fault_at (position is_option words) words
 
 -- The answer to words that are this, if anything, and else have this fault. For any of them memory may run out.
-abbrev pub Reads : {T : Type 0} → Option T → Option UsageFault → Result T LineFault → Type 0
-Reads found fault (Ok it) = (found ≡ Some it) × (fault ≡ None)
-Reads found fault (Err (Usage why)) = (found ≡ None) × (fault ≡ Some why)
-Reads found fault (Err Memory) = Unit {0}
+abbrev pub IsReadAs : {T : Type 0} → Option T → Option UsageFault → Result T LineFault → Type 0
+IsReadAs found fault (Ok it) = (found ≡ Some it) × (fault ≡ None)
+IsReadAs found fault (Err (Usage why)) = (found ≡ None) × (fault ≡ Some why)
+IsReadAs found fault (Err Memory) = Unit {0}
 
 -- words are read as the line that they are
 abbrev pub ReadsWords : List (List ℕ) → Result Line LineFault → Type 0
-ReadsWords words = Reads (line_of words) (fault_of words)
+ReadsWords words = IsReadAs (line_of words) (fault_of words)

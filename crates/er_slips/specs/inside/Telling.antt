@@ -7,13 +7,13 @@ use Rattle.er_slips.specs.declared.request.Next.TheVariants.{Get, Body}
 use Rattle.er_slips.specs.declared.request.wanted.Fault.{Fault}
 use Rattle.er_slips.specs.declared.request.wanted.NoRequest.{NoRequest}
 use Rattle.er_slips.specs.declared.request.wanted.NoRequest.TheVariants as no_request
-use Rattle.er_slips.specs.Request.{Asks, IsWhole}
+use Rattle.er_slips.specs.Request.{IsRequest, IsWholeRequest}
 
 -- memory is wanting only for a body, once it is whole
 abbrev pub TellsRequest : List ℕ → Result Request NoRequest → Type 0
-TellsRequest input (Ok asked) = Asks input (Ok asked)
-TellsRequest input (Err (no_request.Refused fault)) = Asks input (Err fault)
-TellsRequest input (Err no_request.Memory) = (round table n : ℕ) × IsWhole input (Body round table n)
+TellsRequest input (Ok asked) = IsRequest input (Ok asked)
+TellsRequest input (Err (no_request.Refused fault)) = IsRequest input (Err fault)
+TellsRequest input (Err no_request.Memory) = (round table n : ℕ) × IsWholeRequest input (Body round table n)
 TellsRequest input (Err no_request.Unread) = Unit {0}
 
 -- what is due, or want of memory

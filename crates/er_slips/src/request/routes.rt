@@ -1,6 +1,6 @@
 ghost use Rattle.std.specs.Prelude.{◌≡◌, ◌≤◌, IfOk, length, take, drop};
 ghost use Rattle.er_slips.specs.Routes.{before, after, routes, pattern_of};
-ghost use Rattle.er_slips.specs.Request.{path_of, number_of, round_of, round_route, table_route, route_of};
+ghost use Rattle.er_slips.specs.Request.{path_of, path_number, path_round, round_route, table_route, route_of};
 
 use crate::request::numbers::are_digits;
 use matchit::{InsertError, Router};
@@ -108,7 +108,7 @@ fn behind(text: &[u8], count: usize) -> &[u8]
 
 /// The number that 1 to 3 digits are.
 fn number_of(part: &[u8]) -> Option<u16>
-    ensures { result ≡ number_of part.now }
+    ensures { result ≡ path_number part.now }
 {
     if part.len() > 3 || !are_digits(part) {
         return None;
@@ -120,7 +120,7 @@ fn number_of(part: &[u8]) -> Option<u16>
 }
 
 fn round_of(part: &[u8]) -> Option<u8>
-    ensures { result ≡ round_of part.now }
+    ensures { result ≡ path_round part.now }
 {
     u8::try_from(number_of(part)?).ok()
 }

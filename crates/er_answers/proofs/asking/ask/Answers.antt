@@ -5,7 +5,8 @@ use Rattle.er_answers.proofs.asking.ask.Goals as goal
 
 pub returns-in-Submit-clause-answers : goal.returns-in-Submit-clause-answers
 returns-in-Submit-clause-answers g c = rw (c.in-Submit.is, c.reply_told.ensures)
-    (submitted _ (desk_state c.args.desk.now) (desk_state c.submit.new.self) c.in-Submit.command c.submit.result c.submit.ensures.submits.turn)
+    (submitted _ (desk_state c.args.desk.now) (desk_state c.submit.new.self) c.in-Submit.command c.submit.result
+    c.submit.ensures.submits.turn)
 
 pub returns-in-Submit-clause-asked : goal.returns-in-Submit-clause-asked
 returns-in-Submit-clause-asked g c = rw (c.in-Submit.is, c.reply_told.ensures)

@@ -1,6 +1,7 @@
 use Rattle.std.proofs.Common.{List, Bor, ℕ, None, map, take}
 use Rattle.std.specs.{Io.KnownBytes.Appends, List.flat_map}
-use Rattle.er_cli.specs.{declared.texts.LineAnswer.LineAnswer, Script.RunsLines, inside.Desk.{HasOwnTables, desk_state_of}, Texts.answer_text}
+use Rattle.er_cli.specs.{declared.texts.LineAnswer.LineAnswer, Script.RunsLines, Texts.answer_text}
+use Rattle.er_cli.specs.inside.Desk.{HasOwnTables, desk_state_of}
 use Rattle.er_cli.proofs.script.run_lines.Given as goal
 
 abbrev pub invariant-loop-line : goal.invariant-loop-line

@@ -1,5 +1,5 @@
 use Rattle.std.proofs.Common.{◌||◌, rules}
-use Rattle.er_cli.specs.Clients.{IsNext}
+use Rattle.er_cli.specs.Clients.{IsNextClient}
 use Rattle.er_cli.proofs.{Connecting.serves_connecting, Visiting.{came_so, knew_next, known_next}}
 use Rattle.er_cli.proofs.serving.serve_next.Goals as goal
 
@@ -14,7 +14,7 @@ returns-then-is_told-clause-served g c =
     let visit = c.in-Some.visit in
     let left = c.serve_one-served.new in
     let came = came_so (g.C.Clients.coming c.args.clients.now) _ visit
-    (λ inputs v. IsNext inputs (g.C.Reader.Read.remaining v.reader.stream) (g.C.Writer.Write.contents v.writer.stream)
+    (λ inputs v. IsNextClient inputs (g.C.Reader.Read.remaining v.reader.stream) (g.C.Writer.Write.contents v.writer.stream)
     (v.reader.has_failed || v.writer.has_failed) (g.C.Clients.coming c.accept.new.self)) c.in-Some.is c.in_ok-visit.ensures.comes in
     known_next g.S.Store c.args.desk.now left.desk it.session connects (g.C.Clients.coming c.args.clients.now)
     (g.C.Clients.got c.args.clients.now) (g.C.Reader.Read.remaining visit.reader.stream) (g.C.Writer.Write.contents visit.writer.stream)
