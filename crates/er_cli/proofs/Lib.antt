@@ -14,3 +14,4 @@ mod Outcomes
 mod Making
 mod Asked
 mod Holding
+mod Lengthening

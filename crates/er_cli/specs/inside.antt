@@ -2,3 +2,4 @@
 pub mod Input
 pub mod Unread
 pub mod Desk
+pub mod Closing

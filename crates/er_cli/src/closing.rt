@@ -1,17 +1,25 @@
-ghost use Rattle.std.specs.Prelude.{◌≡◌, ◌<◌, ◌↔◌, IsTrue, if◌then◌else◌, Some, None, MatchOption};
-ghost use Rattle.sqlite.specs.Files.{file_state, over_files};
+ghost use Rattle.std.specs.Prelude.{◌≡◌, ◌<◌, ◌↔◌, IsTrue, IfErr, IfOk, if◌then◌else◌, Some, None, MatchOption};
+ghost use Rattle.sqlite_disk.specs.Disk.{Cut, Follows};
+ghost use Rattle.sqlite_wal.specs.Reads.{IsClean};
+ghost use Rattle.sqlite_store.specs.FileStore.{state as store_state};
+ghost use Rattle.sqlite.specs.Files.{file_state, over_files, IsClosed};
 ghost use Rattle.er_desk.specs.Desk.{state};
 ghost use Rattle.er_desk.specs.Opening.{why_of};
 ghost use Rattle.er_cli.specs.Left.{IsClearedOf, IsPutAway};
+ghost use Rattle.er_cli.specs.inside.Closing.{CopiesLog};
 
 use crate::left::{Left, NoDesk};
 use er_desk::{Desk, OpenFault};
 use sqlite::{Connection, FileStore, Leftover};
 use sqlite_disk::Disk;
+use sqlite_trees::store::Store;
 use std::fs;
 
 /// A log that is shorter than its header (32 bytes) with one frame (24) of the smallest page (512) holds nothing.
 const LEAST_LOG: u64 = 32 + 24 + 512;
+
+/// From this length on, a header (32 bytes) with the head of a frame (24), a file counts as a log.
+const EMPTY_LOG: usize = 32 + 24;
 
 /// The log that a run will make beside a file which has none.
 #[derive(Drop)]
@@ -21,13 +29,42 @@ pub struct NewLog {
     is_beside_nothing: bool,
 }
 
+/// Rolls back what is not committed, and copies the log into the database file.
+fn copy_log<D: Disk + Drop>(conn: Connection<FileStore<D>>) -> Result<FileStore<D>, FileStore<D>>
+    ensures copied { IfOk result (CopiesLog conn) }
+    ensures ready { IfOk result (λ store. IsTrue (store_state store).is_ready) }
+    ensures kept { IfErr result (IsClosed conn) }
+{
+    let mut store = conn.into_store();
+    // Once more: only the rollback of a store says that its log has nothing uncommitted.
+    store.rollback();
+    match store.checkpoint() {
+        Ok(()) => Ok(store),
+        Err(_error) => Err(store),
+    }
+}
+
+/// Makes an empty log so long that it counts as one. The next opening reads the log twice: it keeps the header of one that counts, and to
+/// any other it writes a new header each time, with three syncs more. Where this fails the log is still empty.
+fn lengthen<D: Disk>(log: &mut D)
+    requires { IsTrue (D.Disk.is_usable log.old) }
+    ensures clean { IsClean D.Disk log.new → IsClean D.Disk log.old }
+    ensures crash { Follows (Cut EMPTY_LOG) (D.Disk.may_leave log.old) (D.Disk.may_leave log.new) }
+{
+    let _ = log.set_len(EMPTY_LOG);
+}
+
 /// Closes a connection to a file: copies the log into the database file. Where that fails, the log keeps what it has.
 pub fn close<D: Disk + Drop>(conn: Connection<FileStore<D>>) -> Left<D>
     ensures { IsPutAway (file_state conn) result }
 {
-    match conn.close_files() {
-        Ok(files) => Left::Closed(files),
-        Err((_error, store)) => Left::Unclosed(store),
+    match copy_log(conn) {
+        Ok(store) => {
+            let mut files = store.close();
+            lengthen(&mut files.log);
+            Left::Closed(files)
+        }
+        Err(store) => Left::Unclosed(store),
     }
 }
 
