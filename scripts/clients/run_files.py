@@ -352,6 +352,8 @@ def run_full_disk(room):
     """A disk on which nothing can be written, on which nothing can grow, and on which only the close finds no room."""
     file = made(f"{room}/e.event")
     log = os.path.getsize(log_of(file))
+    # shorter, it would not count as a log, and each opening would make six syncs more
+    check("the log of a closed file, its header and the head of a frame", log, 56)
     check("a disk that takes nothing", run_narrowly(0, "enrol", file, "Cy"), refused(25, "Store"))
     check("a full disk", run_narrowly(log, "enrol", file, "Cy"), refused(25, "Store"))
     check("a full disk, reading", run_narrowly(log, "players", file), SERVED)

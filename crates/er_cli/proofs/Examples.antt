@@ -3,7 +3,7 @@ use Rattle.std.proofs.Common.{◌≡◌, refl}
 use Rattle.er_cli.specs.{declared.TheConstants.{DONE, REFUSED, USAGE, DEVICE, MEMORY}, declared.importing.TheConstants.MAX_LIST_BYTES}
 use Rattle.er_cli.specs.declared.input.TheConstants.{MAX_SCRIPT_BYTES}
 use Rattle.er_cli.specs.declared.client.TheConstants.{READ_SECONDS, WRITE_SECONDS, CLIENT_SECONDS}
-use Rattle.er_cli.specs.declared.closing.TheConstants.{LEAST_LOG}
+use Rattle.er_cli.specs.declared.closing.TheConstants.{LEAST_LOG, EMPTY_LOG}
 
 pub done_is_0 : DONE ≡ 0
 done_is_0 = refl
@@ -37,3 +37,6 @@ a_client_takes_30_seconds = refl
 
 pub a_log_with_a_frame_has_568_bytes : LEAST_LOG ≡ 568
 a_log_with_a_frame_has_568_bytes = refl
+
+pub an_empty_log_has_56_bytes : EMPTY_LOG ≡ 56
+an_empty_log_has_56_bytes = refl
