@@ -378,10 +378,10 @@ def is_answered(crate, body):
 
 class Refused:
     """The wrong bodies with a line `tried: always` that a run of the gate on this machine saw refused at a goal. They are kept where `rt ci` keeps what its
-    own edits came to, by the sum of all that their check reads, and of this script."""
+    own edits came to, by the sum of all that their check reads, and of this script. An older toolchain keeps nothing."""
 
     def __init__(self, crates):
-        self.kept = rt.Kept(crates)
+        self.kept = rt.Kept(crates) if hasattr(rt, "Kept") else None
         with open(__file__, "rb") as it:
             self.judge = it.read()
 
@@ -389,11 +389,11 @@ class Refused:
         return self.kept.of_edit(f"{crate.folder}/wrong-bodies/{body.name}.edit", (rt.stamp_of(crate, {}), self.judge))
 
     def has(self, crate, body):
-        return body.is_always and self.kept.tried(self.name_of(crate, body)) is not None
+        return self.kept is not None and body.is_always and self.kept.tried(self.name_of(crate, body)) is not None
 
     def add(self, crate, bodies):
         """Keeps these, unless a file that their check read was touched meanwhile."""
-        if all(self.kept.is_untouched(it) for it in [*crate.below(), crate]):
+        if self.kept is not None and all(self.kept.is_untouched(it) for it in [*crate.below(), crate]):
             for body in bodies:
                 self.kept.keep_tried(self.name_of(crate, body), rt.REFUSED, "")
 
