@@ -62,7 +62,7 @@ def strict_channel() -> Any:
                 raise ParsingError("no such version")
 
     class StrictChannel(HTTPChannel):
-        parser_class = StrictParser
+        parser_class: Any = StrictParser
 
     return StrictChannel
 
@@ -77,7 +77,7 @@ def server_of(pages: Pages, door: Door, threads: int, behind_proxy: bool) -> Any
             "trusted_proxy_count": 1,
             "trusted_proxy_headers": {"x-forwarded-for"},
         }
-    server = waitress.create_server(
+    server: Any = waitress.create_server(
         pages,
         sockets=[door],
         threads=threads,
